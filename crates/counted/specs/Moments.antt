@@ -1,0 +1,12 @@
+-- What a loss of power at some moment might have left, for any kind of thing: images of a media, data of a store.
+use Rattle.std.specs.Prelude.{ℕ, ◌≤◌, ◌⊎◌}
+
+-- From one moment to a later one nothing that might have been left is forgotten, and what is new of it has P.
+pub record Elapses {C : Type 0} (before now : ℕ) (past since : ℕ → C → Type 0) (P : C → Type 0) : Type 0 where
+  pub later : before ≤ now
+  pub keeps : (t : ℕ) (c : C) → t ≤ before → past t c → since t c
+  pub only : (t : ℕ) (c : C) → t ≤ before → since t c → past t c ⊎ P c
+
+-- what might have been left of one kind, where each thing of another kind stands for some of it
+abbrev pub Through : {B C : Type 0} → (B → C → Type 0) → (ℕ → B → Type 0) → ℕ → C → Type 0
+Through {B} {C} R since t c = (b : B) × since t b × R b c
