@@ -1,5 +1,10 @@
 -- What a loss of power at some moment might have left, for any kind of thing: images of a media, data of a store.
-use Rattle.std.specs.Prelude.{ℕ, ◌≤◌, ◌⊎◌}
+use Rattle.std.specs.Prelude.{ℕ, ◌≡◌, ◌+◌, ◌-◌, ◌^◌, ◌<◌, ◌≤◌, ◌⊎◌, min, Result, OnOk}
+
+-- A call raises the moment, but at its last value, and there it fails.
+pub record Ticks {T E : Type 0} (before now : ℕ) (result : Result T E) : Type 0 where
+  pub next : now ≡ min (before + 1) (2 ^ 64 - 1)
+  pub last : OnOk result (before < 2 ^ 64 - 1)
 
 -- From one moment to a later one nothing that might have been left is forgotten, and what is new of it has P.
 pub record Elapses {C : Type 0} (before now : ℕ) (past since : ℕ → C → Type 0) (P : C → Type 0) : Type 0 where

@@ -1,0 +1,4 @@
+pub mod Puts
+pub mod Left
+pub mod Ranges
+pub mod Writing

@@ -1,0 +1,26 @@
+-- What a media shows, and what its calls do to that.
+use Rattle.std.specs.Prelude.{ℕ, ◌≡◌, Bool, IsTrue, List, Result}
+use Rattle.counted.specs.Causes.{HasCause}
+use Rattle.counted.specs.Moments.{Elapses}
+use Rattle.pcm_media.specs.Images.{Content, MayLeave, Touched, partly}
+
+-- Its length; what it holds; the moment; whether a loss of power at some moment from this one on might have left this image;
+-- how often it has failed.
+pub record View : Type 1 where
+  pub size : ℕ
+  pub content : Content
+  pub moment : ℕ
+  pub left_since : ℕ → List ℕ → Type 0
+  pub faults : ℕ
+
+-- from one view to a later one each image that might have been left anew has P
+abbrev pub LeavesOnly : (List ℕ → Type 0) → View → View → Type 0
+LeavesOnly P old new = Elapses old.moment new.moment old.left_since new.left_since P
+
+-- What a call does, whatever it answers: it writes these ranges at most, and at each moment of it a loss of power leaves what
+-- it might have left before, but for bytes in these ranges. It fails only where it counts it.
+pub record Writes {T E : Type 0} (tells : Bool) (ranges : List (ℕ × ℕ)) (old new : View) (result : Result T E) : Type 0 where
+  pub size : new.size ≡ old.size
+  pub cause : HasCause old.faults new.faults result
+  pub touched : IsTrue tells → Touched ranges old.content new.content
+  pub time : IsTrue tells → LeavesOnly (MayLeave (partly ranges old.content)) old new
