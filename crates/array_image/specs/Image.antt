@@ -21,7 +21,7 @@ abbrev pub cell_head : List ℕ → Head
 cell_head cell = head_said (take 16 cell)
 
 abbrev pub cell_part : List ℕ → Part
-cell_part cell = record { addr = (cell_head cell).addr; bytes = take (cell_head cell).len (drop 16 cell) }
+cell_part cell = ((cell_head cell).addr, take (cell_head cell).len (drop 16 cell))
 
 -- it holds a part of logger g
 abbrev pub IsGoodCell : Shape → ℕ → List ℕ → Type 0
