@@ -1,0 +1,2 @@
+pub mod StoreView
+pub mod Causes

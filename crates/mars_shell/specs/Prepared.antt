@@ -1,0 +1,16 @@
+-- What a line leaves whose answer is not written.
+use Rattle.std.specs.Prelude.{ℕ, ◌≡◌, ◌⊎◌, List}
+use Rattle.history.specs.declared.types.Call.{Call}
+use Rattle.history.specs.declared.types.Reply.TheVariants.{Media as media_reply}
+use Rattle.script_text.specs.Line.{Says}
+use Rattle.script_text.specs.Answer.{reply_line}
+use Rattle.script_text.specs.declared.line.Line.TheVariants.{Told}
+use Rattle.mars_shell.specs.Session.{Limits, State}
+use Rattle.mars_shell.specs.Transcript.{LineGives}
+use Rattle.mars_shell.specs.declared.answer.Stop.{Stop}
+use Rattle.mars_shell.specs.declared.answer.Stop.TheVariants.{Media, NoMemory}
+
+-- the caller whose call met a fault of the media, and the state
+abbrev pub Stops : Limits → State → ℕ → List ℕ → Stop → State → Type 0
+Stops limits old n bytes (Media caller) new = (call : Call) × Says limits.callers limits.keys bytes (Told caller call) × (new ≡ old)
+Stops limits old n bytes NoMemory new = (new ≡ old) ⊎ ((answer : List ℕ) × LineGives limits old n bytes answer new)

@@ -1,0 +1,34 @@
+-- The records of an array's data: the record of key k stands in slot k.
+use Rattle.std.specs.Prelude.{ℕ, zero, suc, ◌+◌, ◌*◌, ◌≡◌, nat_eq, if◌then◌else◌, List, Option, Some, None}
+use Rattle.std.specs.FinMap.{empty, insert}
+use Rattle.pcm_media.specs.Images.{range}
+use Rattle.history.specs.Table.{Table}
+use Rattle.record_slots.specs.Slots.{slot_said}
+use Rattle.record_slots.specs.declared.slot.Slot.{Slot}
+use Rattle.record_slots.specs.declared.slot.Slot.TheVariants.{Absent, Present}
+
+-- the address of a slot, where the data has so many: as many bytes as they take lie before them
+abbrev pub slot_at : ℕ → ℕ → ℕ
+slot_at slots k = 64 * (slots + k)
+
+-- the value of key k in what its slot says
+abbrev pub value_in : ℕ → Option Slot → Option (List ℕ)
+value_in k None = None
+value_in k (Some (Absent key)) = None
+value_in k (Some (Present key value)) = if nat_eq key k then Some value else None
+
+abbrev pub record_at : ℕ → List ℕ → ℕ → Option (List ℕ)
+record_at slots bytes k = value_in k (slot_said (range bytes (slot_at slots k) 64))
+
+abbrev pub with_record : Table → ℕ → Option (List ℕ) → Table
+with_record table k None = table
+with_record table k (Some value) = insert table k value
+
+-- the records of the first n slots
+abbrev pub records_below : ℕ → List ℕ → ℕ → Table
+records_below slots bytes zero = empty
+records_below slots bytes (suc n) = with_record (records_below slots bytes n) n (record_at slots bytes n)
+
+-- k to v exactly where slot k is present with the key k and the value v
+unfoldable pub records_of : ℕ → List ℕ → Table
+records_of slots bytes = records_below slots bytes slots
