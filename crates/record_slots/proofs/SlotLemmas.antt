@@ -1,0 +1,139 @@
+-- What bytes say, and that a slot's own bytes say it.
+use Rattle.std.proofs.Common.{◌≡◌, ℕ, zero, suc, ◌+◌, ◌-◌, ◌^◌, ◌<◌, ◌≤◌, true, List, [], ◌∷◌, ◌++◌, length, take, drop, replicate, Option, Some, None, refl, sym, ◌∙◌, ap, subst, arith}
+use Rattle.std.specs.Prelude.{slice_index}
+use Rattle.std.specs.Option.{SomeIff}
+use Rattle.std.proofs.lemmas.Bool.{and_parts, and_from, leb-true, le-leb, ne_eqb, false_from_ne_true}
+use Rattle.std.proofs.lemmas.List.{get_or-drop, length-drop, length-take-le, length-append, append-nil, take_at, drop_at, length-replicate, drop-replicate}
+use Rattle.byteorder.specs.Endian.{little_from, little_bytes}
+use Rattle.byteorder.specs.Numbers.{little_from-take, little_from-cons, little_number-reads_back, length-bytes_low_first}
+use Rattle.record_slots.specs.Text.{IsValue}
+use Rattle.record_slots.specs.Slots.{key_said, text_said, is_value_said, value_said, present, slot_said, slot_bytes, IsSlot}
+use Rattle.record_slots.specs.declared.slot.Slot.{Slot}
+use Rattle.record_slots.specs.declared.slot.Slot.TheVariants.{Absent, Present}
+
+-- a number behind k bytes
+little_shift : (i k n : ℕ) (xs : List ℕ) → little_from i n (drop k xs) ≡ little_from (k + i) n xs
+little_shift i k zero xs = refl
+little_shift i k (suc n) xs =
+    let here = get_or-drop k xs i 0 in
+    let rest : little_from (suc i) n (drop k xs) ≡ little_from (suc (k + i)) n xs = little_shift (suc i) k n xs ∙ ap (λ (j : ℕ). little_from j n xs) (omega arith) in
+    cc
+
+-- the number that is read behind the first two bytes is the key
+pub key_read : (bytes : List ℕ) → little_from 0 8 (take 62 (drop 2 bytes)) ≡ key_said bytes
+unfolding key_said
+key_read bytes = little_from-take 0 8 62 (drop 2 bytes) (omega arith) ∙ little_shift 0 2 8 bytes
+
+some_said : (bytes : List ℕ) → is_value_said bytes ≡ true → value_said bytes ≡ Some (text_said bytes)
+unfolding value_said
+some_said bytes e = rw e refl
+
+none_said : (bytes : List ℕ) → (is_value_said bytes ≡ true → ⊥) → value_said bytes ≡ None
+unfolding value_said
+none_said bytes h = let e = false_from_ne_true (is_value_said bytes) h in rw e refl
+
+length-text_said : (bytes : List ℕ) → length bytes ≡ 64 → slice_index bytes 1 ≤ 54 → length (text_said bytes) ≡ slice_index bytes 1
+length-text_said bytes long fits = length-take-le (slice_index bytes 1) (drop 10 bytes) (omega (arith, length-drop 10 bytes))
+
+-- what the test says of 64 bytes
+module _ (bytes : List ℕ) where
+  short_said : is_value_said bytes ≡ true → slice_index bytes 1 ≤ 54
+  short_said e = leb-true (slice_index bytes 1) 54 (and_parts _ _ (and_parts _ _ e).1).0
+
+  value_passes : length bytes ≡ 64 → slice_index bytes 1 ≤ 54 → IsValue (text_said bytes) → is_value_said bytes ≡ true
+  value_passes long fits value =
+      let len = length-text_said bytes long fits in
+      and_from _ _ (le-leb 1 (slice_index bytes 1) (omega (arith, value.some))) (and_from _ _ (le-leb (slice_index bytes 1) 54 fits) value.visible)
+
+  passes_value : length bytes ≡ 64 → is_value_said bytes ≡ true → IsValue (text_said bytes)
+  passes_value long e =
+      let fits = short_said e in
+      let len = length-text_said bytes long fits in
+      let some = leb-true 1 (slice_index bytes 1) (and_parts _ _ e).0 in
+      record { some = omega arith; short = omega arith; visible = (and_parts _ _ (and_parts _ _ e).1).1 }
+
+-- a length above 54 is that of no value
+pub value_said-long : (bytes : List ℕ) → 54 < slice_index bytes 1 → value_said bytes ≡ None
+value_said-long bytes long = none_said bytes (λ e. let fits = short_said bytes e in omega arith)
+
+-- what is told of the text behind byte 10 tells what the bytes say
+pub value_said-some : (bytes : List ℕ) → length bytes ≡ 64 → slice_index bytes 1 ≤ 54 → IsValue (text_said bytes) → value_said bytes ≡ Some (text_said bytes)
+value_said-some bytes long fits value = some_said bytes (value_passes bytes long fits value)
+
+pub value_said-none : (bytes : List ℕ) → length bytes ≡ 64 → (IsValue (text_said bytes) → ⊥) → value_said bytes ≡ None
+value_said-none bytes long refused = none_said bytes (λ e. refused (passes_value bytes long e))
+
+-- what `Value::of` answers at that text is what the bytes say
+pub value_said-of : (bytes text : List ℕ) (answer : Option (List ℕ)) → length bytes ≡ 64 → slice_index bytes 1 ≤ 54 → text ≡ text_said bytes
+    → SomeIff answer (IsValue text) text → answer ≡ value_said bytes
+value_said-of bytes text None long fits there refused = sym (value_said-none bytes long (λ value. refused (subst IsValue (sym there) value)))
+value_said-of bytes text (Some value) long fits there is = ap Some (is.1 ∙ there) ∙ sym (value_said-some bytes long fits (subst IsValue there is.0))
+
+-- the three kinds of state byte
+pub slot_said-absent : (bytes : List ℕ) → slice_index bytes 0 ≡ 0 → slot_said bytes ≡ Some (Absent (key_said bytes))
+unfolding slot_said
+slot_said-absent bytes e = rw e refl
+
+pub slot_said-present : (bytes : List ℕ) → slice_index bytes 0 ≡ 1 → slot_said bytes ≡ present (key_said bytes) (value_said bytes)
+unfolding slot_said
+slot_said-present bytes e = rw e refl
+
+pub slot_said-other : (bytes : List ℕ) → (slice_index bytes 0 ≡ 0 → ⊥) → (slice_index bytes 0 ≡ 1 → ⊥) → slot_said bytes ≡ None
+unfolding slot_said
+slot_said-other bytes not_absent not_present = rw (ne_eqb (slice_index bytes 0) 0 not_absent, ne_eqb (slice_index bytes 0) 1 not_present) refl
+
+-- the key behind the first two bytes
+key_behind : (a b key : ℕ) (rest : List ℕ) → key < 2 ^ 64 → key_said (a ∷ b ∷ (little_bytes 8 key ++ rest)) ≡ key
+unfolding key_said
+key_behind a b key rest fits =
+    little_from-cons 1 8 a (b ∷ (little_bytes 8 key ++ rest)) ∙ little_from-cons 0 8 b (little_bytes 8 key ++ rest) ∙ little_number-reads_back 8 key rest fits
+
+-- the bytes of a present slot, before they are named
+with_value : ℕ → List ℕ → List ℕ
+with_value key value = 1 ∷ length value ∷ (little_bytes 8 key ++ (value ++ replicate (54 - length value) 0))
+
+text_behind : (key : ℕ) (value : List ℕ) → text_said (with_value key value) ≡ value
+unfolding with_value
+text_behind key value =
+    ap (λ (l : List ℕ). take (length value) l) (drop_at (little_bytes 8 key) _ 8 (length-bytes_low_first 0 8 key))
+    ∙ take_at value _ (length value) refl
+
+length-with_value : (key : ℕ) (value : List ℕ) → length value ≤ 54 → length (with_value key value) ≡ 64
+unfolding with_value
+length-with_value key value short =
+    omega (arith, length-append (little_bytes 8 key) (value ++ replicate (54 - length value) 0), length-append value (replicate (54 - length value) 0), length-replicate {A = ℕ} (54 - length value) 0, length-bytes_low_first 0 8 key)
+
+value_behind : (key : ℕ) (value : List ℕ) → IsValue value → value_said (with_value key value) ≡ Some value
+value_behind key value is =
+    let text = text_behind key value in
+    value_said-some (with_value key value) (length-with_value key value is.short) (unfold with_value in is.short) (rw text is) ∙ ap Some text
+
+-- A slot's own bytes say it.
+pub slot_said-slot_bytes : (slot : Slot) → IsSlot slot → slot_said (slot_bytes slot) ≡ Some slot
+unfolding slot_bytes with_value
+slot_said-slot_bytes (Absent key) fits = slot_said-absent _ refl ∙ ap (λ (k : ℕ). Some (Absent k)) (key_behind 0 0 key (replicate 54 0) fits)
+slot_said-slot_bytes (Present key value) fits =
+    slot_said-present (with_value key value) refl
+    ∙ ap (present (key_said (with_value key value))) (value_behind key value fits.1)
+    ∙ ap (λ (k : ℕ). Some (Present k value)) (key_behind 1 (length value) key (value ++ replicate (54 - length value) 0) fits.0)
+
+-- there are 64 of them
+pub length-slot_bytes : (slot : Slot) → IsSlot slot → length (slot_bytes slot) ≡ 64
+unfolding slot_bytes with_value
+length-slot_bytes (Absent key) fits = omega (arith, length-append (little_bytes 8 key) (replicate 54 0), length-bytes_low_first 0 8 key)
+length-slot_bytes (Present key value) fits = length-with_value key value fits.1.short
+
+-- what the writer's steps leave are the bytes of the slot
+pub absent_written : (key : ℕ) (buf : List ℕ) → buf ≡ little_bytes 8 key ++ replicate 54 0 → 0 ∷ 0 ∷ (buf ++ []) ≡ slot_bytes (Absent key)
+unfolding slot_bytes
+absent_written key buf e = rw (append-nil buf) (ap (λ (l : List ℕ). 0 ∷ 0 ∷ l) e)
+
+pub present_written : (key : ℕ) (value buf copied : List ℕ) → buf ≡ little_bytes 8 key ++ replicate 54 0 → copied ≡ value
+    → 1 ∷ length value ∷ (take 8 (buf ++ []) ++ (copied ++ drop (10 + length value - 10) (drop 8 (buf ++ [])))) ≡ slot_bytes (Present key value)
+unfolding slot_bytes
+present_written key value buf copied written same =
+    let eight = length-bytes_low_first 0 8 key in
+    let places : 10 + length value - 10 ≡ length value = omega arith in
+    let front : take 8 (buf ++ []) ≡ little_bytes 8 key = rw (append-nil buf, written) (take_at (little_bytes 8 key) (replicate 54 0) 8 eight) in
+    let back : drop 8 (buf ++ []) ≡ replicate 54 0 = rw (append-nil buf, written) (drop_at (little_bytes 8 key) (replicate 54 0) 8 eight) in
+    rw (front, back, same, places, drop-replicate {X = ℕ} (length value) 54 0) refl
