@@ -1,7 +1,7 @@
 -- What a line leaves whose answer is not written.
 use Rattle.std.specs.Prelude.{ℕ, ◌≡◌, ◌⊎◌, List}
-use Rattle.history.specs.declared.types.Call.{Call}
-use Rattle.history.specs.declared.types.Reply.TheVariants.{Media as media_reply}
+use Rattle.history.specs.declared.call.Call.{Call}
+use Rattle.history.specs.declared.call.Reply.TheVariants.{Media as media_reply}
 use Rattle.script_text.specs.Line.{Says}
 use Rattle.script_text.specs.Answer.{reply_line}
 use Rattle.script_text.specs.declared.line.Line.TheVariants.{Told}

@@ -1,11 +1,12 @@
 -- What one caller's calls do, one after another.
 use Rattle.std.specs.Prelude.{ℕ, ◌≡◌, ◌+◌, ◌<◌, ◌≤◌, ◌⊎◌, List, [], ◌∷◌, ◌++◌, length, Option, Some, None, unwrap_or}
-use Rattle.history.specs.Table.{Table, Answers, left_by, records, IsRight, IsLegal}
-use Rattle.history.specs.declared.types.Call.{Call}
-use Rattle.history.specs.declared.types.Call.TheVariants.{Begin, Get, Put, Commit}
-use Rattle.history.specs.declared.types.Reply.{Reply}
-use Rattle.history.specs.declared.types.Reply.TheVariants.{Fine, Committed, NoTransaction, Already, LogFull}
-use Rattle.history.specs.declared.types.Done.{Done}
+use Rattle.history.specs.Table.{Table, Answers, left_by, IsRight}
+use Rattle.history.specs.Legal.{records, IsLegal}
+use Rattle.history.specs.declared.call.Call.{Call}
+use Rattle.history.specs.declared.call.Call.TheVariants.{Begin, Get, Put, Commit}
+use Rattle.history.specs.declared.call.Reply.{Reply}
+use Rattle.history.specs.declared.call.Reply.TheVariants.{Fine, Committed, NoTransaction, Already, LogFull}
+use Rattle.history.specs.declared.transaction.Done.{Done}
 
 -- the numbers of an array that a script can feel: its callers, its keys, and the entries of a log
 pub record Limits : Type 0 where

@@ -1,8 +1,8 @@
 -- What a run writes, line by line, and the state that it leaves.
 use Rattle.std.specs.Prelude.{ℕ, ◌≡◌, ◌+◌, ◌⊎◌, List, [], ◌∷◌, ◌++◌, length, Bool, true, false}
-use Rattle.history.specs.declared.types.Call.{Call}
-use Rattle.history.specs.declared.types.Reply.{Reply}
-use Rattle.history.specs.declared.types.Reply.TheVariants.{Media}
+use Rattle.history.specs.declared.call.Call.{Call}
+use Rattle.history.specs.declared.call.Reply.{Reply}
+use Rattle.history.specs.declared.call.Reply.TheVariants.{Media}
 use Rattle.script_text.specs.Line.{Says}
 use Rattle.script_text.specs.Answer.{reply_line, bad_line}
 use Rattle.script_text.specs.declared.line.Line.{Line}

@@ -1,4 +1,5 @@
-ghost use Rattle.std.specs.Prelude.{◌≡◌, ◌<◌, ◌≤◌, List, ℕ, length, IfOk, IsErrOf, IsTrue};
+// The whole input, read into memory before anything else is looked at.
+ghost use Rattle.std.specs.Prelude.{◌≡◌, ◌<◌, ◌≤◌, List, ℕ, [], length, IfOk, OnOk, IsErrOf, IsTrue};
 ghost use Rattle.counted.specs.Causes.{Rose};
 
 use outside::Source;
@@ -7,6 +8,7 @@ use std::alloc::Global;
 /// How many bytes an input may have.
 pub const MOST: usize = 16_777_216;
 
+/// Why an input was not read.
 #[derive(Clone, Copy, Debug, PartialEq, Eq)]
 pub enum InputFault {
     TooLong,
@@ -14,9 +16,10 @@ pub enum InputFault {
     NoMemory,
 }
 
-/// All bytes of a source.
+/// All bytes of a source, to its end.
 pub fn read_input<S: Source>(alloc: Global, source: &mut S) -> Result<Vec<u8>, InputFault>
     ensures all { IfOk result (λ input. IsTrue S.tells → S.left source.old ≡ input.items) }
+    ensures ended { OnOk result (IsTrue S.tells → S.left source.new ≡ []) }
     ensures most { IfOk result (λ input. length input.items ≤ MOST) }
     ensures too_long { IsErrOf result InputFault.TooLong → (input : List ℕ) × (MOST < length input) × (IsTrue S.tells → S.left source.old ≡ input) }
     ensures failed { IsErrOf result InputFault.Failed → Rose (S.faults source.old) (S.faults source.new) }

@@ -1,13 +1,13 @@
-// A library with one function.
+//! The program over a source, a sink and a media that are handed in.
 #![tactic(auto)]
 
-ghost use Rattle.std.specs.Prelude.{◌≡◌};
-ghost use Rattle.mars_shell.specs.Echo.{echo_of};
+mod fault;
+mod gate;
+mod input;
+mod lines;
+mod output;
+mod status;
 
-// The `ensures` clause is the contract: what `echo` returns is `echo_of` of its argument, a definition
-// in `specs/Echo.antt`, which a caller's clause can cite too.
-pub fn echo(x: usize) -> usize
-    ensures { result ≡ echo_of x }
-{
-    x
-}
+pub use fault::fault_text;
+pub use gate::{Gate, OpenGate, Place};
+pub use status::Status;

@@ -2,7 +2,8 @@ ghost use Rattle.std.specs.Prelude.{Bool, ◌≡◌, ◌≤◌, List, ℕ, ◌++
 ghost use Rattle.counted.specs.Causes.{Rose, HasCause};
 ghost use Rattle.mars_shell.specs.Written.{IsCut, IsWritten};
 
-use outside::{Failed, Sink};
+use counted::Failed;
+use outside::Sink;
 
 /// Writes the whole piece.
 pub fn write_whole<K: Sink>(sink: &mut K, piece: &[u8]) -> Result<(), Failed>

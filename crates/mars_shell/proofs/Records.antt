@@ -1,0 +1,91 @@
+-- The records of data, and of data in which one slot is written.
+use Rattle.std.proofs.Common.{◌≡◌, ◌≢◌, ℕ, zero, suc, ◌+◌, ◌-◌, ◌*◌, ◌<◌, ◌≤◌, inl, inr, Bool, true, false, nat_eq, cond, List, length, get_or, Option, Some, None, refl, sym, ap, ◌∙◌, arith}
+use Rattle.std.specs.Ordering.{nat_cmp}
+use Rattle.std.specs.Cmp.{nat_cmp_total, unsigned_tied}
+use Rattle.std.specs.FinMap.{get, insert, get-empty, get-insert, same_map, nat_cmp-IsAntisymmetric}
+use Rattle.std.proofs.lemmas.Bool.{cases_eq, cases_lt, eq-eqb, ne_eqb}
+use Rattle.std.proofs.lemmas.List.{ext_get_or}
+use Rattle.pcm_media.specs.Images.{put, range}
+use Rattle.pcm_media.proofs.Puts.{length-put, get_or-put_inside}
+use Rattle.pcm_media.proofs.Left.{same_outside-put}
+use Rattle.pcm_media.proofs.Ranges.{length-range, get_or-range, range_away}
+use Rattle.history.specs.Table.{Table}
+use Rattle.record_slots.specs.Slots.{slot_said}
+use Rattle.record_slots.specs.declared.slot.Slot.TheVariants.{Present}
+use Rattle.mars_shell.specs.Records.{slot_at, value_in, record_at, with_record, records_below, records_of}
+
+get-insert_same : (table : Table) (k : ℕ) (v : List ℕ) → get (insert table k v) k ≡ Some v
+get-insert_same table k v =
+    get-insert nat_cmp_total table k v k ∙ ap (λ (b : Bool). cond b (Some v) (get table k)) (unsigned_tied k k ∙ eq-eqb k k refl)
+
+get-insert_other : (table : Table) (k q : ℕ) (v : List ℕ) → q ≢ k → get (insert table k v) q ≡ get table q
+get-insert_other table k q v other =
+    get-insert nat_cmp_total table k v q ∙ ap (λ (b : Bool). cond b (Some v) (get table q)) (unsigned_tied q k ∙ ne_eqb q k other)
+
+with_same : (table : Table) (n : ℕ) (found : Option (List ℕ)) → get table n ≡ None → get (with_record table n found) n ≡ found
+with_same table n None none = none
+with_same table n (Some v) none = get-insert_same table n v
+
+with_other : (table : Table) (n q : ℕ) (found : Option (List ℕ)) → q ≢ n → get (with_record table n found) q ≡ get table q
+with_other table n q None other = refl
+with_other table n q (Some v) other = get-insert_other table n q v other
+
+module _ (slots : ℕ) (bytes : List ℕ) where
+  none_from : (n q : ℕ) → n ≤ q → get (records_below slots bytes n) q ≡ None
+  none_from zero q le = get-empty nat_cmp q
+  none_from (suc n) q le =
+      with_other (records_below slots bytes n) n q (record_at slots bytes n) (λ same. omega arith) ∙ none_from n q (omega arith)
+
+  each_below : (n q : ℕ) → q < n → get (records_below slots bytes n) q ≡ record_at slots bytes q
+  each_below zero q lt = absurd (omega arith)
+  each_below (suc n) q lt = elim (cases_eq q n) [
+    | inl same ↦ ap (get (records_below slots bytes (suc n))) same
+        ∙ with_same (records_below slots bytes n) n (record_at slots bytes n) (none_from n n (omega arith)) ∙ ap (record_at slots bytes) (sym same)
+    | inr other ↦ with_other (records_below slots bytes n) n q (record_at slots bytes n) other ∙ each_below n q (omega arith)
+  ]
+
+  -- a key has the record of its slot
+  pub get-records_of : (k : ℕ) → k < slots → get (records_of slots bytes) k ≡ record_at slots bytes k
+  unfolding records_of
+  get-records_of k lt = each_below slots k lt
+
+  get_past : (k : ℕ) → slots ≤ k → get (records_of slots bytes) k ≡ None
+  unfolding records_of
+  get_past k le = none_from slots k le
+
+-- what was written is read
+range-put : (old bytes : List ℕ) (at n : ℕ) → n ≡ length bytes → at + length bytes ≤ length old → range (put old at bytes) at n ≡ bytes
+range-put old bytes at n is fits =
+    let long = length-put old at bytes fits in
+    let size : length (range (put old at bytes) at n) ≡ n = length-range (put old at bytes) at n (omega arith) in
+    ext_get_or 0 (range (put old at bytes) at n) bytes (omega arith)
+    (λ i lt. get_or-range (put old at bytes) at n i (omega arith) ∙ get_or-put_inside old at bytes fits (at + i) (omega arith) (omega arith)
+        ∙ ap (λ (j : ℕ). get_or bytes j 0) (omega arith))
+
+module _ (slots k : ℕ) (value bytes data_bytes : List ℕ) (lt : k < slots) (long : length data_bytes ≡ 128 * slots) (size : length bytes ≡ 64) (says : slot_said bytes ≡ Some (Present k value)) where
+  after_bytes : List ℕ
+  after_bytes = put data_bytes (slot_at slots k) bytes
+
+  own : record_at slots (put data_bytes (slot_at slots k) bytes) k ≡ Some value
+  own =
+      ap (λ (b : List ℕ). value_in k (slot_said b)) (range-put data_bytes bytes (slot_at slots k) 64 (sym size) (omega arith))
+      ∙ ap (value_in k) says ∙ ap (λ (b : Bool). cond b (Some value) None) (eq-eqb k k refl)
+
+  other : (q : ℕ) → q < slots → q ≢ k → record_at slots (put data_bytes (slot_at slots k) bytes) q ≡ record_at slots data_bytes q
+  other q below ne =
+      ap (λ (b : List ℕ). value_in q (slot_said b))
+      (range_away _ data_bytes (put data_bytes (slot_at slots k) bytes) (slot_at slots q) 64 (same_outside-put data_bytes (slot_at slots k) bytes (omega arith))
+      (λ i le past. ((λ le' past'. ne (omega arith)), tt)))
+
+  -- a record that is written is put into the table
+  pub records_of-put : records_of slots (put data_bytes (slot_at slots k) bytes) ≡ insert (records_of slots data_bytes) k value
+  records_of-put = same_map nat_cmp_total nat_cmp-IsAntisymmetric _ _ (λ q. elim (cases_eq q k) [
+    | inl same ↦ ap (get (records_of slots (put data_bytes (slot_at slots k) bytes))) same
+        ∙ get-records_of slots (put data_bytes (slot_at slots k) bytes) k lt ∙ own
+        ∙ sym (ap (get (insert (records_of slots data_bytes) k value)) same ∙ get-insert_same (records_of slots data_bytes) k value)
+    | inr ne ↦ elim (cases_lt q slots) [
+      | inl below ↦ get-records_of slots (put data_bytes (slot_at slots k) bytes) q below ∙ other q below ne ∙ sym (get-records_of slots data_bytes q below)
+          ∙ sym (get-insert_other (records_of slots data_bytes) k q value ne)
+      | inr past ↦ get_past slots (put data_bytes (slot_at slots k) bytes) q past ∙ sym (get-insert_other (records_of slots data_bytes) k q value ne ∙ get_past slots data_bytes q past)
+    ]
+  ])
