@@ -1,0 +1,18 @@
+-- Histories, and which are legal: each transaction is right on what those before it leave.
+use Rattle.std.specs.Prelude.{ℕ, ◌≡◌, ◌+◌, List, [], ◌∷◌}
+use Rattle.history.specs.Table.{Table, left_by, IsRight}
+use Rattle.history.specs.declared.transaction.Done.{Done}
+
+-- the table after a history
+abbrev pub records : Table → List Done → Table
+records base [] = base
+records base (done ∷ history) = records (left_by base done.calls) history
+
+-- transactions numbered from n on, each right on what those before it leave
+abbrev pub IsLegalFrom : ℕ → Table → List Done → Type 0
+IsLegalFrom n base [] = Unit {0}
+IsLegalFrom n base (done ∷ history) = (done.at ≡ n) × IsRight base done.calls × IsLegalFrom (n + 1) (left_by base done.calls) history
+
+-- the first has the number 1
+abbrev pub IsLegal : Table → List Done → Type 0
+IsLegal base history = IsLegalFrom 1 base history

@@ -1,0 +1,124 @@
+ghost use Rattle.std.specs.Prelude.{◌≡◌, ◌↔◌, [], ◌∷◌, ◌++◌, length, IsNone, OnOk, OnErr, IfErr};
+ghost use Rattle.std.specs.Option.{option_to_list};
+
+use crate::{Call, Reply};
+use counted::NoMemory;
+use std::alloc::Global;
+use std::marker::Model;
+
+/// The granted calls of a transaction, each with its reply.
+#[derive(Debug, Drop)]
+pub struct Calls {
+    entries: Vec<(Call, Reply)>,
+}
+
+impl Model for Calls {
+    ghost use Rattle.std.specs.Prelude.{List};
+    ghost use Rattle.history.specs.declared.call.Call.{Call};
+    ghost use Rattle.history.specs.declared.call.Reply.{Reply};
+
+    ghost Value = { List (Call × Reply) };
+
+    ghost view = { λ c. c.entries.items };
+}
+
+impl Calls {
+    pub fn new(alloc: Global) -> Self
+        ensures { result ≡ [] }
+    {
+        Calls {
+            entries: Vec::new(alloc),
+        }
+    }
+
+    pub fn push(&mut self, call: Call, reply: Reply) -> Result<(), NoMemory>
+        ensures ok { OnOk result (self.new ≡ self.old ++ (call, reply) ∷ []) }
+        ensures err { OnErr result (self.new ≡ self.old) }
+    {
+        // Many transactions have one call: the first takes room for itself alone, where `Vec` would for four.
+        if self.entries.is_empty() {
+            self.entries.reserve_exact(1)?;
+        }
+        self.entries.push((call, reply))?;
+        Ok(())
+    }
+
+    /// Takes the last call off.
+    pub fn pop(&mut self) -> Option<(Call, Reply)>
+        ensures last { self.old ≡ self.new ++ option_to_list result }
+        ensures empty { IsNone result ↔ (self.old ≡ []) }
+    {
+        self.entries.pop()
+    }
+
+    pub fn entries(&self) -> &[(Call, Reply)]
+        ensures { result.now ≡ self.now }
+    {
+        &self.entries
+    }
+}
+
+/// A committed transaction: its caller, its calls, and its number, the first being 1.
+#[derive(Debug, Drop)]
+pub struct Done {
+    pub caller: u8,
+    pub calls: Calls,
+    pub at: u64,
+}
+
+/// Committed transactions, in the order of their commits.
+#[derive(Debug, Drop)]
+pub struct History {
+    items: Vec<Done>,
+}
+
+impl Model for History {
+    ghost use Rattle.std.specs.Prelude.{List};
+    ghost use Rattle.history.specs.declared.transaction.Done.{Done};
+
+    ghost Value = { List Done };
+
+    ghost view = { λ h. h.items.items };
+}
+
+impl History {
+    pub fn new(alloc: Global) -> Self
+        ensures { result ≡ [] }
+    {
+        History {
+            items: Vec::new(alloc),
+        }
+    }
+
+    /// Where there is no memory, the transaction is given back.
+    pub fn push(&mut self, done: Done) -> Result<(), Done>
+        ensures ok { OnOk result (self.new ≡ self.old ++ done ∷ []) }
+        ensures err { OnErr result (self.new ≡ self.old) }
+        ensures given_back { IfErr result (λ back. back ≡ done) }
+    {
+        match self.items.push(done) {
+            Ok(()) => Ok(()),
+            Err(failed) => Err(failed.value),
+        }
+    }
+
+    /// Takes the last transaction off.
+    pub fn pop(&mut self) -> Option<Done>
+        ensures last { self.old ≡ self.new ++ option_to_list result }
+        ensures empty { IsNone result ↔ (self.old ≡ []) }
+    {
+        self.items.pop()
+    }
+
+    pub fn items(&self) -> &[Done]
+        ensures { result.now ≡ self.now }
+    {
+        &self.items
+    }
+
+    pub fn len(&self) -> usize
+        ensures { result ≡ length self.now }
+    {
+        self.items.len()
+    }
+}
