@@ -28,6 +28,11 @@ abbrev pub places_of : Shape → List Part → List (ℕ × ℕ)
 places_of shape [] = []
 places_of shape (p ∷ ps) = (place_of shape p.0, length p.1) ∷ places_of shape ps
 
+-- each lies within one page of the data
+abbrev pub AllPlaced : Shape → List Part → Type 0
+AllPlaced shape [] = Unit {0}
+AllPlaced shape (p ∷ ps) = IsPlaced shape p.0 (length p.1) × AllPlaced shape ps
+
 -- a range within one page of this logger
 pub record IsOwned (shape : Shape) (g addr len : ℕ) : Type 0 where
   pub placed : IsPlaced shape addr len
