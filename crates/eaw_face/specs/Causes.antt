@@ -26,21 +26,21 @@ pub record IsFull (store : StoreView) (t : ℕ) (parts : List Part) (g held need
   pub full : store.shape.entries < held + needed
   pub first : (h : ℕ) → h < g → store.held t h + parts_at store.shape h parts ≤ store.shape.entries
 
-abbrev pub LogWriteCause : StoreView → ℕ → List Part → ℕ → Result ℕ EawFault → Type 0
+abbrev pub LogWriteCause : {T : Type 0} → StoreView → ℕ → List Part → ℕ → Result T EawFault → Type 0
 LogWriteCause old t parts faults (Ok len) = IsAlive old × (t < old.shape.numbers) × HasRoom old t parts
 LogWriteCause old t parts faults (Err Dead) = old.is_dead ≡ true
 LogWriteCause old t parts faults (Err (UnknownTid u)) = IsAlive old × (u ≡ t) × (old.shape.numbers ≤ t)
 LogWriteCause old t parts faults (Err (LogFull g held needed)) = IsAlive old × (t < old.shape.numbers) × IsFull old t parts g held needed
 LogWriteCause old t parts faults (Err Media) = IsAlive old × (t < old.shape.numbers) × HasRoom old t parts × Rose old.faults faults
 
-abbrev pub CommitCause : StoreView → ℕ → ℕ → Result (Unit {0}) EawFault → Type 0
+abbrev pub CommitCause : {T : Type 0} → StoreView → ℕ → ℕ → Result T EawFault → Type 0
 CommitCause old t faults (Ok done) = IsAlive old × IsLive old t
 CommitCause old t faults (Err Dead) = old.is_dead ≡ true
 CommitCause old t faults (Err (UnknownTid u)) = IsAlive old × (u ≡ t) × (IsLive old t → ⊥)
 CommitCause old t faults (Err (LogFull g held needed)) = ⊥
 CommitCause old t faults (Err Media) = IsAlive old × IsLive old t × Rose old.faults faults
 
-abbrev pub ReadCause : StoreView → ℕ → Result (Unit {0}) EawFault → Type 0
+abbrev pub ReadCause : {T : Type 0} → StoreView → ℕ → Result T EawFault → Type 0
 ReadCause old faults (Ok done) = IsAlive old
 ReadCause old faults (Err Dead) = old.is_dead ≡ true
 ReadCause old faults (Err (UnknownTid u)) = ⊥

@@ -55,9 +55,15 @@ pub trait EawStore {
         requires { tid < (view self.now).shape.numbers }
         ensures { result ≡ length ((view self.now).logs tid) };
 
+    /// Its numbers are in range.
+    ghost shaped: { (s : Self) → IsShape (view s).shape };
+
     /// It tells as many bytes as its shape has.
     ghost long: { (s : Self) → IsTrue tells → length (view s).bytes ≡ data_len (view s).shape };
 
     /// A number that is not live has logged nothing.
     ghost idle: { (s : Self) (t : ℕ) → (view s).is_live t ≡ false → length ((view s).logs t) ≡ 0 };
+
+    /// No logger holds a part of it.
+    ghost unheld: { (s : Self) (t g : ℕ) → (view s).is_live t ≡ false → (view s).held t g ≡ 0 };
 }

@@ -1,1 +1,4 @@
 pub mod LineLemmas
+pub mod PutLemmas
+pub mod RecordLemmas
+pub mod Stepping

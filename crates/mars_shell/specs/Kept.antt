@@ -1,5 +1,5 @@
 -- What a session over a store keeps true.
-use Rattle.std.specs.Prelude.{ℕ, ◌+◌, ◌*◌, ◌≡◌, ◌<◌, false, List, [], Option, unwrap_or, length}
+use Rattle.std.specs.Prelude.{ℕ, ◌+◌, ◌*◌, ◌≡◌, ◌<◌, Bool, false, IsTrue, List, [], Option, unwrap_or, length}
 use Rattle.array_shape.specs.declared.shape.Shape.{Shape}
 use Rattle.array_shape.specs.Places.{page_count, data_len}
 use Rattle.array_image.specs.Parts.{applied}
@@ -47,6 +47,13 @@ pub record IsKept (base : Table) (store : StoreView) (history : List Done) (live
   pub long : length (applied (store.logs 0) store.bytes) ≡ data_len store.shape
   pub records_kept : records_of (slots_of store.shape) store.bytes ≡ records base history
   pub view_kept : records_of (slots_of store.shape) (applied (store.logs 0) store.bytes) ≡ left_by (records base history) (calls_of live)
+
+-- The caller's log is empty, and what it had is in the data.
+pub record Empties (tells : Bool) (old new : StoreView) : Type 0 where
+  pub bytes : IsTrue tells → new.bytes ≡ applied (old.logs 0) old.bytes
+  pub log : length (new.logs 0) ≡ 0
+  pub held : new.held 0 0 ≡ 0
+  pub alive : new.is_dead ≡ false
 
 -- A call was answered so, and all is kept.
 pub record Steps (base : Table) (old new : StoreView) (history history' : List Done) (live live' : Option (List (Call × Reply))) (call : Call) (reply : Reply) : Type 0 where

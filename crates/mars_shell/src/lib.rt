@@ -5,7 +5,10 @@ mod fault;
 mod gate;
 mod input;
 mod lines;
+mod live;
 mod output;
+mod records;
+mod session;
 mod status;
 
 pub use fault::fault_text;

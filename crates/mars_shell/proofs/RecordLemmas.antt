@@ -14,11 +14,11 @@ use Rattle.record_slots.specs.Slots.{slot_said}
 use Rattle.record_slots.specs.declared.slot.Slot.TheVariants.{Present}
 use Rattle.mars_shell.specs.Records.{slot_at, value_in, record_at, with_record, records_below, records_of}
 
-get-insert_same : (table : Table) (k : ℕ) (v : List ℕ) → get (insert table k v) k ≡ Some v
+pub get-insert_same : (table : Table) (k : ℕ) (v : List ℕ) → get (insert table k v) k ≡ Some v
 get-insert_same table k v =
     get-insert nat_cmp_total table k v k ∙ ap (λ (b : Bool). cond b (Some v) (get table k)) (unsigned_tied k k ∙ eq-eqb k k refl)
 
-get-insert_other : (table : Table) (k q : ℕ) (v : List ℕ) → q ≢ k → get (insert table k v) q ≡ get table q
+pub get-insert_other : (table : Table) (k q : ℕ) (v : List ℕ) → q ≢ k → get (insert table k v) q ≡ get table q
 get-insert_other table k q v other =
     get-insert nat_cmp_total table k v q ∙ ap (λ (b : Bool). cond b (Some v) (get table q)) (unsigned_tied q k ∙ ne_eqb q k other)
 

@@ -1,0 +1,221 @@
+// One caller's session over a store: the history, and the transaction that runs.
+ghost use Rattle.std.specs.Prelude.{◌≡◌, ◌≢◌, ◌<◌, ◌↔◌, Err, IsTrue, IfOk, OnOk, OnErr, IsErrOf, length};
+ghost use Rattle.counted.specs.Causes.{Rose};
+ghost use Rattle.eaw_face.specs.StoreView.{Stays, IsSame};
+ghost use Rattle.eaw_face.specs.Causes.{IsAlive};
+ghost use Rattle.history.specs.Table.{Table, found};
+ghost use Rattle.history.specs.declared.call.Call.TheVariants.{Begin, Get, Put, Commit};
+ghost use Rattle.mars_shell.specs.Kept.{IsReady, IsKept, Steps, Empties, FitsCall, slots_of};
+ghost use Rattle.mars_shell.specs.Live.{either, last_put};
+ghost use Rattle.mars_shell.specs.Records.{record_at};
+ghost use Rattle.mars_shell.specs.Session.{puts_of};
+
+use crate::live::Live;
+use crate::records::{CALLER, put_record, read_record};
+use eaw_face::{EawFault, EawStore};
+use history::{Call, Done, History, Reply};
+use record_slots::Value;
+use std::alloc::Global;
+
+/// Why a call was not answered.
+#[derive(Clone, Copy, Debug, PartialEq, Eq)]
+pub enum Fault {
+    Media,
+    NoMemory,
+}
+
+/// The store, the transactions committed since the opening, and the calls of the one that runs.
+#[derive(Drop)]
+pub struct Session<S> {
+    pub alloc: Global,
+    pub store: S,
+    pub history: History,
+    pub live: Option<Live>,
+}
+
+impl<S: EawStore> Session<S> {
+    /// Answers a call. At an error the history and the running transaction are as before.
+    pub fn step(&mut self, call: &Call) -> Result<Reply, Fault>
+        requires ready { IsReady (S.view self.old.store) self.old.live }
+        requires fits { FitsCall (slots_of (S.view self.old.store).shape) call.now }
+        ensures steps { IsTrue S.tells → IfOk result (λ reply. (base : Table) → IsKept base (S.view self.old.store) self.old.history self.old.live
+            → Steps base (S.view self.old.store) (S.view self.new.store) self.old.history self.new.history self.old.live self.new.live call.now reply) }
+        ensures ready { result ≢ Err Fault.Media → IsReady (S.view self.new.store) self.new.live }
+        ensures kept { IsTrue S.tells → IsErrOf result Fault.NoMemory → (base : Table) → IsKept base (S.view self.old.store) self.old.history self.old.live
+            → IsKept base (S.view self.new.store) self.new.history self.new.live }
+        ensures history { OnErr result (self.new.history ≡ self.old.history) }
+        ensures live { OnErr result (self.new.live ≡ self.old.live) }
+        ensures media { IsErrOf result Fault.Media → Rose (S.view self.old.store).faults (S.view self.new.store).faults }
+        ensures stays { Stays (S.view self.old.store) (S.view self.new.store) }
+    {
+        match call {
+            Call::Begin => Ok(self.begin()),
+            Call::Get { key } => self.get(*key),
+            Call::Put { key, value } => self.put(*key, *value),
+            Call::Commit => self.commit(),
+        }
+    }
+
+    fn begin(&mut self) -> Reply
+        requires ready { IsReady (S.view self.old.store) self.old.live }
+        ensures steps { IsTrue S.tells → (base : Table) → IsKept base (S.view self.old.store) self.old.history self.old.live
+            → Steps base (S.view self.old.store) (S.view self.new.store) self.old.history self.new.history self.old.live self.new.live Begin result }
+        ensures ready { IsReady (S.view self.new.store) self.new.live }
+        ensures store { self.new.store ≡ self.old.store }
+    {
+        if self.live.is_some() {
+            return Reply::Already;
+        }
+        self.live = Some(Live::new(self.alloc));
+        Reply::Fine
+    }
+
+    fn get(&mut self, key: u64) -> Result<Reply, Fault>
+        requires ready { IsReady (S.view self.old.store) self.old.live }
+        requires fits { key < slots_of (S.view self.old.store).shape }
+        ensures steps { IsTrue S.tells → IfOk result (λ reply. (base : Table) → IsKept base (S.view self.old.store) self.old.history self.old.live
+            → Steps base (S.view self.old.store) (S.view self.new.store) self.old.history self.new.history self.old.live self.new.live (Get key) reply) }
+        ensures ready { result ≢ Err Fault.Media → IsReady (S.view self.new.store) self.new.live }
+        ensures kept { IsTrue S.tells → IsErrOf result Fault.NoMemory → (base : Table) → IsKept base (S.view self.old.store) self.old.history self.old.live
+            → IsKept base (S.view self.new.store) self.new.history self.new.live }
+        ensures history { OnErr result (self.new.history ≡ self.old.history) }
+        ensures live { OnErr result (self.new.live ≡ self.old.live) }
+        ensures media { IsErrOf result Fault.Media → Rose (S.view self.old.store).faults (S.view self.new.store).faults }
+        ensures stays { Stays (S.view self.old.store) (S.view self.new.store) }
+    {
+        let Some(live) = &mut self.live else {
+            return Ok(Reply::NoTransaction);
+        };
+        let value = match look(&mut self.store, live, key) {
+            Ok(value) => value,
+            Err(_) => return Err(Fault::Media),
+        };
+        match live.grant_get(key, found(&value)) {
+            Ok(()) => Ok(found(&value)),
+            Err(_) => Err(Fault::NoMemory),
+        }
+    }
+
+    fn put(&mut self, key: u64, value: Value) -> Result<Reply, Fault>
+        requires ready { IsReady (S.view self.old.store) self.old.live }
+        requires fits { key < slots_of (S.view self.old.store).shape }
+        ensures steps { IsTrue S.tells → IfOk result (λ reply. (base : Table) → IsKept base (S.view self.old.store) self.old.history self.old.live
+            → Steps base (S.view self.old.store) (S.view self.new.store) self.old.history self.new.history self.old.live self.new.live (Put key value) reply) }
+        ensures ready { result ≢ Err Fault.Media → IsReady (S.view self.new.store) self.new.live }
+        ensures kept { IsTrue S.tells → IsErrOf result Fault.NoMemory → (base : Table) → IsKept base (S.view self.old.store) self.old.history self.old.live
+            → IsKept base (S.view self.new.store) self.new.history self.new.live }
+        ensures history { OnErr result (self.new.history ≡ self.old.history) }
+        ensures live { OnErr result (self.new.live ≡ self.old.live) }
+        ensures media { IsErrOf result Fault.Media → Rose (S.view self.old.store).faults (S.view self.new.store).faults }
+        ensures stays { Stays (S.view self.old.store) (S.view self.new.store) }
+    {
+        let Some(live) = &mut self.live else {
+            return Ok(Reply::NoTransaction);
+        };
+        match live.grant_put(key, value) {
+            Ok(()) => {}
+            Err(_) => return Err(Fault::NoMemory),
+        }
+        match put_record(&mut self.store, key, value) {
+            Ok(()) => Ok(Reply::Fine),
+            Err(EawFault::LogFull {
+                logger,
+                held,
+                needed,
+            }) => {
+                live.revoke_put();
+                Ok(Reply::LogFull {
+                    logger,
+                    held,
+                    needed,
+                })
+            }
+            Err(EawFault::Media) => {
+                live.revoke_put();
+                Err(Fault::Media)
+            }
+            Err(EawFault::UnknownTid { .. }) => unreachable!(),
+            Err(EawFault::Dead) => unreachable!(),
+        }
+    }
+
+    fn commit(&mut self) -> Result<Reply, Fault>
+        requires ready { IsReady (S.view self.old.store) self.old.live }
+        ensures steps { IsTrue S.tells → IfOk result (λ reply. (base : Table) → IsKept base (S.view self.old.store) self.old.history self.old.live
+            → Steps base (S.view self.old.store) (S.view self.new.store) self.old.history self.new.history self.old.live self.new.live Commit reply) }
+        ensures ready { result ≢ Err Fault.Media → IsReady (S.view self.new.store) self.new.live }
+        ensures kept { IsTrue S.tells → IsErrOf result Fault.NoMemory → (base : Table) → IsKept base (S.view self.old.store) self.old.history self.old.live
+            → IsKept base (S.view self.new.store) self.new.history self.new.live }
+        ensures history { OnErr result (self.new.history ≡ self.old.history) }
+        ensures live { OnErr result (self.new.live ≡ self.old.live) }
+        ensures media { IsErrOf result Fault.Media → Rose (S.view self.old.store).faults (S.view self.new.store).faults }
+        ensures stays { Stays (S.view self.old.store) (S.view self.new.store) }
+    {
+        let at = self.history.items().len() as u64 + 1;
+        let Some(live) = self.live.take() else {
+            return Ok(Reply::NoTransaction);
+        };
+        let (calls, puts) = live.split();
+        let has_puts = !puts.is_empty();
+        match self.history.push(Done {
+            caller: CALLER,
+            calls,
+            at,
+        }) {
+            Ok(()) => {}
+            Err(done) => {
+                self.live = Some(Live::of(done.calls, puts));
+                return Err(Fault::NoMemory);
+            }
+        }
+        match commit_log(&mut self.store, has_puts) {
+            Ok(()) => Ok(Reply::Committed(at)),
+            Err(_) => {
+                if let Some(done) = self.history.pop() {
+                    self.live = Some(Live::of(done.calls, puts));
+                }
+                Err(Fault::Media)
+            }
+        }
+    }
+}
+
+// The value that the transaction sees under a key: what it has put last, or what is committed.
+fn look<S: EawStore>(store: &mut S, live: &Live, key: u64) -> Result<Option<Value>, EawFault>
+    requires alive { IsAlive (S.view store.old) }
+    requires fits { key < slots_of (S.view store.old).shape }
+    ensures value { IsTrue S.tells → IfOk result (λ value. value ≡ either (last_put (puts_of live.now) key) (record_at (slots_of (S.view store.old).shape) (S.view store.old).bytes key)) }
+    ensures same { OnOk result (IsSame S.tells (S.view store.old) (S.view store.new)) }
+    ensures media { OnErr result (Rose (S.view store.old).faults (S.view store.new).faults) }
+    ensures stays { Stays (S.view store.old) (S.view store.new) }
+{
+    match live.last_put(key) {
+        Some(value) => Ok(Some(value)),
+        None => read_record(store, key),
+    }
+}
+
+// Commits what the caller has logged, where it has logged something.
+fn commit_log<S: EawStore>(store: &mut S, has_parts: bool) -> Result<(), EawFault>
+    requires alive { IsAlive (S.view store.old) }
+    requires parts { IsTrue has_parts ↔ (0 < length ((S.view store.old).logs CALLER)) }
+    requires held { length ((S.view store.old).logs CALLER) ≡ 0 → (S.view store.old).held CALLER 0 ≡ 0 }
+    ensures empties { OnOk result (Empties S.tells (S.view store.old) (S.view store.new)) }
+    ensures media { OnErr result (Rose (S.view store.old).faults (S.view store.new).faults) }
+    ensures stays { Stays (S.view store.old) (S.view store.new) }
+{
+    if !has_parts {
+        return Ok(());
+    }
+    store.commit(CALLER)
+}
+
+// The reply to a get that finds this.
+fn found(value: &Option<Value>) -> Reply
+    ensures { result ≡ found value.now }
+{
+    match value {
+        Some(value) => Reply::Found(*value),
+        None => Reply::Absent,
+    }
+}
