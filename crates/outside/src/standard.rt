@@ -1,5 +1,6 @@
 // The source over std's reader and the sink over std's writer.
-ghost use Rattle.std.specs.Prelude.{◌≡◌, ◌≤◌, ℕ, false, [], length, IfOk};
+ghost use Rattle.std.specs.Prelude.{◌≡◌, ◌≤◌, false, [], length, IfOk};
+ghost use Rattle.std.specs.Io.KnownBytes.{ReadConsumes, WriteAppends};
 ghost use Rattle.counted.specs.Causes.{HasCause};
 ghost use Rattle.outside.specs.Told.{TakesPart};
 ghost use Rattle.outside.specs.Counts.{faults_after};
@@ -9,25 +10,25 @@ use counted::Failed;
 use std::io::{Read, Write};
 use std::marker::Model;
 
-/// A source over a reader. It tells no bytes; contracts see how often it has failed.
+/// A source over a reader. As a source it tells no bytes: no contract says what a reader over the outside gives.
 #[derive(Drop)]
-pub struct StdSource<R> {
+pub struct StdSource<R: Read> {
     reader: R,
     faults: u64,
 }
 
-impl<R> Model for StdSource<R> {
-    ghost use Rattle.std.specs.Prelude.{ℕ};
+impl<R: Read> Model for StdSource<R> {
+    ghost use Rattle.outside.specs.Standard.{Reader};
 
-    ghost Value = { ℕ };
+    ghost Value = { Reader };
 
-    ghost view = { λ s. s.faults };
+    ghost view = { λ s. record { coming = R.remaining s.reader; faults = s.faults } };
 }
 
-impl<R> StdSource<R> {
+impl<R: Read> StdSource<R> {
     /// A source that has not failed yet.
     pub fn new(reader: R) -> Self
-        ensures { result ≡ 0 }
+        ensures { result ≡ record { coming = R.remaining reader; faults = 0 } }
     {
         StdSource { reader, faults: 0 }
     }
@@ -38,11 +39,16 @@ impl<R: Read> Source for StdSource<R> {
 
     ghost left = { λ _. [] };
 
-    ghost faults = { λ s. s };
+    ghost faults = { λ s. s.faults };
 
     ghost steady = { λ _. false };
 
-    fn read(&mut self, buf: &mut [u8]) -> Result<usize, Failed> {
+    fn read(&mut self, buf: &mut [u8]) -> Result<usize, Failed>
+        ensures bound { IfOk result (λ n. n ≤ length buf.new) }
+        ensures passed_on { ReadConsumes self.old.coming self.new.coming result buf.new }
+        ensures faults { self.new.faults ≡ faults_after self.old.faults result }
+        ensures cause { HasCause self.old.faults self.new.faults result }
+    {
         match self.reader.read(buf) {
             Ok(count) => Ok(count),
             Err(_) => {
@@ -53,25 +59,25 @@ impl<R: Read> Source for StdSource<R> {
     }
 }
 
-/// A sink over a writer. It tells no bytes; contracts see how often it has failed.
+/// A sink over a writer. As a sink it tells no bytes: no contract says what a writer to the outside takes.
 #[derive(Drop)]
-pub struct StdSink<W> {
+pub struct StdSink<W: Write> {
     writer: W,
     faults: u64,
 }
 
-impl<W> Model for StdSink<W> {
-    ghost use Rattle.std.specs.Prelude.{ℕ};
+impl<W: Write> Model for StdSink<W> {
+    ghost use Rattle.outside.specs.Standard.{Writer};
 
-    ghost Value = { ℕ };
+    ghost Value = { Writer };
 
-    ghost view = { λ s. s.faults };
+    ghost view = { λ s. record { held = W.contents s.writer; faults = s.faults } };
 }
 
-impl<W> StdSink<W> {
+impl<W: Write> StdSink<W> {
     /// A sink that has not failed yet.
     pub fn new(writer: W) -> Self
-        ensures { result ≡ 0 }
+        ensures { result ≡ record { held = W.contents writer; faults = 0 } }
     {
         StdSink { writer, faults: 0 }
     }
@@ -82,9 +88,15 @@ impl<W: Write> Sink for StdSink<W> {
 
     ghost written = { λ _. [] };
 
-    ghost faults = { λ s. s };
+    ghost faults = { λ s. s.faults };
 
-    fn write(&mut self, piece: &[u8]) -> Result<usize, Failed> {
+    /// A writer that takes nothing of a piece that is not empty has failed.
+    fn write(&mut self, piece: &[u8]) -> Result<usize, Failed>
+        ensures part { TakesPart result piece.now }
+        ensures passed_on { WriteAppends self.old.held self.new.held result piece.now }
+        ensures faults { self.new.faults ≡ faults_after self.old.faults result }
+        ensures cause { HasCause self.old.faults self.new.faults result }
+    {
         match self.writer.write(piece) {
             Ok(count) if count > 0 || piece.is_empty() => Ok(count),
             _ => {

@@ -2,3 +2,5 @@ pub mod Puts
 pub mod Left
 pub mod Ranges
 pub mod Writing
+mod Replay
+mod MemoryLemmas

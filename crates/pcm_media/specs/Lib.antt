@@ -1,2 +1,5 @@
 pub mod Images
 pub mod View
+pub mod Kept
+pub mod Replay
+pub mod Memory

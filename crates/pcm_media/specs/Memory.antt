@@ -1,0 +1,61 @@
+-- What a media in memory shows.
+use Rattle.std.specs.Prelude.{ℕ, ◌+◌, ◌%◌, ◌<◌, ◌≤◌, ◌≡◌, ◌⊎◌, ◌==◌, if◌then◌else◌, List, [], ◌∷◌, length, slice_index}
+use Rattle.std.proofs.Common.{inl, ⊎_elim, arith}
+use Rattle.pcm_media.specs.Images.{Content, MayLeave}
+use Rattle.pcm_media.specs.View.{View}
+use Rattle.pcm_media.specs.Kept.{Kept, nothing_kept}
+use Rattle.pcm_media.specs.Replay.{at_rest, all_taken, IsStamped, content_after, LeftBefore}
+
+-- the bytes with which it was made, and what it keeps of its calls
+pub record Memory : Type 0 where
+  pub start : List ℕ
+  pub kept : Kept
+
+-- what it holds
+abbrev pub content_of : Memory → Content
+content_of memory = content_after memory.kept.records memory.kept.written (at_rest memory.start)
+
+-- What a loss of power at some moment from this one on might have left: what it may leave now, and, where this moment is past,
+-- what it might have left before some call that came after it.
+abbrev pub LeftSince : Memory → ℕ → List ℕ → Type 0
+LeftSince memory t image = MayLeave (content_of memory) image ⊎ ((t < memory.kept.moment) × LeftBefore memory.kept.records memory.kept.written (at_rest memory.start) t image)
+
+abbrev pub view_of : Memory → View
+view_of memory = record {
+  size = length (content_of memory).bytes;
+  content = content_of memory;
+  moment = memory.kept.moment;
+  left_since = LeftSince memory;
+  faults = memory.kept.faults;
+}
+
+-- made anew, with these bytes and room for so many calls and written bytes
+abbrev pub made_anew : List ℕ → ℕ → ℕ → Memory
+made_anew start calls bytes = record { start = start; kept = nothing_kept calls bytes }
+
+-- The kept calls tell what it holds: no stamp passes the moment, each byte that was written belongs to one of them, and a read
+-- gives what they made of the first bytes.
+pub record Tells (memory : Memory) (read : List ℕ) : Type 0 where
+  pub stamped : IsStamped memory.kept.moment memory.kept.records
+  pub whole : all_taken memory.kept.records ≡ length memory.kept.written
+  pub bytes : (content_of memory).bytes ≡ read
+
+-- one of the ranges has this place
+abbrev pub IsInside : List (ℕ × ℕ) → ℕ → Type 0
+IsInside [] i = ⊥
+IsInside (r ∷ rs) i = ((r.0 ≤ i) × (i < r.0 + r.1)) ⊎ IsInside rs i
+
+-- the byte that a choice has for a place, over and over; an empty choice keeps the byte that is there
+abbrev pub chosen_byte : List ℕ → ℕ → ℕ → ℕ
+chosen_byte choice i there = if length choice == 0 then there else slice_index choice (i % length choice)
+
+-- A loss of power may leave this image, and it is the one that has the choice at each place that is not settled.
+pub record IsLeftBy (choice : List ℕ) (content : Content) (image : List ℕ) : Type 0 where
+  pub left : MayLeave content image
+  pub chosen : (i : ℕ) → i < length image → IsInside content.unsettled i → slice_index image i ≡ chosen_byte choice i (slice_index content.bytes i)
+
+pub counts_now : (memory : Memory) (t : ℕ) (image : List ℕ) → MayLeave (content_of memory) image → LeftSince memory t image
+counts_now memory t image left = inl left
+
+pub only_now : (memory : Memory) (image : List ℕ) → LeftSince memory memory.kept.moment image → MayLeave (content_of memory) image
+only_now memory image left = ⊎_elim (λ now. now) (λ before. absurd (omega (arith, before.0))) left
