@@ -1,5 +1,5 @@
 -- The text of a caller's call is that of no other, and a line says one thing.
-use Rattle.std.proofs.Common.{◌≡◌, ℕ, zero, suc, length, ◌++◌, ◌<◌, ◌≤◌, ◌^◌, List, [], ◌∷◌, get_or, refl, ap, ◌∙◌, sym, subst, arith}
+use Rattle.std.proofs.Common.{◌≡◌, ℕ, zero, suc, length, ◌++◌, ◌<◌, ◌≤◌, ◌^◌, List, [], ◌∷◌, get_or, refl, ap, ◌∙◌, sym, arith}
 use Rattle.std.specs.Prelude.{codes}
 use Rattle.std.specs.Fmt.{decimal}
 use Rattle.std.proofs.lemmas.Fmt.{decimal_injective, decimal_digit, decimal_nonempty, first_decimal}

@@ -1,4 +1,4 @@
-use Rattle.std.proofs.Common.{sym, subst, arith, ◌≤◌, ◌^◌}
+use Rattle.std.proofs.Common.{sym, subst, arith}
 use Rattle.std.specs.Fmt.{decimal}
 use Rattle.record_slots.specs.Text.{IsValue}
 use Rattle.script_text.proofs.Words.{no_space}

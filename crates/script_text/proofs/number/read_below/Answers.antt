@@ -1,4 +1,4 @@
-use Rattle.std.proofs.Common.{◌≡◌, ◌≤◌, ◌^◌, arith}
+use Rattle.std.proofs.Common.{arith}
 use Rattle.script_text.proofs.Numbers.{same_number}
 use Rattle.script_text.proofs.number.read_below.Goals as goal
 

@@ -1,4 +1,4 @@
-use Rattle.std.proofs.Common.{refl, ap, ◌∙◌, ◌≡◌, ◌∷◌, [], ◌++◌, List, ℕ}
+use Rattle.std.proofs.Common.{refl, ap, ◌∙◌, ◌∷◌, [], ◌++◌, List, ℕ}
 use Rattle.script_text.proofs.ReplyLemmas.{line_appended, log_full_text}
 use Rattle.script_text.proofs.reply.write_reply.Goals as goal
 
