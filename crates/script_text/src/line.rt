@@ -12,10 +12,7 @@ use history::Call;
 pub enum Line {
     /// The line is empty or begins with `#`.
     Nothing,
-    Told {
-        caller: u8,
-        call: Call,
-    },
+    Told { caller: u8, call: Call },
     Bad,
 }
 

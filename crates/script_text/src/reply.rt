@@ -46,7 +46,13 @@ fn append_number(out: &mut Vec<u8>, front: &[u8], words: &[u8], n: u64) -> Resul
     append(out, &[front, words, buffer.format(n).as_bytes(), b"\n"])
 }
 
-fn append_log_full(out: &mut Vec<u8>, caller: &[u8], logger: u8, held: u16, needed: u16) -> Result<(), NoMemory>
+fn append_log_full(
+    out: &mut Vec<u8>,
+    caller: &[u8],
+    logger: u8,
+    held: u16,
+    needed: u16,
+) -> Result<(), NoMemory>
     ensures ok { OnOk result (out.new.items ≡ out.old.items ++ (caller.now ++ (codes " log full " ++ (decimal logger ++ 32 ∷ (decimal held ++ 32 ∷ (decimal needed ++ 10 ∷ [])))))) }
     ensures err { OnErr result (out.new.items ≡ out.old.items) }
 {
@@ -56,7 +62,19 @@ fn append_log_full(out: &mut Vec<u8>, caller: &[u8], logger: u8, held: u16, need
     let logger = first.format(logger).as_bytes();
     let held = second.format(held).as_bytes();
     let needed = third.format(needed).as_bytes();
-    append(out, &[caller, b" log full ", logger, b" ", held, b" ", needed, b"\n"])
+    append(
+        out,
+        &[
+            caller,
+            b" log full ",
+            logger,
+            b" ",
+            held,
+            b" ",
+            needed,
+            b"\n",
+        ],
+    )
 }
 
 /// The line of the reply `Media`, which takes no memory but the buffer.
