@@ -2,6 +2,8 @@
 #![tactic(auto)]
 
 mod slot;
+#[cfg(test)]
+mod tests;
 mod value;
 
 pub use slot::{SLOT_LEN, Slot, read_slot, write_slot};

@@ -1,0 +1,42 @@
+ghost use Rattle.std.specs.Prelude.{◌<◌};
+ghost use Rattle.script_text.specs.Reads.{Reads};
+ghost use Rattle.script_text.specs.Line.{Says, IsCall, line_text};
+
+use crate::call::read_call;
+use crate::number::read_below;
+use crate::word::split_word;
+use history::Call;
+
+/// What a line of a script says.
+#[derive(Clone, Copy, Debug, PartialEq, Eq)]
+pub enum Line {
+    /// The line is empty or begins with `#`.
+    Nothing,
+    Told { caller: u8, call: Call },
+    Bad,
+}
+
+/// Reads a line, without its newline, where there are `callers` callers and the keys lie below `keys`.
+pub fn read_line(bytes: &[u8], callers: u8, keys: u64) -> Line
+    ensures { Says callers keys bytes.now result }
+{
+    if bytes.is_empty() {
+        return Line::Nothing;
+    }
+    if bytes[0] == b'#' {
+        return Line::Nothing;
+    }
+    match read_told(bytes, callers, keys) {
+        Some((caller, call)) => Line::Told { caller, call },
+        None => Line::Bad,
+    }
+}
+
+fn read_told(bytes: &[u8], callers: u8, keys: u64) -> Option<(u8, Call)>
+    ensures { Reads (λ t. (t.0 < callers) × IsCall keys t.1) (λ t. line_text t.0 t.1) bytes.now result }
+{
+    let (word, rest) = split_word(bytes)?;
+    let caller = read_below(word, u64::from(callers))?;
+    let call = read_call(rest, keys)?;
+    Some((caller as u8, call))
+}
