@@ -5,3 +5,4 @@ pub mod Data
 pub mod Rows
 pub mod Deciding
 pub mod Standing
+pub mod Frames
