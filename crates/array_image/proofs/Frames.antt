@@ -1,14 +1,13 @@
 -- Images that differ in votes, in the rest of rows, or in data alone.
-use Rattle.std.proofs.Common.{◌≡◌, ◌≢◌, ℕ, zero, suc, ◌+◌, ◌-◌, ◌<◌, ◌≤◌, Bool, true, false, inl, inr, ⊎_elim, List, [], ◌∷◌, ◌++◌, length, get_or, refl, sym, ◌∙◌, ap, subst, arith}
+use Rattle.std.proofs.Common.{◌≡◌, ◌≢◌, ℕ, ◌+◌, ◌<◌, ◌≤◌, true, false, List, [], ◌∷◌, length, refl, sym, ◌∙◌, ap, subst, arith}
 use Rattle.std.specs.Prelude.{slice_index}
-use Rattle.std.proofs.lemmas.Bool.{cases_eq}
 use Rattle.pcm_media.specs.Images.{Content, MayLeave, SameOutside, IsOutside, partly}
-use Rattle.pcm_media.proofs.Left.{before_write, touched_by_loss, left_as_read, outside-both}
+use Rattle.pcm_media.proofs.Left.{before_write, touched_by_loss, outside-both}
 use Rattle.array_shape.specs.declared.shape.Shape.{Shape}
-use Rattle.array_shape.specs.Places.{row_at, cell_at, place_of, media_len, data_len}
+use Rattle.array_shape.specs.Places.{row_at, place_of}
 use Rattle.row_bytes.specs.declared.row.Row.{Row}
-use Rattle.array_image.specs.Parts.{Part, applied, AllPlaced, places_of}
-use Rattle.array_image.specs.Image.{row_of, cell_of, parts_from, data_of, IsGoodCell}
+use Rattle.array_image.specs.Parts.{Part, AllPlaced, places_of}
+use Rattle.array_image.specs.Image.{row_of, data_of, IsGoodCell}
 use Rattle.array_image.specs.Decided.{has_logger}
 use Rattle.array_image.specs.Standing.{IsAtRest, SameCells}
 use Rattle.array_image.specs.Marked.{named_at, named_parts, AreGood, IsMarked}

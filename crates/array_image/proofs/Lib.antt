@@ -6,3 +6,4 @@ pub mod Rows
 pub mod Deciding
 pub mod Standing
 pub mod Frames
+pub mod Orders
