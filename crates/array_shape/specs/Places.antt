@@ -1,11 +1,18 @@
 -- Where the parts of an array lie in its media, and where the bytes of its data do.
-use Rattle.std.specs.Prelude.{ℕ, ◌+◌, ◌*◌, ◌/◌, ◌%◌, ◌≤◌, ◌<◌}
+use Rattle.std.specs.Prelude.{ℕ, ◌≡◌, ◌+◌, ◌*◌, ◌/◌, ◌%◌, ◌≤◌, ◌<◌}
 use Rattle.array_shape.specs.declared.shape.Shape.{Shape}
 use Rattle.array_shape.specs.Numbers.{AreInRange}
 
 -- its numbers are in range
 abbrev pub IsShape : Shape → Type 0
 IsShape shape = AreInRange shape.loggers shape.numbers shape.entries shape.pages
+
+-- it is the shape of these numbers
+pub record HasNumbers (loggers numbers entries pages : ℕ) (shape : Shape) : Type 0 where
+  pub loggers_are : shape.loggers ≡ loggers
+  pub numbers_are : shape.numbers ≡ numbers
+  pub entries_are : shape.entries ≡ entries
+  pub pages_are : shape.pages ≡ pages
 
 -- the length of one logger's region: a row for each number, a cell for each entry of each number, and the pages
 abbrev pub region_len : Shape → ℕ

@@ -1,6 +1,18 @@
 //! The numbers of an array, and where its rows, cells and data lie in the media.
 #![tactic(auto)]
 
+mod bad_shape;
+mod laws;
+mod part;
+mod parts;
+mod place;
 mod shape;
+#[cfg(test)]
+mod tests;
 
+pub use bad_shape::{BadShape, ShapeNumber};
+pub use laws::{addresses_are_apart, areas_are_apart};
+pub use part::Part;
+pub use parts::Parts;
+pub use place::Place;
 pub use shape::Shape;

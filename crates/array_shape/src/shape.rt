@@ -1,6 +1,10 @@
 // The four numbers of an array. Each value of the type has them in range.
 ghost use Rattle.array_shape.specs.Numbers.{AreInRange};
 
+use crate::bad_shape::{BadShape, ShapeNumber};
+use crate::parts::Parts;
+use crate::place::Place;
+
 #[derive(Clone, Copy, Debug, PartialEq, Eq)]
 pub struct Shape {
     /// Loggers, 1 to 8.
@@ -15,13 +19,161 @@ pub struct Shape {
 }
 
 impl Shape {
-    ghost use Rattle.std.specs.Prelude.{◌≡◌, ◌+◌, ◌*◌, ◌≤◌, ◌<◌};
-    ghost use Rattle.array_shape.specs.Places.{data_len};
+    ghost use Rattle.std.specs.Prelude.{◌≡◌, ◌↔◌, ◌+◌, ◌*◌, ◌≤◌, ◌<◌, IsOk, IfOk, IfErr, All};
+    ghost use Rattle.array_shape.specs.Numbers.{AreInRange, IsFirstBad};
+    ghost use Rattle.array_shape.specs.Places.{HasNumbers, data_len, media_len, page_count, row_at, cell_at, data_at, region_len, region_at, logger_of, offset_of, place_of, IsPlaced};
+    ghost use Rattle.array_shape.specs.Parts.{parts_of, Tile, AreCutAtPages, IsPartOf};
+
+    /// The shape of these numbers.
+    pub fn new(loggers: u8, numbers: u8, entries: u16, pages: u32) -> Result<Shape, BadShape>
+        ensures good { IsOk result ↔ AreInRange loggers numbers entries pages }
+        ensures shape { IfOk result (HasNumbers loggers numbers entries pages) }
+        ensures bad { IfErr result (λ bad. IsFirstBad loggers numbers entries pages bad.which bad.given) }
+    {
+        if loggers < 1 || loggers > 8 {
+            return Err(BadShape {
+                which: ShapeNumber::Loggers,
+                given: u64::from(loggers),
+            });
+        }
+        if numbers < 1 || numbers > 64 {
+            return Err(BadShape {
+                which: ShapeNumber::Numbers,
+                given: u64::from(numbers),
+            });
+        }
+        if entries < 8 || entries > 64 {
+            return Err(BadShape {
+                which: ShapeNumber::Entries,
+                given: u64::from(entries),
+            });
+        }
+        if pages < 4 || pages > 4096 || pages % 2 != 0 {
+            return Err(BadShape {
+                which: ShapeNumber::Pages,
+                given: u64::from(pages),
+            });
+        }
+        Ok(Shape {
+            loggers,
+            numbers,
+            entries,
+            pages,
+        })
+    }
+
+    /// How many pages the data has.
+    pub fn page_count(&self) -> u64
+        ensures { result ≡ page_count self.now }
+    {
+        u64::from(self.loggers) * u64::from(self.pages)
+    }
 
     /// How many bytes of data the array has.
     pub fn data_len(&self) -> u64
         ensures { result ≡ data_len self.now }
     {
-        512 * (u64::from(self.loggers) * u64::from(self.pages))
+        512 * self.page_count()
+    }
+
+    /// How many bytes the media of the array has.
+    pub fn media_len(&self) -> u64
+        ensures { result ≡ media_len self.now }
+    {
+        512 + u64::from(self.loggers) * self.region_len()
+    }
+
+    /// Where the row of the transaction number `tid` at a logger lies in the media.
+    pub fn row_at(&self, logger: u8, tid: u8) -> u64
+        requires logger { logger < self.now.loggers }
+        requires tid { tid < self.now.numbers }
+        ensures { result ≡ row_at self.now logger tid }
+    {
+        self.region_at(logger) + 16 * u64::from(tid)
+    }
+
+    /// Where a cell of the transaction number `tid` at a logger lies in the media.
+    pub fn cell_at(&self, logger: u8, tid: u8, entry: u16) -> u64
+        requires logger { logger < self.now.loggers }
+        requires tid { tid < self.now.numbers }
+        requires entry { entry < self.now.entries }
+        ensures { result ≡ cell_at self.now logger tid entry }
+    {
+        let cell = u64::from(tid) * u64::from(self.entries) + u64::from(entry);
+        self.region_at(logger) + 16 * u64::from(self.numbers) + 528 * cell
+    }
+
+    /// Where the pages of a logger lie in the media.
+    pub fn data_at(&self, logger: u8) -> u64
+        requires { logger < self.now.loggers }
+        ensures { result ≡ data_at self.now logger }
+    {
+        let cells = u64::from(self.numbers) * u64::from(self.entries);
+        self.region_at(logger) + 16 * u64::from(self.numbers) + 528 * cells
+    }
+
+    /// The logger that has an address of the data, and the offset within that logger's data.
+    pub fn place(&self, addr: u64) -> Place
+        requires { addr < data_len self.now }
+        ensures logger { result.logger ≡ logger_of self.now addr }
+        ensures offset { result.offset ≡ offset_of self.now addr }
+    {
+        let page = addr / 512;
+        let loggers = u64::from(self.loggers);
+        Place {
+            logger: (page % loggers) as u8,
+            offset: 512 * (page / loggers) + addr % 512,
+        }
+    }
+
+    /// Where an address of the data lies in the media.
+    pub fn byte_at(&self, addr: u64) -> u64
+        requires { addr < data_len self.now }
+        ensures { result ≡ place_of self.now addr }
+    {
+        let place = self.place(addr);
+        self.data_at(place.logger) + place.offset
+    }
+
+    /// The parts of a range of the data: it is cut at the multiples of 512.
+    pub fn parts(&self, addr: u64, len: u64) -> Parts
+        requires { addr + len ≤ data_len self.now }
+        ensures parts { result ≡ parts_of self.now addr len }
+        // They follow one another without a gap, and each lies in one page of its logger.
+        ensures tile { Tile addr len (parts_of self.now addr len) }
+        ensures cut { AreCutAtPages (parts_of self.now addr len) }
+        ensures placed { All (IsPartOf self.now) (parts_of self.now addr len) }
+    {
+        Parts::new(*self, addr, len)
+    }
+
+    fn region_len(&self) -> u64
+        ensures { result ≡ region_len self.now }
+    {
+        let cells = u64::from(self.numbers) * u64::from(self.entries);
+        16 * u64::from(self.numbers) + 528 * cells + 512 * u64::from(self.pages)
+    }
+
+    fn region_at(&self, logger: u8) -> u64
+        requires { logger < self.now.loggers }
+        ensures { result ≡ region_at self.now logger }
+    {
+        512 + u64::from(logger) * self.region_len()
+    }
+}
+
+/// Four loggers, 8 transaction numbers, 16 entries and 64 pages.
+impl Default for Shape {
+    ghost use Rattle.array_shape.specs.Places.{HasNumbers};
+
+    ghost is_default = { HasNumbers 4 8 16 64 };
+
+    fn default() -> Shape {
+        Shape {
+            loggers: 4,
+            numbers: 8,
+            entries: 16,
+            pages: 64,
+        }
     }
 }

@@ -1,0 +1,51 @@
+-- The parts of a range of the data, and the pieces of a write: both are cut at the multiples of 512.
+use Rattle.std.specs.Prelude.{ℕ, zero, suc, ◌≡◌, ◌+◌, ◌-◌, ◌%◌, ◌≤◌, ◌<◌, min, List, [], ◌∷◌, length, take, drop, All}
+use Rattle.array_shape.specs.declared.shape.Shape.{Shape}
+use Rattle.array_shape.specs.declared.part.Part.{Part}
+use Rattle.array_shape.specs.Places.{logger_of, IsPlaced}
+
+-- how many bytes there are from an address to the end of its page
+abbrev pub page_left : ℕ → ℕ
+page_left addr = 512 - addr % 512
+
+-- the first n parts of a range, each up to the end of its page or of the range
+abbrev pub first_parts : Shape → ℕ → ℕ → ℕ → List Part
+first_parts shape zero addr len = []
+first_parts shape (suc n) addr zero = []
+first_parts shape (suc n) addr (suc len) =
+    record { logger = logger_of shape addr; addr = addr; len = min (page_left addr) (suc len) }
+    ∷ first_parts shape n (addr + page_left addr) (suc len - page_left addr)
+
+-- all of them: no part is empty, so there are at most as many as bytes
+unfoldable pub parts_of : Shape → ℕ → ℕ → List Part
+parts_of shape addr len = first_parts shape len addr len
+
+-- parts that follow one another from an address on, without a gap, and have so many bytes in all
+abbrev pub Tile : ℕ → ℕ → List Part → Type 0
+Tile addr len [] = len ≡ 0
+Tile addr len (p ∷ ps) = (p.addr ≡ addr) × (p.len ≤ len) × Tile (addr + p.len) (len - p.len) ps
+
+-- each part but the first begins a page
+abbrev pub AreCutAtPages : List Part → Type 0
+AreCutAtPages [] = Unit {0}
+AreCutAtPages (p ∷ ps) = All (λ q. q.addr % 512 ≡ 0) ps
+
+-- it lies in one page of the data, which its logger has
+pub record IsPartOf (shape : Shape) (part : Part) : Type 0 where
+  pub placed : IsPlaced shape part.addr part.len
+  pub logger : part.logger ≡ logger_of shape part.addr
+
+-- the first n pieces of a write, each up to the end of its page or of the bytes
+abbrev pub first_pieces : ℕ → ℕ → List ℕ → List (ℕ × List ℕ)
+first_pieces zero addr bytes = []
+first_pieces (suc n) addr [] = []
+first_pieces (suc n) addr (b ∷ bytes) =
+    (addr, take (page_left addr) (b ∷ bytes)) ∷ first_pieces n (addr + page_left addr) (drop (page_left addr) (b ∷ bytes))
+
+-- A write of bytes at an address, cut at the multiples of 512: each piece's address and bytes.
+unfoldable pub pieces_of : ℕ → List ℕ → List (ℕ × List ℕ)
+pieces_of addr bytes = first_pieces (length bytes) addr bytes
+
+-- the piece of a write of bytes at an address that goes to one part of its range
+abbrev pub piece_of : ℕ → List ℕ → Part → ℕ × List ℕ
+piece_of addr bytes part = (part.addr, take part.len (drop (part.addr - addr) bytes))
