@@ -1,5 +1,5 @@
 -- The data of an image, address by address.
-use Rattle.std.proofs.Common.{◌≡◌, ℕ, zero, suc, ◌+◌, ◌-◌, ◌*◌, ◌/◌, ◌%◌, ◌<◌, ◌≤◌, inl, inr, ⊎_elim, List, [], ◌∷◌, ◌++◌, length, get_or, refl, sym, ◌∙◌, ap, subst, arith}
+use Rattle.std.proofs.Common.{◌≡◌, ℕ, zero, suc, ◌+◌, ◌-◌, ◌%◌, ◌<◌, ◌≤◌, inl, inr, ⊎_elim, List, [], ◌∷◌, ◌++◌, length, get_or, refl, sym, ◌∙◌, ap, subst, arith}
 use Rattle.std.proofs.lemmas.List.{ext_get_or, get_or_past}
 use Rattle.std.proofs.lemmas.Bool.{cases_lt}
 use Rattle.pcm_media.specs.Images.{put, SameOutside, IsOutside}
@@ -7,7 +7,7 @@ use Rattle.pcm_media.proofs.Puts.{length-put, get_or-put_inside}
 use Rattle.pcm_media.proofs.Left.{get_or-put_outside}
 use Rattle.array_shape.specs.declared.shape.Shape.{Shape}
 use Rattle.array_shape.specs.Places.{media_len, data_len, place_of, IsPlaced}
-use Rattle.array_image.specs.Parts.{Part, applied, AllFit, ranges_of, places_of, AllPlaced, AllOwned}
+use Rattle.array_image.specs.Parts.{Part, AllFit, ranges_of, places_of, AllPlaced, AllOwned}
 use Rattle.array_image.specs.Image.{bytes_from, data_of}
 use Rattle.array_image.proofs.Places.{place_next, same_place, place_fits_in}
 

@@ -1,4 +1,9 @@
+pub mod Joined
 pub mod Places
 pub mod Applied
 pub mod Data
 pub mod Rows
+pub mod Deciding
+pub mod Standing
+pub mod Frames
+pub mod Orders

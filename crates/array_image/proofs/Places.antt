@@ -1,8 +1,8 @@
 -- No two places of an array meet.
-use Rattle.std.proofs.Common.{◌≡◌, ℕ, zero, suc, ◌+◌, ◌-◌, ◌*◌, ◌/◌, ◌%◌, ◌<◌, ◌≤◌, refl, sym, ◌∙◌, ap, subst, arith, mul_comm}
+use Rattle.std.proofs.Common.{◌≡◌, ℕ, zero, suc, ◌+◌, ◌-◌, ◌*◌, ◌/◌, ◌%◌, ◌<◌, ◌≤◌, sym, ◌∙◌, arith, mul_comm}
 use Rattle.std.proofs.lemmas.Nat.{same_from_place, mul-add-lt, row_fits, div-add-mod', div_below, mod_below}
 use Rattle.array_shape.specs.declared.shape.Shape.{Shape}
-use Rattle.array_shape.specs.Places.{region_len, region_at, media_len, row_at, cell_at, data_at, page_count, data_len, logger_of, offset_of, place_of}
+use Rattle.array_shape.specs.Places.{region_len, region_at, media_len, row_at, cell_at, data_at, data_len, logger_of, offset_of, place_of}
 
 -- in regions of one length: two ranges that have a place in common are of one region, and reach into one another
 pub same_offset : (r g h o n p m x : ℕ) → o + n ≤ r → p + m ≤ r → 512 + g * r + o ≤ x → x < 512 + g * r + o + n → 512 + h * r + p ≤ x → x < 512 + h * r + p + m → (g ≡ h) × (o < p + m) × (p < o + n)

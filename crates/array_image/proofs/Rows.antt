@@ -1,15 +1,15 @@
 -- Rows and cells of images that are the same at some places.
-use Rattle.std.proofs.Common.{◌≡◌, ℕ, zero, suc, ◌+◌, ◌-◌, ◌*◌, ◌<◌, ◌≤◌, Bool, true, false, List, [], ◌∷◌, ◌++◌, length, get_or, take, drop, refl, sym, ◌∙◌, ap, subst, arith}
+use Rattle.std.proofs.Common.{◌≡◌, ℕ, zero, suc, ◌+◌, ◌<◌, ◌≤◌, List, ◌∷◌, length, get_or, drop, refl, sym, ◌∙◌, ap, subst, arith}
 use Rattle.std.specs.Prelude.{nat_eq}
 use Rattle.std.proofs.lemmas.List.{length-take-le, length-drop}
 use Rattle.byteorder.specs.Endian.{little_from}
 use Rattle.pcm_media.specs.Images.{range, SameOutside, IsOutside}
-use Rattle.pcm_media.proofs.Ranges.{length-range, get_or-range, range_same, range_away}
+use Rattle.pcm_media.proofs.Ranges.{length-range, get_or-range, range_away}
 use Rattle.array_shape.specs.declared.shape.Shape.{Shape}
-use Rattle.array_shape.specs.Places.{row_at, cell_at, media_len, data_len, IsPlaced}
+use Rattle.array_shape.specs.Places.{row_at, cell_at, media_len}
 use Rattle.row_bytes.specs.declared.row.Row.{Row}
 use Rattle.row_bytes.specs.Said.{row_said}
-use Rattle.array_image.specs.Parts.{Part, AllOwned, IsOwned}
+use Rattle.array_image.specs.Parts.{AllOwned, IsOwned}
 use Rattle.array_image.specs.Image.{row_of, cell_of, cell_head, cell_part, parts_from, IsGoodCell}
 use Rattle.array_image.proofs.Places.{cell_fits_in}
 

@@ -1,8 +1,9 @@
 -- Which rows of an image are decided, and the data that it settles to.
-use Rattle.std.specs.Prelude.{ℕ, zero, suc, ◌+◌, ◌^◌, Bool, true, not, ◌&&◌, ◌||◌, nat_eq, nat_lt, if◌then◌else◌, List, [], ◌++◌}
+use Rattle.std.specs.Prelude.{ℕ, zero, suc, ◌^◌, Bool, true, not, ◌&&◌, ◌||◌, nat_eq, nat_lt, if◌then◌else◌, List, []}
 use Rattle.std.specs.Int.{bit_at}
 use Rattle.array_shape.specs.declared.shape.Shape.{Shape}
 use Rattle.row_bytes.specs.declared.row.Row.{Row}
+use Rattle.array_image.specs.Joined.{joined}
 use Rattle.array_image.specs.Parts.{Part, applied}
 use Rattle.array_image.specs.Image.{row_of, row_parts, data_of}
 
@@ -32,16 +33,13 @@ decided shape image g t = decides shape.loggers (λ h. row_of shape image h t) g
 abbrev pub decided_parts : Shape → List ℕ → ℕ → ℕ → List Part
 decided_parts shape image g t = if decided shape image g t then row_parts shape image g t else []
 
--- of n loggers from g on
-abbrev pub decided_at : Shape → List ℕ → ℕ → ℕ → ℕ → List Part
-decided_at shape image t g zero = []
-decided_at shape image t g (suc n) = decided_parts shape image g t ++ decided_at shape image t (g + 1) n
+-- of all loggers, and of all numbers
+abbrev pub number_parts : Shape → List ℕ → ℕ → List Part
+number_parts shape image t = joined (λ g. decided_parts shape image g t) 0 shape.loggers
 
--- of n numbers from t on
-abbrev pub decided_from : Shape → List ℕ → ℕ → ℕ → List Part
-decided_from shape image t zero = []
-decided_from shape image t (suc n) = decided_at shape image t 0 shape.loggers ++ decided_from shape image (t + 1) n
+abbrev pub all_decided : Shape → List ℕ → List Part
+all_decided shape image = joined (λ t. number_parts shape image t) 0 shape.numbers
 
 -- the data once the parts of all decided rows are written into it, by rising number, logger and cell
 abbrev pub settled_data : Shape → List ℕ → List ℕ
-settled_data shape image = applied (decided_from shape image 0 shape.numbers) (data_of shape image)
+settled_data shape image = applied (all_decided shape image) (data_of shape image)

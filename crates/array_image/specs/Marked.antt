@@ -1,19 +1,19 @@
 -- An image while the votes of one transaction are open.
-use Rattle.std.specs.Prelude.{ℕ, zero, suc, ◌+◌, ◌^◌, ◌<◌, ◌≤◌, ◌≡◌, ◌≢◌, true, false, List, [], ◌++◌, length, slice_index}
+use Rattle.std.specs.Prelude.{ℕ, ◌+◌, ◌^◌, ◌<◌, ◌≤◌, ◌≡◌, ◌≢◌, true, false, List, length, slice_index}
 use Rattle.array_shape.specs.declared.shape.Shape.{Shape}
 use Rattle.array_shape.specs.Places.{media_len}
+use Rattle.array_image.specs.Joined.{joined}
 use Rattle.array_image.specs.Parts.{Part}
 use Rattle.array_image.specs.Image.{row_of, cell_of, parts_from, data_of, IsGoodCell}
 use Rattle.array_image.specs.Decided.{has_logger}
 
--- the parts of number t that n loggers from g on have in the cells that are named for each of them
-abbrev pub named_from : Shape → List ℕ → ℕ → List ℕ → List ℕ → ℕ → ℕ → List Part
-named_from shape image t firsts counts g zero = []
-named_from shape image t firsts counts g (suc n) = parts_from shape image g t (slice_index firsts g) (slice_index counts g) ++ named_from shape image t firsts counts (g + 1) n
+-- the parts that are in the cells named for a logger
+abbrev pub named_at : Shape → List ℕ → ℕ → List ℕ → List ℕ → ℕ → List Part
+named_at shape image t firsts counts g = parts_from shape image g t (slice_index firsts g) (slice_index counts g)
 
--- of all loggers, by rising logger and cell
+-- for all loggers, by rising logger and cell
 abbrev pub named_parts : Shape → List ℕ → ℕ → List ℕ → List ℕ → List Part
-named_parts shape image t firsts counts = named_from shape image t firsts counts 0 shape.loggers
+named_parts shape image t firsts counts = joined (named_at shape image t firsts counts) 0 shape.loggers
 
 -- a mask has just the loggers with a count
 pub record IsMaskOf (loggers : ℕ) (counts : List ℕ) (mask : ℕ) : Type 0 where

@@ -1,5 +1,5 @@
 -- Parts: pieces of writes into the data, none of them across a page.
-use Rattle.std.specs.Prelude.{ℕ, ◌≡◌, ◌+◌, ◌≤◌, List, [], ◌∷◌, length}
+use Rattle.std.specs.Prelude.{ℕ, ◌≡◌, ◌+◌, ◌≤◌, nat_eq, if◌then◌else◌, List, [], ◌∷◌, length}
 use Rattle.pcm_media.specs.Images.{put}
 use Rattle.array_shape.specs.declared.shape.Shape.{Shape}
 use Rattle.array_shape.specs.Places.{IsPlaced, logger_of, place_of}
@@ -42,3 +42,8 @@ pub record IsOwned (shape : Shape) (g addr len : ℕ) : Type 0 where
 abbrev pub AllOwned : Shape → ℕ → List Part → Type 0
 AllOwned shape g [] = Unit {0}
 AllOwned shape g (p ∷ ps) = IsOwned shape g p.0 (length p.1) × AllOwned shape g ps
+
+-- those of one logger
+abbrev pub parts_at : Shape → ℕ → List Part → List Part
+parts_at shape g [] = []
+parts_at shape g (p ∷ ps) = if nat_eq (logger_of shape p.0) g then p ∷ parts_at shape g ps else parts_at shape g ps

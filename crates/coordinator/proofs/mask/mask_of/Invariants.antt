@@ -1,0 +1,6 @@
+use Rattle.std.proofs.Common.{◌≤◌, length, ◌≡◌, ℕ}
+use Rattle.array_image.specs.Marked.{IsMaskOf}
+use Rattle.coordinator.proofs.mask.mask_of.Given as goal
+
+abbrev pub invariant-loop-logger : goal.invariant-loop-logger
+invariant-loop-logger l = IsMaskOf l.logger l.counts l.mask

@@ -1,0 +1,4 @@
+//! A commit in two phases over the loggers of an array.
+#![tactic(auto)]
+
+mod mask;
