@@ -1,14 +1,17 @@
 -- The data of an image, address by address.
 use Rattle.std.proofs.Common.{◌≡◌, ℕ, zero, suc, ◌+◌, ◌-◌, ◌%◌, ◌<◌, ◌≤◌, inl, inr, ⊎_elim, List, [], ◌∷◌, ◌++◌, length, get_or, refl, sym, ◌∙◌, ap, subst, arith}
 use Rattle.std.proofs.lemmas.List.{ext_get_or, get_or_past}
-use Rattle.std.proofs.lemmas.Bool.{cases_lt}
+use Rattle.std.proofs.lemmas.Bool.{cases_lt, cases_eq}
 use Rattle.pcm_media.specs.Images.{put, SameOutside, IsOutside}
 use Rattle.pcm_media.proofs.Puts.{length-put, get_or-put_inside}
-use Rattle.pcm_media.proofs.Left.{get_or-put_outside}
+use Rattle.pcm_media.proofs.Left.{get_or-put_outside, outside-append}
 use Rattle.array_shape.specs.declared.shape.Shape.{Shape}
 use Rattle.array_shape.specs.Places.{media_len, data_len, place_of, IsPlaced}
-use Rattle.array_image.specs.Parts.{Part, AllFit, ranges_of, places_of, AllPlaced, AllOwned}
+use Rattle.array_image.specs.Joined.{joined}
+use Rattle.array_image.specs.Parts.{Part, applied, AllFit, ranges_of, places_of, AllPlaced, AllOwned}
 use Rattle.array_image.specs.Image.{bytes_from, data_of}
+use Rattle.array_image.proofs.Joined.{joined_more}
+use Rattle.array_image.proofs.Applied.{applied-append}
 use Rattle.array_image.proofs.Places.{place_next, same_place, place_fits_in}
 
 module _ (shape : Shape) where
@@ -120,3 +123,26 @@ module _ (shape : Shape) where
       elsewhere i small inner outer out =
           get_or-put_outside image (place_of shape at) bytes outer (place_of shape i) (outside_place at (length bytes) i placed small out)
           ∙ sym (get_or-data_of image i small) ∙ sym (get_or-put_outside (data_of shape image) at bytes inner i out)
+
+  pub places_of-append : (ps qs : List Part) → places_of shape (ps ++ qs) ≡ places_of shape ps ++ places_of shape qs
+  places_of-append [] qs = refl
+  places_of-append (p ∷ ps) qs = ap (λ (l : List (ℕ × ℕ)). (place_of shape p.0, length p.1) ∷ l) (places_of-append ps qs)
+
+  -- outside joined parts is outside each list of them
+  pub outside_list : (lists : ℕ → List Part) (x k n : ℕ) → IsOutside (places_of shape (joined lists k n)) x → (g : ℕ) → k ≤ g → g < k + n → IsOutside (places_of shape (lists g)) x
+  outside_list lists x k zero out g le lt = absurd (omega arith)
+  outside_list lists x k (suc n) out g le lt =
+      let both = outside-append (places_of shape (lists k)) (places_of shape (joined lists (k + 1) n)) x (subst (λ l. IsOutside l x) (places_of-append (lists k) (joined lists (k + 1) n)) out) in
+      ⊎_elim (λ is. subst (λ j. IsOutside (places_of shape (lists j)) x) is both.0) (λ ne. outside_list lists x (k + 1) n both.1 g (omega arith) (omega arith)) (cases_eq k g)
+
+-- one list more is applied
+pub applied_more : (lists : ℕ → List Part) (n : ℕ) (d e f : List ℕ) → e ≡ applied (joined lists 0 n) d → f ≡ applied (lists n) e → f ≡ applied (joined lists 0 (n + 1)) d
+applied_more lists n d e f before now =
+    now ∙ ap (applied (lists n)) before ∙ sym (applied-append (joined lists 0 n) (lists n) d)
+    ∙ ap (λ (l : List Part). applied l d) (ap (λ (k : ℕ). joined lists 0 n ++ lists k) here ∙ sym (joined_more lists 0 n) ∙ ap (λ (k : ℕ). joined lists 0 k) more)
+  where
+    here : n ≡ 0 + n
+    here = omega arith
+
+    more : suc n ≡ n + 1
+    more = omega arith
