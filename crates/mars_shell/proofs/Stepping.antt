@@ -17,6 +17,7 @@ use Rattle.record_slots.specs.Slots.{slot_said}
 use Rattle.record_slots.specs.declared.slot.Slot.TheVariants.{Present}
 use Rattle.history.specs.Table.{Table, after, left_by, found}
 use Rattle.history.specs.Legal.{records}
+use Rattle.history.proofs.OneMore.{left_by-push, records-push}
 use Rattle.history.specs.declared.call.Call.{Call}
 use Rattle.history.specs.declared.call.Call.TheVariants.{Begin, Get, Put, Commit}
 use Rattle.history.specs.declared.call.Reply.{Reply}
@@ -54,14 +55,6 @@ parts_at_one shape p one = ap (λ (b : Bool). (cond b 1 0) + 0) (eq-eqb _ 0 (onl
 pub applied-push : (ps : List Part) (p : Part) (d : List ℕ) → applied (ps ++ p ∷ []) d ≡ put (applied ps d) p.0 p.1
 applied-push [] p d = refl
 applied-push (q ∷ ps) p d = applied-push ps p (put d q.0 q.1)
-
-pub left_by-push : (table : Table) (calls : List (Call × Reply)) (call : Call) (reply : Reply) → left_by table (calls ++ (call, reply) ∷ []) ≡ after (left_by table calls) call
-left_by-push table [] call reply = refl
-left_by-push table (first ∷ calls) call reply = left_by-push (after table first.0) calls call reply
-
-pub records-push : (base : Table) (history : List Done) (done : Done) → records base (history ++ done ∷ []) ≡ left_by (records base history) done.calls
-records-push base [] done = refl
-records-push base (first ∷ history) done = records-push (left_by base first.calls) history done
 
 -- what was put last is what is seen
 get_after : (table : Table) (call : Call) (key : ℕ) → get (after table call) key ≡ either (last_put (put_by call) key) (get table key)

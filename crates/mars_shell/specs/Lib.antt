@@ -1,7 +1,11 @@
+pub mod Exchange
 pub mod Fault
 pub mod Kept
 pub mod Lines
 pub mod Live
+pub mod Outcome
+pub mod Prepared
 pub mod Records
 pub mod Session
+pub mod Transcript
 pub mod Written

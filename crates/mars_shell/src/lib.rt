@@ -1,6 +1,7 @@
 //! The program over a source, a sink and a media that are handed in.
 #![tactic(auto)]
 
+mod answer;
 mod fault;
 mod gate;
 mod input;
@@ -10,6 +11,7 @@ mod output;
 mod records;
 mod session;
 mod status;
+mod whole;
 
 pub use fault::fault_text;
 pub use gate::{Gate, OpenGate, Place};

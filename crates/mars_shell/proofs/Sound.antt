@@ -1,0 +1,28 @@
+-- A step keeps the history legal and the running transaction right.
+use Rattle.std.proofs.Common.{◌≡◌, ℕ, ◌+◌, List, [], ◌∷◌, ◌++◌, length, Option, Some, None, refl, sym, subst, inl, inr, arith}
+use Rattle.history.specs.Table.{Table, Answers, after, left_by, IsRight}
+use Rattle.history.specs.Legal.{records, IsLegalFrom}
+use Rattle.history.specs.declared.call.Call.{Call}
+use Rattle.history.specs.declared.call.Call.TheVariants.{Begin, Get, Put, Commit}
+use Rattle.history.specs.declared.call.Reply.{Reply}
+use Rattle.history.specs.declared.transaction.Done.{Done}
+use Rattle.mars_shell.specs.Session.{Limits, State, StepAt, Step, IsSound, done_with}
+use Rattle.history.proofs.OneMore.{IsRight-push, IsLegal-push}
+
+keeps : (limits : Limits) (live : Option (List (Call × Reply))) (old : State) (call : Call) (reply : Reply) (new : State)
+    → old.live ≡ live → StepAt limits live old call reply new → IsSound old → IsSound new
+keeps limits None old Begin reply new is step sound = subst IsSound (sym step.1) (record { legal = sound.legal; right = tt })
+keeps limits None old (Get key) reply new is step sound = subst IsSound (sym step.1) sound
+keeps limits None old (Put key value) reply new is step sound = subst IsSound (sym step.1) sound
+keeps limits None old Commit reply new is step sound = subst IsSound (sym step.1) sound
+keeps limits (Some calls) old Begin reply new is step sound = subst IsSound (sym step.1) sound
+keeps limits (Some calls) old (Get key) reply new is step sound =
+    subst IsSound (sym step.1) (record { legal = sound.legal; right = IsRight-push _ calls _ _ (rw is at sound.right) (rw is at step.0) })
+keeps limits (Some calls) old (Put key value) reply new is (inl step) sound =
+    subst IsSound (sym step.1.1) (record { legal = sound.legal; right = IsRight-push _ calls _ _ (rw is at sound.right) step.1.0 })
+keeps limits (Some calls) old (Put key value) reply new is (inr step) sound = subst IsSound (sym step.2) sound
+keeps limits (Some calls) old Commit reply new is step sound =
+    subst IsSound (sym step.1) (record { legal = IsLegal-push old.base old.history (done_with old calls) sound.legal refl (rw is at sound.right); right = tt })
+
+pub Step-keeps : (limits : Limits) (old : State) (call : Call) (reply : Reply) (new : State) → Step limits old call reply new → IsSound old → IsSound new
+Step-keeps limits old call reply new step sound = keeps limits old.live old call reply new refl step sound
