@@ -4,3 +4,4 @@ pub mod Ranges
 pub mod Writing
 mod Replay
 mod MemoryLemmas
+mod ChoiceLemmas

@@ -3,3 +3,4 @@ pub mod View
 pub mod Kept
 pub mod Replay
 pub mod Memory
+pub mod Choice

@@ -2,6 +2,7 @@
 #![tactic(auto)]
 
 mod call;
+mod choice;
 mod journal;
 mod media;
 mod memory_media;
