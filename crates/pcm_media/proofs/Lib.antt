@@ -5,3 +5,4 @@ pub mod Writing
 mod Replay
 mod MemoryLemmas
 mod ChoiceLemmas
+mod FusedLemmas

@@ -4,3 +4,4 @@ pub mod Kept
 pub mod Replay
 pub mod Memory
 pub mod Choice
+pub mod Fused
