@@ -4,3 +4,5 @@ pub mod Ranges
 pub mod Writing
 mod Replay
 mod MemoryLemmas
+mod ChoiceLemmas
+mod FusedLemmas

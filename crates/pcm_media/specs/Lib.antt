@@ -3,3 +3,5 @@ pub mod View
 pub mod Kept
 pub mod Replay
 pub mod Memory
+pub mod Choice
+pub mod Fused

@@ -1,5 +1,5 @@
 -- What a media in memory shows.
-use Rattle.std.specs.Prelude.{ℕ, ◌+◌, ◌%◌, ◌<◌, ◌≤◌, ◌≡◌, ◌⊎◌, ◌==◌, if◌then◌else◌, List, [], ◌∷◌, length, slice_index}
+use Rattle.std.specs.Prelude.{ℕ, ◌<◌, ◌≡◌, ◌⊎◌, List, length}
 use Rattle.std.proofs.Common.{inl, ⊎_elim, arith}
 use Rattle.pcm_media.specs.Images.{Content, MayLeave}
 use Rattle.pcm_media.specs.View.{View}
@@ -39,20 +39,6 @@ pub record Tells (memory : Memory) (read : List ℕ) : Type 0 where
   pub stamped : IsStamped memory.kept.moment memory.kept.records
   pub whole : all_taken memory.kept.records ≡ length memory.kept.written
   pub bytes : (content_of memory).bytes ≡ read
-
--- one of the ranges has this place
-abbrev pub IsInside : List (ℕ × ℕ) → ℕ → Type 0
-IsInside [] i = ⊥
-IsInside (r ∷ rs) i = ((r.0 ≤ i) × (i < r.0 + r.1)) ⊎ IsInside rs i
-
--- the byte that a choice has for a place, over and over; an empty choice keeps the byte that is there
-abbrev pub chosen_byte : List ℕ → ℕ → ℕ → ℕ
-chosen_byte choice i there = if length choice == 0 then there else slice_index choice (i % length choice)
-
--- A loss of power may leave this image, and it is the one that has the choice at each place that is not settled.
-pub record IsLeftBy (choice : List ℕ) (content : Content) (image : List ℕ) : Type 0 where
-  pub left : MayLeave content image
-  pub chosen : (i : ℕ) → i < length image → IsInside content.unsettled i → slice_index image i ≡ chosen_byte choice i (slice_index content.bytes i)
 
 pub counts_now : (memory : Memory) (t : ℕ) (image : List ℕ) → MayLeave (content_of memory) image → LeftSince memory t image
 counts_now memory t image left = inl left

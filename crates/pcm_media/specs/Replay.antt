@@ -46,6 +46,24 @@ abbrev pub IsStamped : ℕ → List Record → Type 0
 IsStamped now [] = Unit {0}
 IsStamped now (made ∷ later) = (made.moment ≤ now) × IsStamped now later
 
+-- a call settles what was written before it
+abbrev pub settles : Call → Bool → Bool
+settles (Read at len) is_done = false
+settles (Write at len) is_done = false
+settles Barrier is_done = is_done
+
+-- the ranges that are not settled after a call, where these were not before it
+abbrev pub unsettled_by : Call → Bool → List (ℕ × ℕ) → List (ℕ × ℕ)
+unsettled_by (Read at len) is_done ranges = ranges
+unsettled_by (Write at len) is_done ranges = (at, len) ∷ ranges
+unsettled_by Barrier true ranges = []
+unsettled_by Barrier false ranges = ranges
+
+-- the same after all of these calls
+abbrev pub unsettled_after : List Record → List (ℕ × ℕ) → List (ℕ × ℕ)
+unsettled_after [] ranges = ranges
+unsettled_after (made ∷ later) ranges = unsettled_after later (unsettled_by made.call made.is_done ranges)
+
 -- after these calls, the first of them first
 abbrev pub content_after : List Record → List ℕ → Content → Content
 content_after [] written content = content

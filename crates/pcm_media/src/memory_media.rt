@@ -5,8 +5,10 @@ ghost use Rattle.pcm_media.specs.Images.{put, range, written, settled};
 ghost use Rattle.pcm_media.specs.View.{Writes};
 ghost use Rattle.pcm_media.specs.declared.call.Call.TheVariants.{Read, Write, Barrier};
 ghost use Rattle.pcm_media.specs.Kept.{MustFail, HasRoom, Makes};
-ghost use Rattle.pcm_media.specs.Memory.{made_anew, content_of, view_of, IsLeftBy};
+ghost use Rattle.pcm_media.specs.Memory.{made_anew, content_of, view_of};
+ghost use Rattle.pcm_media.specs.Choice.{IsLeftBy};
 
+use crate::choice::choose;
 use crate::journal::Journal;
 use crate::{Call, Media, Record};
 use counted::{Failed, NoMemory};
@@ -51,10 +53,22 @@ impl MemoryMedia {
     ) -> Result<MemoryMedia, NoMemory>
         ensures { IfOk result (λ m. m ≡ made_anew bytes.now calls written) }
     {
+        MemoryMedia::over(alloc, Vec::from_slice(alloc, bytes)?, calls, written)
+    }
+
+    // The same over bytes of its own.
+    fn over(
+        alloc: Global,
+        bytes: Vec<u8>,
+        calls: u64,
+        written: u64,
+    ) -> Result<MemoryMedia, NoMemory>
+        ensures { IfOk result (λ m. m ≡ made_anew bytes.items calls written) }
+    {
         Ok(MemoryMedia {
             alloc,
-            start: Vec::from_slice(alloc, bytes)?,
-            bytes: Vec::from_slice(alloc, bytes)?,
+            start: Vec::from_slice(alloc, &bytes)?,
+            bytes,
             journal: Journal::new(alloc, calls, written)?,
         })
     }
@@ -87,6 +101,24 @@ impl MemoryMedia {
         ensures { result.now ≡ self.now.kept.written }
     {
         self.journal.written()
+    }
+}
+
+impl MemoryMedia {
+    /// An image that a loss of power now may leave, made anew with the same room. At each place that is not settled it has the
+    /// byte of `choice` for that place, over and over; an empty choice keeps what a read gives.
+    pub fn leave(&self, choice: &[u8]) -> Result<MemoryMedia, NoMemory>
+        ensures left { IfOk result (λ m. IsLeftBy choice.now (content_of self.now) m.start) }
+        ensures anew { IfOk result (λ m. m ≡ made_anew m.start self.now.kept.calls_room self.now.kept.bytes_room) }
+    {
+        let mut image = Vec::from_slice(self.alloc, &self.bytes)?;
+        choose(&mut image, self.journal.records(), choice);
+        MemoryMedia::over(
+            self.alloc,
+            image,
+            self.journal.calls_room(),
+            self.journal.bytes_room(),
+        )
     }
 }
 
