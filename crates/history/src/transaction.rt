@@ -122,3 +122,6 @@ impl History {
         self.items.len()
     }
 }
+
+#[cfg(test)]
+mod tests;
