@@ -1,8 +1,7 @@
 -- What a store shows, and what its commands do to that.
-use Rattle.std.specs.Prelude.{ℕ, ◌≡◌, ◌≢◌, ◌+◌, ◌≤◌, Bool, true, false, IsTrue, nat_eq, if◌then◌else◌, List, [], ◌∷◌, ◌++◌, length}
+use Rattle.std.specs.Prelude.{ℕ, ◌≡◌, ◌≢◌, ◌+◌, ◌≤◌, Bool, true, false, IsTrue, List, ◌++◌, length, filter}
 use Rattle.array_shape.specs.declared.shape.Shape.{Shape}
-use Rattle.array_shape.specs.Places.{logger_of}
-use Rattle.array_shape.specs.Parts.{pieces_of}
+use Rattle.array_shape.specs.Parts.{pieces_of, is_piece_on}
 use Rattle.array_image.specs.Parts.{Part, applied}
 
 -- Its shape; its data; which numbers are live; the parts that each has logged, in order; how many of them each logger holds;
@@ -18,8 +17,7 @@ pub record StoreView : Type 0 where
 
 -- how many of these parts are on logger g
 abbrev pub parts_at : Shape → ℕ → List Part → ℕ
-parts_at shape g [] = 0
-parts_at shape g (p ∷ ps) = (if nat_eq (logger_of shape p.0) g then 1 else 0) + parts_at shape g ps
+parts_at shape g parts = length (filter (is_piece_on shape g) parts)
 
 -- what every command keeps
 pub record Stays (old new : StoreView) : Type 0 where

@@ -4,11 +4,9 @@ use Rattle.std.specs.Ordering.{nat_cmp}
 use Rattle.std.specs.Cmp.{nat_cmp_total, unsigned_tied}
 use Rattle.std.specs.FinMap.{get, insert, get-empty, get-insert, same_map, nat_cmp-IsAntisymmetric}
 use Rattle.std.proofs.lemmas.Bool.{cases_eq, cases_lt, eq-eqb, ne_eqb}
-use Rattle.std.proofs.lemmas.List.{ext_get_or}
 use Rattle.pcm_media.specs.Images.{put, range}
-use Rattle.pcm_media.proofs.Puts.{length-put, get_or-put_inside}
 use Rattle.pcm_media.proofs.Left.{same_outside-put}
-use Rattle.pcm_media.proofs.Ranges.{length-range, get_or-range, range_away}
+use Rattle.pcm_media.proofs.Ranges.{range-put, range_away}
 use Rattle.history.specs.Table.{Table}
 use Rattle.record_slots.specs.Slots.{slot_said}
 use Rattle.record_slots.specs.declared.slot.Slot.TheVariants.{Present}
@@ -52,15 +50,6 @@ module _ (slots : ℕ) (bytes : List ℕ) where
   get_past : (k : ℕ) → slots ≤ k → get (records_of slots bytes) k ≡ None
   unfolding records_of
   get_past k le = none_from slots k le
-
--- what was written is read
-range-put : (old bytes : List ℕ) (at n : ℕ) → n ≡ length bytes → at + length bytes ≤ length old → range (put old at bytes) at n ≡ bytes
-range-put old bytes at n is fits =
-    let long = length-put old at bytes fits in
-    let size : length (range (put old at bytes) at n) ≡ n = length-range (put old at bytes) at n (omega arith) in
-    ext_get_or 0 (range (put old at bytes) at n) bytes (omega arith)
-    (λ i lt. get_or-range (put old at bytes) at n i (omega arith) ∙ get_or-put_inside old at bytes fits (at + i) (omega arith) (omega arith)
-        ∙ ap (λ (j : ℕ). get_or bytes j 0) (omega arith))
 
 module _ (slots k : ℕ) (value bytes data_bytes : List ℕ) (lt : k < slots) (long : length data_bytes ≡ 128 * slots) (size : length bytes ≡ 64) (says : slot_said bytes ≡ Some (Present k value)) where
   after_bytes : List ℕ

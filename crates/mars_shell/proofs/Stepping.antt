@@ -50,7 +50,7 @@ only_logger : (n addr : ℕ) → n ≡ 1 → addr / 512 % n ≡ 0
 only_logger n addr is = ap (λ (m : ℕ). addr / 512 % m) is ∙ omega arith
 
 pub parts_at_one : (shape : Shape) (p : Part) → shape.loggers ≡ 1 → parts_at shape 0 (p ∷ []) ≡ 1
-parts_at_one shape p one = ap (λ (b : Bool). (cond b 1 0) + 0) (eq-eqb _ 0 (only_logger shape.loggers p.0 one))
+parts_at_one shape p one = ap (λ (b : Bool). length (cond b (p ∷ []) [])) (eq-eqb _ 0 (only_logger shape.loggers p.0 one))
 
 pub applied-push : (ps : List Part) (p : Part) (d : List ℕ) → applied (ps ++ p ∷ []) d ≡ put (applied ps d) p.0 p.1
 applied-push [] p d = refl

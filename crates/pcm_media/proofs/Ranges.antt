@@ -41,3 +41,12 @@ end-put bytes base at more fits =
         | inr after ↦ get_or-put_after bytes (base + at) more fits (base + i) (omega arith) ∙ sym (get_or-put_after (drop base bytes) at more inner i after ∙ get_or-drop base bytes i 0)
       ]
     ])
+
+-- what was written is read
+pub range-put : (old bytes : List ℕ) (at n : ℕ) → n ≡ length bytes → at + length bytes ≤ length old → range (put old at bytes) at n ≡ bytes
+range-put old bytes at n is fits =
+    let long = length-put old at bytes fits in
+    let size : length (range (put old at bytes) at n) ≡ n = length-range (put old at bytes) at n (omega arith) in
+    ext_get_or 0 (range (put old at bytes) at n) bytes (omega arith)
+    (λ i lt. get_or-range (put old at bytes) at n i (omega arith) ∙ get_or-put_inside old at bytes fits (at + i) (omega arith) (omega arith)
+        ∙ ap (λ (j : ℕ). get_or bytes j 0) (omega arith))

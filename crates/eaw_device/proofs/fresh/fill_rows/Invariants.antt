@@ -1,0 +1,17 @@
+use Rattle.std.proofs.Common.{ℕ, ◌≡◌, [], ◌∷◌, Ok, Result, length, replicate, ◌*◌}
+use Rattle.std.specs.Prelude.{IsTrue}
+use Rattle.counted.specs.declared.Failed.{Failed}
+use Rattle.pcm_media.specs.View.{Writes}
+use Rattle.array_shape.specs.Places.{media_len}
+use Rattle.array_image.specs.Image.{data_of}
+use Rattle.eaw_device.specs.Fresh.{HasRows}
+use Rattle.eaw_device.proofs.fresh.fill_rows.Given as goal
+
+abbrev pub invariant-loop-logger : goal.invariant-loop-logger
+invariant-loop-logger g l =
+    let m = g.M.Media in
+    record {
+      rows : IsTrue m.tells → HasRows l.shape l.logger (m.view l.media).content.bytes;
+      data_same : IsTrue m.tells → data_of l.shape (m.view l.media).content.bytes ≡ data_of l.shape (m.view l.fn.media).content.bytes;
+      does : let done : Result (Unit {0}) Failed = Ok tt in Writes m.tells ((0, media_len l.shape) ∷ []) (m.view l.fn.media) (m.view l.media) done;
+    }

@@ -1,0 +1,15 @@
+use Rattle.std.proofs.Common.{ℕ, [], ◌∷◌, Ok, Result}
+use Rattle.std.specs.Prelude.{IsTrue}
+use Rattle.counted.specs.declared.Failed.{Failed}
+use Rattle.pcm_media.specs.View.{Writes}
+use Rattle.array_shape.specs.Places.{media_len}
+use Rattle.eaw_device.specs.Fresh.{HasPages}
+use Rattle.eaw_device.proofs.fresh.write_pages.Given as goal
+
+abbrev pub invariant-loop-page : goal.invariant-loop-page
+invariant-loop-page g l =
+    let m = g.M.Media in
+    record {
+      pages : IsTrue m.tells → HasPages l.shape l.page (m.view l.media).content.bytes;
+      does : let done : Result (Unit {0}) Failed = Ok tt in Writes m.tells ((0, media_len l.shape) ∷ []) (m.view l.fn.media) (m.view l.media) done;
+    }
