@@ -1,5 +1,6 @@
 use crate::{Call, FusedMedia, Media, MemoryMedia, Record};
-use counted::Failed;
+use counted::{Failed, NoMemory};
+use std::alloc::Global;
 use std::process::Abort;
 use std::test::Fail;
 
@@ -32,6 +33,15 @@ fn four_calls<M: Media>(rt: &impl Abort, media: &mut M) -> [Result<(), Failed>; 
     [first, barrier, second, read]
 }
 
+// With `aXMNOfgh` to be read, of which nothing is sure from the third byte on but the last: a write at 5 has failed.
+fn half_settled(rt: &impl Abort, alloc: Global) -> Result<MemoryMedia, NoMemory> {
+    let mut media = MemoryMedia::new(alloc, b"abcdefgh", 6, 6)?;
+    media.fail(5)?;
+    let _ = four_calls(rt, &mut media);
+    let _ = write_at(rt, &mut media, 5, b"PQ");
+    Ok(media)
+}
+
 #[test]
 fn leaves_what_is_chosen(rt: HostRuntime) -> Result<(), Fail> {
     let rows: [(&[u8], &[u8]); 5] = [
@@ -41,23 +51,24 @@ fn leaves_what_is_chosen(rt: HostRuntime) -> Result<(), Fail> {
         (b"01234567", b"aX23456h"),
         (b"0123456789", b"aX23456h"),
     ];
-    let mut media = MemoryMedia::new(rt.alloc(), b"abcdefgh", 5, 6)?;
-    assert!(rt; media.fail(4).is_ok());
-    assert_eq!(rt; write_at(&rt, &mut media, 1, b"XY"), Ok(()));
-    assert_eq!(rt; media.barrier(), Ok(()));
-    assert_eq!(rt; write_at(&rt, &mut media, 2, b"MNO"), Ok(()));
-    assert_eq!(rt; write_at(&rt, &mut media, 5, b"PQ"), Err(Failed));
+    let media = half_settled(&rt, rt.alloc())?;
     for (choice, image) in rows {
         let left = media.leave(choice)?;
         assert_eq!(rt; left.bytes(), image, "by {choice:?}");
-        assert_eq!(rt; left.calls().len(), 0);
-        assert_eq!(rt; left.moment(), 0);
+        assert_eq!(rt; (left.moment(), left.calls().len()), (0, 0));
     }
-    assert!(rt; media.fail(5).is_ok());
-    assert_eq!(rt; media.barrier(), Err(Failed), "it settles nothing");
-    assert_eq!(rt; media.leave(b"-")?.bytes(), b"aX-----h".as_slice());
-    assert_eq!(rt; media.barrier(), Ok(()));
-    assert_eq!(rt; media.leave(b"-")?.bytes(), b"aXMNOfgh".as_slice());
+    Ok(())
+}
+
+#[test]
+fn settles_by_a_barrier_that_is_done(rt: HostRuntime) -> Result<(), Fail> {
+    let rows: [(u64, &[u8]); 2] = [(6, b"aX-----h"), (7, b"aXMNOfgh")];
+    for (nth, image) in rows {
+        let mut media = half_settled(&rt, rt.alloc())?;
+        media.fail(nth)?;
+        assert_eq!(rt; media.barrier().is_ok(), nth != 6);
+        assert_eq!(rt; media.leave(b"-")?.bytes(), image, "with {nth} listed");
+    }
     Ok(())
 }
 
