@@ -1,7 +1,7 @@
 -- What a call does to a media in memory.
-use Rattle.std.proofs.Common.{◌≡◌, ℕ, ◌+◌, ◌≤◌, ◌⊎◌, Bool, true, false, inl, inr, ⊎_elim, List, [], ◌∷◌, ◌++◌, length, take, drop, Result, Ok, Err, refl, sym, ◌∙◌, ap, subst, arith}
+use Rattle.std.proofs.Common.{◌≡◌, ℕ, ◌+◌, ◌-◌, ◌^◌, ◌<◌, ◌≤◌, ◌⊎◌, Bool, true, false, inl, inr, ⊎_elim, List, [], ◌∷◌, ◌++◌, length, take, drop, Result, Ok, Err, refl, sym, ◌∙◌, ap, subst, arith}
 use Rattle.std.proofs.lemmas.List.{take_all, drop_all, append-nil, length-append}
-use Rattle.std.specs.Prelude.{OnOk}
+use Rattle.std.specs.Prelude.{OnOk, OnErr}
 use Rattle.counted.specs.Moments.{Elapses}
 use Rattle.counted.proofs.Going.{weaker}
 use Rattle.pcm_media.specs.declared.call.Call.{Call}
@@ -188,6 +188,28 @@ module _ (start : List ℕ) (old new : Kept) where
     pub content_on_ok : {T E : Type 0} (result : Result T E) → Makes call bytes old new result → OnOk result (content_of (shows new) ≡ stepped_by call true bytes (content_of (shows old)))
     content_on_ok (Ok x) makes = content_done makes.done
     content_on_ok (Err e) makes = tt
+
+    content_failed : IsPassed old new ⊎ IsKept call false [] old new → (content_of (shows new) ≡ content_of (shows old)) ⊎ (content_of (shows new) ≡ stepped_by call false [] (content_of (shows old)))
+    content_failed failed = ⊎_elim (λ passed. inl (content_passed passed)) (λ kept. inr (content_kept call false [] kept tells.whole)) failed
+
+    -- a call that does nothing where it failed
+    pub content_on_err : {T E : Type 0} (result : Result T E) → stepped_by call false [] (content_of (shows old)) ≡ content_of (shows old) → Makes call bytes old new result → OnErr result (content_of (shows new) ≡ content_of (shows old))
+    content_on_err (Ok x) none makes = tt
+    content_on_err (Err e) none makes = ⊎_elim (λ same. same) (λ step. step ∙ none) (content_failed makes.failed)
+
+    -- a call that does nothing at all
+    pub content_same : {T E : Type 0} (result : Result T E) → stepped_by call true bytes (content_of (shows old)) ≡ content_of (shows old) → stepped_by call false [] (content_of (shows old)) ≡ content_of (shows old) → Makes call bytes old new result → content_of (shows new) ≡ content_of (shows old)
+    content_same (Ok x) done none makes = content_done makes.done ∙ done
+    content_same (Err e) done none makes = ⊎_elim (λ same. same) (λ step. step ∙ none) (content_failed makes.failed)
+
+    pub bytes_failed : IsPassed old new ⊎ IsKept call false [] old new → (content_of (shows new)).bytes ≡ (content_of (shows old)).bytes
+    bytes_failed failed = ⊎_elim (λ same i. (same i).bytes) (λ step. (λ i. (step i).bytes) ∙ same_read ∙ sym tells.bytes) (content_failed failed)
+
+    -- a call that failed, and for which there was room
+    pub content_lost : {T E : Type 0} (e : E) → (let r : Result T E = Err e in Makes call bytes old new r) → length old.records < old.calls_room → old.moment < 2 ^ 64 - 1 → content_of (shows new) ≡ stepped_by call false [] (content_of (shows old))
+    content_lost e makes room low =
+        let written : new.written ≡ old.written ++ [] = ⊎_elim (λ passed. passed.written ∙ sym (append-nil old.written)) (λ kept. kept.written) makes.failed in
+        content_kept call false [] (record { later = omega (arith, makes.ticks.next); records = makes.kept low room; written = written }) tells.whole
 
 -- a write that was done makes what a write makes
 pub step_written : (at : ℕ) (bytes : List ℕ) (content : Content) → stepped_by (Write at (length bytes)) true bytes content ≡ written at bytes content

@@ -12,3 +12,6 @@ pub use call::{Call, Record};
 pub use fused_media::FusedMedia;
 pub use media::Media;
 pub use memory_media::MemoryMedia;
+
+#[cfg(test)]
+mod tests;

@@ -1,7 +1,7 @@
 // A media in memory, which keeps its calls and fails at those that are listed.
-ghost use Rattle.std.specs.Prelude.{◌≡◌, ◌+◌, ◌≤◌, ◌%◌, ◌<◌, ◌↔◌, [], ◌∷◌, ◌++◌, ℕ, length, true, IfOk, OnOk, OnErr, IsErr, slice_index};
+ghost use Rattle.std.specs.Prelude.{◌≡◌, ◌+◌, ◌-◌, ◌^◌, ◌≤◌, ◌<◌, ◌↔◌, [], ◌∷◌, ◌++◌, length, true, IfOk, OnOk, OnErr, IsErr};
 ghost use Rattle.counted.specs.Moments.{Ticks};
-ghost use Rattle.pcm_media.specs.Images.{put, range, written, settled};
+ghost use Rattle.pcm_media.specs.Images.{put, range, written, settled, partly};
 ghost use Rattle.pcm_media.specs.View.{Writes};
 ghost use Rattle.pcm_media.specs.declared.call.Call.TheVariants.{Read, Write, Barrier};
 ghost use Rattle.pcm_media.specs.Kept.{MustFail, HasRoom, Makes};
@@ -148,6 +148,7 @@ impl Media for MemoryMedia {
         requires { at + length buf.old ≤ length (content_of self.old).bytes }
         ensures bytes { OnOk result (buf.new ≡ range (content_of self.old).bytes at (length buf.old)) }
         ensures err { OnErr result (buf.new ≡ buf.old) }
+        ensures same { content_of self.new ≡ content_of self.old }
         ensures does { Writes true [] (view_of self.old) (view_of self.new) result }
         ensures ticks { Ticks self.old.kept.moment self.new.kept.moment result }
 
@@ -169,6 +170,9 @@ impl Media for MemoryMedia {
     fn write(&mut self, at: u64, bytes: &[u8]) -> Result<(), Failed>
         requires { at + length bytes.now ≤ length (content_of self.old).bytes }
         ensures written { OnOk result (content_of self.new ≡ written at bytes.now (content_of self.old)) }
+        ensures err { OnErr result ((content_of self.new).bytes ≡ (content_of self.old).bytes) }
+        // A write that failed leaves its range unsettled, where it was kept at all.
+        ensures lost { HasRoom self.old.kept 0 → self.old.kept.moment < 2 ^ 64 - 1 → OnErr result (content_of self.new ≡ partly ((at, length bytes.now) ∷ []) (content_of self.old)) }
         ensures does { Writes true ((at, length bytes.now) ∷ []) (view_of self.old) (view_of self.new) result }
         ensures ticks { Ticks self.old.kept.moment self.new.kept.moment result }
 
@@ -188,6 +192,7 @@ impl Media for MemoryMedia {
 
     fn barrier(&mut self) -> Result<(), Failed>
         ensures settled { OnOk result (content_of self.new ≡ settled (content_of self.old)) }
+        ensures err { OnErr result (content_of self.new ≡ content_of self.old) }
         ensures does { Writes true [] (view_of self.old) (view_of self.new) result }
         ensures ticks { Ticks self.old.kept.moment self.new.kept.moment result }
 

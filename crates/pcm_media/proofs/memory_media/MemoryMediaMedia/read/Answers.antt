@@ -1,6 +1,6 @@
 use Rattle.std.proofs.Common.{refl, [], length}
 use Rattle.pcm_media.specs.declared.call.Call.TheVariants.{Read}
-use Rattle.pcm_media.proofs.MemoryLemmas.{does, tells_either}
+use Rattle.pcm_media.proofs.MemoryLemmas.{does, tells_either, content_same}
 use Rattle.std.proofs.lemmas.Result.{err_from_is_err_and}
 use Rattle.pcm_media.proofs.memory_media.MemoryMediaMedia.read.Goals as goal
 
@@ -20,3 +20,9 @@ returns-clause-does c = rw (← c.self.view_is) (does c.self.inside.start.items 
 
 pub returns-clause-ticks : goal.returns-clause-ticks
 returns-clause-ticks c = rw (← c.self.view_is) c.in_ok-make.ensures.made.ticks
+
+pub returns-in_err-make-clause-same : goal.returns-in_err-make-clause-same
+returns-in_err-make-clause-same c = rw (← c.self.view_is) (content_same c.self.inside.start.items c.self.inside.journal c.make.new.self (Read c.args.at (length c.args.buf.now)) [] c.self.inside.bytes.items c.self.invariant refl c.make.result refl refl c.make.ensures.made)
+
+pub returns-clause-same : goal.returns-clause-same
+returns-clause-same c = rw (← c.self.view_is) (content_same c.self.inside.start.items c.self.inside.journal c.make.new.self (Read c.args.at (length c.args.buf.now)) [] c.self.inside.bytes.items c.self.invariant refl c.make.result refl refl c.make.ensures.made)

@@ -3,7 +3,7 @@ use Rattle.std.proofs.lemmas.Result.{err_from_is_err_and}
 use Rattle.pcm_media.specs.declared.call.Call.TheVariants.{Write}
 use Rattle.pcm_media.specs.Images.{Content, put}
 use Rattle.pcm_media.specs.Memory.{content_of, Memory}
-use Rattle.pcm_media.proofs.MemoryLemmas.{Suits, does, tells_done, tells_failed, content_done, step_written, written_back}
+use Rattle.pcm_media.proofs.MemoryLemmas.{Suits, does, tells_done, tells_failed, content_done, content_lost, bytes_failed, step_written, written_back}
 use Rattle.pcm_media.proofs.memory_media.MemoryMediaMedia.write.Goals as goal
 
 -- the range lies within the bytes that a read gives
@@ -43,3 +43,15 @@ returns-clause-does c = rw (← c.self.view_is) (does c.self.inside.start.items 
 
 pub returns-clause-ticks : goal.returns-clause-ticks
 returns-clause-ticks c = rw (← c.self.view_is) c.in_ok-make.ensures.made.ticks
+
+pub returns-in_err-make-clause-err : goal.returns-in_err-make-clause-err
+returns-in_err-make-clause-err c =
+    let p = err_from_is_err_and c.from_residual.result c.from_residual.ensures.1 in
+    rw (p.1, ← c.self.view_is) (bytes_failed c.self.inside.start.items c.self.inside.journal c.make.new.self (Write c.args.at (length c.args.bytes.now)) c.args.bytes.now c.self.inside.bytes.items c.self.invariant
+    (fits c.args.self.now _ c.args.at c.args.bytes.now c.self.inside.bytes.items c.self.view_is c.self.invariant.bytes c.requires) c.in_err-make.ensures.made.failed)
+
+pub returns-in_err-make-clause-lost : goal.returns-in_err-make-clause-lost
+returns-in_err-make-clause-lost c =
+    let p = err_from_is_err_and c.from_residual.result c.from_residual.ensures.1 in
+    rw (p.1, ← c.self.view_is) (λ room low. content_lost c.self.inside.start.items c.self.inside.journal c.make.new.self (Write c.args.at (length c.args.bytes.now)) c.args.bytes.now c.self.inside.bytes.items c.self.invariant
+    (fits c.args.self.now _ c.args.at c.args.bytes.now c.self.inside.bytes.items c.self.view_is c.self.invariant.bytes c.requires) _ c.in_err-make.ensures.made room.0 low)
