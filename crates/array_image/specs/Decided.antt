@@ -1,0 +1,47 @@
+-- Which rows of an image are decided, and the data that it settles to.
+use Rattle.std.specs.Prelude.{ℕ, zero, suc, ◌+◌, ◌^◌, Bool, true, not, ◌&&◌, ◌||◌, nat_eq, nat_lt, if◌then◌else◌, List, [], ◌++◌}
+use Rattle.std.specs.Int.{bit_at}
+use Rattle.array_shape.specs.declared.shape.Shape.{Shape}
+use Rattle.row_bytes.specs.declared.row.Row.{Row}
+use Rattle.array_image.specs.Parts.{Part, applied}
+use Rattle.array_image.specs.Image.{row_of, row_parts, data_of}
+
+-- a mask has a logger
+abbrev pub has_logger : ℕ → ℕ → Bool
+has_logger mask g = nat_eq (bit_at mask g) 1
+
+-- the test holds of each number below n
+abbrev pub all_below : ℕ → (ℕ → Bool) → Bool
+all_below zero p = true
+all_below (suc n) p = p n && all_below n p
+
+-- a logger of the mask has voted, with that same mask
+abbrev pub agrees : ℕ → (ℕ → Row) → ℕ → Bool
+agrees mask rows h = not (has_logger mask h) || ((rows h).voted && nat_eq (rows h).mask mask)
+
+-- Of the rows that so many loggers have for one number, that of g is decided: it is voted, its mask has g and none but
+-- these loggers, and the rows at all loggers of the mask are voted with that same mask.
+unfoldable pub decides : ℕ → (ℕ → Row) → ℕ → Bool
+decides loggers rows g = (rows g).voted && has_logger (rows g).mask g && nat_lt (rows g).mask (2 ^ loggers) && all_below loggers (agrees (rows g).mask rows)
+
+-- the row of number t at logger g is decided
+abbrev pub decided : Shape → List ℕ → ℕ → ℕ → Bool
+decided shape image g t = decides shape.loggers (λ h. row_of shape image h t) g
+
+-- the parts of a row where it is decided
+abbrev pub decided_parts : Shape → List ℕ → ℕ → ℕ → List Part
+decided_parts shape image g t = if decided shape image g t then row_parts shape image g t else []
+
+-- of n loggers from g on
+abbrev pub decided_at : Shape → List ℕ → ℕ → ℕ → ℕ → List Part
+decided_at shape image t g zero = []
+decided_at shape image t g (suc n) = decided_parts shape image g t ++ decided_at shape image t (g + 1) n
+
+-- of n numbers from t on
+abbrev pub decided_from : Shape → List ℕ → ℕ → ℕ → List Part
+decided_from shape image t zero = []
+decided_from shape image t (suc n) = decided_at shape image t 0 shape.loggers ++ decided_from shape image (t + 1) n
+
+-- the data once the parts of all decided rows are written into it, by rising number, logger and cell
+abbrev pub settled_data : Shape → List ℕ → List ℕ
+settled_data shape image = applied (decided_from shape image 0 shape.numbers) (data_of shape image)

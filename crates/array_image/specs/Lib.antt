@@ -1,0 +1,5 @@
+pub mod Parts
+pub mod Image
+pub mod Decided
+pub mod Standing
+pub mod Marked

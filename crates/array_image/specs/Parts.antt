@@ -1,0 +1,39 @@
+-- Parts: pieces of writes into the data, none of them across a page.
+use Rattle.std.specs.Prelude.{ℕ, ◌≡◌, ◌+◌, ◌≤◌, List, [], ◌∷◌, length}
+use Rattle.pcm_media.specs.Images.{put}
+use Rattle.array_shape.specs.declared.shape.Shape.{Shape}
+use Rattle.array_shape.specs.Places.{IsPlaced, logger_of, place_of}
+
+-- an address, and the bytes that are to stand there
+abbrev pub Part : Type 0
+Part = ℕ × List ℕ
+
+-- written in order into data
+abbrev pub applied : List Part → List ℕ → List ℕ
+applied [] bytes = bytes
+applied (p ∷ ps) bytes = applied ps (put bytes p.0 p.1)
+
+-- each lies within so many bytes
+abbrev pub AllFit : ℕ → List Part → Type 0
+AllFit size [] = Unit {0}
+AllFit size (p ∷ ps) = (p.0 + length p.1 ≤ size) × AllFit size ps
+
+-- where they lie in the data
+abbrev pub ranges_of : List Part → List (ℕ × ℕ)
+ranges_of [] = []
+ranges_of (p ∷ ps) = (p.0, length p.1) ∷ ranges_of ps
+
+-- where they lie in the media
+abbrev pub places_of : Shape → List Part → List (ℕ × ℕ)
+places_of shape [] = []
+places_of shape (p ∷ ps) = (place_of shape p.0, length p.1) ∷ places_of shape ps
+
+-- a range within one page of this logger
+pub record IsOwned (shape : Shape) (g addr len : ℕ) : Type 0 where
+  pub placed : IsPlaced shape addr len
+  pub logger : logger_of shape addr ≡ g
+
+-- each is a part of this logger
+abbrev pub AllOwned : Shape → ℕ → List Part → Type 0
+AllOwned shape g [] = Unit {0}
+AllOwned shape g (p ∷ ps) = IsOwned shape g p.0 (length p.1) × AllOwned shape g ps
