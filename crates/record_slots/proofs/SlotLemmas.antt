@@ -24,20 +24,20 @@ pub key_read : (bytes : List ℕ) → little_from 0 8 (take 62 (drop 2 bytes)) �
 unfolding key_said
 key_read bytes = little_from-take 0 8 62 (drop 2 bytes) (omega arith) ∙ little_shift 0 2 8 bytes
 
-some_said : (bytes : List ℕ) → is_value_said bytes ≡ true → value_said bytes ≡ Some (text_said bytes)
+pub some_said : (bytes : List ℕ) → is_value_said bytes ≡ true → value_said bytes ≡ Some (text_said bytes)
 unfolding value_said
 some_said bytes e = rw e refl
 
-none_said : (bytes : List ℕ) → (is_value_said bytes ≡ true → ⊥) → value_said bytes ≡ None
+pub none_said : (bytes : List ℕ) → (is_value_said bytes ≡ true → ⊥) → value_said bytes ≡ None
 unfolding value_said
 none_said bytes h = let e = false_from_ne_true (is_value_said bytes) h in rw e refl
 
-length-text_said : (bytes : List ℕ) → length bytes ≡ 64 → slice_index bytes 1 ≤ 54 → length (text_said bytes) ≡ slice_index bytes 1
+pub length-text_said : (bytes : List ℕ) → length bytes ≡ 64 → slice_index bytes 1 ≤ 54 → length (text_said bytes) ≡ slice_index bytes 1
 length-text_said bytes long fits = length-take-le (slice_index bytes 1) (drop 10 bytes) (omega (arith, length-drop 10 bytes))
 
 -- what the test says of 64 bytes
 module _ (bytes : List ℕ) where
-  short_said : is_value_said bytes ≡ true → slice_index bytes 1 ≤ 54
+  pub short_said : is_value_said bytes ≡ true → slice_index bytes 1 ≤ 54
   short_said e = leb-true (slice_index bytes 1) 54 (and_parts _ _ (and_parts _ _ e).1).0
 
   value_passes : length bytes ≡ 64 → slice_index bytes 1 ≤ 54 → IsValue (text_said bytes) → is_value_said bytes ≡ true

@@ -1,5 +1,5 @@
 -- What the 64 bytes of a slot say, and the bytes that a slot is written as.
-use Rattle.std.specs.Prelude.{ℕ, ◌-◌, ◌^◌, ◌<◌, Bool, nat_eq, nat_le, ◌&&◌, if◌then◌else◌, List, ◌∷◌, ◌++◌, length, take, drop, replicate, slice_index, Option, Some, None}
+use Rattle.std.specs.Prelude.{ℕ, ◌≡◌, ◌+◌, ◌-◌, ◌^◌, ◌<◌, Bool, nat_eq, nat_le, ◌&&◌, if◌then◌else◌, List, ◌∷◌, ◌++◌, length, take, drop, replicate, slice_index, Option, Some, None}
 use Rattle.std.specs.List.{list_all}
 use Rattle.byteorder.specs.Endian.{little_from, little_bytes}
 use Rattle.record_slots.specs.Text.{is_visible, IsValue}
@@ -43,3 +43,10 @@ slot_bytes (Present key value) = 1 ∷ length value ∷ (little_bytes 8 key ++ (
 abbrev pub IsSlot : Slot → Type 0
 IsSlot (Absent key) = key < 2 ^ 64
 IsSlot (Present key value) = (key < 2 ^ 64) × IsValue value
+
+-- 64 bytes of which all that the slot says nothing of is zero
+pub record IsPlain (bytes : List ℕ) : Type 0 where
+  pub size : length bytes ≡ 64
+  pub fits : (i : ℕ) → slice_index bytes i < 256
+  pub absent : slice_index bytes 0 ≡ 0 → slice_index bytes 1 ≡ 0
+  pub padded : drop (10 + slice_index bytes 1) bytes ≡ replicate (54 - slice_index bytes 1) 0

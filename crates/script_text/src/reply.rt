@@ -88,3 +88,6 @@ pub fn media_fault_line(caller: u8, buf: &mut [u8; 16]) -> &[u8]
     buf[end..end + 13].copy_from_slice(b" media fault\n");
     &buf[..end + 13]
 }
+
+#[cfg(test)]
+mod tests;

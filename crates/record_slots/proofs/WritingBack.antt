@@ -1,0 +1,85 @@
+-- Bytes that say a slot are what it is written as, where nothing unsaid stands in them.
+use Rattle.std.proofs.Common.{◌≡◌, ℕ, zero, suc, ◌+◌, ◌-◌, ◌*◌, ◌/◌, ◌%◌, ◌^◌, ◌<◌, ◌≤◌, true, List, ◌∷◌, ◌++◌, length, get_or, take, drop, replicate, Some, None, inl, inr, refl, sym, ◌∙◌, ap, subst, zero-add, arith}
+use Rattle.std.specs.Prelude.{slice_index}
+use Rattle.std.specs.Int.{byte_at, bytes_low_first}
+use Rattle.std.proofs.Math.Nat.{add-mul-div_left, add-mul-mod_self_left, div-div-eq-div-mul, div-eq_of_lt, div-one, mod-eq_of_lt, pow-succ'}
+use Rattle.std.proofs.Math.Seq.{drop-cons}
+use Rattle.std.proofs.lemmas.Bool.{cases_eq, cases_Bool, false≢true}
+use Rattle.std.proofs.lemmas.List.{drop-drop, take-append-drop}
+use Rattle.byteorder.specs.Endian.{little_from, little_bytes}
+use Rattle.record_slots.specs.Slots.{key_said, text_said, is_value_said, present, slot_said, slot_bytes, IsPlain}
+use Rattle.record_slots.specs.declared.slot.Slot.{Slot}
+use Rattle.record_slots.specs.declared.slot.Slot.TheVariants.{Absent, Present}
+use Rattle.record_slots.proofs.SlotLemmas.{some_said, none_said, short_said, length-text_said, slot_said-absent, slot_said-present, slot_said-other}
+
+byte_at-pow : (i x : ℕ) → byte_at i x ≡ x / 256 ^ i % 256
+byte_at-pow zero x = ap (λ (y : ℕ). y % 256) (sym (div-one x))
+byte_at-pow (suc i) x = refl
+
+-- a byte in front moves the others on
+byte_at-shift : (i b r : ℕ) → b < 256 → byte_at (suc i) (b + 256 * r) ≡ byte_at i r
+byte_at-shift i b r small =
+    let rest : (b + 256 * r) / 256 ≡ r = add-mul-div_left b r (omega arith) ∙ ap (λ (q : ℕ). q + r) (div-eq_of_lt small) ∙ zero-add r in
+    ap (λ (p : ℕ). (b + 256 * r) / p % 256) (pow-succ' 256 i) ∙ ap (λ (y : ℕ). y % 256) (sym (div-div-eq-div-mul (b + 256 * r) 256 (256 ^ i)))
+    ∙ ap (λ (y : ℕ). y / 256 ^ i % 256) rest ∙ sym (byte_at-pow i r)
+
+bytes_low_first-shift : (i n b r : ℕ) → b < 256 → bytes_low_first (suc i) n (b + 256 * r) ≡ bytes_low_first i n r
+bytes_low_first-shift i zero b r small = refl
+bytes_low_first-shift i (suc n) b r small =
+    let first = byte_at-shift i b r small in
+    let others = bytes_low_first-shift (suc i) n b r small in
+    λ j. first j ∷ others j
+
+-- the bytes of a number that was read are those that it was read from
+pub bytes-little_from : (i n : ℕ) (xs : List ℕ) → i + n ≤ length xs → ((k : ℕ) → slice_index xs k < 256) → bytes_low_first 0 n (little_from i n xs) ≡ take n (drop i xs)
+bytes-little_from i zero xs long small = refl
+bytes-little_from i (suc n) xs long small =
+    let b = slice_index xs i in
+    let r = little_from (suc i) n xs in
+    let first : (b + 256 * r) % 256 ≡ b = add-mul-mod_self_left b 256 r ∙ mod-eq_of_lt (small i) in
+    let others : bytes_low_first 1 n (b + 256 * r) ≡ take n (drop (suc i) xs) = bytes_low_first-shift 0 n b r (small i) ∙ bytes-little_from (suc i) n xs (omega arith) small in
+    let split : drop i xs ≡ get_or xs i 0 ∷ drop (suc i) xs = drop-cons xs i 0 (omega arith) in
+    (λ j. first j ∷ others j) ∙ ap (take (suc n)) (sym split)
+
+-- state, length and key, and the rest
+front : (bytes : List ℕ) → IsPlain bytes → slice_index bytes 0 ∷ slice_index bytes 1 ∷ (little_bytes 8 (key_said bytes) ++ drop 10 bytes) ≡ bytes
+unfolding key_said
+front bytes plain =
+    let long = plain.size in
+    let key = bytes-little_from 2 8 bytes (omega arith) plain.fits in
+    let room : drop 8 (drop 2 bytes) ≡ drop 10 bytes = drop-drop 8 2 bytes in
+    let two : take 8 (drop 2 bytes) ++ drop 10 bytes ≡ drop 2 bytes = ap (λ (l : List ℕ). take 8 (drop 2 bytes) ++ l) (sym room) ∙ take-append-drop 8 (drop 2 bytes) in
+    ap (λ (l : List ℕ). slice_index bytes 0 ∷ slice_index bytes 1 ∷ (l ++ drop 10 bytes)) key ∙ ap (λ (l : List ℕ). slice_index bytes 0 ∷ slice_index bytes 1 ∷ l) two
+    ∙ ap (λ (l : List ℕ). slice_index bytes 0 ∷ l) (sym (drop-cons bytes 1 0 (omega arith))) ∙ sym (drop-cons bytes 0 0 (omega arith))
+
+absent_back : (bytes : List ℕ) → IsPlain bytes → slice_index bytes 0 ≡ 0 → slot_bytes (Absent (key_said bytes)) ≡ bytes
+unfolding slot_bytes
+absent_back bytes plain state =
+    let none = plain.absent state in
+    let room : drop 10 bytes ≡ replicate 54 0 = subst (λ (n : ℕ). drop (10 + n) bytes ≡ replicate (54 - n) 0) none plain.padded in
+    (λ j. sym state j ∷ sym none j ∷ (little_bytes 8 (key_said bytes) ++ sym room j)) ∙ front bytes plain
+
+present_back : (bytes : List ℕ) → IsPlain bytes → slice_index bytes 0 ≡ 1 → is_value_said bytes ≡ true → slot_bytes (Present (key_said bytes) (text_said bytes)) ≡ bytes
+unfolding slot_bytes
+present_back bytes plain state value =
+    let n = slice_index bytes 1 in
+    let len = length-text_said bytes plain.size (short_said bytes value) in
+    let behind : replicate (54 - length (text_said bytes)) 0 ≡ drop n (drop 10 bytes) = ap (λ (m : ℕ). replicate (54 - m) 0) len ∙ sym plain.padded ∙ sym (drop-drop n 10 bytes) in
+    let room : text_said bytes ++ replicate (54 - length (text_said bytes)) 0 ≡ drop 10 bytes = ap (λ (l : List ℕ). text_said bytes ++ l) behind ∙ take-append-drop n (drop 10 bytes) in
+    (λ j. sym state j ∷ len j ∷ (little_bytes 8 (key_said bytes) ++ room j)) ∙ front bytes plain
+
+some_is : {X : Type 0} {x y : X} → Some x ≡ Some y → x ≡ y
+some_is e = cc
+
+pub slot_bytes-slot_said : (bytes : List ℕ) (slot : Slot) → IsPlain bytes → slot_said bytes ≡ Some slot → slot_bytes slot ≡ bytes
+slot_bytes-slot_said bytes slot plain says =
+    elim (cases_eq (slice_index bytes 0) 0) [
+      | inl absent ↦ ap slot_bytes (some_is (sym says ∙ slot_said-absent bytes absent)) ∙ absent_back bytes plain absent
+      | inr other ↦ elim (cases_eq (slice_index bytes 0) 1) [
+        | inl state ↦ elim (cases_Bool (is_value_said bytes)) [
+          | inl value ↦ ap slot_bytes (some_is (sym says ∙ slot_said-present bytes state ∙ ap (present (key_said bytes)) (some_said bytes value))) ∙ present_back bytes plain state value
+          | inr broken ↦ absurd (let h : Some slot ≡ None = sym says ∙ slot_said-present bytes state ∙ ap (present (key_said bytes)) (none_said bytes (λ e. false≢true (sym broken ∙ e))) in cc)
+        ]
+        | inr unknown ↦ absurd (let h : Some slot ≡ None = sym says ∙ slot_said-other bytes other unknown in cc)
+      ]
+    ]
