@@ -18,25 +18,17 @@ pub struct Logger {
 }
 
 impl Logger {
-    ghost use Rattle.std.specs.Prelude.{◌≡◌, ◌↔◌, ◌+◌, ◌≤◌, ◌<◌, ℕ, [], ◌∷◌, drop, length, true, false, IsTrue, IfOk, OnOk, IfErr, OnErr, Ok, Err};
-    ghost use Rattle.counted.specs.Causes.{HasCause};
+    ghost use Rattle.std.specs.Prelude.{◌≡◌, ◌↔◌, ◌+◌, ◌≤◌, ◌<◌, ℕ, [], ◌∷◌, drop, length, true, false};
+    ghost use Rattle.std.specs.Prelude.{IsTrue, IfOk, OnOk, IfErr, OnErr};
     ghost use Rattle.pcm_media.specs.Images.{put, written};
     ghost use Rattle.pcm_media.specs.View.{Writes};
     ghost use Rattle.array_shape.specs.Places.{media_len, data_len, row_at, cell_at, place_of};
-    ghost use Rattle.array_shape.specs.Parts.{parts_on, pieces_on};
+    ghost use Rattle.array_shape.specs.Parts.{parts_on};
     ghost use Rattle.row_bytes.specs.Written.{row_rest};
     ghost use Rattle.array_image.specs.Parts.{applied, places_of, IsOwned};
     ghost use Rattle.array_image.specs.Image.{row_of, cell_of, cell_head, cell_part, parts_from, data_of, IsGoodCell};
     ghost use Rattle.logger.specs.Cells.{cell_writes, cell_ranges, in_media, HoldsParts};
-    ghost use Rattle.logger.specs.Staging.{IsStageFault, media_answer};
-
-    pub fn new(shape: Shape, number: u8) -> Logger
-        requires { number < shape.loggers }
-        ensures shape { result.shape ≡ shape }
-        ensures number { result.number ≡ number }
-    {
-        Logger { shape, number }
-    }
+    ghost use Rattle.logger.specs.Staging.{pieces_here, IsStageFault, media_answer};
 
     /// Writes what a row says but for its vote: bytes 1 to 15, and never byte 0.
     pub fn put_row<M: Media>(
@@ -51,9 +43,12 @@ impl Logger {
         requires tid { tid < self.shape.numbers }
         ensures written { IsTrue M.tells → OnOk result ((M.view media.new).content ≡
             written (row_at self.shape self.number tid + 1) (row_rest mask first count) (M.view media.old).content) }
-        ensures row { IsTrue M.tells → OnOk result (row_of self.shape (M.view media.new).content.bytes self.number tid ≡
-            (let row = row_of self.shape (M.view media.old).content.bytes self.number tid in record row { mask = mask; first = first; count = count })) }
-        ensures does { Writes M.tells ((row_at self.shape self.number tid + 1, 15) ∷ []) (M.view media.old) (M.view media.new) result }
+        ensures row { IsTrue M.tells → OnOk result (
+            row_of self.shape (M.view media.new).content.bytes self.number tid ≡
+            (let row = row_of self.shape (M.view media.old).content.bytes self.number tid in
+            record row { mask = mask; first = first; count = count })) }
+        ensures does { Writes M.tells ((row_at self.shape self.number tid + 1, 15) ∷ [])
+            (M.view media.old) (M.view media.new) result }
     {
         let row = Row {
             voted: false,
@@ -70,10 +65,14 @@ impl Logger {
     pub fn vote<M: Media>(self, media: &mut M, tid: u8) -> Result<(), Failed>
         requires size { (M.view media.old).size ≡ media_len self.shape }
         requires tid { tid < self.shape.numbers }
-        ensures written { IsTrue M.tells → OnOk result ((M.view media.new).content ≡ written (row_at self.shape self.number tid) (0xC3 ∷ []) (M.view media.old).content) }
-        ensures row { IsTrue M.tells → OnOk result (row_of self.shape (M.view media.new).content.bytes self.number tid ≡
-            (let row = row_of self.shape (M.view media.old).content.bytes self.number tid in record row { voted = true })) }
-        ensures does { Writes M.tells ((row_at self.shape self.number tid, 1) ∷ []) (M.view media.old) (M.view media.new) result }
+        ensures written { IsTrue M.tells → OnOk result ((M.view media.new).content ≡
+            written (row_at self.shape self.number tid) (0xC3 ∷ []) (M.view media.old).content) }
+        ensures row { IsTrue M.tells → OnOk result (
+            row_of self.shape (M.view media.new).content.bytes self.number tid ≡
+            (let row = row_of self.shape (M.view media.old).content.bytes self.number tid in
+            record row { voted = true })) }
+        ensures does { Writes M.tells ((row_at self.shape self.number tid, 1) ∷ [])
+            (M.view media.old) (M.view media.new) result }
     {
         media.write(self.shape.row_at(self.number, tid), &[VOTED])
     }
@@ -82,10 +81,14 @@ impl Logger {
     pub fn unvote<M: Media>(self, media: &mut M, tid: u8) -> Result<(), Failed>
         requires size { (M.view media.old).size ≡ media_len self.shape }
         requires tid { tid < self.shape.numbers }
-        ensures written { IsTrue M.tells → OnOk result ((M.view media.new).content ≡ written (row_at self.shape self.number tid) (0 ∷ []) (M.view media.old).content) }
-        ensures row { IsTrue M.tells → OnOk result (row_of self.shape (M.view media.new).content.bytes self.number tid ≡
-            (let row = row_of self.shape (M.view media.old).content.bytes self.number tid in record row { voted = false })) }
-        ensures does { Writes M.tells ((row_at self.shape self.number tid, 1) ∷ []) (M.view media.old) (M.view media.new) result }
+        ensures written { IsTrue M.tells → OnOk result ((M.view media.new).content ≡
+            written (row_at self.shape self.number tid) (0 ∷ []) (M.view media.old).content) }
+        ensures row { IsTrue M.tells → OnOk result (
+            row_of self.shape (M.view media.new).content.bytes self.number tid ≡
+            (let row = row_of self.shape (M.view media.old).content.bytes self.number tid in
+            record row { voted = false })) }
+        ensures does { Writes M.tells ((row_at self.shape self.number tid, 1) ∷ [])
+            (M.view media.old) (M.view media.new) result }
     {
         media.write(self.shape.row_at(self.number, tid), &[0])
     }
@@ -104,8 +107,10 @@ impl Logger {
         needed
     }
 
-    /// Writes the parts of a write that this logger has to the cells of a transaction number, from the first one that is not
-    /// held, in the order of their addresses. Gives the number of cells that it took.
+    /// Writes the parts of a write that this logger has to cells of a transaction number, in the order of their
+    /// addresses, from the first cell that is not held. Gives the number of cells that it took.
+    ///
+    /// Where the cells left are too few, no call is made of the media.
     pub fn stage<M: Media>(
         self,
         media: &mut M,
@@ -116,16 +121,18 @@ impl Logger {
     ) -> Result<u16, StageFault>
         requires size { (M.view media.old).size ≡ media_len self.shape }
         requires tid { tid < self.shape.numbers }
-        requires some { 0 < length bytes.now }
         requires range { addr + length bytes.now ≤ data_len self.shape }
-        ensures took { IfOk result (λ n. n ≡ length (pieces_on self.shape self.number addr bytes.now)) }
-        ensures fits { OnOk result (held + length (pieces_on self.shape self.number addr bytes.now) ≤ self.shape.entries) }
-        ensures fault { IfErr result (IsStageFault self.shape.entries held (length (pieces_on self.shape self.number addr bytes.now))) }
-        ensures full { self.shape.entries < held + length (pieces_on self.shape self.number addr bytes.now) → media.new ≡ media.old }
+        ensures took { IfOk result (λ n. n ≡ length (pieces_here self addr bytes.now)) }
+        ensures fits { OnOk result (held + length (pieces_here self addr bytes.now) ≤ self.shape.entries) }
+        ensures fault { IfErr result (IsStageFault self.shape.entries held (length (pieces_here self addr bytes.now))) }
+        ensures full { self.shape.entries < held + length (pieces_here self addr bytes.now) → media.new ≡ media.old }
         ensures written { IsTrue M.tells → OnOk result ((M.view media.new).content.bytes ≡
-            applied (cell_writes self.shape self.number tid held (pieces_on self.shape self.number addr bytes.now)) (M.view media.old).content.bytes) }
-        ensures holds { IsTrue M.tells → OnOk result (HoldsParts self.shape (M.view media.new).content.bytes self.number tid held (pieces_on self.shape self.number addr bytes.now)) }
-        ensures does { Writes M.tells (cell_ranges self.shape self.number tid held (length (pieces_on self.shape self.number addr bytes.now)))
+            applied (cell_writes self.shape self.number tid held (pieces_here self addr bytes.now))
+            (M.view media.old).content.bytes) }
+        ensures holds { IsTrue M.tells → OnOk result (
+            HoldsParts self.shape (M.view media.new).content.bytes self.number tid held (pieces_here self addr bytes.now)) }
+        ensures does { Writes M.tells
+            (cell_ranges self.shape self.number tid held (length (pieces_here self addr bytes.now)))
             (M.view media.old) (M.view media.new) (media_answer result) }
     {
         let needed = self.cells_needed(addr, bytes.len() as u64);
@@ -151,9 +158,11 @@ impl Logger {
         requires within { at + length bytes.now ≤ 512 }
         ensures written { IsTrue M.tells → OnOk result ((M.view media.new).content ≡
             written (cell_at self.shape self.number tid entry + 16 + at) bytes.now (M.view media.old).content) }
-        ensures cell { IsTrue M.tells → OnOk result (cell_of self.shape (M.view media.new).content.bytes self.number tid entry ≡
+        ensures cell { IsTrue M.tells → OnOk result (
+            cell_of self.shape (M.view media.new).content.bytes self.number tid entry ≡
             put (cell_of self.shape (M.view media.old).content.bytes self.number tid entry) (16 + at) bytes.now) }
-        ensures does { Writes M.tells ((cell_at self.shape self.number tid entry + 16 + at, length bytes.now) ∷ []) (M.view media.old) (M.view media.new) result }
+        ensures does { Writes M.tells ((cell_at self.shape self.number tid entry + 16 + at, length bytes.now) ∷ [])
+            (M.view media.old) (M.view media.new) result }
     {
         let cell = self.shape.cell_at(self.number, tid, entry);
         media.write(cell + 16 + u64::from(at), bytes)
@@ -170,8 +179,10 @@ impl Logger {
         requires size { (M.view media.old).size ≡ media_len self.shape }
         requires tid { tid < self.shape.numbers }
         requires entry { entry < self.shape.entries }
-        ensures head { IsTrue M.tells → IfOk result (λ head. head ≡ cell_head (cell_of self.shape (M.view media.old).content.bytes self.number tid entry)) }
-        ensures bytes { IsTrue M.tells → OnOk result (buf.new ≡ drop 16 (cell_of self.shape (M.view media.old).content.bytes self.number tid entry)) }
+        ensures head { IsTrue M.tells → IfOk result (λ head. head ≡
+            cell_head (cell_of self.shape (M.view media.old).content.bytes self.number tid entry)) }
+        ensures bytes { IsTrue M.tells → OnOk result (buf.new ≡
+            drop 16 (cell_of self.shape (M.view media.old).content.bytes self.number tid entry)) }
         ensures unread { OnErr result (buf.new ≡ buf.old) }
         ensures does { Writes M.tells [] (M.view media.old) (M.view media.new) result }
     {
@@ -196,10 +207,13 @@ impl Logger {
         requires good { IsTrue M.tells → (e : ℕ) → first ≤ e → e < first + count →
             IsGoodCell self.shape self.number (cell_of self.shape (M.view media.old).content.bytes self.number tid e) }
         ensures written { IsTrue M.tells → OnOk result ((M.view media.new).content.bytes ≡
-            (let old = (M.view media.old).content.bytes in applied (in_media self.shape (parts_from self.shape old self.number tid first count)) old)) }
+            (let old = (M.view media.old).content.bytes in
+            applied (in_media self.shape (parts_from self.shape old self.number tid first count)) old)) }
         ensures data_after { IsTrue M.tells → OnOk result (data_of self.shape (M.view media.new).content.bytes ≡
-            (let old = (M.view media.old).content.bytes in applied (parts_from self.shape old self.number tid first count) (data_of self.shape old))) }
-        ensures does { Writes M.tells (places_of self.shape (parts_from self.shape (M.view media.old).content.bytes self.number tid first count))
+            (let old = (M.view media.old).content.bytes in
+            applied (parts_from self.shape old self.number tid first count) (data_of self.shape old))) }
+        ensures does { Writes M.tells
+            (places_of self.shape (parts_from self.shape (M.view media.old).content.bytes self.number tid first count))
             (M.view media.old) (M.view media.new) result }
     {
         for entry in first..first + count {
@@ -220,10 +234,12 @@ impl Logger {
         requires size { (M.view media.old).size ≡ media_len self.shape }
         requires tid { tid < self.shape.numbers }
         requires range { addr + length bytes.now ≤ data_len self.shape }
-        requires room { held + length (pieces_on self.shape self.number addr bytes.now) ≤ self.shape.entries }
+        requires room { held + length (pieces_here self addr bytes.now) ≤ self.shape.entries }
         ensures written { IsTrue M.tells → OnOk result ((M.view media.new).content.bytes ≡
-            applied (cell_writes self.shape self.number tid held (pieces_on self.shape self.number addr bytes.now)) (M.view media.old).content.bytes) }
-        ensures does { Writes M.tells (cell_ranges self.shape self.number tid held (length (pieces_on self.shape self.number addr bytes.now)))
+            applied (cell_writes self.shape self.number tid held (pieces_here self addr bytes.now))
+            (M.view media.old).content.bytes) }
+        ensures does { Writes M.tells
+            (cell_ranges self.shape self.number tid held (length (pieces_here self addr bytes.now)))
             (M.view media.old) (M.view media.new) result }
     {
         let mut entry = held;
@@ -250,8 +266,10 @@ impl Logger {
         requires entry { entry < self.shape.entries }
         requires long { length bytes.now ≤ 512 }
         ensures written { IsTrue M.tells → OnOk result ((M.view media.new).content.bytes ≡
-            applied (cell_writes self.shape self.number tid entry ((addr, bytes.now) ∷ [])) (M.view media.old).content.bytes) }
-        ensures does { Writes M.tells ((cell_at self.shape self.number tid entry, 528) ∷ []) (M.view media.old) (M.view media.new) result }
+            applied (cell_writes self.shape self.number tid entry ((addr, bytes.now) ∷ []))
+            (M.view media.old).content.bytes) }
+        ensures does { Writes M.tells ((cell_at self.shape self.number tid entry, 528) ∷ [])
+            (M.view media.old) (M.view media.new) result }
     {
         let at = self.shape.cell_at(self.number, tid, entry);
         let head = Head {
@@ -268,7 +286,8 @@ impl Logger {
         requires size { (M.view media.old).size ≡ media_len self.shape }
         requires tid { tid < self.shape.numbers }
         requires entry { entry < self.shape.entries }
-        ensures cell { IsTrue M.tells → IfOk result (λ cell. cell ≡ cell_of self.shape (M.view media.old).content.bytes self.number tid entry) }
+        ensures cell { IsTrue M.tells → IfOk result (λ cell. cell ≡
+            cell_of self.shape (M.view media.old).content.bytes self.number tid entry) }
         ensures does { Writes M.tells [] (M.view media.old) (M.view media.new) result }
     {
         let mut cell = [0; 528];
@@ -280,11 +299,14 @@ impl Logger {
         requires size { (M.view media.old).size ≡ media_len self.shape }
         requires tid { tid < self.shape.numbers }
         requires entry { entry < self.shape.entries }
-        requires good { IsTrue M.tells → IsGoodCell self.shape self.number (cell_of self.shape (M.view media.old).content.bytes self.number tid entry) }
+        requires good { IsTrue M.tells →
+            IsGoodCell self.shape self.number (cell_of self.shape (M.view media.old).content.bytes self.number tid entry) }
         ensures written { IsTrue M.tells → OnOk result ((M.view media.new).content.bytes ≡
             (let part = cell_part (cell_of self.shape (M.view media.old).content.bytes self.number tid entry) in
             put (M.view media.old).content.bytes (place_of self.shape part.0) part.1)) }
-        ensures does { Writes M.tells (places_of self.shape (cell_part (cell_of self.shape (M.view media.old).content.bytes self.number tid entry) ∷ []))
+        ensures does { Writes M.tells
+            (let cell = cell_of self.shape (M.view media.old).content.bytes self.number tid entry in
+            places_of self.shape (cell_part cell ∷ []))
             (M.view media.old) (M.view media.new) result }
     {
         let cell = self.read_cell(media, tid, entry)?;
