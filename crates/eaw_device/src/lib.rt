@@ -2,11 +2,13 @@
 #![tactic(auto)]
 
 mod attach;
+mod device;
 mod fault;
 mod fresh;
 mod shapes;
 
 pub use attach::check_array;
+pub use device::Eaw;
 pub use fault::AttachFault;
 pub use fresh::{FormatFault, format};
 pub use shapes::first_shape;

@@ -1,0 +1,138 @@
+// The commands over one logger.
+ghost use Rattle.std.specs.Prelude.{◌≡◌, IsTrue};
+ghost use Rattle.array_shape.specs.Places.{media_len};
+ghost use Rattle.array_image.specs.Standing.{IsClean};
+ghost use Rattle.eaw_device.specs.Sound.{IsSound};
+
+use array_shape::Shape;
+use eaw_face::{EawFault, EawStore};
+use logger::{Logger, StageFault};
+use pcm_media::Media;
+
+/// The array over a media.
+#[derive(Drop)]
+pub struct Eaw<M: Media> {
+    media: M,
+    shape: Shape,
+    held: [u16; 64],
+    live: [bool; 64],
+    is_dead: bool,
+    ghost sound: { IsSound M.tells (M.view media) shape held live is_dead },
+}
+
+impl<M: Media> Eaw<M> {
+    /// Over a media that is at rest. No number is live.
+    pub(crate) fn over(media: M, shape: Shape) -> Eaw<M>
+        requires one { shape.loggers ≡ 1 }
+        requires sized { (M.view media).size ≡ media_len shape }
+        requires clean { IsTrue M.tells → IsClean shape (M.view media).content }
+        ensures media { result.media ≡ media }
+        ensures shape { result.shape ≡ shape }
+        ensures alive { result.is_dead ≡ false }
+    {
+        Eaw {
+            media,
+            shape,
+            held: [0; 64],
+            live: [false; 64],
+            is_dead: false,
+        }
+    }
+
+    /// The media. Live numbers are dropped.
+    pub fn into_media(self) -> M
+        ensures { result ≡ self.media }
+    {
+        let Eaw {
+            media,
+            shape: _,
+            held: _,
+            live: _,
+            is_dead: _,
+        } = self;
+        media
+    }
+}
+
+impl<M: Media> EawStore for Eaw<M> {
+    ghost use Rattle.eaw_device.specs.Sound.{view_of, idle, unheld};
+    ghost use Rattle.array_image.proofs.Data.{length-data_of};
+
+    ghost tells = { M.tells };
+
+    ghost view = { λ s. view_of (M.view s.media) s.shape s.held s.live s.is_dead };
+
+    ghost shaped = { λ s. s.sound.shaped };
+
+    ghost long = { λ s told. length-data_of s.shape (M.view s.media).content.bytes };
+
+    ghost idle = { λ s t free. idle s.shape (M.view s.media).content.bytes s.held s.live t (s.sound.idle t free) };
+
+    ghost unheld = { λ s t g free. unheld s.held g t (s.sound.idle t free) };
+
+    fn shape(&self) -> Shape {
+        self.shape
+    }
+
+    fn log_write(&mut self, tid: u8, addr: u64, bytes: &[u8]) -> Result<u32, EawFault> {
+        if self.is_dead {
+            return Err(EawFault::Dead);
+        }
+        if tid >= self.shape.numbers {
+            return Err(EawFault::UnknownTid { tid });
+        }
+        let held = self.held[usize::from(tid)];
+        let logger = Logger {
+            shape: self.shape,
+            number: 0,
+        };
+        match logger.stage(&mut self.media, tid, held, addr, bytes) {
+            Ok(taken) => {
+                self.held[usize::from(tid)] = held + taken;
+                self.live[usize::from(tid)] = true;
+                Ok(u32::from(held + taken))
+            }
+            Err(StageFault::Full { held, needed }) => Err(EawFault::LogFull {
+                logger: 0,
+                held,
+                needed,
+            }),
+            Err(StageFault::Media) => {
+                self.is_dead = true;
+                Err(EawFault::Media)
+            }
+        }
+    }
+
+    fn commit(&mut self, tid: u8) -> Result<(), EawFault> {
+        if self.is_dead {
+            return Err(EawFault::Dead);
+        }
+        if tid >= self.shape.numbers || !self.live[usize::from(tid)] {
+            return Err(EawFault::UnknownTid { tid });
+        }
+        self.held[usize::from(tid)] = 0;
+        self.live[usize::from(tid)] = false;
+        Ok(())
+    }
+
+    fn read(&mut self, addr: u64, buf: &mut [u8]) -> Result<(), EawFault> {
+        if self.is_dead {
+            return Err(EawFault::Dead);
+        }
+        if buf.is_empty() {
+            return Ok(());
+        }
+        match self.media.read(self.shape.byte_at(addr), buf) {
+            Ok(()) => Ok(()),
+            Err(_) => {
+                self.is_dead = true;
+                Err(EawFault::Media)
+            }
+        }
+    }
+
+    fn log_len(&self, tid: u8) -> u32 {
+        u32::from(self.held[usize::from(tid)])
+    }
+}
