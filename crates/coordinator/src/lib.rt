@@ -1,4 +1,10 @@
 //! A commit in two phases over the loggers of an array.
 #![tactic(auto)]
 
+mod commit;
+mod logger;
 mod mask;
+mod phases;
+
+pub use commit::commit_from;
+pub use logger::Logger;
