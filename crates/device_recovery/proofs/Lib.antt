@@ -1,3 +1,4 @@
 pub mod Frames
 pub mod Finding
 pub mod Clearing
+pub mod Tests

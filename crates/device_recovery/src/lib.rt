@@ -1,6 +1,8 @@
 //! Recovery: of what a loss of power left it makes an array at rest.
 #![tactic(auto)]
 
+mod reading;
 mod report;
+mod table;
 
 pub use report::{RecoverFault, Report};
