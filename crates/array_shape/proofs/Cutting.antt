@@ -1,13 +1,14 @@
 -- The parts of a range and the pieces of a write, one after another.
-use Rattle.std.proofs.Common.{◌≡◌, ℕ, zero, suc, ◌+◌, ◌-◌, ◌*◌, ◌/◌, ◌%◌, ◌<◌, ◌≤◌, ◌⊎◌, inl, inr, min, List, [], ◌∷◌, length, take, drop, map, refl, length-drop, sym, ◌∙◌, ap, subst, arith}
+use Rattle.std.proofs.Common.{◌≡◌, ℕ, zero, suc, ◌+◌, ◌-◌, ◌*◌, ◌/◌, ◌%◌, ◌^◌, ◌<◌, ◌≤◌, ◌⊎◌, Bool, true, false, cond, nat_eq, inl, inr, min, List, [], ◌∷◌, length, take, drop, map, refl, length-drop, sym, ◌∙◌, ap, subst, arith}
 use Rattle.std.proofs.lemmas.Bool.{cases_lt}
 use Rattle.std.proofs.lemmas.List.{take_min, drop-drop}
 use Rattle.std.proofs.lemmas.List.Elements.{All-nil, All-cons}
-use Rattle.std.specs.Prelude.{All}
+use Rattle.std.proofs.lemmas.Nat.{mul-le}
+use Rattle.std.specs.Prelude.{All, filter}
 use Rattle.array_shape.specs.declared.shape.Shape.{Shape}
 use Rattle.array_shape.specs.declared.part.Part.{Part}
 use Rattle.array_shape.specs.Places.{logger_of, data_len, IsPlaced}
-use Rattle.array_shape.specs.Parts.{page_left, first_parts, parts_of, Tile, AreCutAtPages, IsPartOf, first_pieces, pieces_of, piece_of}
+use Rattle.array_shape.specs.Parts.{page_left, first_parts, parts_of, Tile, AreCutAtPages, IsPartOf, first_pieces, pieces_of, piece_of, is_part_on, parts_on, is_piece_on, pieces_on}
 
 -- the first part of a range that is not empty
 abbrev pub first_part : Shape → ℕ → ℕ → Part
@@ -154,3 +155,47 @@ module _ (shape : Shape) (base : ℕ) (bytes : List ℕ) where
   pub pieces_of-parts : pieces_of base bytes ≡ map (piece_of base bytes) (parts_of shape base (length bytes))
   unfolding pieces_of parts_of
   pieces_of-parts = first_pieces-parts (length bytes) base bytes (length bytes) (omega arith) (let none : 0 ≡ base - base = omega arith in ap (λ (k : ℕ). drop k bytes) none) refl
+
+  -- a part's piece is on the part's logger
+  first_on : (g n addr len : ℕ) → filter (is_piece_on shape g) (map (piece_of base bytes) (first_parts shape n addr len)) ≡ map (piece_of base bytes) (filter (is_part_on g) (first_parts shape n addr len))
+  first_on g zero addr len = refl
+  first_on g (suc n) addr zero = refl
+  first_on g (suc n) addr (suc len) =
+      let rest = first_on g n (addr + page_left addr) (suc len - page_left addr) in
+      let here = piece_of base bytes (first_part shape addr (suc len)) in
+      go (nat_eq (logger_of shape addr) g) (first_part shape addr (suc len)) (first_parts shape n (addr + page_left addr) (suc len - page_left addr)) rest
+    where
+      go : (on : Bool) (part : Part) (parts : List Part) → filter (is_piece_on shape g) (map (piece_of base bytes) parts) ≡ map (piece_of base bytes) (filter (is_part_on g) parts)
+          → cond on (piece_of base bytes part ∷ filter (is_piece_on shape g) (map (piece_of base bytes) parts)) (filter (is_piece_on shape g) (map (piece_of base bytes) parts))
+          ≡ map (piece_of base bytes) (cond on (part ∷ filter (is_part_on g) parts) (filter (is_part_on g) parts))
+      go true part parts same = ap (λ (l : List (ℕ × List ℕ)). piece_of base bytes part ∷ l) same
+      go false part parts same = same
+
+  pub pieces_on-parts : (g : ℕ) → pieces_on shape g base bytes ≡ map (piece_of base bytes) (parts_on shape g base (length bytes))
+  unfolding parts_of
+  pieces_on-parts g = ap (filter (is_piece_on shape g)) pieces_of-parts ∙ first_on g (length bytes) base (length bytes)
+
+-- how many parts there may be
+module _ (shape : Shape) where
+  first_few : (n addr len : ℕ) → 512 * length (first_parts shape n addr len) ≤ addr % 512 + len + 511
+  first_few zero addr len = omega arith
+  first_few (suc n) addr zero = omega arith
+  first_few (suc n) addr (suc len) = elim (cases_lt (page_left addr) (suc len)) [
+    | inl lt ↦ omega (arith, first_few n (addr + page_left addr) (suc len - page_left addr))
+    | inr le ↦ (let none : suc len - page_left addr ≡ 0 = omega arith in omega (arith, ap (λ (k : ℕ). length (first_parts shape n (addr + page_left addr) k)) none ∙ ap length (first_parts-none shape n (addr + page_left addr))))
+  ]
+
+  pub parts_few : (addr len : ℕ) → addr + len ≤ data_len shape → length (parts_of shape addr len) < 2 ^ 16
+  unfolding parts_of
+  parts_few addr len fits =
+      let pages : shape.loggers * shape.pages ≤ 8 * 4096 = mul-le shape.loggers shape.pages 8 4096 (omega arith) (omega arith) in
+      omega (arith, first_few len addr len)
+
+-- a filter keeps no more
+pub filter_few : {X : Type 0} (p : X → Bool) (xs : List X) → length (filter p xs) ≤ length xs
+filter_few p [] = omega arith
+filter_few p (x ∷ xs) = few (p x) (filter_few p xs)
+  where
+    few : (b : Bool) → length (filter p xs) ≤ length xs → length (cond b (x ∷ filter p xs) (filter p xs)) ≤ suc (length xs)
+    few true le = omega arith
+    few false le = omega arith

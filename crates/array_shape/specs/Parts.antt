@@ -1,5 +1,5 @@
 -- The parts of a range of the data, and the pieces of a write: both are cut at the multiples of 512.
-use Rattle.std.specs.Prelude.{ℕ, zero, suc, ◌≡◌, ◌+◌, ◌-◌, ◌%◌, ◌≤◌, ◌<◌, min, List, [], ◌∷◌, length, take, drop, All}
+use Rattle.std.specs.Prelude.{ℕ, zero, suc, ◌≡◌, ◌+◌, ◌-◌, ◌%◌, ◌≤◌, ◌<◌, min, List, [], ◌∷◌, length, take, drop, filter, All, Bool, nat_eq}
 use Rattle.array_shape.specs.declared.shape.Shape.{Shape}
 use Rattle.array_shape.specs.declared.part.Part.{Part}
 use Rattle.array_shape.specs.Places.{logger_of, IsPlaced}
@@ -49,3 +49,16 @@ pieces_of addr bytes = first_pieces (length bytes) addr bytes
 -- the piece of a write of bytes at an address that goes to one part of its range
 abbrev pub piece_of : ℕ → List ℕ → Part → ℕ × List ℕ
 piece_of addr bytes part = (part.addr, take part.len (drop (part.addr - addr) bytes))
+
+-- those of the parts, and of the pieces, that logger g has
+abbrev pub is_part_on : ℕ → Part → Bool
+is_part_on g part = nat_eq part.logger g
+
+abbrev pub parts_on : Shape → ℕ → ℕ → ℕ → List Part
+parts_on shape g addr len = filter (is_part_on g) (parts_of shape addr len)
+
+abbrev pub is_piece_on : Shape → ℕ → ℕ × List ℕ → Bool
+is_piece_on shape g piece = nat_eq (logger_of shape piece.0) g
+
+abbrev pub pieces_on : Shape → ℕ → ℕ → List ℕ → List (ℕ × List ℕ)
+pieces_on shape g addr bytes = filter (is_piece_on shape g) (pieces_of addr bytes)

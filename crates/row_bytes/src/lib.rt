@@ -2,7 +2,11 @@
 #![tactic(auto)]
 
 mod head;
+mod header;
 mod row;
+#[cfg(test)]
+mod tests;
 
-pub use head::Head;
-pub use row::Row;
+pub use head::{Head, read_head, write_head};
+pub use header::{HeaderFault, read_array_header, write_array_header};
+pub use row::{Row, VOTED, read_row, write_row};

@@ -1,3 +1,13 @@
+// The row of a transaction number at one logger.
+ghost use Rattle.std.specs.Prelude.{◌≡◌};
+ghost use Rattle.row_bytes.specs.Said.{row_said};
+ghost use Rattle.row_bytes.specs.Written.{row_bytes};
+
+use byteorder::{ByteOrder, LittleEndian};
+
+/// The vote byte of a row that is voted. Any other is not.
+pub const VOTED: u8 = 0xC3;
+
 /// What the 16 bytes of a row say: one logger's share of a transaction.
 #[derive(Clone, Copy, Debug, PartialEq, Eq)]
 pub struct Row {
@@ -8,4 +18,34 @@ pub struct Row {
     pub first: u16,
     /// How many cells it has here.
     pub count: u16,
+}
+
+/// What the bytes of a row say. Bytes 6 to 15 are not looked at.
+pub fn read_row(bytes: &[u8; 16]) -> Row
+    ensures { result ≡ row_said bytes.now }
+{
+    Row {
+        voted: bytes[0] == VOTED,
+        mask: bytes[1],
+        first: LittleEndian::read_u16(&bytes[2..]),
+        count: LittleEndian::read_u16(&bytes[4..]),
+    }
+}
+
+/// Writes the bytes of a row.
+pub fn write_row(row: &Row, out: &mut [u8; 16])
+    ensures written { out.new ≡ row_bytes row.now }
+    ensures reads_back { row_said out.new ≡ row.now }
+{
+    let Row {
+        voted,
+        mask,
+        first,
+        count,
+    } = *row;
+    out.fill(0);
+    out[0] = if voted { VOTED } else { 0 };
+    out[1] = mask;
+    LittleEndian::write_u16(&mut out[2..], first);
+    LittleEndian::write_u16(&mut out[4..], count);
 }

@@ -1,0 +1,56 @@
+-- The header of an array: what its bytes say, and the bytes that are written.
+use Rattle.std.specs.Prelude.{ℕ, ◌≡◌, ◌≢◌, List, [], ◌∷◌, ◌++◌, take, replicate, slice_index, codes}
+use Rattle.byteorder.specs.Endian.{little_from, little_bytes}
+use Rattle.array_shape.specs.declared.shape.Shape.{Shape}
+use Rattle.array_shape.specs.declared.bad_shape.ShapeNumber.{ShapeNumber}
+use Rattle.array_shape.specs.declared.bad_shape.ShapeNumber.TheVariants.{Loggers, Numbers, Entries, Pages, MediaLength}
+use Rattle.array_shape.specs.Numbers.{IsFirstBad}
+use Rattle.array_shape.specs.Places.{HasNumbers, media_len}
+use Rattle.row_bytes.specs.declared.header.HeaderFault.{HeaderFault}
+use Rattle.row_bytes.specs.declared.header.HeaderFault.TheVariants.{NotMars, BadShape}
+
+-- the first eight bytes of every array
+abbrev pub mark : List ℕ
+mark = codes "MARSEAW1"
+
+abbrev pub HasMark : List ℕ → Type 0
+HasMark bytes = take 8 bytes ≡ mark
+
+-- the numbers that a header says
+abbrev pub loggers_said : List ℕ → ℕ
+loggers_said bytes = slice_index bytes 8
+
+abbrev pub numbers_said : List ℕ → ℕ
+numbers_said bytes = slice_index bytes 9
+
+unfoldable pub entries_said : List ℕ → ℕ
+entries_said bytes = little_from 10 2 bytes
+
+unfoldable pub pages_said : List ℕ → ℕ
+pages_said bytes = little_from 12 4 bytes
+
+-- the header of an array of this shape: the rest of it says nothing
+pub record SaysShape (bytes : List ℕ) (shape : Shape) : Type 0 where
+  pub has_mark : HasMark bytes
+  pub numbers : HasNumbers (loggers_said bytes) (numbers_said bytes) (entries_said bytes) (pages_said bytes) shape
+
+-- the number of a header with the mark that is wrong: the first one out of range, or else the length of the media
+abbrev pub IsBadIn : List ℕ → ℕ → ShapeNumber → ℕ → Type 0
+IsBadIn bytes size Loggers given = IsFirstBad (loggers_said bytes) (numbers_said bytes) (entries_said bytes) (pages_said bytes) Loggers given
+IsBadIn bytes size Numbers given = IsFirstBad (loggers_said bytes) (numbers_said bytes) (entries_said bytes) (pages_said bytes) Numbers given
+IsBadIn bytes size Entries given = IsFirstBad (loggers_said bytes) (numbers_said bytes) (entries_said bytes) (pages_said bytes) Entries given
+IsBadIn bytes size Pages given = IsFirstBad (loggers_said bytes) (numbers_said bytes) (entries_said bytes) (pages_said bytes) Pages given
+IsBadIn bytes size MediaLength given = (given ≡ size) × ((shape : Shape) × SaysShape bytes shape × (size ≢ media_len shape))
+
+-- what keeps a media of so many bytes that begins with these from being an array
+abbrev pub IsFaulty : List ℕ → ℕ → HeaderFault → Type 0
+IsFaulty bytes size NotMars = ¬ HasMark bytes
+IsFaulty bytes size (BadShape bad) = HasMark bytes × IsBadIn bytes size bad.which bad.given
+
+-- the mark and the numbers
+abbrev pub header_front : Shape → List ℕ
+header_front shape = mark ++ shape.loggers ∷ shape.numbers ∷ (little_bytes 2 shape.entries ++ little_bytes 4 shape.pages)
+
+-- the 512 bytes that are written: the rest is zeros
+unfoldable pub header_bytes : Shape → List ℕ
+header_bytes shape = header_front shape ++ replicate 496 0

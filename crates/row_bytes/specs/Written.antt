@@ -1,0 +1,17 @@
+-- The bytes of rows and heads. Numbers are little-endian.
+use Rattle.std.specs.Prelude.{ℕ, List, [], ◌∷◌, ◌++◌, replicate, if◌then◌else◌}
+use Rattle.byteorder.specs.Endian.{little_bytes}
+use Rattle.row_bytes.specs.declared.row.Row.{Row}
+use Rattle.row_bytes.specs.declared.head.Head.{Head}
+
+-- bytes 1 to 15 of a row: the mask, the first entry, the count, zeros
+abbrev pub row_rest : ℕ → ℕ → ℕ → List ℕ
+row_rest mask first count = mask ∷ (little_bytes 2 first ++ little_bytes 2 count ++ replicate 10 0)
+
+-- the 16 bytes of a row: the vote, and the rest
+abbrev pub row_bytes : Row → List ℕ
+row_bytes row = (if row.voted then 0xC3 else 0) ∷ row_rest row.mask row.first row.count
+
+-- the 16 bytes of a head: the address, the length, zeros
+abbrev pub head_bytes : Head → List ℕ
+head_bytes head = little_bytes 8 head.addr ++ little_bytes 2 head.len ++ replicate 6 0
