@@ -1,4 +1,4 @@
--- Calls at one logger after another.
+-- Calls at one logger after another: where they write, and what the rows say then.
 use Rattle.std.proofs.Common.{◌≡◌, ◌≢◌, ℕ, ◌+◌, ◌-◌, ◌^◌, ◌<◌, ◌≤◌, min, Bool, true, false, cond, inl, inr, ⊎_elim, List, [], ◌∷◌, Result, Ok, Err, refl, sym, ◌∙◌, ap, subst, arith}
 use Rattle.std.specs.Prelude.{IsTrue, OnErr, nat_lt, slice_index}
 use Rattle.std.proofs.lemmas.Bool.{cases_eq, lt-ltb}
@@ -16,36 +16,6 @@ use Rattle.array_image.proofs.Joined.{outside_at}
 use Rattle.array_image.proofs.Places.{same_row}
 use Rattle.array_image.proofs.Rows.{row_away}
 use Rattle.coordinator.specs.Between.{counted_places, body_places, vote_places, Names, HaveNames, HaveVotes}
-
--- What was written from the first call on, all calls having succeeded.
-abbrev pub SoFar : Bool → List (ℕ × ℕ) → View → View → Type 0
-SoFar tells ranges old now = let done : Result (Unit {0}) (Unit {0}) = Ok tt in Writes tells ranges old now done
-
-module _ (tells : Bool) (all more : List (ℕ × ℕ)) (old mid new : View) (within : IsTrue tells → (i : ℕ) → IsOutside all i → IsOutside more i) (so_far : SoFar tells all old mid) where
-  -- one more call, and what its answer says of faults
-  calls_on : {T E U F : Type 0} {r : Result T E} (s : Result U F) → Writes tells more mid new r → OnErr s (Rose mid.faults new.faults) → Writes tells all old new s
-  calls_on s call rose = record {
-    size = call.size ∙ so_far.size;
-    cause = let done : Result (Unit {0}) (Unit {0}) = Ok tt in cause_on old.faults mid.faults new.faults done s so_far.cause (record { later = call.cause.later; failed = rose });
-    touched = λ told. touched_within all more old.content mid.content new.content (so_far.touched told) (within told) (call.touched told);
-    time = λ told. then (so_far.time told) (weaker (left_partly_on all more old.content mid.content (so_far.touched told) (within told)) (call.time told));
-  }
-
-  -- one that succeeded
-  pub goes_on : {T E : Type 0} {r : Result T E} → Writes tells more mid new r → SoFar tells all old new
-  goes_on call = let done : Result (Unit {0}) (Unit {0}) = Ok tt in calls_on done call tt
-
-  -- the last one, whose answer is handed on
-  pub ends_with : {T E : Type 0} (r : Result T E) → Writes tells more mid new r → Writes tells all old new r
-  ends_with r call = calls_on r call call.cause.failed
-
-  -- one that failed, whose fault is handed on
-  pub hands_on : {T E U F : Type 0} {e : E} (s : Result U F) → (let r : Result T E = Err e in Writes tells more mid new r) → Writes tells all old new s
-  hands_on {T} {E} {U} {F} s call = calls_on s call (any s)
-    where
-      any : (s : Result U F) → OnErr s (Rose mid.faults new.faults)
-      any (Ok x) = tt
-      any (Err e) = call.cause.failed
 
 counted_at : (shape : Shape) (counts : List ℕ) (place : ℕ → ℕ × ℕ) (g : ℕ) → g < shape.loggers → 0 < slice_index counts g → (i : ℕ) → IsOutside (counted_places shape counts place) i → IsOutside (place g ∷ []) i
 counted_at shape counts place g lt some i out =
@@ -79,10 +49,3 @@ module _ (shape : Shape) (t : ℕ) (small : t < shape.numbers) (counts : List �
       (λ is. ap (λ (k : ℕ). (row_of shape new.bytes k t).voted) is ∙ here)
       (λ ne. ap (λ (r : Row). r.voted) (other_row shape t small n (row_at shape n t) 1 (λ i from below. (omega arith, omega arith)) old.bytes new.bytes touched.bytes g ne) ∙ votes g (omega arith) some)
       (cases_eq g n)
-
--- the barrier behind them
-pub then_barrier : (tells : Bool) (all : List (ℕ × ℕ)) (old mid new : View) {T E : Type 0} (r : Result T E) → SoFar tells all old mid → Writes tells [] mid new r → Writes tells all old new r
-then_barrier tells all old mid new r so_far barrier = ends_with tells all [] old mid new (λ told i out. tt) so_far r barrier
-
-pub barrier_keeps : (P : List ℕ → Type 0) (mid new : Content) → P mid.bytes → new ≡ settled mid → (new.unsettled ≡ []) × P new.bytes
-barrier_keeps P mid new holds is = (ap (λ (c : Content). c.unsettled) is, subst (λ (c : Content). P c.bytes) (sym is) holds)

@@ -15,7 +15,7 @@ use Rattle.array_image.specs.Standing.{IsEither, IsClean, SameCells}
 use Rattle.array_image.specs.Marked.{named_parts, IsMaskOf, AreGood}
 use Rattle.coordinator.specs.Between.{body_places, vote_places, commit_places, HaveNames, HaveVotes, IsStaged}
 use Rattle.coordinator.proofs.Between.{prepare_after, votes_after, body_cells_stay, vote_cells_stay}
-use Rattle.coordinator.proofs.Calls.{SoFar, goes_on, ends_with, hands_on}
+use Rattle.array_image.proofs.Calls.{SoFar, goes_on, ends_with, hands_on}
 use Rattle.coordinator.proofs.Committing.{bodies_within, votes_within, parts_within_all, same_cells_then, prepare_law, decide_law, install_law, installed, install_cells, release_law, released}
 
 -- what a commit does up to some phase, whatever it answers there

@@ -2,3 +2,4 @@ pub mod Frames
 pub mod Finding
 pub mod Clearing
 pub mod Tests
+pub mod Tabling

@@ -6,7 +6,8 @@ use Rattle.array_shape.specs.Places.{row_at}
 use Rattle.row_bytes.specs.declared.row.Row.{Row}
 use Rattle.array_image.specs.Image.{row_of}
 use Rattle.coordinator.specs.Between.{HaveVotes}
-use Rattle.coordinator.proofs.Calls.{goes_on, hands_on, vote_within, votes_more, then_barrier, barrier_keeps}
+use Rattle.array_image.proofs.Calls.{goes_on, hands_on, then_barrier, barrier_keeps}
+use Rattle.coordinator.proofs.Calls.{vote_within, votes_more}
 use Rattle.coordinator.proofs.phases.decide.Goals as goal
 
 pub returns-in_err-vote-clause-does : goal.returns-in_err-vote-clause-does

@@ -7,7 +7,7 @@ use Rattle.array_shape.specs.Places.{media_len}
 use Rattle.array_image.specs.Parts.{Part, applied, places_of}
 use Rattle.array_image.specs.Image.{data_of, cell_of, parts_from, IsGoodCell}
 use Rattle.array_image.specs.Marked.{named_parts}
-use Rattle.coordinator.proofs.Calls.{goes_on, hands_on, then_barrier, barrier_keeps}
+use Rattle.array_image.proofs.Calls.{goes_on, hands_on, then_barrier, barrier_keeps}
 use Rattle.coordinator.proofs.Applying.{still_good, parts_within, logger_applied}
 use Rattle.coordinator.proofs.phases.install.Goals as goal
 

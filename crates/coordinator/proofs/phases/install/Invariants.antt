@@ -3,7 +3,7 @@ use Rattle.array_image.specs.Joined.{joined}
 use Rattle.array_image.specs.Parts.{applied, places_of}
 use Rattle.array_image.specs.Image.{data_of}
 use Rattle.array_image.specs.Marked.{named_at, named_parts}
-use Rattle.coordinator.proofs.Calls.{SoFar}
+use Rattle.array_image.proofs.Calls.{SoFar}
 use Rattle.coordinator.proofs.phases.install.Given as goal
 
 abbrev pub invariant-loop-number : goal.invariant-loop-number

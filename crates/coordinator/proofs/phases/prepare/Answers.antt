@@ -7,7 +7,8 @@ use Rattle.pcm_media.specs.View.{View, Writes}
 use Rattle.array_shape.specs.Places.{row_at}
 use Rattle.array_image.specs.Image.{row_of}
 use Rattle.coordinator.specs.Between.{body_places, Names, HaveNames}
-use Rattle.coordinator.proofs.Calls.{goes_on, hands_on, body_within, names_more, names_from, then_barrier, barrier_keeps}
+use Rattle.array_image.proofs.Calls.{goes_on, hands_on, then_barrier, barrier_keeps}
+use Rattle.coordinator.proofs.Calls.{body_within, names_more, names_from}
 use Rattle.std.proofs.lemmas.Result.{on_ok_weaker}
 use Rattle.coordinator.proofs.phases.prepare.Goals as goal
 

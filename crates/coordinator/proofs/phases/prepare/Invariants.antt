@@ -1,7 +1,7 @@
 use Rattle.std.proofs.Common.{◌≡◌, ℕ, IsTrue}
 use Rattle.pcm_media.specs.View.{View}
 use Rattle.coordinator.specs.Between.{body_places, HaveNames}
-use Rattle.coordinator.proofs.Calls.{SoFar}
+use Rattle.array_image.proofs.Calls.{SoFar}
 use Rattle.coordinator.proofs.phases.prepare.Given as goal
 
 abbrev pub invariant-loop-number : goal.invariant-loop-number

@@ -1,6 +1,6 @@
 use Rattle.std.proofs.Common.{◌≡◌, ℕ, false, IsTrue}
 use Rattle.coordinator.specs.Between.{vote_places, HaveVotes}
-use Rattle.coordinator.proofs.Calls.{SoFar}
+use Rattle.array_image.proofs.Calls.{SoFar}
 use Rattle.coordinator.proofs.phases.release.Given as goal
 
 abbrev pub invariant-loop-number : goal.invariant-loop-number
