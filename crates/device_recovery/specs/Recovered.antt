@@ -17,14 +17,18 @@ use Rattle.device_recovery.specs.declared.report.RecoverFault.TheVariants.{BadRo
 abbrev pub AllGood : Shape → List ℕ → ℕ → Type 0
 AllGood shape image n = (g t : ℕ) → g < shape.loggers → t < n → decided shape image g t ≡ true → IsGoodRow shape image g t
 
--- the first decided row that is not good, by rising number, then rising logger
-pub record IsFirstBad (shape : Shape) (image : List ℕ) (g t : ℕ) : Type 0 where
+-- of the rows of a number the first decided one that is not good
+pub record IsFirstBadAt (shape : Shape) (image : List ℕ) (g t : ℕ) : Type 0 where
   pub logger : g < shape.loggers
-  pub number : t < shape.numbers
   pub is_decided : decided shape image g t ≡ true
   pub bad : IsGoodRow shape image g t → ⊥
-  pub before : AllGood shape image t
   pub below : (h : ℕ) → h < g → decided shape image h t ≡ true → IsGoodRow shape image h t
+
+-- of all rows, by rising number, then rising logger
+pub record IsFirstBad (shape : Shape) (image : List ℕ) (g t : ℕ) : Type 0 where
+  pub number : t < shape.numbers
+  pub here : IsFirstBadAt shape image g t
+  pub before : AllGood shape image t
 
 -- what stands beside the rows of which a test holds, by rising number, then rising logger
 abbrev pub at_rows : {A : Type 0} → Shape → (ℕ → ℕ → Bool) → (ℕ → ℕ → A) → List A

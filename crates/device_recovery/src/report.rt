@@ -23,6 +23,11 @@ pub enum RecoverFault {
 }
 
 impl From<Failed> for RecoverFault {
+    ghost use Rattle.std.specs.Prelude.{◌≡◌};
+    ghost use Rattle.device_recovery.specs.declared.report.RecoverFault.TheVariants.{Media};
+
+    ghost from_gives = { λ _ e. e ≡ Media };
+
     fn from(_: Failed) -> Self {
         RecoverFault::Media
     }
