@@ -119,6 +119,10 @@ module _ (shape : Shape) where
       let logger = ap (λ (p : ℕ). data_at shape (p % shape.loggers) + 512 * (p / shape.loggers)) same in
       omega arith
 
+  -- a range within a page lies in the media as it does in the data
+  pub placed_fits : (a n : ℕ) → IsPlaced shape a n → place_of shape a + n ≤ media_len shape
+  placed_fits a n placed = omega (arith, place_along a (n - 1) (omega arith), place_below (a + (n - 1)) (omega arith))
+
   pub place_injective : (a b : ℕ) → a < data_len shape → b < data_len shape → place_of shape a ≡ place_of shape b → a ≡ b
   place_injective a b lt lt' same = elim (cases_order (logger_of shape a) (logger_of shape b)) [
     | inl is ↦

@@ -1,0 +1,146 @@
+-- Cells that are written, in part or whole.
+use Rattle.std.proofs.Common.{◌≡◌, ℕ, zero, suc, ◌+◌, ◌-◌, ◌*◌, ◌^◌, ◌<◌, ◌≤◌, inl, inr, List, [], ◌∷◌, ◌++◌, length, get_or, take, drop, refl, sym, ◌∙◌, ap, subst, arith}
+use Rattle.std.proofs.lemmas.List.{get_or-drop, get_or-take, length-take-le, length-drop, ext_get_or}
+use Rattle.std.proofs.lemmas.Bool.{cases_lt, cases_eq}
+use Rattle.std.proofs.lemmas.Nat.{mul-le}
+use Rattle.pcm_media.specs.Images.{put, range, SameOutside, IsOutside}
+use Rattle.pcm_media.proofs.Puts.{length-put, get_or-put_before, get_or-put_after, get_or-put_inside}
+use Rattle.pcm_media.proofs.Left.{get_or-put_outside}
+use Rattle.pcm_media.proofs.Ranges.{get_or-range, length-range}
+use Rattle.array_shape.specs.declared.shape.Shape.{Shape}
+use Rattle.array_shape.specs.Places.{media_len, cell_at}
+use Rattle.row_bytes.specs.declared.head.Head.{Head}
+use Rattle.row_bytes.specs.Written.{head_bytes}
+use Rattle.row_bytes.proofs.Saying.{head_said-same, head_said-bytes}
+use Rattle.array_image.specs.Parts.{Part, applied, IsOwned, AllOwned}
+use Rattle.array_image.specs.Image.{cell_of, cell_head, cell_part, IsGoodCell}
+use Rattle.array_image.proofs.Places.{cell_fits_in}
+use Rattle.array_image.proofs.Rows.{cell_away}
+use Rattle.logger.specs.Cells.{cell_writes, cell_ranges, HoldsParts}
+
+-- a write within a range
+pub range-put : (old : List ℕ) (at n from : ℕ) (bytes : List ℕ) → at + n ≤ length old → from + length bytes ≤ n → range (put old (at + from) bytes) at n ≡ put (range old at n) from bytes
+range-put old at n from bytes inside within =
+    let new = put old (at + from) bytes in
+    let fits : at + from + length bytes ≤ length old = omega arith in
+    let long = length-range old at n inside in
+    let long' : length (range (put old (at + from) bytes) at n) ≡ n = length-range (put old (at + from) bytes) at n (omega (arith, length-put old (at + from) bytes fits)) in
+    let inner : from + length bytes ≤ length (range old at n) = omega arith in
+    ext_get_or 0 (range (put old (at + from) bytes) at n) (put (range old at n) from bytes) (long' ∙ sym long ∙ sym (length-put (range old at n) from bytes inner)) (λ i lt.
+    let small : i < n = omega arith in
+    get_or-range new at n i small ∙ elim (cases_lt i from) [
+      | inl before ↦ get_or-put_before old (at + from) bytes fits (at + i) (omega arith) ∙ sym (get_or-put_before (range old at n) from bytes inner i before ∙ get_or-range old at n i small)
+      | inr past ↦ elim (cases_lt i (from + length bytes)) [
+        | inl inside ↦ get_or-put_inside old (at + from) bytes fits (at + i) (omega arith) (omega arith) ∙ ap (λ (k : ℕ). get_or bytes k 0) (omega arith) ∙ sym (get_or-put_inside (range old at n) from bytes inner i past inside)
+        | inr after ↦ get_or-put_after old (at + from) bytes fits (at + i) (omega arith) ∙ sym (get_or-put_after (range old at n) from bytes inner i after ∙ get_or-range old at n i small)
+      ]
+    ])
+
+module _ (shape : Shape) (g t e : ℕ) (old : List ℕ) (long : length old ≡ media_len shape) (there : g < shape.loggers) (small : t < shape.numbers) (below : e < shape.entries) where
+  -- bytes behind the head
+  pub cell_of-put : (at : ℕ) (bytes : List ℕ) → at + length bytes ≤ 512 → cell_of shape (put old (cell_at shape g t e + 16 + at) bytes) g t e ≡ put (cell_of shape old g t e) (16 + at) bytes
+  cell_of-put at bytes within =
+      let place : cell_at shape g t e + 16 + at ≡ cell_at shape g t e + (16 + at) = omega arith in
+      ap (λ (k : ℕ). cell_of shape (put old k bytes) g t e) place
+      ∙ range-put old (cell_at shape g t e) 528 (16 + at) bytes (omega (arith, cell_fits_in shape g t e there small below)) (omega arith)
+
+module _ (shape : Shape) (g t : ℕ) (there : g < shape.loggers) (small : t < shape.numbers) where
+  abbrev head_for : Part → Head
+  head_for p = record { addr = p.0; len = length p.1 }
+
+  -- a part in its cell
+  abbrev put_one : List ℕ → ℕ → Part → List ℕ
+  put_one image e p = put (put image (cell_at shape g t e) (head_bytes (head_for p))) (cell_at shape g t e + 16) p.1
+
+  module _ (image : List ℕ) (e : ℕ) (p : Part) (long : length image ≡ media_len shape) (below : e < shape.entries) (short : length p.1 ≤ 512) where
+    abbrev at : ℕ
+    at = cell_at shape g t e
+
+    abbrev with_head : List ℕ
+    with_head = put image at (head_bytes (head_for p))
+
+    inside : at + 528 ≤ length image
+    inside = omega (arith, cell_fits_in shape g t e there small below)
+
+    head_long : length with_head ≡ length image
+    head_long = length-put image at (head_bytes (head_for p)) (omega (arith, inside))
+
+    pub length-put_one : length (put_one image e p) ≡ length image
+    length-put_one = length-put with_head (at + 16) p.1 (omega (arith, inside, head_long)) ∙ head_long
+
+    pub one_away : SameOutside ((at, 528) ∷ []) image (put_one image e p)
+    one_away = record {
+      long = length-put_one;
+      same = λ i out.
+          get_or-put_outside with_head (at + 16) p.1 (omega (arith, inside, head_long)) i (λ le lt. out.0 (omega arith) (omega arith))
+          ∙ get_or-put_outside image at (head_bytes (head_for p)) (omega (arith, inside)) i (λ le lt. out.0 (omega arith) (omega arith));
+    }
+
+    abbrev cell : List ℕ
+    cell = cell_of shape (put_one image e p) g t e
+
+    one_head : p.0 < 2 ^ 64 → cell_head cell ≡ head_for p
+    one_head fits =
+        head_said-same (take 16 cell) (head_bytes (head_for p)) (λ k lt.
+        get_or-take 16 cell k 0 lt
+        ∙ get_or-range (put_one image e p) at 528 k (omega arith)
+        ∙ get_or-put_before with_head (at + 16) p.1 (omega (arith, inside, head_long)) (at + k) (omega arith)
+        ∙ get_or-put_inside image at (head_bytes (head_for p)) (omega (arith, inside)) (at + k) (omega arith) (omega arith)
+        ∙ ap (λ (j : ℕ). get_or (head_bytes (head_for p)) j 0) (omega arith))
+        ∙ head_said-bytes (head_for p) fits (omega arith)
+
+    one_bytes : take (length p.1) (drop 16 cell) ≡ p.1
+    one_bytes =
+        let whole = length-range (put_one image e p) at 528 (omega (arith, inside, length-put_one)) in
+        ext_get_or 0 (take (length p.1) (drop 16 cell)) p.1 (length-take-le (length p.1) (drop 16 cell) (omega (arith, length-drop 16 cell, whole))) (λ i lt.
+        let few : i < length p.1 = omega (arith, length-take-le (length p.1) (drop 16 cell) (omega (arith, length-drop 16 cell, whole))) in
+        get_or-take (length p.1) (drop 16 cell) i 0 few ∙ get_or-drop 16 cell i 0
+        ∙ get_or-range (put_one image e p) at 528 (16 + i) (omega arith)
+        ∙ get_or-put_inside with_head (at + 16) p.1 (omega (arith, inside, head_long)) (at + (16 + i)) (omega arith) (omega arith)
+        ∙ ap (λ (j : ℕ). get_or p.1 j 0) (omega arith))
+
+    pub one_part : p.0 < 2 ^ 64 → cell_part cell ≡ p
+    one_part fits = (λ i. ((one_head fits i).addr, take (one_head fits i).len (drop 16 cell))) ∙ ap (λ (bytes : List ℕ). (p.0, bytes)) one_bytes
+
+    pub one_good : p.0 < 2 ^ 64 → IsOwned shape g p.0 (length p.1) → IsGoodCell shape g cell
+    one_good fits owned = subst (λ head. IsOwned shape g head.addr head.len) (sym (one_head fits)) owned
+
+  -- cells behind one
+  cells_behind : (e n i : ℕ) → i < cell_at shape g t e → IsOutside (cell_ranges shape g t e n) i
+  cells_behind e zero i lt = tt
+  cells_behind e (suc n) i lt = ((λ le lt'. omega arith), cells_behind (e + 1) n i (omega arith))
+
+  address_fits : (p : Part) → IsOwned shape g p.0 (length p.1) → p.0 < 2 ^ 64
+  address_fits p owned =
+      let pages : shape.loggers * shape.pages ≤ 8 * 4096 = mul-le shape.loggers shape.pages 8 4096 (omega arith) (omega arith) in
+      omega (arith, owned.placed.inside, owned.placed.some)
+
+  pub cells_away : (ps : List Part) (e : ℕ) (image : List ℕ) → length image ≡ media_len shape → e + length ps ≤ shape.entries → AllOwned shape g ps
+      → SameOutside (cell_ranges shape g t e (length ps)) image (applied (cell_writes shape g t e ps) image)
+  cells_away [] e image long fits owned = record { long = refl; same = λ i out. refl }
+  cells_away (p ∷ ps) e image long fits owned =
+      let one = one_away image e p long (omega arith) (omega (arith, owned.0.placed.page)) in
+      let rest = cells_away ps (e + 1) (put_one image e p) (one.long ∙ long) (omega arith) owned.1 in
+      record { long = rest.long ∙ one.long; same = λ i out. rest.same i out.1 ∙ one.same i (out.0, tt) }
+
+  -- parts that were written to cells are in them
+  pub holds_parts : (ps : List Part) (e : ℕ) (image : List ℕ) → length image ≡ media_len shape → e + length ps ≤ shape.entries → AllOwned shape g ps
+      → HoldsParts shape (applied (cell_writes shape g t e ps) image) g t e ps
+  holds_parts [] e image long fits owned = record { hold = refl; good = λ k le lt. absurd (omega arith) }
+  holds_parts (p ∷ ps) e image long fits owned =
+      let short : length p.1 ≤ 512 = omega (arith, owned.0.placed.page) in
+      let below : e < shape.entries = omega arith in
+      let one_long = length-put_one image e p long below short ∙ long in
+      let rest = holds_parts ps (e + 1) (put_one image e p) one_long (omega arith) owned.1 in
+      let same = cells_away ps (e + 1) (put_one image e p) one_long (omega arith) owned.1 in
+      let final = applied (cell_writes shape g t (e + 1) ps) (put_one image e p) in
+      let kept : cell_of shape (applied (cell_writes shape g t (e + 1) ps) (put_one image e p)) g t e ≡ cell_of shape (put_one image e p) g t e =
+      cell_away shape (cell_ranges shape g t (e + 1) (length ps)) (put_one image e p) final g t e same (λ i le lt. cells_behind (e + 1) (length ps) i (omega arith)) in
+      let fits' = address_fits p owned.0 in
+      record {
+        hold = λ i. (ap cell_part kept ∙ one_part image e p long below short fits') i ∷ rest.hold i;
+        good = λ k le lt. elim (cases_eq k e) [
+          | inl is ↦ subst (λ (j : ℕ). IsGoodCell shape g (cell_of shape (applied (cell_writes shape g t (e + 1) ps) (put_one image e p)) g t j)) (sym is) (subst (IsGoodCell shape g) (sym kept) (one_good image e p long below short fits' owned.0))
+          | inr ne ↦ rest.good k (omega arith) (omega arith)
+        ];
+      }

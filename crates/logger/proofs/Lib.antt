@@ -1,0 +1,5 @@
+pub mod Rows
+pub mod Cells
+pub mod Ranges
+pub mod Staging
+pub mod Applying

@@ -1,0 +1,152 @@
+-- The parts of a write that go to cells, one after another.
+use Rattle.std.proofs.Common.{◌≡◌, ◌≢◌, ℕ, zero, suc, ◌+◌, ◌-◌, ◌*◌, ◌^◌, ◌<◌, ◌≤◌, Bool, true, false, cond, nat_eq, List, [], ◌∷◌, ◌++◌, Result, Ok, length, take, drop, map, inl, inr, refl, sym, ◌∙◌, ap, subst, arith}
+use Rattle.std.specs.Prelude.{filter, All, IsTrue}
+use Rattle.std.proofs.lemmas.Bool.{eq-eqb, ne_eqb, eqb-true, cases_eq}
+use Rattle.std.proofs.lemmas.List.{length-map, length-drop, length-take-le}
+use Rattle.std.proofs.lemmas.List.Elements.{All-nil, All-cons, All-head, All-tail}
+use Rattle.counted.specs.declared.Failed.{Failed}
+use Rattle.pcm_media.specs.Images.{IsOutside}
+use Rattle.pcm_media.specs.View.{View, Writes}
+use Rattle.pcm_media.proofs.Writing.{writes_none, writes_on}
+use Rattle.array_shape.specs.declared.shape.Shape.{Shape}
+use Rattle.array_shape.specs.declared.part.Part.{Part}
+use Rattle.array_shape.specs.Places.{data_len, cell_at}
+use Rattle.array_shape.specs.Parts.{Tile, IsPartOf, parts_of, is_part_on, parts_on, piece_of, pieces_on}
+use Rattle.array_shape.proofs.Cutting.{parts_tile, parts_placed, pieces_on-parts}
+use Rattle.array_image.specs.Parts.{applied, IsOwned, AllOwned}
+use Rattle.logger.specs.Cells.{cell_writes, cell_ranges}
+
+module _ (g : ℕ) (part : Part) (s rest : List Part) (next : s ≡ part ∷ rest) where
+  -- a part of this logger, and one of another
+  pub kept_here : part.logger ≡ g → filter (is_part_on g) s ≡ part ∷ filter (is_part_on g) rest
+  kept_here is =
+      ap (filter (is_part_on g)) next
+      ∙ ap (λ (b : Bool). cond b (part ∷ filter (is_part_on g) rest) (filter (is_part_on g) rest)) (eq-eqb part.logger g is)
+
+  pub left_here : (part.logger ≡ g → ⊥) → filter (is_part_on g) s ≡ filter (is_part_on g) rest
+  left_here ne =
+      ap (filter (is_part_on g)) next
+      ∙ ap (λ (b : Bool). cond b (part ∷ filter (is_part_on g) rest) (filter (is_part_on g) rest)) (ne_eqb part.logger g ne)
+
+-- a part of the range of so many bytes at an address
+pub record IsWithin (shape : Shape) (addr len : ℕ) (part : Part) : Type 0 where
+  pub from : addr ≤ part.addr
+  pub to : part.addr + part.len ≤ addr + len
+  pub whole : IsPartOf shape part
+
+abbrev LiesIn : ℕ → ℕ → Part → Type 0
+LiesIn from to part = (from ≤ part.addr) × (part.addr + part.len ≤ to)
+
+tiles_lie : (from to addr len : ℕ) (ps : List Part) → from ≤ addr → addr + len ≤ to → Tile addr len ps → All (LiesIn from to) ps
+tiles_lie from to addr len [] le fits tile = All-nil (LiesIn from to)
+tiles_lie from to addr len (p ∷ ps) le fits tile =
+    All-cons (LiesIn from to) p ps (omega (arith, tile.0, tile.1), omega (arith, tile.0, tile.1)) (tiles_lie from to (addr + p.len) (len - p.len) ps (omega arith) (omega (arith, tile.1)) tile.2)
+
+pub all_within : (shape : Shape) (addr len : ℕ) → addr + len ≤ data_len shape → All (IsWithin shape addr len) (parts_of shape addr len)
+all_within shape addr len fits =
+    let lie = tiles_lie addr (addr + len) addr len (parts_of shape addr len) (omega arith) (omega arith) (parts_tile shape addr len) in
+    λ k d lt. record { from = (lie k d lt).0; to = (lie k d lt).1; whole = parts_placed shape addr len fits k d lt }
+
+-- the answer of a media that was not asked, or has done what it was asked
+abbrev pub done : Result (Unit {0}) Failed
+done = Ok tt
+
+-- Where the loop stands: these parts are left, and the next one of this logger goes to cell e. What is still to be written
+-- makes of the bytes now what the whole write makes of the bytes at first.
+pub record StandsAt (shape : Shape) (g t held addr : ℕ) (bytes : List ℕ) (tells : Bool) (old now : View) (e : ℕ) (left : List Part) : Type 0 where
+  pub within : All (IsWithin shape addr (length bytes)) left
+  pub from : held ≤ e
+  pub cells : e + length (filter (is_part_on g) left) ≡ held + length (pieces_on shape g addr bytes)
+  pub written : IsTrue tells → applied (cell_writes shape g t e (map (piece_of addr bytes) (filter (is_part_on g) left))) now.content.bytes ≡ applied (cell_writes shape g t held (pieces_on shape g addr bytes)) old.content.bytes
+  pub does : Writes tells (cell_ranges shape g t held (length (pieces_on shape g addr bytes))) old now done
+
+-- a cell is one of a row of cells
+pub one_cell : (shape : Shape) (g t e n k : ℕ) → e ≤ k → k < e + n → (i : ℕ) → IsOutside (cell_ranges shape g t e n) i → IsOutside ((cell_at shape g t k, 528) ∷ []) i
+one_cell shape g t e zero k le lt i out = absurd (omega arith)
+one_cell shape g t e (suc n) k le lt i out = elim (cases_eq k e) [
+  | inl is ↦ (subst (λ (j : ℕ). cell_at shape g t j ≤ i → i < cell_at shape g t j + 528 → ⊥) (sym is) out.0, tt)
+  | inr ne ↦ one_cell shape g t (e + 1) n k (omega arith) (omega arith) i out.1
+]
+
+-- what was done, where the last call answered well
+pub writes_done : {T E : Type 0} (tells : Bool) (ranges : List (ℕ × ℕ)) (old new : View) (r : Result T E) → Writes tells ranges old new r → Writes tells ranges old new done
+writes_done tells ranges old new r does = record { size = does.size; cause = record { later = does.cause.later; failed = tt }; touched = does.touched; time = does.time }
+
+module _ (shape : Shape) (g t held addr : ℕ) (bytes : List ℕ) (tells : Bool) (old : View) where
+  pub stands_first : addr + length bytes ≤ data_len shape → StandsAt shape g t held addr bytes tells old old held (parts_of shape addr (length bytes))
+  stands_first fits =
+      let pieces = pieces_on-parts shape addr bytes g in
+      record {
+        within = all_within shape addr (length bytes) fits;
+        from = omega arith;
+        cells = omega (arith, ap length pieces, length-map (parts_on shape g addr (length bytes)) (piece_of addr bytes));
+        written = λ told. ap (λ (ps : List (ℕ × List ℕ)). applied (cell_writes shape g t held ps) old.content.bytes) (sym pieces);
+        does = writes_none tells (cell_ranges shape g t held (length (pieces_on shape g addr bytes))) old tt;
+      }
+
+  module _ (now : View) (e : ℕ) (part : Part) (s rest : List Part) (next : s ≡ part ∷ rest) (stands : StandsAt shape g t held addr bytes tells old now e s) where
+    pub within_here : IsWithin shape addr (length bytes) part
+    within_here = All-head (IsWithin shape addr (length bytes)) part rest (subst (All (IsWithin shape addr (length bytes))) next stands.within)
+
+    within_rest : All (IsWithin shape addr (length bytes)) rest
+    within_rest = All-tail (IsWithin shape addr (length bytes)) part rest (subst (All (IsWithin shape addr (length bytes))) next stands.within)
+
+    pub cell_left : part.logger ≡ g → e < held + length (pieces_on shape g addr bytes)
+    cell_left is = omega (arith, stands.cells, ap length (kept_here g part s rest next is))
+
+    pub stands_past : (part.logger ≡ g → ⊥) → StandsAt shape g t held addr bytes tells old now e rest
+    stands_past ne =
+        let gone = left_here g part s rest next ne in
+        record {
+          within = within_rest;
+          from = stands.from;
+          cells = omega (arith, stands.cells, ap length gone);
+          written = λ told. ap (λ (ps : List Part). applied (cell_writes shape g t e (map (piece_of addr bytes) ps)) now.content.bytes) (sym gone) ∙ stands.written told;
+          does = stands.does;
+        }
+
+    module _ {T E : Type 0} (new : View) (r : Result T E) (is : part.logger ≡ g) (does : Writes tells ((cell_at shape g t e, 528) ∷ []) now new r) where
+      pub writes_more : Writes tells (cell_ranges shape g t held (length (pieces_on shape g addr bytes))) old new r
+      writes_more =
+          writes_on tells (cell_ranges shape g t held (length (pieces_on shape g addr bytes))) ((cell_at shape g t e, 528) ∷ []) old now new done r
+          (one_cell shape g t held (length (pieces_on shape g addr bytes)) e stands.from (cell_left is)) stands.does does
+
+      pub stands_next : (IsTrue tells → new.content.bytes ≡ applied (cell_writes shape g t e (piece_of addr bytes part ∷ [])) now.content.bytes)
+          → StandsAt shape g t held addr bytes tells old new (e + 1) rest
+      stands_next written =
+          let kept = kept_here g part s rest next is in
+          record {
+            within = within_rest;
+            from = omega (arith, stands.from);
+            cells = omega (arith, stands.cells, ap length kept);
+            written = λ told.
+                ap (applied (cell_writes shape g t (e + 1) (map (piece_of addr bytes) (filter (is_part_on g) rest)))) (written told)
+                ∙ ap (λ (ps : List Part). applied (cell_writes shape g t e (map (piece_of addr bytes) ps)) now.content.bytes) (sym kept)
+                ∙ stands.written told;
+            does = writes_done tells (cell_ranges shape g t held (length (pieces_on shape g addr bytes))) old new r writes_more;
+          }
+
+  -- where none is left
+  pub stands_last : (now : View) (e : ℕ) (s : List Part) → s ≡ [] → StandsAt shape g t held addr bytes tells old now e s
+      → IsTrue tells → now.content.bytes ≡ applied (cell_writes shape g t held (pieces_on shape g addr bytes)) old.content.bytes
+  stands_last now e s none stands told =
+      ap (λ (ps : List Part). applied (cell_writes shape g t e (map (piece_of addr bytes) (filter (is_part_on g) ps))) now.content.bytes) (sym none) ∙ stands.written told
+
+-- the pieces that a logger has are parts of it
+module _ (shape : Shape) (g addr : ℕ) (bytes : List ℕ) where
+  piece_owned : (part : Part) → IsWithin shape addr (length bytes) part → part.logger ≡ g → IsOwned shape g part.addr (length (piece_of addr bytes part).1)
+  piece_owned part within is =
+      let long = length-take-le part.len (drop (part.addr - addr) bytes) (omega (arith, length-drop (part.addr - addr) bytes, within.to, within.from)) in
+      subst (λ (n : ℕ). IsOwned shape g part.addr n) (sym long) (record { placed = within.whole.placed; logger = sym within.whole.logger ∙ is })
+
+  kept_owned : (ps : List Part) → All (IsWithin shape addr (length bytes)) ps → AllOwned shape g (map (piece_of addr bytes) (filter (is_part_on g) ps))
+  kept_owned [] within = tt
+  kept_owned (p ∷ ps) within = go (nat_eq p.logger g) refl (kept_owned ps (All-tail (IsWithin shape addr (length bytes)) p ps within))
+    where
+      go : (on : Bool) → nat_eq p.logger g ≡ on → AllOwned shape g (map (piece_of addr bytes) (filter (is_part_on g) ps))
+          → AllOwned shape g (map (piece_of addr bytes) (cond on (p ∷ filter (is_part_on g) ps) (filter (is_part_on g) ps)))
+      go true is rest = (piece_owned p (All-head (IsWithin shape addr (length bytes)) p ps within) (eqb-true p.logger g is), rest)
+      go false is rest = rest
+
+  pub pieces_owned : addr + length bytes ≤ data_len shape → AllOwned shape g (pieces_on shape g addr bytes)
+  pieces_owned fits = subst (AllOwned shape g) (sym (pieces_on-parts shape addr bytes g)) (kept_owned (parts_of shape addr (length bytes)) (all_within shape addr (length bytes) fits))

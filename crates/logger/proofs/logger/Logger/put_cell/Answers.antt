@@ -1,0 +1,21 @@
+use Rattle.std.proofs.Common.{◌≡◌, ℕ, ◌+◌, ◌<◌, ◌≤◌, [], ◌∷◌, length, arith}
+use Rattle.pcm_media.specs.Images.{IsOutside}
+use Rattle.pcm_media.proofs.Writing.{writes_on, writes_within}
+use Rattle.array_shape.specs.Places.{cell_at}
+use Rattle.array_image.proofs.Places.{cell_fits_in}
+use Rattle.logger.proofs.logger.Logger.put_cell.Goals as goal
+
+pub write-requires : goal.write-requires
+write-requires g c = omega (arith, cell_fits_in c.args.self.shape c.args.self.number c.args.tid c.args.entry c.args.self.there c.requires.tid c.requires.entry)
+
+pub write-requires-2 : goal.write-requires-2
+write-requires-2 g c = omega (arith, c.write.ensures.does.size, cell_fits_in c.args.self.shape c.args.self.number c.args.tid c.args.entry c.args.self.there c.requires.tid c.requires.entry)
+
+pub returns-clause-does : goal.returns-clause-does
+returns-clause-does g c =
+    let view = g.M.Media.view in
+    let cell = (cell_at c.args.self.shape c.args.self.number c.args.tid c.args.entry, 528) ∷ [] in
+    let first = writes_within g.M.Media.tells cell ((c.cell_at-at.result, length c.write_head.new.out) ∷ []) (view c.args.media.now) (view c.write.new.self) c.write.result
+    (λ i out. ((λ le lt. out.0 (omega arith) (omega arith)), tt)) c.write.ensures.does in
+    writes_on g.M.Media.tells cell ((c.cell_at-at.result + 16, length c.args.bytes.now) ∷ []) (view c.args.media.now) (view c.write.new.self) (view c.write-2.new.self) c.write.result c.write-2.result
+    (λ i out. ((λ le lt. out.0 (omega arith) (omega arith)), tt)) first c.write-2.ensures.does

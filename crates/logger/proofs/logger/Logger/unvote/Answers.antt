@@ -1,0 +1,19 @@
+use Rattle.std.proofs.Common.{◌≡◌, ℕ, [], ◌∷◌, ◌∙◌, ap, length, arith}
+use Rattle.std.proofs.lemmas.Result.{on_ok_weaker}
+use Rattle.pcm_media.specs.Images.{Content, put}
+use Rattle.array_shape.specs.Places.{media_len}
+use Rattle.array_image.specs.Image.{row_of}
+use Rattle.array_image.proofs.Places.{row_fits_in}
+use Rattle.logger.proofs.Rows.{row_of-put_vote}
+use Rattle.logger.proofs.logger.Logger.unvote.Goals as goal
+
+pub write-requires : goal.write-requires
+write-requires g c = omega (arith, row_fits_in c.args.self.shape c.args.self.number c.args.tid c.args.self.there c.requires.tid)
+
+pub returns-clause-row : goal.returns-clause-row
+returns-clause-row g c told =
+    let old = (g.M.Media.view c.args.media.now).content in
+    let long : length old.bytes ≡ media_len c.args.self.shape = g.met.M.Media.long c.args.media.now told ∙ c.requires.size in
+    let row = ap (λ (at : ℕ). row_of c.args.self.shape (put old.bytes at (0 ∷ [])) c.args.self.number c.args.tid) c.row_at.ensures
+    ∙ row_of-put_vote c.args.self.shape c.args.self.number c.args.tid old.bytes long c.args.self.there c.requires.tid 0 in
+    on_ok_weaker c.write.result (λ is. ap (λ (content : Content). row_of c.args.self.shape content.bytes c.args.self.number c.args.tid) is ∙ row) (c.write.ensures.written told)

@@ -1,0 +1,16 @@
+-- Why a write is not staged.
+use Rattle.std.specs.Prelude.{ℕ, ◌≡◌, ◌+◌, ◌≤◌, ◌<◌, Result, Ok, Err}
+use Rattle.counted.specs.declared.Failed.{Failed}
+use Rattle.logger.specs.declared.stage_fault.StageFault.{StageFault}
+use Rattle.logger.specs.declared.stage_fault.StageFault.TheVariants.{Full, Media}
+
+-- The fault of a write that needs so many cells where so many are held: they are too many, or else the media failed.
+abbrev pub IsStageFault : ℕ → ℕ → ℕ → StageFault → Type 0
+IsStageFault entries held needed (Full h n) = (h ≡ held) × (n ≡ needed) × (entries < held + needed)
+IsStageFault entries held needed Media = held + needed ≤ entries
+
+-- what the media answered: where the cells are too few, it was not asked
+abbrev pub media_answer : Result ℕ StageFault → Result (Unit {0}) Failed
+media_answer (Ok n) = Ok tt
+media_answer (Err (Full h n)) = Ok tt
+media_answer (Err Media) = Err record {}

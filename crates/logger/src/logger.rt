@@ -1,0 +1,332 @@
+// Reads and writes of one logger's region.
+ghost use Rattle.std.specs.Prelude.{◌≡◌, ◌+◌, ◌≤◌, ◌<◌, length};
+ghost use Rattle.array_shape.specs.Parts.{piece_of};
+ghost use Rattle.array_image.specs.Image.{cell_head};
+
+use crate::stage_fault::StageFault;
+use array_shape::{Part, Shape};
+use counted::Failed;
+use pcm_media::Media;
+use row_bytes::{Head, Row, VOTED, read_head, write_head, write_row};
+
+/// One logger of an array. It has a row for each transaction number, the cells of each, and its share of the pages.
+#[derive(Clone, Copy, Debug, PartialEq, Eq)]
+pub struct Logger {
+    pub shape: Shape,
+    pub number: u8,
+    ghost there: { number < shape.loggers },
+}
+
+impl Logger {
+    ghost use Rattle.std.specs.Prelude.{◌≡◌, ◌↔◌, ◌+◌, ◌≤◌, ◌<◌, ℕ, [], ◌∷◌, drop, length, true, false, IsTrue, IfOk, OnOk, IfErr, OnErr, Ok, Err};
+    ghost use Rattle.counted.specs.Causes.{HasCause};
+    ghost use Rattle.pcm_media.specs.Images.{put, written};
+    ghost use Rattle.pcm_media.specs.View.{Writes};
+    ghost use Rattle.array_shape.specs.Places.{media_len, data_len, row_at, cell_at, place_of};
+    ghost use Rattle.array_shape.specs.Parts.{parts_on, pieces_on};
+    ghost use Rattle.row_bytes.specs.Written.{row_rest};
+    ghost use Rattle.array_image.specs.Parts.{applied, places_of, IsOwned};
+    ghost use Rattle.array_image.specs.Image.{row_of, cell_of, cell_head, cell_part, parts_from, data_of, IsGoodCell};
+    ghost use Rattle.logger.specs.Cells.{cell_writes, cell_ranges, in_media, HoldsParts};
+    ghost use Rattle.logger.specs.Staging.{IsStageFault, media_answer};
+
+    pub fn new(shape: Shape, number: u8) -> Logger
+        requires { number < shape.loggers }
+        ensures shape { result.shape ≡ shape }
+        ensures number { result.number ≡ number }
+    {
+        Logger { shape, number }
+    }
+
+    /// Writes what a row says but for its vote: bytes 1 to 15, and never byte 0.
+    pub fn put_row<M: Media>(
+        self,
+        media: &mut M,
+        tid: u8,
+        mask: u8,
+        first: u16,
+        count: u16,
+    ) -> Result<(), Failed>
+        requires size { (M.view media.old).size ≡ media_len self.shape }
+        requires tid { tid < self.shape.numbers }
+        ensures written { IsTrue M.tells → OnOk result ((M.view media.new).content ≡
+            written (row_at self.shape self.number tid + 1) (row_rest mask first count) (M.view media.old).content) }
+        ensures row { IsTrue M.tells → OnOk result (row_of self.shape (M.view media.new).content.bytes self.number tid ≡
+            (let row = row_of self.shape (M.view media.old).content.bytes self.number tid in record row { mask = mask; first = first; count = count })) }
+        ensures does { Writes M.tells ((row_at self.shape self.number tid + 1, 15) ∷ []) (M.view media.old) (M.view media.new) result }
+    {
+        let row = Row {
+            voted: false,
+            mask,
+            first,
+            count,
+        };
+        let mut bytes = [0; 16];
+        write_row(&row, &mut bytes);
+        media.write(self.shape.row_at(self.number, tid) + 1, &bytes[1..])
+    }
+
+    /// Votes for the row of a transaction number.
+    pub fn vote<M: Media>(self, media: &mut M, tid: u8) -> Result<(), Failed>
+        requires size { (M.view media.old).size ≡ media_len self.shape }
+        requires tid { tid < self.shape.numbers }
+        ensures written { IsTrue M.tells → OnOk result ((M.view media.new).content ≡ written (row_at self.shape self.number tid) (0xC3 ∷ []) (M.view media.old).content) }
+        ensures row { IsTrue M.tells → OnOk result (row_of self.shape (M.view media.new).content.bytes self.number tid ≡
+            (let row = row_of self.shape (M.view media.old).content.bytes self.number tid in record row { voted = true })) }
+        ensures does { Writes M.tells ((row_at self.shape self.number tid, 1) ∷ []) (M.view media.old) (M.view media.new) result }
+    {
+        media.write(self.shape.row_at(self.number, tid), &[VOTED])
+    }
+
+    /// Takes the vote for the row of a transaction number back.
+    pub fn unvote<M: Media>(self, media: &mut M, tid: u8) -> Result<(), Failed>
+        requires size { (M.view media.old).size ≡ media_len self.shape }
+        requires tid { tid < self.shape.numbers }
+        ensures written { IsTrue M.tells → OnOk result ((M.view media.new).content ≡ written (row_at self.shape self.number tid) (0 ∷ []) (M.view media.old).content) }
+        ensures row { IsTrue M.tells → OnOk result (row_of self.shape (M.view media.new).content.bytes self.number tid ≡
+            (let row = row_of self.shape (M.view media.old).content.bytes self.number tid in record row { voted = false })) }
+        ensures does { Writes M.tells ((row_at self.shape self.number tid, 1) ∷ []) (M.view media.old) (M.view media.new) result }
+    {
+        media.write(self.shape.row_at(self.number, tid), &[0])
+    }
+
+    /// How many cells a write needs here: one for each of its parts that this logger has.
+    pub fn cells_needed(self, addr: u64, len: u64) -> u16
+        requires { addr + len ≤ data_len self.shape }
+        ensures { result ≡ length (parts_on self.shape self.number addr len) }
+    {
+        let mut needed = 0;
+        for part in self.shape.parts(addr, len) {
+            if part.logger == self.number {
+                needed += 1;
+            }
+        }
+        needed
+    }
+
+    /// Writes the parts of a write that this logger has to the cells of a transaction number, from the first one that is not
+    /// held, in the order of their addresses. Gives the number of cells that it took.
+    pub fn stage<M: Media>(
+        self,
+        media: &mut M,
+        tid: u8,
+        held: u16,
+        addr: u64,
+        bytes: &[u8],
+    ) -> Result<u16, StageFault>
+        requires size { (M.view media.old).size ≡ media_len self.shape }
+        requires tid { tid < self.shape.numbers }
+        requires some { 0 < length bytes.now }
+        requires range { addr + length bytes.now ≤ data_len self.shape }
+        ensures took { IfOk result (λ n. n ≡ length (pieces_on self.shape self.number addr bytes.now)) }
+        ensures fits { OnOk result (held + length (pieces_on self.shape self.number addr bytes.now) ≤ self.shape.entries) }
+        ensures fault { IfErr result (IsStageFault self.shape.entries held (length (pieces_on self.shape self.number addr bytes.now))) }
+        ensures full { self.shape.entries < held + length (pieces_on self.shape self.number addr bytes.now) → media.new ≡ media.old }
+        ensures written { IsTrue M.tells → OnOk result ((M.view media.new).content.bytes ≡
+            applied (cell_writes self.shape self.number tid held (pieces_on self.shape self.number addr bytes.now)) (M.view media.old).content.bytes) }
+        ensures holds { IsTrue M.tells → OnOk result (HoldsParts self.shape (M.view media.new).content.bytes self.number tid held (pieces_on self.shape self.number addr bytes.now)) }
+        ensures does { Writes M.tells (cell_ranges self.shape self.number tid held (length (pieces_on self.shape self.number addr bytes.now)))
+            (M.view media.old) (M.view media.new) (media_answer result) }
+    {
+        let needed = self.cells_needed(addr, bytes.len() as u64);
+        if u32::from(held) + u32::from(needed) > u32::from(self.shape.entries) {
+            return Err(StageFault::Full { held, needed });
+        }
+        self.put_parts(media, tid, held, addr, bytes)?;
+        Ok(needed)
+    }
+
+    /// Replaces bytes within the data of a cell.
+    pub fn edit<M: Media>(
+        self,
+        media: &mut M,
+        tid: u8,
+        entry: u16,
+        at: u16,
+        bytes: &[u8],
+    ) -> Result<(), Failed>
+        requires size { (M.view media.old).size ≡ media_len self.shape }
+        requires tid { tid < self.shape.numbers }
+        requires entry { entry < self.shape.entries }
+        requires within { at + length bytes.now ≤ 512 }
+        ensures written { IsTrue M.tells → OnOk result ((M.view media.new).content ≡
+            written (cell_at self.shape self.number tid entry + 16 + at) bytes.now (M.view media.old).content) }
+        ensures cell { IsTrue M.tells → OnOk result (cell_of self.shape (M.view media.new).content.bytes self.number tid entry ≡
+            put (cell_of self.shape (M.view media.old).content.bytes self.number tid entry) (16 + at) bytes.now) }
+        ensures does { Writes M.tells ((cell_at self.shape self.number tid entry + 16 + at, length bytes.now) ∷ []) (M.view media.old) (M.view media.new) result }
+    {
+        let cell = self.shape.cell_at(self.number, tid, entry);
+        media.write(cell + 16 + u64::from(at), bytes)
+    }
+
+    /// Reads a cell: what its head says, and the 512 bytes of its data, of which the length in its head counts.
+    pub fn read_entry<M: Media>(
+        self,
+        media: &mut M,
+        tid: u8,
+        entry: u16,
+        buf: &mut [u8; 512],
+    ) -> Result<Head, Failed>
+        requires size { (M.view media.old).size ≡ media_len self.shape }
+        requires tid { tid < self.shape.numbers }
+        requires entry { entry < self.shape.entries }
+        ensures head { IsTrue M.tells → IfOk result (λ head. head ≡ cell_head (cell_of self.shape (M.view media.old).content.bytes self.number tid entry)) }
+        ensures bytes { IsTrue M.tells → OnOk result (buf.new ≡ drop 16 (cell_of self.shape (M.view media.old).content.bytes self.number tid entry)) }
+        ensures unread { OnErr result (buf.new ≡ buf.old) }
+        ensures does { Writes M.tells [] (M.view media.old) (M.view media.new) result }
+    {
+        let cell = self.read_cell(media, tid, entry)?;
+        buf.copy_from_slice(&cell[16..]);
+        Ok(head_of(&cell))
+    }
+
+    /// Writes the parts in cells of a transaction number to their addresses, one cell after another.
+    ///
+    /// A cell that holds no part of this logger is passed over. Only a media that does not tell its bytes may have one.
+    pub fn apply<M: Media>(
+        self,
+        media: &mut M,
+        tid: u8,
+        first: u16,
+        count: u16,
+    ) -> Result<(), Failed>
+        requires size { (M.view media.old).size ≡ media_len self.shape }
+        requires tid { tid < self.shape.numbers }
+        requires entries { first + count ≤ self.shape.entries }
+        requires good { IsTrue M.tells → (e : ℕ) → first ≤ e → e < first + count →
+            IsGoodCell self.shape self.number (cell_of self.shape (M.view media.old).content.bytes self.number tid e) }
+        ensures written { IsTrue M.tells → OnOk result ((M.view media.new).content.bytes ≡
+            (let old = (M.view media.old).content.bytes in applied (in_media self.shape (parts_from self.shape old self.number tid first count)) old)) }
+        ensures data_after { IsTrue M.tells → OnOk result (data_of self.shape (M.view media.new).content.bytes ≡
+            (let old = (M.view media.old).content.bytes in applied (parts_from self.shape old self.number tid first count) (data_of self.shape old))) }
+        ensures does { Writes M.tells (places_of self.shape (parts_from self.shape (M.view media.old).content.bytes self.number tid first count))
+            (M.view media.old) (M.view media.new) result }
+    {
+        for entry in first..first + count {
+            self.apply_cell(media, tid, entry)?;
+        }
+        Ok(())
+    }
+
+    // Writes the parts to the cells, which are there.
+    fn put_parts<M: Media>(
+        self,
+        media: &mut M,
+        tid: u8,
+        held: u16,
+        addr: u64,
+        bytes: &[u8],
+    ) -> Result<(), Failed>
+        requires size { (M.view media.old).size ≡ media_len self.shape }
+        requires tid { tid < self.shape.numbers }
+        requires range { addr + length bytes.now ≤ data_len self.shape }
+        requires room { held + length (pieces_on self.shape self.number addr bytes.now) ≤ self.shape.entries }
+        ensures written { IsTrue M.tells → OnOk result ((M.view media.new).content.bytes ≡
+            applied (cell_writes self.shape self.number tid held (pieces_on self.shape self.number addr bytes.now)) (M.view media.old).content.bytes) }
+        ensures does { Writes M.tells (cell_ranges self.shape self.number tid held (length (pieces_on self.shape self.number addr bytes.now)))
+            (M.view media.old) (M.view media.new) result }
+    {
+        let mut entry = held;
+        for part in self.shape.parts(addr, bytes.len() as u64) {
+            if part.logger == self.number {
+                let piece = bytes_of(part, addr, bytes);
+                self.put_cell(media, tid, entry, part.addr, piece)?;
+                entry += 1;
+            }
+        }
+        Ok(())
+    }
+
+    fn put_cell<M: Media>(
+        self,
+        media: &mut M,
+        tid: u8,
+        entry: u16,
+        addr: u64,
+        bytes: &[u8],
+    ) -> Result<(), Failed>
+        requires size { (M.view media.old).size ≡ media_len self.shape }
+        requires tid { tid < self.shape.numbers }
+        requires entry { entry < self.shape.entries }
+        requires long { length bytes.now ≤ 512 }
+        ensures written { IsTrue M.tells → OnOk result ((M.view media.new).content.bytes ≡
+            applied (cell_writes self.shape self.number tid entry ((addr, bytes.now) ∷ [])) (M.view media.old).content.bytes) }
+        ensures does { Writes M.tells ((cell_at self.shape self.number tid entry, 528) ∷ []) (M.view media.old) (M.view media.new) result }
+    {
+        let at = self.shape.cell_at(self.number, tid, entry);
+        let head = Head {
+            addr,
+            len: bytes.len() as u16,
+        };
+        let mut head_bytes = [0; 16];
+        write_head(&head, &mut head_bytes);
+        media.write(at, &head_bytes)?;
+        media.write(at + 16, bytes)
+    }
+
+    fn read_cell<M: Media>(self, media: &mut M, tid: u8, entry: u16) -> Result<[u8; 528], Failed>
+        requires size { (M.view media.old).size ≡ media_len self.shape }
+        requires tid { tid < self.shape.numbers }
+        requires entry { entry < self.shape.entries }
+        ensures cell { IsTrue M.tells → IfOk result (λ cell. cell ≡ cell_of self.shape (M.view media.old).content.bytes self.number tid entry) }
+        ensures does { Writes M.tells [] (M.view media.old) (M.view media.new) result }
+    {
+        let mut cell = [0; 528];
+        media.read(self.shape.cell_at(self.number, tid, entry), &mut cell)?;
+        Ok(cell)
+    }
+
+    fn apply_cell<M: Media>(self, media: &mut M, tid: u8, entry: u16) -> Result<(), Failed>
+        requires size { (M.view media.old).size ≡ media_len self.shape }
+        requires tid { tid < self.shape.numbers }
+        requires entry { entry < self.shape.entries }
+        requires good { IsTrue M.tells → IsGoodCell self.shape self.number (cell_of self.shape (M.view media.old).content.bytes self.number tid entry) }
+        ensures written { IsTrue M.tells → OnOk result ((M.view media.new).content.bytes ≡
+            (let part = cell_part (cell_of self.shape (M.view media.old).content.bytes self.number tid entry) in
+            put (M.view media.old).content.bytes (place_of self.shape part.0) part.1)) }
+        ensures does { Writes M.tells (places_of self.shape (cell_part (cell_of self.shape (M.view media.old).content.bytes self.number tid entry) ∷ []))
+            (M.view media.old) (M.view media.new) result }
+    {
+        let cell = self.read_cell(media, tid, entry)?;
+        let head = head_of(&cell);
+        if !self.has_part(head) {
+            return Ok(());
+        }
+        media.write(
+            self.shape.byte_at(head.addr),
+            &cell[16..16 + usize::from(head.len)],
+        )
+    }
+
+    // Whether a part with this head lies in one page of this logger.
+    fn has_part(self, head: Head) -> bool
+        ensures { IsTrue result ↔ IsOwned self.shape self.number head.addr head.len }
+    {
+        let data_len = self.shape.data_len();
+        let len = u64::from(head.len);
+        if head.addr >= data_len || len == 0 {
+            return false;
+        }
+        head.addr % 512 + len <= 512
+            && head.addr + len <= data_len
+            && self.shape.place(head.addr).logger == self.number
+    }
+}
+
+// The bytes of a write that go to one of its parts.
+fn bytes_of(part: Part, addr: u64, bytes: &[u8]) -> &[u8]
+    requires from { addr ≤ part.addr }
+    requires to { part.addr + part.len ≤ addr + length bytes.now }
+    ensures { result.now ≡ (piece_of addr bytes.now part).1 }
+{
+    let from = (part.addr - addr) as usize;
+    &bytes[from..from + usize::from(part.len)]
+}
+
+fn head_of(cell: &[u8; 528]) -> Head
+    ensures { result ≡ cell_head cell.now }
+{
+    let mut head = [0; 16];
+    head.copy_from_slice(&cell[..16]);
+    read_head(&head)
+}

@@ -1,0 +1,25 @@
+// Why a write is not staged.
+ghost use Rattle.std.specs.Prelude.{◌≡◌};
+ghost use Rattle.logger.specs.declared.stage_fault.StageFault.TheVariants.{Media};
+
+use counted::Failed;
+use thiserror::Error;
+
+/// Why a write is not in the cells of a logger.
+#[derive(Clone, Copy, Debug, PartialEq, Eq, Error)]
+pub enum StageFault {
+    /// The transaction number holds so many cells here, and the write needs more than are left.
+    #[error("{held} cells are held and {needed} more needed")]
+    Full { held: u16, needed: u16 },
+    /// The media failed.
+    #[error("media fault")]
+    Media,
+}
+
+impl From<Failed> for StageFault {
+    ghost from_gives = { λ _ fault. fault ≡ Media };
+
+    fn from(_: Failed) -> Self {
+        StageFault::Media
+    }
+}
