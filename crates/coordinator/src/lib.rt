@@ -2,9 +2,7 @@
 #![tactic(auto)]
 
 mod commit;
-mod logger;
 mod mask;
 mod phases;
 
 pub use commit::commit_from;
-pub use logger::Logger;

@@ -7,9 +7,10 @@ ghost use Rattle.array_image.specs.Image.{data_of};
 ghost use Rattle.array_image.specs.Marked.{named_parts, AreGood};
 ghost use Rattle.coordinator.specs.Between.{body_places, vote_places, HaveNames, HaveVotes};
 
-use crate::logger::Logger;
+
 use array_shape::Shape;
 use counted::Failed;
+use logger::Logger;
 use pcm_media::Media;
 
 // The rows are written, without their votes.

@@ -1,4 +1,0 @@
-use Rattle.coordinator.proofs.logger.Logger.unvote.Goals as goal
-
-pub returns-clause-row : goal.returns-clause-row
-returns-clause-row g c = ?
