@@ -124,6 +124,10 @@ module _ (shape : Shape) where
           get_or-put_outside image (place_of shape at) bytes outer (place_of shape i) (outside_place at (length bytes) i placed small out)
           ∙ sym (get_or-data_of image i small) ∙ sym (get_or-put_outside (data_of shape image) at bytes inner i out)
 
+  pub joined_placed : (lists : ℕ → List Part) (k n : ℕ) → ((i : ℕ) → k ≤ i → i < k + n → AllPlaced shape (lists i)) → AllPlaced shape (joined lists k n)
+  joined_placed lists k zero placed = tt
+  joined_placed lists k (suc n) placed = all_placed-append (lists k) (joined lists (k + 1) n) (placed k (omega arith) (omega arith)) (joined_placed lists (k + 1) n (λ i le lt. placed i (omega arith) (omega arith)))
+
   pub places_of-append : (ps qs : List Part) → places_of shape (ps ++ qs) ≡ places_of shape ps ++ places_of shape qs
   places_of-append [] qs = refl
   places_of-append (p ∷ ps) qs = ap (λ (l : List (ℕ × ℕ)). (place_of shape p.0, length p.1) ∷ l) (places_of-append ps qs)

@@ -7,3 +7,4 @@ pub mod Deciding
 pub mod Standing
 pub mod Frames
 pub mod Orders
+pub mod Calls

@@ -1,5 +1,5 @@
 -- The order of parts on different loggers does not matter: their pages are apart.
-use Rattle.std.proofs.Common.{◌≡◌, ℕ, zero, suc, ◌+◌, ◌/◌, ◌%◌, ◌<◌, ◌≤◌, Bool, cond, inl, inr, ⊎_elim, List, [], ◌∷◌, ◌++◌, length, get_or, refl, sym, ◌∙◌, ap, subst, arith}
+use Rattle.std.proofs.Common.{◌≡◌, ℕ, zero, suc, ◌+◌, ◌/◌, ◌%◌, ◌<◌, ◌≤◌, Bool, cond, ◌⊎◌, inl, inr, ⊎_elim, List, [], ◌∷◌, ◌++◌, length, get_or, refl, sym, ◌∙◌, ap, subst, arith}
 use Rattle.std.specs.Prelude.{slice_index, nat_eq}
 use Rattle.std.proofs.lemmas.Bool.{cases_Bool, cases_eq, cases_lt, eq-eqb, ne_eqb, false≢true}
 use Rattle.std.proofs.lemmas.List.{ext_get_or, append-nil}
@@ -101,3 +101,21 @@ module _ (shape : Shape) where
       applied_any_order (named_parts shape image t firsts counts) log d d_long (named_placed shape image t firsts counts 0 shape.loggers long small (omega arith) good) placed (λ g lt.
       parts_at-joined (named_at shape image t firsts counts) 0 shape.loggers (λ h le below. parts_owned shape image h t (slice_index firsts h) (slice_index counts h) long (omega arith) small (good.fit h (omega arith)) (λ e from to. good.cells h e (omega arith) from to)) g (omega arith) (omega arith)
       ∙ sym (same g lt))
+
+  -- of parts that change nothing any more, those of some loggers change nothing
+  pub applied_some : (lists some : ℕ → List Part) (d : List ℕ) → length d ≡ data_len shape → ((g : ℕ) → g < shape.loggers → AllOwned shape g (lists g)) → ((g : ℕ) → g < shape.loggers → (some g ≡ lists g) ⊎ (some g ≡ []))
+      → AllPlaced shape (joined lists 0 shape.loggers) → AllPlaced shape (joined some 0 shape.loggers) → applied (joined lists 0 shape.loggers) d ≡ d → applied (joined some 0 shape.loggers) d ≡ d
+  applied_some lists some d long owned which placed placed' already = ext_get_or 0 (applied (joined some 0 shape.loggers) d) d (fits (joined some 0 shape.loggers) d long placed' ∙ sym long) (λ a lt.
+      let g = logger_of shape a in
+      let below = logger_below shape a (omega (arith, fits (joined some 0 shape.loggers) d long placed')) in
+      byte_of_logger a g refl (joined some 0 shape.loggers) d d long long placed' refl
+      ∙ ap (λ (l : List Part). get_or (applied l d) a 0) (parts_at-joined some 0 shape.loggers (λ h le below'. some_owned h (omega arith)) g (omega arith) (omega arith))
+      ∙ ⊎_elim
+      (λ is.
+      ap (λ (l : List Part). get_or (applied l d) a 0) (is ∙ sym (parts_at-joined lists 0 shape.loggers (λ h le below'. owned h (omega arith)) g (omega arith) (omega arith)))
+      ∙ sym (byte_of_logger a g refl (joined lists 0 shape.loggers) d d long long placed refl) ∙ ap (λ (l : List ℕ). get_or l a 0) already)
+      (λ none. ap (λ (l : List Part). get_or (applied l d) a 0) none)
+      (which g below))
+    where
+      some_owned : (h : ℕ) → h < shape.loggers → AllOwned shape h (some h)
+      some_owned h lt = ⊎_elim (λ is. subst (λ l. AllOwned shape h l) (sym is) (owned h lt)) (λ none. subst (λ l. AllOwned shape h l) (sym none) tt) (which h lt)

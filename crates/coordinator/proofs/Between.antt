@@ -20,7 +20,7 @@ use Rattle.array_image.proofs.Applied.{applied_equal, applied_twice}
 use Rattle.array_image.proofs.Data.{data_outside, all_fit_in}
 use Rattle.array_image.proofs.Standing.{at_rest_stands, marked_placed, voted_stands, marked_stands, unvoted_rests}
 use Rattle.array_image.proofs.Frames.{named_same, good_same, marked_frame, vote_frame, vote_data, vote_cells, data_rows, data_frame, body_cells, body_rests, AllWithin, before_all, left_within}
-use Rattle.coordinator.specs.Phases.{body_places, vote_places, HaveNames, HaveVotes, IsStaged}
+use Rattle.coordinator.specs.Between.{body_places, vote_places, HaveNames, HaveVotes, IsStaged}
 
 counted_outside : (b : Bool) (r : ℕ × ℕ) (x : ℕ) → (b ≡ true → IsOutside (r ∷ []) x) → IsOutside (cond b (r ∷ []) []) x
 counted_outside true r x f = f refl

@@ -1,2 +1,6 @@
-pub mod Phases
+pub mod Between
 pub mod Masks
+pub mod Calls
+pub mod Applying
+pub mod Committing
+pub mod Whole

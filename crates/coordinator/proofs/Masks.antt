@@ -3,9 +3,9 @@ use Rattle.std.proofs.Common.{◌≡◌, ℕ, zero, suc, ◌+◌, ◌*◌, ◌%�
 use Rattle.std.specs.Prelude.{slice_index, nat_eq}
 use Rattle.std.specs.Int.{bit_at}
 use Rattle.std.specs.Int.RustNames.{bit_or}
-use Rattle.std.proofs.lemmas.Nat.{or_lt, pow_below, one_shl}
-use Rattle.std.proofs.lemmas.Nat.Bits.{bit_at_set_same, bit_at_set_other, bit_at_above, bit_at-lt}
-use Rattle.std.proofs.lemmas.Bool.{cases_eq, eq-eqb, ne_eqb}
+use Rattle.std.proofs.lemmas.Nat.{or_lt, pow_below, pow_pos, one_shl}
+use Rattle.std.proofs.lemmas.Nat.Bits.{bit_at_set_same, bit_at_set_other, bit_at_above, bit_at-lt, bit_at-zero, same_from_bits_below}
+use Rattle.std.proofs.lemmas.Bool.{cases_eq, eq-eqb, ne_eqb, eqb-true, eqb-false}
 use Rattle.array_image.specs.Decided.{has_logger}
 use Rattle.array_image.specs.Marked.{IsMaskOf}
 
@@ -33,3 +33,14 @@ mask_gains n mask counts lt is some = record {
       (λ same. absurd (omega (arith, ap (λ (k : ℕ). slice_index counts k) same)))
       (λ ne. ap (λ (b : ℕ). nat_eq b 1) (bit_at_set_other w8 mask n lt g ne) ∙ is.lacks g (omega arith) none) (cases_eq g n);
 }
+
+-- an empty mask is that of no counts
+pub mask_none : (n : ℕ) (counts : List ℕ) → IsMaskOf n counts 0 → (g : ℕ) → g < n → slice_index counts g ≡ 0
+mask_none n counts is g lt = ⊎_elim (λ none. none)
+    (λ some. let one = eqb-true (bit_at 0 g) 1 (is.has g lt (omega arith)) in omega (arith, one, bit_at-zero g))
+    (cases_eq (slice_index counts g) 0)
+
+pub none_mask : (n mask : ℕ) (counts : List ℕ) → IsMaskOf n counts mask → ((g : ℕ) → g < n → slice_index counts g ≡ 0) → mask ≡ 0
+none_mask n mask counts is none = same_from_bits_below n mask 0 is.small (pow_pos n) (λ g lt.
+    let unset = eqb-false (bit_at mask g) 1 (is.lacks g lt (none g lt)) in
+    omega (arith, bit_at-lt mask g, bit_at-zero g, unset))

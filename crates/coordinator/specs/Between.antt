@@ -1,13 +1,13 @@
 -- Where the phases of a commit write, and what holds between them.
-use Rattle.std.specs.Prelude.{ℕ, ◌≡◌, ◌+◌, ◌<◌, Bool, nat_lt, if◌then◌else◌, List, [], ◌∷◌, slice_index}
+use Rattle.std.specs.Prelude.{ℕ, ◌≡◌, ◌+◌, ◌<◌, Bool, nat_lt, if◌then◌else◌, List, [], ◌∷◌, ◌++◌, slice_index}
 use Rattle.pcm_media.specs.Images.{Content}
 use Rattle.array_shape.specs.declared.shape.Shape.{Shape}
 use Rattle.array_shape.specs.Places.{row_at}
 use Rattle.row_bytes.specs.declared.row.Row.{Row}
 use Rattle.array_image.specs.Joined.{joined}
-use Rattle.array_image.specs.Parts.{Part}
+use Rattle.array_image.specs.Parts.{Part, places_of}
 use Rattle.array_image.specs.Image.{row_of}
-use Rattle.array_image.specs.Marked.{IsMarked}
+use Rattle.array_image.specs.Marked.{named_parts, IsMarked}
 
 -- a range of the media at each logger with a count
 abbrev pub counted_places : Shape → List ℕ → (ℕ → ℕ × ℕ) → List (ℕ × ℕ)
@@ -38,3 +38,7 @@ HaveVotes shape t counts vote n image = (g : ℕ) → g < n → 0 < slice_index 
 pub record IsStaged (shape : Shape) (t mask : ℕ) (firsts counts : List ℕ) (parts : List Part) (bytes : List ℕ) (content : Content) : Type 0 where
   pub settled : content.unsettled ≡ []
   pub marked : IsMarked shape t mask firsts counts parts bytes content.bytes
+
+-- all that a commit writes: rows, and the parts into the data
+abbrev pub commit_places : Shape → List ℕ → ℕ → List ℕ → List ℕ → List (ℕ × ℕ)
+commit_places shape image t firsts counts = counted_places shape counts (λ g. (row_at shape g t, 16)) ++ places_of shape (named_parts shape image t firsts counts)

@@ -1,0 +1,50 @@
+-- Calls of a media one after another, and a barrier behind them.
+use Rattle.std.proofs.Common.{◌≡◌, ℕ, ◌+◌, ◌-◌, ◌^◌, ◌≤◌, min, Bool, List, [], Result, Ok, Err, refl, sym, ◌∙◌, ap, subst, arith}
+use Rattle.std.specs.Prelude.{IsTrue, OnErr}
+use Rattle.counted.specs.Causes.{Rose}
+use Rattle.counted.proofs.Going.{weaker, then}
+use Rattle.pcm_media.specs.Images.{Content, IsOutside, settled}
+use Rattle.pcm_media.specs.View.{View, Writes}
+use Rattle.pcm_media.proofs.Left.{touched_within, left_partly_on}
+use Rattle.pcm_media.proofs.Writing.{cause_on, writes_none}
+
+-- What was written from the first call on, all calls having succeeded.
+abbrev pub SoFar : Bool → List (ℕ × ℕ) → View → View → Type 0
+SoFar tells ranges old now = let done : Result (Unit {0}) (Unit {0}) = Ok tt in Writes tells ranges old now done
+
+module _ (tells : Bool) (all more : List (ℕ × ℕ)) (old mid new : View) (within : IsTrue tells → (i : ℕ) → IsOutside all i → IsOutside more i) (so_far : SoFar tells all old mid) where
+  -- one more call, and what its answer says of faults
+  calls_on : {T E U F : Type 0} {r : Result T E} (s : Result U F) → Writes tells more mid new r → OnErr s (Rose mid.faults new.faults) → Writes tells all old new s
+  calls_on s call rose = record {
+    size = call.size ∙ so_far.size;
+    cause = let done : Result (Unit {0}) (Unit {0}) = Ok tt in cause_on old.faults mid.faults new.faults done s so_far.cause (record { later = call.cause.later; failed = rose });
+    touched = λ told. touched_within all more old.content mid.content new.content (so_far.touched told) (within told) (call.touched told);
+    time = λ told. then (so_far.time told) (weaker (left_partly_on all more old.content mid.content (so_far.touched told) (within told)) (call.time told));
+  }
+
+  -- one that succeeded
+  pub goes_on : {T E : Type 0} {r : Result T E} → Writes tells more mid new r → SoFar tells all old new
+  goes_on call = let done : Result (Unit {0}) (Unit {0}) = Ok tt in calls_on done call tt
+
+  -- the last one, whose answer is handed on
+  pub ends_with : {T E : Type 0} (r : Result T E) → Writes tells more mid new r → Writes tells all old new r
+  ends_with r call = calls_on r call call.cause.failed
+
+  -- one that failed, whose fault is handed on
+  pub hands_on : {T E U F : Type 0} {e : E} (s : Result U F) → (let r : Result T E = Err e in Writes tells more mid new r) → Writes tells all old new s
+  hands_on {T} {E} {U} {F} s call = calls_on s call (any s)
+    where
+      any : (s : Result U F) → OnErr s (Rose mid.faults new.faults)
+      any (Ok x) = tt
+      any (Err e) = call.cause.failed
+
+-- the barrier behind them
+pub then_barrier : (tells : Bool) (all : List (ℕ × ℕ)) (old mid new : View) {T E : Type 0} (r : Result T E) → SoFar tells all old mid → Writes tells [] mid new r → Writes tells all old new r
+then_barrier tells all old mid new r so_far barrier = ends_with tells all [] old mid new (λ told i out. tt) so_far r barrier
+
+pub barrier_keeps : (P : List ℕ → Type 0) (mid new : Content) → P mid.bytes → new ≡ settled mid → (new.unsettled ≡ []) × P new.bytes
+barrier_keeps P mid new holds is = (ap (λ (c : Content). c.unsettled) is, subst (λ (c : Content). P c.bytes) (sym is) holds)
+
+-- nothing was called yet
+pub none_yet : (tells : Bool) (ranges : List (ℕ × ℕ)) (now : View) → SoFar tells ranges now now
+none_yet tells ranges now = writes_none tells ranges now tt

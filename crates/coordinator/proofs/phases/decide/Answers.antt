@@ -1,0 +1,41 @@
+use Rattle.std.proofs.Common.{◌≡◌, ℕ, true, ◌+◌, ◌<◌, ◌≤◌, ◌∙◌, sym, ap, subst, List, [], ◌∷◌, arith}
+use Rattle.std.specs.Prelude.{slice_index}
+use Rattle.std.proofs.lemmas.Result.{on_ok_weaker}
+use Rattle.pcm_media.specs.Images.{IsOutside, Touched}
+use Rattle.array_shape.specs.Places.{row_at}
+use Rattle.row_bytes.specs.declared.row.Row.{Row}
+use Rattle.array_image.specs.Image.{row_of}
+use Rattle.coordinator.specs.Between.{HaveVotes}
+use Rattle.array_image.proofs.Calls.{goes_on, hands_on, then_barrier, barrier_keeps}
+use Rattle.coordinator.proofs.Calls.{vote_within, votes_more}
+use Rattle.coordinator.proofs.phases.decide.Goals as goal
+
+pub returns-in_err-vote-clause-does : goal.returns-in_err-vote-clause-does
+returns-in_err-vote-clause-does g c =
+    let logger = c.new.ensures in
+    let some : 0 < slice_index c.args.counts.now c.loop-number.number = omega (arith, ap (λ (k : ℕ). slice_index c.args.counts.now k) c.from.ensures, c.if-counts-from-eq0.false) in
+    let within = vote_within c.args.shape.now c.args.tid c.args.counts.now c.loop-number.number (omega arith) some in
+    let same : (row_at c.new.result.shape c.new.result.number c.args.tid, 1) ≡ (row_at c.args.shape.now c.loop-number.number c.args.tid, 1) = (λ i. (row_at (logger.shape i) (logger.number i) c.args.tid, 1)) in
+    hands_on g.M.Media.tells _ _ _ _ _ (λ told i out. subst (λ r. IsOutside (r ∷ []) i) (sym same) (within i out)) c.loop-number.invariant.does c.from_residual.result c.in_err-vote.ensures.does
+
+pub loop-number-preserved : goal.loop-number-preserved
+loop-number-preserved g c =
+    let logger = c.new.ensures in
+    let some : 0 < slice_index c.args.counts.now c.loop-number.number = omega (arith, ap (λ (k : ℕ). slice_index c.args.counts.now k) c.from.ensures, c.if-counts-from-eq0.false) in
+    let within = vote_within c.args.shape.now c.args.tid c.args.counts.now c.loop-number.number (omega arith) some in
+    let same : (row_at c.new.result.shape c.new.result.number c.args.tid, 1) ≡ (row_at c.args.shape.now c.loop-number.number c.args.tid, 1) = (λ i. (row_at (logger.shape i) (logger.number i) c.args.tid, 1)) in
+    let bytes = (g.M.Media.view c.vote.new.media).content.bytes in
+    record {
+      does = goes_on g.M.Media.tells _ _ _ _ _ (λ told i out. subst (λ r. IsOutside (r ∷ []) i) (sym same) (within i out)) c.loop-number.invariant.does c.in_ok-vote.ensures.does;
+      votes = λ told.
+          let touched = subst (λ r. Touched (r ∷ []) (g.M.Media.view c.loop-number.media).content (g.M.Media.view c.vote.new.media).content) same (c.in_ok-vote.ensures.does.touched told) in
+          let voted = ap (λ (r : Row). r.voted) ((λ i. row_of (sym logger.shape i) bytes (sym logger.number i) c.args.tid) ∙ c.in_ok-vote.ensures.row told) in
+          votes_more c.args.shape.now c.args.tid c.requires.tid c.args.counts.now c.loop-number.number _ _ true touched (c.loop-number.invariant.votes told) voted;
+    }
+
+pub returns-clause-does : goal.returns-clause-does
+returns-clause-does g c = then_barrier g.M.Media.tells _ _ _ _ c.barrier.result c.loop-number.invariant.does c.barrier.ensures.does
+
+pub returns-clause-votes : goal.returns-clause-votes
+returns-clause-votes g c told =
+    on_ok_weaker c.barrier.result (barrier_keeps (HaveVotes c.args.shape.now c.args.tid c.args.counts.now true c.args.shape.now.loggers) (g.M.Media.view c.loop-number.media).content (g.M.Media.view c.barrier.new.self).content (λ h lt some. c.loop-number.invariant.votes told h (omega arith) some)) (c.barrier.ensures.settled told)

@@ -1,0 +1,46 @@
+use Rattle.std.proofs.Common.{◌≡◌, ℕ, ◌+◌, ◌<◌, ◌≤◌, ◌∙◌, sym, ap, subst, List, [], ◌∷◌, Result, Ok, Err, arith}
+use Rattle.std.specs.Prelude.{slice_index}
+use Rattle.counted.specs.declared.Failed.{Failed}
+use Rattle.pcm_media.specs.Images.{IsOutside, Touched}
+use Rattle.row_bytes.specs.declared.row.Row.{Row}
+use Rattle.pcm_media.specs.View.{View, Writes}
+use Rattle.array_shape.specs.Places.{row_at}
+use Rattle.array_image.specs.Image.{row_of}
+use Rattle.coordinator.specs.Between.{body_places, Names, HaveNames}
+use Rattle.array_image.proofs.Calls.{goes_on, hands_on, then_barrier, barrier_keeps}
+use Rattle.coordinator.proofs.Calls.{body_within, names_more, names_from}
+use Rattle.std.proofs.lemmas.Result.{on_ok_weaker}
+use Rattle.coordinator.proofs.phases.prepare.Goals as goal
+
+pub returns-in_err-put_row-clause-does : goal.returns-in_err-put_row-clause-does
+returns-in_err-put_row-clause-does g c =
+    let logger = c.new-logger.ensures in
+    let at = c.from-at.ensures in
+    let some : 0 < slice_index c.args.counts.now c.loop-number.number = omega (arith, ap (λ (k : ℕ). slice_index c.args.counts.now k) at, c.if-counts-at-eq0.false) in
+    let within = body_within c.args.shape.now c.args.tid c.args.counts.now c.loop-number.number (omega arith) some in
+    let same : (row_at c.new-logger.result.shape c.new-logger.result.number c.args.tid + 1, 15) ≡ (row_at c.args.shape.now c.loop-number.number c.args.tid + 1, 15) = (λ i. (row_at (logger.shape i) (logger.number i) c.args.tid + 1, 15)) in
+    hands_on g.M.Media.tells _ _ _ _ _ (λ told i out. subst (λ r. IsOutside (r ∷ []) i) (sym same) (within i out)) c.loop-number.invariant.does c.from_residual.result c.in_err-put_row.ensures.does
+
+pub loop-number-preserved : goal.loop-number-preserved
+loop-number-preserved g c =
+    let logger = c.new-logger.ensures in
+    let at = c.from-at.ensures in
+    let some : 0 < slice_index c.args.counts.now c.loop-number.number = omega (arith, ap (λ (k : ℕ). slice_index c.args.counts.now k) at, c.if-counts-at-eq0.false) in
+    let within = body_within c.args.shape.now c.args.tid c.args.counts.now c.loop-number.number (omega arith) some in
+    let same : (row_at c.new-logger.result.shape c.new-logger.result.number c.args.tid + 1, 15) ≡ (row_at c.args.shape.now c.loop-number.number c.args.tid + 1, 15) = (λ i. (row_at (logger.shape i) (logger.number i) c.args.tid + 1, 15)) in
+    let bytes = (g.M.Media.view c.put_row.new.media).content.bytes in
+    record {
+      does = goes_on g.M.Media.tells _ _ _ _ _ (λ told i out. subst (λ r. IsOutside (r ∷ []) i) (sym same) (within i out)) c.loop-number.invariant.does c.in_ok-put_row.ensures.does;
+      names = λ told.
+          let touched = subst (λ r. Touched (r ∷ []) (g.M.Media.view c.loop-number.media).content (g.M.Media.view c.put_row.new.media).content) same (c.in_ok-put_row.ensures.does.touched told) in
+          let named = subst (λ (k : ℕ). Names (row_of c.args.shape.now bytes c.loop-number.number c.args.tid) c.args.mask (slice_index c.args.firsts.now k) (slice_index c.args.counts.now k)) at
+          (names_from _ _ c.args.mask (slice_index c.args.firsts.now c.from-at.result) (slice_index c.args.counts.now c.from-at.result) ((λ i. row_of (sym logger.shape i) bytes (sym logger.number i) c.args.tid) ∙ c.in_ok-put_row.ensures.row told)) in
+          names_more c.args.shape.now c.args.tid c.requires.tid c.args.counts.now c.loop-number.number _ _ c.args.mask c.args.firsts.now touched (c.loop-number.invariant.names told) named;
+    }
+
+pub returns-clause-does : goal.returns-clause-does
+returns-clause-does g c = then_barrier g.M.Media.tells _ _ _ _ c.barrier.result c.loop-number.invariant.does c.barrier.ensures.does
+
+pub returns-clause-names : goal.returns-clause-names
+returns-clause-names g c told =
+    on_ok_weaker c.barrier.result (barrier_keeps (HaveNames c.args.shape.now c.args.tid c.args.mask c.args.firsts.now c.args.counts.now c.args.shape.now.loggers) (g.M.Media.view c.loop-number.media).content (g.M.Media.view c.barrier.new.self).content (λ h lt some. c.loop-number.invariant.names told h (omega arith) some)) (c.barrier.ensures.settled told)

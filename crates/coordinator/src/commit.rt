@@ -1,0 +1,81 @@
+// A commit: the rows, the votes, the parts into the data, the votes cleared, each behind a barrier.
+ghost use Rattle.std.specs.Prelude.{◌≡◌, ◌+◌, ◌≤◌, ◌<◌, ℕ, Ok, length, slice_index, IsTrue, OnOk};
+ghost use Rattle.pcm_media.specs.View.{View, LeavesOnly, Writes};
+ghost use Rattle.array_shape.specs.Places.{media_len};
+ghost use Rattle.array_image.specs.Parts.{applied};
+ghost use Rattle.array_image.specs.Image.{data_of};
+ghost use Rattle.array_image.specs.Standing.{IsEither, IsClean, SameCells};
+ghost use Rattle.array_image.specs.Marked.{named_parts, IsMaskOf, AreGood};
+ghost use Rattle.coordinator.specs.Between.{commit_places};
+
+use crate::mask::mask_of;
+use crate::phases::{decide, install, prepare, release};
+use array_shape::Shape;
+use counted::Failed;
+use pcm_media::Media;
+
+/// Commits the parts in the cells that `firsts` and `counts` name for each logger: from its first entry on, so many.
+/// Whenever power is lost within it, what is left stands for the data before it or for that with all of the parts.
+///
+/// Without any part it calls the media not at all.
+pub fn commit_from<M: Media>(
+    media: &mut M,
+    shape: &Shape,
+    tid: u8,
+    firsts: &[u16],
+    counts: &[u16],
+) -> Result<(), Failed>
+    requires tid { tid < shape.now.numbers }
+    requires firsts { length firsts.now ≡ shape.now.loggers }
+    requires counts { length counts.now ≡ shape.now.loggers }
+    requires entries { (g : ℕ) → g < shape.now.loggers → slice_index firsts.now g + slice_index counts.now g ≤ shape.now.entries }
+    requires size { (M.view media.old).size ≡ media_len shape.now }
+    requires clean { IsTrue M.tells → IsClean shape.now (M.view media.old).content }
+    requires good { IsTrue M.tells → AreGood shape.now (M.view media.old).content.bytes tid firsts.now counts.now }
+    ensures any_moment { IsTrue M.tells → (let before = data_of shape.now (M.view media.old).content.bytes in
+        let parts = named_parts shape.now (M.view media.old).content.bytes tid firsts.now counts.now in
+        LeavesOnly (IsEither shape.now before (applied parts before)) (M.view media.old) (M.view media.new)) }
+    ensures clean { IsTrue M.tells → OnOk result (IsClean shape.now (M.view media.new).content) }
+    ensures committed { IsTrue M.tells → OnOk result (data_of shape.now (M.view media.new).content.bytes ≡
+        applied (named_parts shape.now (M.view media.old).content.bytes tid firsts.now counts.now) (data_of shape.now (M.view media.old).content.bytes)) }
+    ensures cells { IsTrue M.tells → SameCells shape.now (M.view media.old).content.bytes (M.view media.new).content.bytes }
+    ensures does { Writes M.tells (commit_places shape.now (M.view media.old).content.bytes tid firsts.now counts.now) (M.view media.old) (M.view media.new) result }
+    ensures idle { ((g : ℕ) → g < shape.now.loggers → slice_index counts.now g ≡ 0) → (result ≡ Ok tt) × (media.new ≡ media.old) }
+{
+    let mask = mask_of(counts);
+    if mask == 0 {
+        return Ok(());
+    }
+    commit_voters(media, shape, tid, mask, firsts, counts)
+}
+
+// The same for a mask that has a logger.
+fn commit_voters<M: Media>(
+    media: &mut M,
+    shape: &Shape,
+    tid: u8,
+    mask: u8,
+    firsts: &[u16],
+    counts: &[u16],
+) -> Result<(), Failed>
+    requires tid { tid < shape.now.numbers }
+    requires firsts { length firsts.now ≡ shape.now.loggers }
+    requires counts { length counts.now ≡ shape.now.loggers }
+    requires mask { IsMaskOf shape.now.loggers counts.now mask }
+    requires entries { (g : ℕ) → g < shape.now.loggers → slice_index firsts.now g + slice_index counts.now g ≤ shape.now.entries }
+    requires size { (M.view media.old).size ≡ media_len shape.now }
+    requires clean { IsTrue M.tells → IsClean shape.now (M.view media.old).content }
+    requires good { IsTrue M.tells → AreGood shape.now (M.view media.old).content.bytes tid firsts.now counts.now }
+    ensures any_moment { IsTrue M.tells → (let before = data_of shape.now (M.view media.old).content.bytes in
+        let parts = named_parts shape.now (M.view media.old).content.bytes tid firsts.now counts.now in
+        LeavesOnly (IsEither shape.now before (applied parts before)) (M.view media.old) (M.view media.new)) }
+    ensures committed { IsTrue M.tells → OnOk result (IsClean shape.now (M.view media.new).content × (data_of shape.now (M.view media.new).content.bytes ≡
+        applied (named_parts shape.now (M.view media.old).content.bytes tid firsts.now counts.now) (data_of shape.now (M.view media.old).content.bytes))) }
+    ensures cells { IsTrue M.tells → SameCells shape.now (M.view media.old).content.bytes (M.view media.new).content.bytes }
+    ensures does { Writes M.tells (commit_places shape.now (M.view media.old).content.bytes tid firsts.now counts.now) (M.view media.old) (M.view media.new) result }
+{
+    prepare(media, shape, tid, mask, firsts, counts)?;
+    decide(media, shape, tid, counts)?;
+    install(media, shape, tid, firsts, counts)?;
+    release(media, shape, tid, counts)
+}

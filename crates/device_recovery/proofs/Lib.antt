@@ -1,0 +1,5 @@
+pub mod Frames
+pub mod Finding
+pub mod Clearing
+pub mod Tests
+pub mod Tabling

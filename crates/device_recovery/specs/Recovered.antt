@@ -1,0 +1,71 @@
+-- What recovery finds, says and writes.
+use Rattle.std.specs.Prelude.{ℕ, ◌≡◌, ◌<◌, Bool, true, false, ◌&&◌, not, if◌then◌else◌, List, [], ◌∷◌, ◌++◌, length, Result, Ok, Err}
+use Rattle.counted.specs.declared.Failed.{Failed}
+use Rattle.pcm_media.specs.Images.{Content, MayLeave}
+use Rattle.array_shape.specs.declared.shape.Shape.{Shape}
+use Rattle.array_shape.specs.Places.{row_at}
+use Rattle.array_image.specs.Joined.{joined}
+use Rattle.array_image.specs.Parts.{places_of}
+use Rattle.array_image.specs.Image.{row_of}
+use Rattle.array_image.specs.Decided.{decided, all_decided, settled_data}
+use Rattle.array_image.specs.Standing.{IsGoodRow, IsLawful}
+use Rattle.device_recovery.specs.declared.report.Report.{Report}
+use Rattle.device_recovery.specs.declared.report.RecoverFault.{RecoverFault}
+use Rattle.device_recovery.specs.declared.report.RecoverFault.TheVariants.{BadRow, Media}
+
+-- each decided row of the numbers below n is good
+abbrev pub AllGood : Shape → List ℕ → ℕ → Type 0
+AllGood shape image n = (g t : ℕ) → g < shape.loggers → t < n → decided shape image g t ≡ true → IsGoodRow shape image g t
+
+-- of the rows of a number the first decided one that is not good
+pub record IsFirstBadAt (shape : Shape) (image : List ℕ) (g t : ℕ) : Type 0 where
+  pub logger : g < shape.loggers
+  pub is_decided : decided shape image g t ≡ true
+  pub bad : IsGoodRow shape image g t → ⊥
+  pub below : (h : ℕ) → h < g → decided shape image h t ≡ true → IsGoodRow shape image h t
+
+-- of all rows, by rising number, then rising logger
+pub record IsFirstBad (shape : Shape) (image : List ℕ) (g t : ℕ) : Type 0 where
+  pub number : t < shape.numbers
+  pub here : IsFirstBadAt shape image g t
+  pub before : AllGood shape image t
+
+-- what stands beside the rows of which a test holds, by rising number, then rising logger
+abbrev pub at_rows : {A : Type 0} → Shape → (ℕ → ℕ → Bool) → (ℕ → ℕ → A) → List A
+at_rows shape test beside = joined (λ t. joined (λ g. if test g t then beside g t ∷ [] else []) 0 shape.loggers) 0 shape.numbers
+
+-- the voted rows that are decided, and those that are not, each as its logger and number
+abbrev pub decided_rows : Shape → List ℕ → List (ℕ × ℕ)
+decided_rows shape image = at_rows shape (λ g t. decided shape image g t) (λ g t. (g, t))
+
+abbrev pub dropped_rows : Shape → List ℕ → List (ℕ × ℕ)
+dropped_rows shape image = at_rows shape (λ g t. (row_of shape image g t).voted && not (decided shape image g t)) (λ g t. (g, t))
+
+-- no row is voted
+abbrev pub HasNoVote : Shape → List ℕ → Type 0
+HasNoVote shape image = (g t : ℕ) → g < shape.loggers → t < shape.numbers → (row_of shape image g t).voted ≡ false
+
+-- how many of them there are
+pub record Counts (shape : Shape) (image : List ℕ) (report : Report) : Type 0 where
+  pub decided : report.decided ≡ length (decided_rows shape image)
+  pub dropped : report.dropped ≡ length (dropped_rows shape image)
+
+-- where recovery writes: the votes of voted rows, and the parts of decided ones
+abbrev pub voted_places : Shape → List ℕ → List (ℕ × ℕ)
+voted_places shape image = at_rows shape (λ g t. (row_of shape image g t).voted) (λ g t. (row_at shape g t, 1))
+
+abbrev pub recovered_places : Shape → List ℕ → List (ℕ × ℕ)
+recovered_places shape image = places_of shape (all_decided shape image) ++ voted_places shape image
+
+-- lawful, and it settles to what some image does that could be left at first
+pub record KeepsSense (shape : Shape) (content : Content) (image : List ℕ) : Type 0 where
+  pub lawful : IsLawful shape image
+  pub earlier : List ℕ
+  pub left : MayLeave content earlier
+  pub same : settled_data shape image ≡ settled_data shape earlier
+
+-- what the media answered
+abbrev pub media_answer : {T : Type 0} → Result T RecoverFault → Result (Unit {0}) Failed
+media_answer (Ok x) = Ok tt
+media_answer (Err (BadRow logger tid)) = Ok tt
+media_answer (Err Media) = Err record {}

@@ -1,0 +1,147 @@
+// Looks for decided rows that name cells without a part.
+ghost use Rattle.std.specs.Prelude.{◌≡◌, ◌↔◌, ◌+◌, ◌*◌, ◌<◌, ◌≤◌, [], ℕ, true, false, IsTrue, IfOk, IfErr, OnOk};
+ghost use Rattle.pcm_media.specs.View.{Writes};
+ghost use Rattle.array_shape.specs.Places.{media_len};
+ghost use Rattle.array_image.specs.Parts.{IsOwned};
+ghost use Rattle.array_image.specs.Image.{row_of, cell_of, cell_head, IsGoodCell};
+ghost use Rattle.array_image.specs.Decided.{decided};
+ghost use Rattle.array_image.specs.Standing.{IsGoodRow};
+ghost use Rattle.device_recovery.specs.Table.{row_in, RowsAre, decided_in};
+ghost use Rattle.device_recovery.specs.Recovered.{AllGood, IsFirstBadAt, IsFirstBad, media_answer};
+ghost use Rattle.device_recovery.specs.declared.report.RecoverFault.TheVariants.{BadRow};
+
+use crate::report::RecoverFault;
+use crate::table::{MOST, is_decided, row_in};
+use array_shape::Shape;
+use counted::Failed;
+use pcm_media::Media;
+use row_bytes::{Head, Row, read_head};
+
+// Whether a part with this head lies in one page of this logger.
+fn is_owned(shape: &Shape, logger: u8, head: Head) -> bool
+    ensures { IsTrue result ↔ IsOwned shape.now logger head.addr head.len }
+{
+    let data_len = shape.data_len();
+    let len = u64::from(head.len);
+    if head.addr >= data_len || len == 0 {
+        return false;
+    }
+    head.addr % 512 + len <= 512
+        && head.addr + len <= data_len
+        && shape.place(head.addr).logger == logger
+}
+
+// Reads the head of a cell.
+fn read_cell_head<M: Media>(
+    media: &mut M,
+    shape: &Shape,
+    logger: u8,
+    tid: u8,
+    entry: u16,
+) -> Result<Head, Failed>
+    requires logger { logger < shape.now.loggers }
+    requires tid { tid < shape.now.numbers }
+    requires entry { entry < shape.now.entries }
+    requires size { (M.view media.old).size ≡ media_len shape.now }
+    ensures head { IsTrue M.tells → IfOk result (λ head. head ≡ cell_head (cell_of shape.now (M.view media.old).content.bytes logger tid entry)) }
+    ensures does { Writes M.tells [] (M.view media.old) (M.view media.new) result }
+{
+    let mut bytes = [0; 16];
+    media.read(shape.cell_at(logger, tid, entry), &mut bytes)?;
+    Ok(read_head(&bytes))
+}
+
+// Whether one of the cells holds no part of its logger.
+fn has_bad_cell<M: Media>(
+    media: &mut M,
+    shape: &Shape,
+    logger: u8,
+    tid: u8,
+    first: u16,
+    count: u16,
+) -> Result<bool, Failed>
+    requires logger { logger < shape.now.loggers }
+    requires tid { tid < shape.now.numbers }
+    requires entries { first + count ≤ shape.now.entries }
+    requires size { (M.view media.old).size ≡ media_len shape.now }
+    ensures none { IsTrue M.tells → IfOk result (λ bad. bad ≡ false → (e : ℕ) → first ≤ e → e < first + count → IsGoodCell shape.now logger (cell_of shape.now (M.view media.old).content.bytes logger tid e)) }
+    ensures some { IsTrue M.tells → IfOk result (λ bad. bad ≡ true → (e : ℕ) × (first ≤ e) × (e < first + count) × (IsGoodCell shape.now logger (cell_of shape.now (M.view media.old).content.bytes logger tid e) → ⊥)) }
+    ensures does { Writes M.tells [] (M.view media.old) (M.view media.new) result }
+{
+    for entry in first..first + count {
+        let head = read_cell_head(media, shape, logger, tid, entry)?;
+        if !is_owned(shape, logger, head) {
+            return Ok(true);
+        }
+    }
+    Ok(false)
+}
+
+// Whether a row is decided and not good.
+fn is_bad<M: Media>(
+    media: &mut M,
+    shape: &Shape,
+    rows: &[Row; MOST],
+    logger: u8,
+    tid: u8,
+) -> Result<bool, Failed>
+    requires logger { logger < shape.now.loggers }
+    requires tid { tid < shape.now.numbers }
+    requires size { (M.view media.old).size ≡ media_len shape.now }
+    requires rows { IsTrue M.tells → RowsAre shape.now (M.view media.old).content.bytes shape.now.numbers rows.now }
+    ensures none { IsTrue M.tells → IfOk result (λ bad. bad ≡ false → decided shape.now (M.view media.old).content.bytes logger tid ≡ true → IsGoodRow shape.now (M.view media.old).content.bytes logger tid) }
+    ensures some { IsTrue M.tells → IfOk result (λ bad. bad ≡ true → (decided shape.now (M.view media.old).content.bytes logger tid ≡ true) × (IsGoodRow shape.now (M.view media.old).content.bytes logger tid → ⊥)) }
+    ensures fits { IfOk result (λ bad. bad ≡ false → decided_in shape.now rows.now logger tid ≡ true → (row_in rows.now logger tid).first + (row_in rows.now logger tid).count ≤ shape.now.entries) }
+    ensures does { Writes M.tells [] (M.view media.old) (M.view media.new) result }
+{
+    if !is_decided(rows, shape, logger, tid) {
+        return Ok(false);
+    }
+    let row = row_in(rows, logger, tid);
+    if u32::from(row.first) + u32::from(row.count) > u32::from(shape.entries) {
+        return Ok(true);
+    }
+    has_bad_cell(media, shape, logger, tid, row.first, row.count)
+}
+
+// Looks at the rows of one number.
+fn check_number<M: Media>(
+    media: &mut M,
+    shape: &Shape,
+    rows: &[Row; MOST],
+    tid: u8,
+) -> Result<(), RecoverFault>
+    requires tid { tid < shape.now.numbers }
+    requires size { (M.view media.old).size ≡ media_len shape.now }
+    requires rows { IsTrue M.tells → RowsAre shape.now (M.view media.old).content.bytes shape.now.numbers rows.now }
+    ensures good { IsTrue M.tells → OnOk result ((g : ℕ) → g < shape.now.loggers → decided shape.now (M.view media.old).content.bytes g tid ≡ true → IsGoodRow shape.now (M.view media.old).content.bytes g tid) }
+    ensures bad { IsTrue M.tells → IfErr result (λ fault. (g t : ℕ) → fault ≡ BadRow g t → (t ≡ tid) × IsFirstBadAt shape.now (M.view media.old).content.bytes g tid) }
+    ensures fits { OnOk result ((g : ℕ) → g < shape.now.loggers → decided_in shape.now rows.now g tid ≡ true → (row_in rows.now g tid).first + (row_in rows.now g tid).count ≤ shape.now.entries) }
+    ensures does { Writes M.tells [] (M.view media.old) (M.view media.new) (media_answer result) }
+{
+    for logger in 0..shape.loggers {
+        if is_bad(media, shape, rows, logger, tid)? {
+            return Err(RecoverFault::BadRow { logger, tid });
+        }
+    }
+    Ok(())
+}
+
+/// Refuses the first decided row that is not good.
+pub(crate) fn check_rows<M: Media>(
+    media: &mut M,
+    shape: &Shape,
+    rows: &[Row; MOST],
+) -> Result<(), RecoverFault>
+    requires size { (M.view media.old).size ≡ media_len shape.now }
+    requires rows { IsTrue M.tells → RowsAre shape.now (M.view media.old).content.bytes shape.now.numbers rows.now }
+    ensures good { IsTrue M.tells → OnOk result (AllGood shape.now (M.view media.old).content.bytes shape.now.numbers) }
+    ensures bad { IsTrue M.tells → IfErr result (λ fault. (g t : ℕ) → fault ≡ BadRow g t → IsFirstBad shape.now (M.view media.old).content.bytes g t) }
+    ensures fits { OnOk result ((g t : ℕ) → g < shape.now.loggers → t < shape.now.numbers → decided_in shape.now rows.now g t ≡ true → (row_in rows.now g t).first + (row_in rows.now g t).count ≤ shape.now.entries) }
+    ensures does { Writes M.tells [] (M.view media.old) (M.view media.new) (media_answer result) }
+{
+    for tid in 0..shape.numbers {
+        check_number(media, shape, rows, tid)?;
+    }
+    Ok(())
+}

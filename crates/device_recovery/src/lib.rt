@@ -1,0 +1,9 @@
+//! Recovery: of what a loss of power left it makes an array at rest.
+#![tactic(auto)]
+
+mod checking;
+mod reading;
+mod report;
+mod table;
+
+pub use report::{RecoverFault, Report};

@@ -1,0 +1,63 @@
+// Reads the rows of an array.
+ghost use Rattle.std.specs.Prelude.{◌≡◌, ◌≢◌, ◌+◌, ◌*◌, ◌<◌, ◌≤◌, [], ℕ, IsTrue, IfOk, OnOk};
+ghost use Rattle.pcm_media.specs.View.{Writes};
+ghost use Rattle.array_shape.specs.Places.{media_len};
+ghost use Rattle.array_image.specs.Image.{row_of};
+ghost use Rattle.device_recovery.specs.Table.{row_in, RowsAre};
+
+use crate::table::{MOST, place};
+use array_shape::Shape;
+use counted::Failed;
+use pcm_media::Media;
+use row_bytes::{Row, read_row};
+
+const NO_ROW: Row = Row {
+    voted: false,
+    mask: 0,
+    first: 0,
+    count: 0,
+};
+
+fn read_one<M: Media>(media: &mut M, shape: &Shape, logger: u8, tid: u8) -> Result<Row, Failed>
+    requires logger { logger < shape.now.loggers }
+    requires tid { tid < shape.now.numbers }
+    requires size { (M.view media.old).size ≡ media_len shape.now }
+    ensures row { IsTrue M.tells → IfOk result (λ row. row ≡ row_of shape.now (M.view media.old).content.bytes logger tid) }
+    ensures does { Writes M.tells [] (M.view media.old) (M.view media.new) result }
+{
+    let mut bytes = [0; 16];
+    media.read(shape.row_at(logger, tid), &mut bytes)?;
+    Ok(read_row(&bytes))
+}
+
+// Reads the rows of one number.
+fn read_number<M: Media>(
+    media: &mut M,
+    shape: &Shape,
+    tid: u8,
+    rows: &mut [Row; MOST],
+) -> Result<(), Failed>
+    requires tid { tid < shape.now.numbers }
+    requires size { (M.view media.old).size ≡ media_len shape.now }
+    ensures rows { IsTrue M.tells → OnOk result ((g : ℕ) → g < shape.now.loggers → row_in rows.new g tid ≡ row_of shape.now (M.view media.old).content.bytes g tid) }
+    ensures others { (g t : ℕ) → g < 8 → t ≢ tid → row_in rows.new g t ≡ row_in rows.old g t }
+    ensures does { Writes M.tells [] (M.view media.old) (M.view media.new) result }
+{
+    for logger in 0..shape.loggers {
+        rows[place(logger, tid)] = read_one(media, shape, logger, tid)?;
+    }
+    Ok(())
+}
+
+/// Reads all rows, each once.
+pub(crate) fn read_rows<M: Media>(media: &mut M, shape: &Shape) -> Result<[Row; MOST], Failed>
+    requires size { (M.view media.old).size ≡ media_len shape.now }
+    ensures rows { IsTrue M.tells → IfOk result (RowsAre shape.now (M.view media.old).content.bytes shape.now.numbers) }
+    ensures does { Writes M.tells [] (M.view media.old) (M.view media.new) result }
+{
+    let mut rows = [NO_ROW; MOST];
+    for tid in 0..shape.numbers {
+        read_number(media, shape, tid, &mut rows)?;
+    }
+    Ok(rows)
+}

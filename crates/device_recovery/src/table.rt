@@ -1,0 +1,81 @@
+// The rows of an array, each read once.
+ghost use Rattle.std.specs.Prelude.{◌≡◌, ◌≢◌, ◌+◌, ◌*◌, ◌<◌, ◌≤◌, ◌↔◌, [], ℕ, Bool, not, ◌&&◌, ◌||◌, nat_eq, length, IsTrue, IfOk, OnOk};
+ghost use Rattle.pcm_media.specs.View.{Writes};
+ghost use Rattle.array_shape.specs.Places.{media_len};
+ghost use Rattle.array_image.specs.Image.{row_of};
+ghost use Rattle.array_image.specs.Decided.{has_logger, all_below, agrees};
+ghost use Rattle.device_recovery.specs.Table.{row_in, RowsAre, decided_in};
+
+use array_shape::Shape;
+use counted::Failed;
+use pcm_media::Media;
+use row_bytes::Row;
+
+// The most rows that an array has: eight loggers, 64 numbers.
+pub(crate) const MOST: usize = 512;
+
+// Where the row of a number at a logger stands.
+pub(crate) fn place(logger: u8, tid: u8) -> usize
+    requires logger { logger < 8 }
+    requires tid { tid < 64 }
+    ensures place { result ≡ 8 * tid + logger }
+    ensures below { result < 512 }
+{
+    8 * usize::from(tid) + usize::from(logger)
+}
+
+pub(crate) fn row_in(rows: &[Row; MOST], logger: u8, tid: u8) -> Row
+    requires logger { logger < 8 }
+    requires tid { tid < 64 }
+    ensures { result ≡ row_in rows.now logger tid }
+{
+    rows[place(logger, tid)]
+}
+
+// Whether a mask has a logger.
+fn has_logger(mask: u8, logger: u8) -> bool
+    requires { logger < 8 }
+    ensures { result ≡ has_logger mask logger }
+{
+    (mask >> logger) & 1 == 1
+}
+
+// Whether the row of a logger is voted with a mask, if the mask has that logger.
+fn agrees(row: Row, mask: u8, logger: u8) -> bool
+    requires { logger < 8 }
+    ensures { result ≡ (not (has_logger mask logger) || (row.voted && nat_eq row.mask mask)) }
+{
+    !has_logger(mask, logger) || (row.voted && row.mask == mask)
+}
+
+// Whether the rows of a number at all loggers of a mask are voted with that mask.
+fn all_agree(rows: &[Row; MOST], shape: &Shape, tid: u8, mask: u8) -> bool
+    requires { tid < shape.now.numbers }
+    ensures { result ≡ all_below shape.now.loggers (agrees mask (λ h. row_in rows.now h tid)) }
+{
+    for logger in 0..shape.loggers {
+        if !agrees(row_in(rows, logger, tid), mask, logger) {
+            return false;
+        }
+    }
+    true
+}
+
+// Whether a row is decided.
+pub(crate) fn is_decided(rows: &[Row; MOST], shape: &Shape, logger: u8, tid: u8) -> bool
+    requires logger { logger < shape.now.loggers }
+    requires tid { tid < shape.now.numbers }
+    ensures { result ≡ decided_in shape.now rows.now logger tid }
+{
+    let row = row_in(rows, logger, tid);
+    if !row.voted {
+        return false;
+    }
+    if !has_logger(row.mask, logger) {
+        return false;
+    }
+    if u32::from(row.mask) >> shape.loggers != 0 {
+        return false;
+    }
+    all_agree(rows, shape, tid, row.mask)
+}
