@@ -1,10 +1,11 @@
 // The commands over one logger.
-ghost use Rattle.std.specs.Prelude.{◌≡◌, IsTrue};
+ghost use Rattle.std.specs.Prelude.{◌≡◌, false, IsTrue};
 ghost use Rattle.array_shape.specs.Places.{media_len};
 ghost use Rattle.array_image.specs.Standing.{IsClean};
 ghost use Rattle.eaw_device.specs.Sound.{IsSound};
 
 use array_shape::Shape;
+use coordinator::commit_from;
 use eaw_face::{EawFault, EawStore};
 use logger::{Logger, StageFault};
 use pcm_media::Media;
@@ -82,10 +83,7 @@ impl<M: Media> EawStore for Eaw<M> {
             return Err(EawFault::UnknownTid { tid });
         }
         let held = self.held[usize::from(tid)];
-        let logger = Logger {
-            shape: self.shape,
-            number: 0,
-        };
+        let logger = Logger::new(self.shape, 0);
         match logger.stage(&mut self.media, tid, held, addr, bytes) {
             Ok(taken) => {
                 self.held[usize::from(tid)] = held + taken;
@@ -111,9 +109,18 @@ impl<M: Media> EawStore for Eaw<M> {
         if tid >= self.shape.numbers || !self.live[usize::from(tid)] {
             return Err(EawFault::UnknownTid { tid });
         }
-        self.held[usize::from(tid)] = 0;
-        self.live[usize::from(tid)] = false;
-        Ok(())
+        let held = self.held[usize::from(tid)];
+        match commit_from(&mut self.media, &self.shape, tid, &[0], &[held]) {
+            Ok(()) => {
+                self.held[usize::from(tid)] = 0;
+                self.live[usize::from(tid)] = false;
+                Ok(())
+            }
+            Err(_) => {
+                self.is_dead = true;
+                Err(EawFault::Media)
+            }
+        }
     }
 
     fn read(&mut self, addr: u64, buf: &mut [u8]) -> Result<(), EawFault> {

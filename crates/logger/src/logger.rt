@@ -30,6 +30,15 @@ impl Logger {
     ghost use Rattle.logger.specs.Cells.{cell_writes, cell_ranges, in_media, HoldsParts};
     ghost use Rattle.logger.specs.Staging.{pieces_here, IsStageFault, media_answer};
 
+    /// The logger of this number.
+    pub fn new(shape: Shape, number: u8) -> Logger
+        requires { number < shape.loggers }
+        ensures shape { result.shape ≡ shape }
+        ensures number { result.number ≡ number }
+    {
+        Logger { shape, number }
+    }
+
     /// Writes what a row says but for its vote: bytes 1 to 15, and never byte 0.
     pub fn put_row<M: Media>(
         self,
