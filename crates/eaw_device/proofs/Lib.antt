@@ -1,3 +1,5 @@
+pub mod DeviceLemmas
 pub mod FreshLemmas
+pub mod Logging
 pub mod Reading
 pub mod Staged

@@ -13,9 +13,12 @@ use Rattle.eaw_face.specs.StoreView.{StoreView}
 pub record IsSound (tells : Bool) (media : View) (shape : Shape) (held : List ℕ) (live : List Bool) (is_dead : Bool) : Type 0 where
   pub shaped : IsShape shape
   pub one : shape.loggers ≡ 1
+  pub held_long : length held ≡ 64
+  pub live_long : length live ≡ 64
   pub sized : media.size ≡ media_len shape
   pub room : (t : ℕ) → t < shape.numbers → slice_index held t ≤ shape.entries
   pub idle : (t : ℕ) → get_or live t false ≡ false → slice_index held t ≡ 0
+  pub beyond : (t : ℕ) → shape.numbers ≤ t → slice_index held t ≡ 0
   pub clean : IsTrue tells → is_dead ≡ false → IsClean shape media.content
   pub good : IsTrue tells → is_dead ≡ false → (t e : ℕ) → t < shape.numbers → e < slice_index held t → IsGoodCell shape 0 (cell_of shape media.content.bytes 0 t e)
 
