@@ -35,7 +35,7 @@ impl Calls {
         ensures ok { OnOk result (self.new ≡ self.old ++ (call, reply) ∷ []) }
         ensures err { OnErr result (self.new ≡ self.old) }
     {
-        // Many transactions have one call: the first takes room for itself alone, where `Vec` would for four.
+        // Many transactions have one call, so the first takes room for itself alone. `Vec` would take room for four.
         if self.entries.is_empty() {
             self.entries.reserve_exact(1)?;
         }

@@ -1,4 +1,4 @@
-ghost use Rattle.std.specs.Prelude.{◌≡◌, ◌≤◌, [], ◌∷◌, ◌++◌, take, codes, decimal, OnOk, OnErr};
+ghost use Rattle.std.specs.Prelude.{◌≡◌, [], ◌∷◌, ◌++◌, codes, decimal, OnOk, OnErr};
 ghost use Rattle.script_text.specs.Replies.{reply_line, bad_line};
 
 use crate::append::append;
@@ -83,10 +83,12 @@ pub fn media_fault_line(caller: u8, buf: &mut [u8; 16]) -> &[u8]
 {
     let mut buffer = Buffer::new();
     let number = buffer.format(caller).as_bytes();
-    let end = number.len();
-    buf[..end].copy_from_slice(number);
-    buf[end..end + 13].copy_from_slice(b" media fault\n");
-    &buf[..end + 13]
+    let words = b" media fault\n";
+    let middle = number.len();
+    let end = middle + words.len();
+    buf[..middle].copy_from_slice(number);
+    buf[middle..end].copy_from_slice(words);
+    &buf[..end]
 }
 
 #[cfg(test)]
