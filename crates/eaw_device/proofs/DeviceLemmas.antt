@@ -59,7 +59,7 @@ zeros_of n = replicate n 0
 zeros : (n t : ℕ) → get_or (zeros_of n) t 0 ≡ 0
 zeros n t = elim (cases_lt t n) [
   | inl lt ↦ get_or-replicate {A = ℕ} n t 0 0 lt
-  | inr past ↦ (let long : length (zeros_of n) ≡ n = length-replicate n 0 in get_or_past t (zeros_of n) 0 (omega arith))
+  | inr past ↦ (let long : length (zeros_of n) ≡ n = length-replicate n 0 in get_or_past (zeros_of n) t 0 (omega arith))
 ]
 
 -- nothing is held at first

@@ -82,12 +82,13 @@ impl<M: Media> EawStore for Eaw<M> {
         if tid >= self.shape.numbers {
             return Err(EawFault::UnknownTid { tid });
         }
-        let held = self.held[usize::from(tid)];
+        let at = usize::from(tid);
+        let held = self.held[at];
         let logger = Logger::new(self.shape, 0);
         match logger.stage(&mut self.media, tid, held, addr, bytes) {
             Ok(taken) => {
-                self.held[usize::from(tid)] = held + taken;
-                self.live[usize::from(tid)] = true;
+                self.held[at] = held + taken;
+                self.live[at] = true;
                 Ok(u32::from(held + taken))
             }
             Err(StageFault::Full { held, needed }) => Err(EawFault::LogFull {
@@ -106,14 +107,15 @@ impl<M: Media> EawStore for Eaw<M> {
         if self.is_dead {
             return Err(EawFault::Dead);
         }
-        if tid >= self.shape.numbers || !self.live[usize::from(tid)] {
+        let at = usize::from(tid);
+        if tid >= self.shape.numbers || !self.live[at] {
             return Err(EawFault::UnknownTid { tid });
         }
-        let held = self.held[usize::from(tid)];
+        let held = self.held[at];
         match commit_from(&mut self.media, &self.shape, tid, &[0], &[held]) {
             Ok(()) => {
-                self.held[usize::from(tid)] = 0;
-                self.live[usize::from(tid)] = false;
+                self.held[at] = 0;
+                self.live[at] = false;
                 Ok(())
             }
             Err(_) => {
