@@ -59,8 +59,19 @@ zeros_of n = replicate n 0
 zeros : (n t : ℕ) → get_or (zeros_of n) t 0 ≡ 0
 zeros n t = elim (cases_lt t n) [
   | inl lt ↦ get_or-replicate {A = ℕ} n t 0 0 lt
-  | inr past ↦ (let long : length (zeros_of n) ≡ n = length-replicate n 0 in get_or_past t (zeros_of n) 0 (omega arith))
+  | inr past ↦ (let long : length (zeros_of n) ≡ n = length-replicate n 0 in get_or_past (zeros_of n) t 0 (omega arith))
 ]
+
+pub none_held : (t : ℕ) → get_or (zeros_of 64) t 0 ≡ 0
+none_held t = zeros 64 t
+
+falses : (n t : ℕ) → get_or (replicate n false) t false ≡ false
+falses zero t = refl
+falses (suc n) zero = refl
+falses (suc n) (suc t) = falses n t
+
+pub none_live : (t : ℕ) → get_or (replicate 64 false) t false ≡ false
+none_live t = falses 64 t
 
 -- nothing is held at first
 pub fresh_sound : (tells : Bool) (media : View) (shape : Shape) → IsShape shape → shape.loggers ≡ 1 → media.size ≡ media_len shape → (IsTrue tells → IsClean shape media.content)

@@ -3,3 +3,4 @@ pub mod FreshLemmas
 pub mod Logging
 pub mod Reading
 pub mod Staged
+mod Steps

@@ -49,7 +49,7 @@ module _ (tells : Bool) (old new : View) (shape : Shape) (held : List ℕ) (live
     here : 0 < shape.loggers
     here = omega (arith, sound.one)
 
-    mine : slice_index (slice_set held t (k + n)) t ≡ k + n
+    pub mine : slice_index (slice_set held t (k + n)) t ≡ k + n
     mine = get_or-set_same held t (k + n) 0 (omega (arith, sound.held_long, index))
 
     module _ (parts : List Part) (holds : IsTrue tells → HoldsParts shape new.content.bytes 0 t k parts) (count : n ≡ length parts) where

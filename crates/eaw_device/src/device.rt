@@ -1,9 +1,14 @@
 // The commands over one logger.
-ghost use Rattle.std.specs.Prelude.{◌≡◌, false, IsTrue};
+ghost use Rattle.std.specs.Prelude.{◌≡◌, ℕ, false, IsTrue, IfOk, IfErr, get_or, slice_index};
+ghost use Rattle.counted.specs.Causes.{Rose};
 ghost use Rattle.array_shape.specs.Places.{media_len};
+ghost use Rattle.array_image.specs.Image.{data_of};
 ghost use Rattle.array_image.specs.Standing.{IsClean};
-ghost use Rattle.eaw_device.specs.Sound.{IsSound};
+ghost use Rattle.eaw_device.specs.Opens.{IsArray, IsQuiet, Opens};
+ghost use Rattle.eaw_device.specs.Sound.{IsSound, view_of};
 
+use crate::attach::check_array;
+use crate::fault::AttachFault;
 use array_shape::Shape;
 use coordinator::commit_from;
 use eaw_face::{EawFault, EawStore};
@@ -22,6 +27,23 @@ pub struct Eaw<M: Media> {
 }
 
 impl<M: Media> Eaw<M> {
+    /// Opens the array of this shape that the media holds. No number is live.
+    ///
+    /// Nothing is written. At an error the media is given back.
+    pub fn attach(mut media: M, shape: Shape) -> Result<Eaw<M>, (AttachFault, M)>
+        requires one { shape.loggers ≡ 1 }
+        ensures opens { IfOk result (λ eaw. Opens M.tells shape (M.view media) (view_of (M.view eaw.media) eaw.shape eaw.held eaw.live eaw.is_dead)) }
+        ensures array { IsTrue M.tells → IfOk result (λ eaw. IsArray shape (M.view media).size (M.view media).content.bytes) }
+        ensures not_mars { IsTrue M.tells → IfErr result (λ e. e.0 ≡ AttachFault.NotMars → IsArray shape (M.view media).size (M.view media).content.bytes → ⊥) }
+        ensures media_fault { IfErr result (λ e. e.0 ≡ AttachFault.Media → Rose (M.view media).faults (M.view e.1).faults) }
+        ensures bytes { IsTrue M.tells → IfErr result (λ e. (M.view e.1).content.bytes ≡ (M.view media).content.bytes) }
+    {
+        match check_array(&mut media, &shape) {
+            Ok(()) => Ok(Eaw::over(media, shape)),
+            Err(fault) => Err((fault, media)),
+        }
+    }
+
     /// Over a media that is at rest. No number is live.
     pub(crate) fn over(media: M, shape: Shape) -> Eaw<M>
         requires one { shape.loggers ≡ 1 }
@@ -30,6 +52,8 @@ impl<M: Media> Eaw<M> {
         ensures media { result.media ≡ media }
         ensures shape { result.shape ≡ shape }
         ensures alive { result.is_dead ≡ false }
+        ensures none_held { (t : ℕ) → slice_index result.held t ≡ 0 }
+        ensures none_live { (t : ℕ) → get_or result.live t false ≡ false }
     {
         Eaw {
             media,
@@ -40,9 +64,12 @@ impl<M: Media> Eaw<M> {
         }
     }
 
-    /// The media. Live numbers are dropped.
+    /// The media. What live numbers have logged is given up.
     pub fn into_media(self) -> M
-        ensures { result ≡ self.media }
+        ensures quiet { IsTrue M.tells → self.is_dead ≡ false → IsQuiet self.shape (M.view result).content.bytes }
+        ensures data { data_of self.shape (M.view result).content.bytes ≡ (view_of (M.view self.media) self.shape self.held self.live self.is_dead).bytes }
+        ensures faults { (M.view result).faults ≡ (view_of (M.view self.media) self.shape self.held self.live self.is_dead).faults }
+        ensures media { result ≡ self.media }
     {
         let Eaw {
             media,
@@ -82,12 +109,13 @@ impl<M: Media> EawStore for Eaw<M> {
         if tid >= self.shape.numbers {
             return Err(EawFault::UnknownTid { tid });
         }
-        let held = self.held[usize::from(tid)];
+        let at = usize::from(tid);
+        let held = self.held[at];
         let logger = Logger::new(self.shape, 0);
         match logger.stage(&mut self.media, tid, held, addr, bytes) {
             Ok(taken) => {
-                self.held[usize::from(tid)] = held + taken;
-                self.live[usize::from(tid)] = true;
+                self.held[at] = held + taken;
+                self.live[at] = true;
                 Ok(u32::from(held + taken))
             }
             Err(StageFault::Full { held, needed }) => Err(EawFault::LogFull {
@@ -106,14 +134,15 @@ impl<M: Media> EawStore for Eaw<M> {
         if self.is_dead {
             return Err(EawFault::Dead);
         }
-        if tid >= self.shape.numbers || !self.live[usize::from(tid)] {
+        let at = usize::from(tid);
+        if tid >= self.shape.numbers || !self.live[at] {
             return Err(EawFault::UnknownTid { tid });
         }
-        let held = self.held[usize::from(tid)];
+        let held = self.held[at];
         match commit_from(&mut self.media, &self.shape, tid, &[0], &[held]) {
             Ok(()) => {
-                self.held[usize::from(tid)] = 0;
-                self.live[usize::from(tid)] = false;
+                self.held[at] = 0;
+                self.live[at] = false;
                 Ok(())
             }
             Err(_) => {
