@@ -12,6 +12,6 @@ returns-in-Ok c =
           entries_are = c.first_shape-shape.ensures.entries;
           pages_are = c.first_shape-shape.ensures.pages;
         },
-        c.in-Ok.ensures.fresh refl
-      )
+        c.in-Ok.ensures.fresh refl,
+      );
     }
