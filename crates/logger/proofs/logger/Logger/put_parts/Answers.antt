@@ -30,8 +30,7 @@ returns-in_err-put_cell-clause-does g c =
 pub loop-part-preserved-then-part-self : goal.loop-part-preserved-then-part-self
 loop-part-preserved-then-part-self g c =
     let view = g.M.Media.view in
-    stands_next c.args.self.shape c.args.self.number c.args.tid c.args.held c.args.addr c.args.bytes.now g.M.Media.tells (view c.args.media.now) (view c.loop-part.media) c.loop-part.entry c.in-Some.part c.loop-part.part-iterator c.next.new.self c.in-Some.ensures.steps c.loop-part.invariant (view c.put_cell.new.media) c.put_cell.result c.if-part-self.true c.put_cell.ensures.does
-    (λ told. c.in_ok-put_cell.ensures.written told ∙ ap (λ (piece : List ℕ). applied (cell_writes c.args.self.shape c.args.self.number c.args.tid c.loop-part.entry ((c.in-Some.part.addr, piece) ∷ [])) (view c.loop-part.media).content.bytes) c.bytes_of-piece.ensures)
+    stands_next c.args.self.shape c.args.self.number c.args.tid c.args.held c.args.addr c.args.bytes.now g.M.Media.tells (view c.args.media.now) (view c.loop-part.media) c.loop-part.entry c.in-Some.part c.loop-part.part-iterator c.next.new.self c.in-Some.ensures.steps c.loop-part.invariant (view c.put_cell.new.media) c.put_cell.result c.if-part-self.true c.put_cell.ensures.does c.bytes_of-piece.result.now c.bytes_of-piece.ensures c.in_ok-put_cell.ensures.written
 
 pub loop-part-preserved : goal.loop-part-preserved
 loop-part-preserved g c =
