@@ -1,8 +1,7 @@
-use Rattle.std.proofs.Common.{◌≡◌, ℕ, ◌-◌, [], ◌∷◌, List, take, drop, sym, ◌∙◌, ap, subst, length, arith}
+use Rattle.std.proofs.Common.{◌-◌, drop, sym, ◌∙◌, ap, subst, length, arith}
 use Rattle.std.proofs.lemmas.List.{length-take}
 use Rattle.array_shape.specs.Parts.{pieces_on}
-use Rattle.array_image.specs.Parts.{applied}
-use Rattle.logger.specs.Cells.{cell_writes, cell_ranges}
+use Rattle.logger.specs.Cells.{cell_ranges}
 use Rattle.logger.proofs.Staging.{StandsAt, stands_first, stands_past, stands_next, within_here, writes_more}
 use Rattle.logger.proofs.Ranges.{writes_failed}
 use Rattle.logger.proofs.logger.Logger.put_parts.Goals as goal

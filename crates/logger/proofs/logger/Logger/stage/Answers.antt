@@ -1,11 +1,10 @@
-use Rattle.std.proofs.Common.{◌≡◌, ℕ, ◌+◌, ◌≤◌, List, refl, sym, ◌∙◌, ap, subst, length, arith}
+use Rattle.std.proofs.Common.{◌≡◌, ℕ, ◌+◌, ◌≤◌, List, refl, ◌∙◌, ap, length, arith}
 use Rattle.std.proofs.lemmas.List.{length-map}
 use Rattle.std.proofs.lemmas.Result.{err_from_is_err_and}
 use Rattle.array_shape.specs.declared.shape.Shape.{Shape}
 use Rattle.array_shape.specs.Places.{media_len}
 use Rattle.array_shape.specs.Parts.{parts_on, piece_of, pieces_on}
 use Rattle.array_shape.proofs.Cutting.{pieces_on-parts}
-use Rattle.logger.specs.Cells.{HoldsParts}
 use Rattle.logger.proofs.Staging.{staged_holds}
 use Rattle.logger.proofs.logger.Logger.stage.Goals as goal
 
