@@ -3,3 +3,4 @@ pub mod Finding
 pub mod Clearing
 pub mod Tests
 pub mod Tabling
+pub mod Read
