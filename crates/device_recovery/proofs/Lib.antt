@@ -4,3 +4,5 @@ pub mod Clearing
 pub mod Tests
 pub mod Tabling
 pub mod Read
+pub mod Applying
+pub mod Votes

@@ -51,8 +51,11 @@ pub record Counts (shape : Shape) (image : List ℕ) (report : Report) : Type 0 
   pub dropped : report.dropped ≡ length (dropped_rows shape image)
 
 -- where recovery writes: the votes of voted rows, and the parts of decided ones
+abbrev pub number_votes : Shape → List ℕ → ℕ → List (ℕ × ℕ)
+number_votes shape image t = joined (λ g. if (row_of shape image g t).voted then (row_at shape g t, 1) ∷ [] else []) 0 shape.loggers
+
 abbrev pub voted_places : Shape → List ℕ → List (ℕ × ℕ)
-voted_places shape image = at_rows shape (λ g t. (row_of shape image g t).voted) (λ g t. (row_at shape g t, 1))
+voted_places shape image = joined (λ t. number_votes shape image t) 0 shape.numbers
 
 abbrev pub recovered_places : Shape → List ℕ → List (ℕ × ℕ)
 recovered_places shape image = places_of shape (all_decided shape image) ++ voted_places shape image

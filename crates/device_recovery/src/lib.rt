@@ -4,6 +4,7 @@
 mod checking;
 mod reading;
 mod report;
+mod settling;
 mod table;
 
 pub use report::{RecoverFault, Report};

@@ -1,0 +1,1 @@
+use Rattle.device_recovery.proofs.settling.clear_number.Goals as goal

@@ -1,0 +1,1 @@
+use Rattle.device_recovery.proofs.settling.settle_data.Goals as goal
