@@ -6,3 +6,5 @@ pub mod Tabling
 pub mod Read
 pub mod Applying
 pub mod Votes
+pub mod Lists
+pub mod Moments
