@@ -5,7 +5,7 @@ use Rattle.std.proofs.lemmas.List.{ext_get_or}
 use Rattle.counted.proofs.Going.{weaker, then}
 use Rattle.pcm_media.specs.Images.{Content, MayLeave, SameOutside, IsOutside, Touched, partly}
 use Rattle.pcm_media.specs.View.{View, LeavesOnly, Writes}
-use Rattle.pcm_media.proofs.Left.{only_as_read, outside-append, left_as_read, left_before, same_bytes}
+use Rattle.pcm_media.proofs.Left.{outside-append, outside-both, left_as_read, left_before, same_bytes}
 use Rattle.array_shape.specs.declared.shape.Shape.{Shape}
 use Rattle.array_shape.specs.Places.{media_len}
 use Rattle.row_bytes.specs.declared.row.Row.{Row}
@@ -21,11 +21,18 @@ use Rattle.device_recovery.proofs.Frames.{SameFrame, decided_placed, data_frame,
 use Rattle.device_recovery.proofs.Clearing.{cleared_data, cleared_lawful, cleared_settles}
 use Rattle.device_recovery.proofs.Votes.{same_votes}
 
-module _ (shape : Shape) (old : View) (long : length old.content.bytes ≡ media_len shape) (sure : old.content.unsettled ≡ []) (good : AllGood shape old.content.bytes shape.numbers) where
+-- with nothing unsettled before writes in these ranges
+left_sure : (old : Content) (ranges : List (ℕ × ℕ)) (image : List ℕ) → ((i : ℕ) → IsOutside old.unsettled i) → MayLeave (partly ranges old) image → SameOutside ranges old.bytes image
+left_sure old ranges image sure left = record { long = left.long; same = λ i out. left.same i (outside-both ranges old.unsettled i out (sure i)) }
+
+pub none_unsettled : (now : Content) → now.unsettled ≡ [] → (i : ℕ) → IsOutside now.unsettled i
+none_unsettled now none i = subst (λ us. IsOutside us i) (sym none) tt
+
+module _ (shape : Shape) (old : View) (long : length old.content.bytes ≡ media_len shape) (sure : (i : ℕ) → IsOutside old.content.unsettled i) (good : AllGood shape old.content.bytes shape.numbers) where
   -- while parts are applied
   pub data_law : (now : View) → IsLawful shape old.content.bytes → LeavesOnly (MayLeave (partly (places_of shape (all_decided shape old.content.bytes)) old.content)) old now → LeavesOnly (SettlesLike shape old.content.bytes) old now
   data_law now lawful time = weaker (λ image left.
-      let same = left_within old.content (places_of shape (all_decided shape old.content.bytes)) image sure left in
+      let same = left_sure old.content (places_of shape (all_decided shape old.content.bytes)) image sure left in
       let frame = data_frame shape (all_decided shape old.content.bytes) old.content.bytes image (decided_placed shape old.content.bytes long good) same in
       record { lawful = frame_lawful shape old.content.bytes image frame lawful; same = applying_settles shape old.content.bytes image long good same }) time
 
@@ -62,9 +69,9 @@ pub data_within : (shape : Shape) (image : List ℕ) (i : ℕ) → IsOutside (re
 data_within shape image i out = (outside-append (places_of shape (all_decided shape image)) (voted_places shape image) i out).0
 
 -- all is sure, and no row is voted
-pub clean_from : (shape : Shape) (now : Content) → length now.bytes ≡ media_len shape → now.unsettled ≡ [] → HasNoVote shape now.bytes → IsClean shape now
+pub clean_from : (shape : Shape) (now : Content) → length now.bytes ≡ media_len shape → ((i : ℕ) → IsOutside now.unsettled i) → HasNoVote shape now.bytes → IsClean shape now
 clean_from shape now long sure none image left =
-    let same : image ≡ now.bytes = ext_get_or 0 image now.bytes left.long (λ i lt. only_as_read now image sure left i) in
+    let same : image ≡ now.bytes = ext_get_or 0 image now.bytes left.long (λ i lt. left.same i (sure i)) in
     subst (λ l. IsAtRest shape (data_of shape now.bytes) l) (sym same) (record { long = long; quiet = none; holds = refl })
 
 -- while nothing is written

@@ -1,6 +1,6 @@
 // Recovery of an array.
 ghost use Rattle.std.specs.Prelude.{◌≡◌, ◌+◌, ◌<◌, ◌≤◌, [], ℕ, List, true, IsTrue, IfOk, IfErr, OnOk};
-ghost use Rattle.pcm_media.specs.Images.{MayLeave, Touched};
+ghost use Rattle.pcm_media.specs.Images.{MayLeave, IsOutside, Touched};
 ghost use Rattle.pcm_media.specs.View.{View, LeavesOnly, Writes};
 ghost use Rattle.array_shape.specs.Places.{media_len};
 ghost use Rattle.array_image.specs.Image.{data_of};
@@ -56,7 +56,7 @@ fn read_sound<M: Media>(media: &mut M, shape: &Shape) -> Result<[Row; MOST], Rec
     ensures good { IsTrue M.tells → OnOk result (AllGood shape.now (M.view media.old).content.bytes shape.now.numbers) }
     ensures bad { IsTrue M.tells → IfErr result (λ fault. (g t : ℕ) → fault ≡ BadRow g t → IsFirstBad shape.now (M.view media.old).content.bytes g t) }
     ensures fits { IfOk result (λ rows. (g t : ℕ) → g < shape.now.loggers → t < shape.now.numbers → decided_in shape.now rows g t ≡ true → (row_in rows g t).first + (row_in rows g t).count ≤ shape.now.entries) }
-    ensures sure { IsTrue M.tells → OnOk result ((M.view media.new).content.unsettled ≡ []) }
+    ensures sure { IsTrue M.tells → OnOk result ((i : ℕ) → IsOutside (M.view media.new).content.unsettled i) }
     ensures does { Writes M.tells [] (M.view media.old) (M.view media.new) (media_answer result) }
 {
     media.barrier()?;
@@ -69,7 +69,7 @@ fn read_sound<M: Media>(media: &mut M, shape: &Shape) -> Result<[Row; MOST], Rec
 fn settle<M: Media>(media: &mut M, shape: &Shape, rows: &[Row; MOST]) -> Result<(), Failed>
     requires size { (M.view media.old).size ≡ media_len shape.now }
     requires fits { (g t : ℕ) → g < shape.now.loggers → t < shape.now.numbers → decided_in shape.now rows.now g t ≡ true → (row_in rows.now g t).first + (row_in rows.now g t).count ≤ shape.now.entries }
-    requires sure { IsTrue M.tells → (M.view media.old).content.unsettled ≡ [] }
+    requires sure { IsTrue M.tells → (i : ℕ) → IsOutside (M.view media.old).content.unsettled i }
     requires rows { IsTrue M.tells → RowsAre shape.now (M.view media.old).content.bytes shape.now.numbers rows.now }
     requires good { IsTrue M.tells → AllGood shape.now (M.view media.old).content.bytes shape.now.numbers }
     ensures clean { IsTrue M.tells → OnOk result (IsClean shape.now (M.view media.new).content) }
