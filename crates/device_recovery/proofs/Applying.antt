@@ -1,11 +1,11 @@
 -- The parts of one decided row after another are written into the data.
-use Rattle.std.proofs.Common.{◌≡◌, ℕ, ◌+◌, ◌<◌, ◌≤◌, Bool, true, false, cond, List, [], ◌++◌, length, refl, sym, ◌∙◌, ap, subst, arith}
+use Rattle.std.proofs.Common.{◌≡◌, ℕ, ◌+◌, ◌<◌, ◌≤◌, Bool, true, false, cond, List, [], length, sym, ◌∙◌, ap, subst, arith}
 use Rattle.pcm_media.specs.Images.{SameOutside, IsOutside}
 use Rattle.array_shape.specs.declared.shape.Shape.{Shape}
 use Rattle.array_shape.specs.Places.{media_len}
 use Rattle.row_bytes.specs.declared.row.Row.{Row}
 use Rattle.array_image.specs.Joined.{joined}
-use Rattle.array_image.specs.Parts.{Part, applied, AllPlaced, places_of}
+use Rattle.array_image.specs.Parts.{Part, applied, places_of}
 use Rattle.array_image.specs.Image.{row_of, cell_of, parts_from, row_parts, data_of, IsGoodCell}
 use Rattle.array_image.specs.Decided.{decided, decided_parts, number_parts, all_decided}
 use Rattle.array_image.specs.Standing.{IsGoodRow}
@@ -13,7 +13,7 @@ use Rattle.array_image.proofs.Data.{outside_list, applied_more}
 use Rattle.array_image.proofs.Rows.{parts_same}
 use Rattle.array_image.proofs.Standing.{not_decided_parts}
 use Rattle.device_recovery.specs.Recovered.{AllGood}
-use Rattle.device_recovery.proofs.Frames.{SameFrame, number_placed, decided_placed, data_frame, frame_decided, frame_good, frame_number, frame_all_good}
+use Rattle.device_recovery.proofs.Frames.{SameFrame, number_placed, decided_placed, data_frame, frame_decided, frame_good, frame_number}
 
 module _ (shape : Shape) (t : ℕ) (small : t < shape.numbers) (base : List ℕ) (long : length base ≡ media_len shape) (good : (g : ℕ) → g < shape.loggers → decided shape base g t ≡ true → IsGoodRow shape base g t)
     (cur : List ℕ) (same : SameOutside (places_of shape (number_parts shape base t)) base cur) (g : ℕ) (lt : g < shape.loggers) where

@@ -1,5 +1,5 @@
 -- How many rows pass a test.
-use Rattle.std.proofs.Common.{◌≡◌, ℕ, zero, suc, ◌+◌, ◌*◌, ◌<◌, ◌≤◌, Bool, true, false, cond, ⊎_elim, List, [], ◌∷◌, ◌++◌, length, refl, sym, ◌∙◌, ap, subst, arith}
+use Rattle.std.proofs.Common.{◌≡◌, ℕ, zero, suc, ◌+◌, ◌<◌, ◌≤◌, Bool, true, false, cond, ⊎_elim, List, [], ◌∷◌, ◌++◌, length, ◌∙◌, ap, arith}
 use Rattle.std.proofs.lemmas.List.{length-append}
 use Rattle.std.specs.Prelude.{not, ◌&&◌}
 use Rattle.std.proofs.lemmas.Bool.{cases_eq, cases_Bool, and_from, and_left, not_from_false, false_from_ne_true}
@@ -76,8 +76,7 @@ module _ (shape : Shape) (image : List ℕ) (rows : List Row) (are : RowsAre sha
 
   pub no_count : HasNoVote shape image → (length (at_rows shape (λ g t. decided_in shape rows g t) row_name) ≡ 0) × (length (at_rows shape (λ g t. (row_in rows g t).voted && not (decided_in shape rows g t)) row_name) ≡ 0)
   no_count none =
-      let unvoted : (g t : ℕ) → g < shape.loggers → t < shape.numbers → (row_in rows g t).voted ≡ false = λ g t lt lt'. ap (λ (r : Row). r.voted) (are g t lt lt') ∙ none g t lt lt' in
-      (
+      let unvoted : (g t : ℕ) → g < shape.loggers → t < shape.numbers → (row_in rows g t).voted ≡ false = λ g t lt lt'. ap (λ (r : Row). r.voted) (are g t lt lt') ∙ none g t lt lt' in (
         none_counted shape (λ g t. decided_in shape rows g t) (λ g t lt lt'. not_decided shape.loggers (λ h. row_in rows h t) g (unvoted g t lt lt')),
         none_counted shape (λ g t. (row_in rows g t).voted && not (decided_in shape rows g t)) (λ g t lt lt'. and_left (row_in rows g t).voted _ (unvoted g t lt lt')),
       )

@@ -1,16 +1,15 @@
 -- What recovery leaves while it applies parts and clears votes, and what holds after that.
-use Rattle.std.proofs.Common.{◌≡◌, ℕ, ◌+◌, ◌<◌, ◌≤◌, Bool, true, false, List, [], ◌++◌, length, Result, Ok, refl, sym, ◌∙◌, ap, subst, arith}
-use Rattle.std.specs.Prelude.{IsTrue}
+use Rattle.std.proofs.Common.{◌≡◌, ℕ, List, [], length, refl, sym, ◌∙◌, ap, subst, arith}
 use Rattle.std.proofs.lemmas.List.{ext_get_or}
-use Rattle.counted.proofs.Going.{weaker, then}
+use Rattle.counted.proofs.Going.{weaker}
 use Rattle.pcm_media.specs.Images.{Content, MayLeave, SameOutside, IsOutside, Touched, partly}
-use Rattle.pcm_media.specs.View.{View, LeavesOnly, Writes}
-use Rattle.pcm_media.proofs.Left.{outside-append, outside-both, left_as_read, left_before, same_bytes}
+use Rattle.pcm_media.specs.View.{View, LeavesOnly}
+use Rattle.pcm_media.proofs.Left.{outside-append, outside-both, left_as_read}
 use Rattle.array_shape.specs.declared.shape.Shape.{Shape}
 use Rattle.array_shape.specs.Places.{media_len}
 use Rattle.row_bytes.specs.declared.row.Row.{Row}
-use Rattle.array_image.specs.Parts.{Part, places_of}
-use Rattle.array_image.specs.Image.{row_of, data_of}
+use Rattle.array_image.specs.Parts.{places_of}
+use Rattle.array_image.specs.Image.{data_of}
 use Rattle.array_image.specs.Decided.{all_decided, settled_data}
 use Rattle.array_image.specs.Standing.{IsLawful, IsAtRest, IsClean}
 use Rattle.array_image.proofs.Joined.{joined_same}
@@ -81,8 +80,8 @@ reading_law shape old now lawful time = weaker (λ image left. record { lawful =
 -- from what settles like the bytes that were read
 pub sense_law : (shape : Shape) (old mid now : View) → old.content.bytes ≡ mid.content.bytes → LeavesOnly (SettlesLike shape mid.content.bytes) mid now → LeavesOnly (KeepsSense shape old.content) mid now
 sense_law shape old mid now is time = weaker (λ image like. record {
-    lawful = like.lawful;
-    earlier = old.content.bytes;
-    left = left_as_read old.content;
-    same = like.same ∙ ap (λ (l : List ℕ). settled_data shape l) (sym is);
+  lawful = like.lawful;
+  earlier = old.content.bytes;
+  left = left_as_read old.content;
+  same = like.same ∙ ap (λ (l : List ℕ). settled_data shape l) (sym is);
 }) time

@@ -1,10 +1,9 @@
-use Rattle.std.proofs.Common.{◌≡◌, ℕ, ◌+◌, ◌<◌, ◌≤◌, true, false, sym, ◌∙◌, ap, subst, arith}
+use Rattle.std.proofs.Common.{◌≡◌, true, false, sym, ◌∙◌, ap, arith}
 use Rattle.std.proofs.lemmas.Bool.{false≢true}
 use Rattle.std.proofs.lemmas.Result.{IfOk-weaker}
 use Rattle.row_bytes.specs.declared.row.Row.{Row}
 use Rattle.array_image.specs.Decided.{decided}
 use Rattle.array_image.specs.Standing.{IsGoodRow}
-use Rattle.device_recovery.specs.Table.{row_in, decided_in}
 use Rattle.device_recovery.proofs.Read.{table_decided, table_fits, table_good, table_bad}
 use Rattle.device_recovery.proofs.checking.is_bad.Goals as goal
 
@@ -15,8 +14,7 @@ returns-then-not-is_decided-clause-none g c told is so =
 
 pub returns-then-from-clause-some : goal.returns-then-from-clause-some
 returns-then-from-clause-some g c told is =
-    let image = (g.M.Media.view c.args.media.now).content.bytes in
-    (
+    let image = (g.M.Media.view c.args.media.now).content.bytes in (
       sym (table_decided c.args.shape.now image c.args.rows.now (c.requires.rows told) c.args.logger c.args.tid c.requires.logger c.requires.tid) ∙ sym c.if-not-is_decided.ensures,
       λ good.
           let fits = table_fits c.args.shape.now image c.args.rows.now (c.requires.rows told) c.args.logger c.args.tid c.requires.logger c.requires.tid good in
@@ -37,8 +35,7 @@ returns-clause-some g c told =
     let image = (g.M.Media.view c.args.media.now).content.bytes in
     IfOk-weaker c.has_bad_cell.result _ (λ bad. bad ≡ true → (decided c.args.shape.now image c.args.logger c.args.tid ≡ true) × (IsGoodRow c.args.shape.now image c.args.logger c.args.tid → ⊥))
     (λ bad some is.
-    let cell = some is in
-    (
+    let cell = some is in (
       sym (table_decided c.args.shape.now image c.args.rows.now (c.requires.rows told) c.args.logger c.args.tid c.requires.logger c.requires.tid) ∙ sym c.if-not-is_decided.ensures,
       table_bad c.args.shape.now image c.args.rows.now (c.requires.rows told) c.args.logger c.args.tid c.requires.logger c.requires.tid c.row_in-row.result c.row_in-row.ensures cell.0 cell.1 cell.2 cell.3,
     ))

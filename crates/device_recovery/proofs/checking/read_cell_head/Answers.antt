@@ -1,4 +1,4 @@
-use Rattle.std.proofs.Common.{◌≡◌, ℕ, ◌+◌, ◌<◌, ◌≤◌, arith}
+use Rattle.std.proofs.Common.{arith}
 use Rattle.array_image.proofs.Places.{cell_fits_in}
 use Rattle.device_recovery.proofs.checking.read_cell_head.Goals as goal
 

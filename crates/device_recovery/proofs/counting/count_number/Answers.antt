@@ -1,4 +1,4 @@
-use Rattle.std.proofs.Common.{◌≡◌, ℕ, ◌+◌, ◌<◌, ◌≤◌, Bool, true, false, not, ◌&&◌, sym, ◌∙◌, ap, arith}
+use Rattle.std.proofs.Common.{◌≡◌, true, false, not, ◌&&◌, sym, ◌∙◌, ap, arith}
 use Rattle.std.proofs.lemmas.Bool.{not-true, not-false, and_left, and_right, and_from, not_from_true, not_from_false}
 use Rattle.row_bytes.specs.declared.row.Row.{Row}
 use Rattle.array_image.proofs.Deciding.{not_decided}

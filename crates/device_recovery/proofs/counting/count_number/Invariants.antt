@@ -1,4 +1,4 @@
-use Rattle.std.proofs.Common.{◌≡◌, ◌+◌, ◌≤◌, ℕ, Bool, cond, not, ◌&&◌, List, [], ◌∷◌, length}
+use Rattle.std.proofs.Common.{◌≡◌, ◌+◌, ◌≤◌, cond, not, ◌&&◌, [], ◌∷◌, length}
 use Rattle.array_image.specs.Joined.{joined}
 use Rattle.device_recovery.specs.Recovered.{row_name}
 use Rattle.device_recovery.specs.Table.{row_in, decided_in}

@@ -1,4 +1,4 @@
-use Rattle.std.proofs.Common.{◌≡◌, ℕ, ◌+◌, ◌*◌, ◌<◌, ◌≤◌, Bool, not, ◌&&◌, sym, ◌∙◌, ap, arith}
+use Rattle.std.proofs.Common.{not, ◌&&◌, arith}
 use Rattle.device_recovery.specs.Table.{row_in, decided_in}
 use Rattle.device_recovery.specs.Recovered.{row_name, at_number}
 use Rattle.device_recovery.proofs.Lists.{length_more}

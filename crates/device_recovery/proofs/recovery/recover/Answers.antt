@@ -1,5 +1,4 @@
-use Rattle.std.proofs.Common.{◌≡◌, ℕ, ◌+◌, ◌<◌, ◌≤◌, ◌∙◌, [], List, length, sym, ap, subst, arith}
-use Rattle.std.proofs.lemmas.Result.{on_ok_weaker}
+use Rattle.std.proofs.Common.{◌≡◌, ℕ, ◌∙◌, [], List, length, sym, ap, subst, arith}
 use Rattle.counted.proofs.Going.{then}
 use Rattle.pcm_media.specs.Images.{IsOutside}
 use Rattle.pcm_media.proofs.Left.{same_bytes, left_as_read}
@@ -7,7 +6,7 @@ use Rattle.array_shape.specs.Places.{media_len}
 use Rattle.array_image.specs.Image.{data_of}
 use Rattle.array_image.specs.Decided.{settled_data}
 use Rattle.array_image.specs.Standing.{IsLawful}
-use Rattle.array_image.proofs.Calls.{none_yet, goes_on, ends_with, hands_on}
+use Rattle.array_image.proofs.Calls.{none_yet, goes_on, hands_on}
 use Rattle.device_recovery.specs.Table.{RowsAre}
 use Rattle.device_recovery.specs.Recovered.{AllGood, HasNoVote, recovered_places, media_answer}
 use Rattle.device_recovery.proofs.Clearing.{no_vote_settled}

@@ -1,11 +1,9 @@
-use Rattle.std.proofs.Common.{◌≡◌, ℕ, ◌+◌, ◌<◌, ◌≤◌, true, false, ◌∙◌, sym, ap, subst, List, length, arith}
+use Rattle.std.proofs.Common.{◌≡◌, ℕ, ◌∙◌, sym, subst, length, arith}
 use Rattle.pcm_media.specs.Images.{IsOutside}
 use Rattle.array_shape.specs.declared.shape.Shape.{Shape}
 use Rattle.array_shape.specs.Places.{media_len}
-use Rattle.row_bytes.specs.declared.row.Row.{Row}
 use Rattle.array_image.specs.Parts.{applied, places_of}
-use Rattle.array_image.specs.Image.{row_of, cell_of, parts_from, data_of, IsGoodCell}
-use Rattle.array_image.specs.Decided.{decided}
+use Rattle.array_image.specs.Image.{cell_of, parts_from, data_of, IsGoodCell}
 use Rattle.array_image.proofs.Calls.{goes_on, hands_on}
 use Rattle.device_recovery.proofs.Read.{number_decided}
 use Rattle.device_recovery.proofs.Applying.{still_good, parts_within, row_applied, row_skipped}

@@ -1,10 +1,8 @@
-use Rattle.std.proofs.Common.{◌≡◌, ℕ, ◌+◌, ◌<◌, ◌≤◌, false, [], ⊎_elim, ◌∙◌, sym, ap, subst, arith}
-use Rattle.std.proofs.lemmas.Result.{on_ok_weaker}
+use Rattle.std.proofs.Common.{ℕ, ⊎_elim, ◌∙◌, ap, arith}
 use Rattle.std.proofs.lemmas.Bool.{cases_eq}
 use Rattle.row_bytes.specs.declared.row.Row.{Row}
 use Rattle.array_image.specs.Image.{row_of}
-use Rattle.array_image.proofs.Calls.{goes_on, hands_on, then_barrier, barrier_keeps}
-use Rattle.device_recovery.specs.Recovered.{HasNoVote}
+use Rattle.array_image.proofs.Calls.{goes_on, hands_on}
 use Rattle.device_recovery.proofs.Votes.{number_votes_within, other_number}
 use Rattle.device_recovery.proofs.settling.settle_votes.Goals as goal
 
