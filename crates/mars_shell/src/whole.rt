@@ -6,7 +6,7 @@ ghost use Rattle.array_image.specs.Image.{data_of};
 ghost use Rattle.history.specs.Table.{Table};
 ghost use Rattle.mars_shell.specs.Kept.{IsReady, IsKept, limits_of, state_over};
 ghost use Rattle.mars_shell.specs.Lines.{lines_of};
-ghost use Rattle.mars_shell.specs.Outcome.{AreRun, WordsSay, IsOfLines};
+ghost use Rattle.mars_shell.specs.Outcome.{AreRun, WordsSay, IsEarly, IsOfLines};
 ghost use Rattle.mars_shell.specs.Run.{Runs};
 ghost use Rattle.mars_shell.specs.Transcript.{Answered};
 
@@ -36,6 +36,10 @@ pub fn run<R: AllocGlobal, S: Source, K: Sink, M: Media, G: Gate>(
 ) -> (Status, M)
     // Usage comes exactly where the words are not those of a run.
     ensures words { WordsSay (map string_bytes words.now) result.0 }
+    // Other words touch nothing, and what ends the run before the media is opened leaves that and the sink alone.
+    ensures usage { result.0 ≡ Status.Usage → (source.new ≡ source.old) × (sink.new ≡ sink.old) × (result.1 ≡ media) }
+    ensures early { IsEarly result.0 → (sink.new ≡ sink.old) × (result.1 ≡ media) }
+    ensures not_mars { result.0 ≡ Status.NotMars → (sink.new ≡ sink.old) × (IsTrue M.tells → (M.view result.1).content.bytes ≡ (M.view media).content.bytes) }
     // A fault of the source, the sink or the media comes only where its count rose.
     ensures read_fault { result.0 ≡ Status.ReadFault → Rose (S.faults source.old) (S.faults source.new) }
     ensures steady { IsTrue (S.steady source.old) → result.0 ≡ Status.ReadFault → ⊥ }
@@ -60,6 +64,8 @@ fn run_lines<S: Source, K: Sink, M: Media>(
     media: M,
 ) -> (Status, M)
     ensures no_usage { result.0 ≡ Status.Usage → ⊥ }
+    ensures early { IsEarly result.0 → (sink.new ≡ sink.old) × (result.1 ≡ media) }
+    ensures not_mars { result.0 ≡ Status.NotMars → (sink.new ≡ sink.old) × (IsTrue M.tells → (M.view result.1).content.bytes ≡ (M.view media).content.bytes) }
     ensures read_fault { result.0 ≡ Status.ReadFault → Rose (S.faults source.old) (S.faults source.new) }
     ensures steady { IsTrue (S.steady source.old) → result.0 ≡ Status.ReadFault → ⊥ }
     ensures write_fault { result.0 ≡ Status.WriteFault → Rose (K.faults sink.old) (K.faults sink.new) }

@@ -51,8 +51,10 @@ returns-clause-ran g c = λ told.
     let base = records_in shape old in
     let at_first : IsKept base store c.new.result None =
         subst (λ (h : List Done). IsKept base store h None) (sym c.new.ensures) (kept g.M.Media.tells shape old store of.loggers opens told) in
+    let over = subst (λ (l : List ℕ). Answered (limits_of store.shape) (state_over base c.new.result None) 1 (lines_of l) c.answer_all-status.result said.0 said.1 (state_over base c.answer_all-status.new.session.history c.answer_all-status.new.session.live))
+        c.deref.ensures.value (said.4 told base at_first) in
     let answered = subst (λ (h : List Done). Answered (limits_of store.shape) (state_over base h None) 1 (lines_of input) c.answer_all-status.result said.0 said.1 (state_over base c.answer_all-status.new.session.history c.answer_all-status.new.session.live))
-        c.new.ensures (said.4 told base at_first) in
+        c.new.ensures over in
     runs_lines g.M.Media.tells shape old store of.loggers opens told (record { loggers = of.loggers; numbers = of.numbers; entries = of.entries; pages = of.pages })
         _ input _ _ said.0 said.1 c.answer_all-status.result
         (array_says _ _ c.answer_all-status.ensures.kind (c.in-Ok-attach.ensures.array told)) c.in-Ok.ensures.all c.in-Ok.ensures.most said.2 said.3
