@@ -1,5 +1,5 @@
 -- Calls of a media one after another, and a barrier behind them.
-use Rattle.std.proofs.Common.{◌≡◌, ℕ, ◌+◌, ◌-◌, ◌^◌, ◌≤◌, min, Bool, List, [], Result, Ok, Err, refl, sym, ◌∙◌, ap, subst, arith}
+use Rattle.std.proofs.Common.{◌≡◌, ℕ, Bool, List, [], Result, Ok, Err, sym, ◌∙◌, ap, subst}
 use Rattle.std.specs.Prelude.{IsTrue, OnErr}
 use Rattle.counted.specs.Causes.{Rose}
 use Rattle.counted.proofs.Going.{weaker, then}

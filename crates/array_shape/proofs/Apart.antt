@@ -1,10 +1,10 @@
 -- The rows, cells and pages of an array lie in its media, one behind another.
-use Rattle.std.proofs.Common.{◌≡◌, ◌≢◌, ℕ, zero, suc, ◌+◌, ◌-◌, ◌*◌, ◌/◌, ◌%◌, ◌<◌, ◌≤◌, ◌⊎◌, inl, inr, refl, sym, ◌∙◌, ap, arith}
-use Rattle.std.proofs.lemmas.Bool.{cases_lt, cases_order}
-use Rattle.std.proofs.Math.Nat.{mul-le-mul_left, mul-le-mul_right, mod-lt, div-add-mod'}
+use Rattle.std.proofs.Common.{◌≡◌, ◌≢◌, ℕ, ◌+◌, ◌-◌, ◌*◌, ◌/◌, ◌%◌, ◌<◌, ◌≤◌, inl, inr, sym, ◌∙◌, ap, arith}
+use Rattle.std.proofs.lemmas.Bool.{cases_order}
+use Rattle.std.proofs.Math.Nat.{mul-le-mul_right, mod-lt, div-add-mod'}
 use Rattle.std.proofs.lemmas.Nat.{div_below}
 use Rattle.array_shape.specs.declared.shape.Shape.{Shape}
-use Rattle.array_shape.specs.Places.{region_len, region_at, media_len, row_at, cell_at, data_at, data_len, logger_of, offset_of, place_of, IsPlaced}
+use Rattle.array_shape.specs.Places.{region_len, region_at, media_len, row_at, cell_at, data_at, data_len, logger_of, place_of, IsPlaced}
 use Rattle.array_shape.specs.Areas.{Area, row, cell, page, HasArea, area_at, area_len, IsInMedia, AreApart}
 
 module _ (shape : Shape) where

@@ -1,5 +1,5 @@
 -- The parts of a range and the pieces of a write, one after another.
-use Rattle.std.proofs.Common.{◌≡◌, ℕ, zero, suc, ◌+◌, ◌-◌, ◌*◌, ◌/◌, ◌%◌, ◌^◌, ◌<◌, ◌≤◌, ◌⊎◌, Bool, true, false, cond, nat_eq, inl, inr, min, List, [], ◌∷◌, length, take, drop, map, refl, length-drop, sym, ◌∙◌, ap, subst, arith}
+use Rattle.std.proofs.Common.{◌≡◌, ℕ, zero, suc, ◌+◌, ◌-◌, ◌*◌, ◌%◌, ◌^◌, ◌<◌, ◌≤◌, Bool, true, false, cond, nat_eq, inl, inr, min, List, [], ◌∷◌, length, take, drop, map, refl, length-drop, sym, ◌∙◌, ap, subst, arith}
 use Rattle.std.proofs.lemmas.Bool.{cases_lt}
 use Rattle.std.proofs.lemmas.List.{take_min, drop-drop}
 use Rattle.std.proofs.lemmas.List.Elements.{All-nil, All-cons}
@@ -7,7 +7,7 @@ use Rattle.std.proofs.lemmas.Nat.{mul-le}
 use Rattle.std.specs.Prelude.{All, filter}
 use Rattle.array_shape.specs.declared.shape.Shape.{Shape}
 use Rattle.array_shape.specs.declared.part.Part.{Part}
-use Rattle.array_shape.specs.Places.{logger_of, data_len, IsPlaced}
+use Rattle.array_shape.specs.Places.{logger_of, data_len}
 use Rattle.array_shape.specs.Parts.{page_left, first_parts, parts_of, Tile, AreCutAtPages, IsPartOf, first_pieces, pieces_of, piece_of, is_part_on, parts_on, is_piece_on, pieces_on}
 
 -- the first part of a range that is not empty

@@ -1,13 +1,8 @@
 -- Calls at one logger after another: where they write, and what the rows say then.
-use Rattle.std.proofs.Common.{◌≡◌, ◌≢◌, ℕ, ◌+◌, ◌-◌, ◌^◌, ◌<◌, ◌≤◌, min, Bool, true, false, cond, inl, inr, ⊎_elim, List, [], ◌∷◌, Result, Ok, Err, refl, sym, ◌∙◌, ap, subst, arith}
-use Rattle.std.specs.Prelude.{IsTrue, OnErr, nat_lt, slice_index}
+use Rattle.std.proofs.Common.{◌≡◌, ◌≢◌, ℕ, ◌+◌, ◌<◌, ◌≤◌, Bool, cond, ⊎_elim, List, [], ◌∷◌, sym, ◌∙◌, ap, subst, arith}
+use Rattle.std.specs.Prelude.{nat_lt, slice_index}
 use Rattle.std.proofs.lemmas.Bool.{cases_eq, lt-ltb}
-use Rattle.counted.specs.Causes.{Rose}
-use Rattle.counted.proofs.Going.{weaker, then}
-use Rattle.pcm_media.specs.Images.{Content, SameOutside, IsOutside, Touched, settled}
-use Rattle.pcm_media.specs.View.{View, Writes}
-use Rattle.pcm_media.proofs.Left.{touched_within, left_partly_on}
-use Rattle.pcm_media.proofs.Writing.{cause_on}
+use Rattle.pcm_media.specs.Images.{Content, SameOutside, IsOutside, Touched}
 use Rattle.array_shape.specs.declared.shape.Shape.{Shape}
 use Rattle.array_shape.specs.Places.{row_at}
 use Rattle.row_bytes.specs.declared.row.Row.{Row}
@@ -31,8 +26,11 @@ vote_within shape t counts g lt some i out = counted_at shape counts (λ h. (row
 -- the row of another logger stays
 module _ (shape : Shape) (t : ℕ) (small : t < shape.numbers) (n at len : ℕ) (within : (i : ℕ) → at ≤ i → i < at + len → (row_at shape n t ≤ i) × (i < row_at shape n t + 16)) (old new : List ℕ) (same : SameOutside ((at, len) ∷ []) old new) where
   other_row : (g : ℕ) → g ≢ n → row_of shape new g t ≡ row_of shape old g t
-  other_row g ne = row_away shape ((at, len) ∷ []) old new g t same (λ i from below. ((λ from' below'.
-      let in_row = within i from' below' in ne (same_row shape g n t t i small small from below in_row.0 in_row.1).0), tt))
+  other_row g ne = row_away shape ((at, len) ∷ []) old new g t same (λ i from below. (
+    (λ from' below'.
+        let in_row = within i from' below' in ne (same_row shape g n t t i small small from below in_row.0 in_row.1).0),
+    tt,
+  ))
 
 pub names_from : (row : Row) (vote : Bool) (mask first count : ℕ) → row ≡ record { voted = vote; mask = mask; first = first; count = count } → Names row mask first count
 names_from row vote mask first count is = record { mask_is = ap (λ (r : Row). r.mask) is; first_is = ap (λ (r : Row). r.first) is; count_is = ap (λ (r : Row). r.count) is }

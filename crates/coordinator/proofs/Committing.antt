@@ -1,24 +1,21 @@
 -- A commit as its four phases.
-use Rattle.std.proofs.Common.{◌≡◌, ℕ, ◌+◌, ◌<◌, ◌≤◌, Bool, true, false, cond, inl, inr, ⊎_elim, List, [], ◌∷◌, ◌++◌, length, refl, sym, ◌∙◌, ap, subst, arith}
+use Rattle.std.proofs.Common.{◌≡◌, ℕ, ◌+◌, ◌<◌, ◌≤◌, Bool, true, false, cond, inl, inr, ⊎_elim, List, [], ◌∷◌, length, ◌∙◌, ap, subst, arith}
 use Rattle.std.specs.Prelude.{slice_index, nat_lt}
-use Rattle.std.proofs.lemmas.Bool.{cases_eq, false≢true}
 use Rattle.std.proofs.lemmas.List.{}
 use Rattle.counted.proofs.Going.{weaker}
-use Rattle.pcm_media.specs.Images.{Content, MayLeave, SameOutside, IsOutside, Touched, partly}
+use Rattle.pcm_media.specs.Images.{Content, MayLeave, IsOutside, Touched, partly}
 use Rattle.pcm_media.specs.View.{View, LeavesOnly}
 use Rattle.pcm_media.proofs.Left.{outside-append}
 use Rattle.array_shape.specs.declared.shape.Shape.{Shape}
 use Rattle.array_shape.specs.Places.{row_at, media_len}
-use Rattle.array_image.specs.Joined.{joined}
 use Rattle.array_image.specs.Parts.{Part, applied, places_of}
 use Rattle.array_image.specs.Image.{data_of, parts_from}
-use Rattle.array_image.specs.Decided.{has_logger}
 use Rattle.array_image.specs.Standing.{StandsFor, IsEither, IsClean, SameCells}
-use Rattle.array_image.specs.Marked.{named_at, named_parts, IsMaskOf, AreGood}
+use Rattle.array_image.specs.Marked.{named_at, named_parts, IsMaskOf}
 use Rattle.array_image.proofs.Joined.{joined_none, outside_joined, outside_at}
 use Rattle.array_image.proofs.Frames.{data_cells}
-use Rattle.coordinator.specs.Between.{counted_places, body_places, vote_places, commit_places, HaveNames, HaveVotes, IsStaged}
-use Rattle.coordinator.proofs.Between.{prepare_left, prepare_after, votes_left, votes_after, staged_placed, install_left, install_after, applied_already, release_after, body_cells_stay, vote_cells_stay}
+use Rattle.coordinator.specs.Between.{counted_places, body_places, vote_places, commit_places, HaveVotes, IsStaged}
+use Rattle.coordinator.proofs.Between.{prepare_left, votes_left, votes_after, staged_placed, install_left, install_after, applied_already, release_after}
 
 -- places within the rows at the loggers with a count
 rows_within : (shape : Shape) (t : ℕ) (counts : List ℕ) (image : List ℕ) (firsts : List ℕ) (at len : ℕ → ℕ) → ((g i : ℕ) → at g ≤ i → i < at g + len g → (row_at shape g t ≤ i) × (i < row_at shape g t + 16)) → (i : ℕ) → IsOutside (commit_places shape image t firsts counts) i → IsOutside (counted_places shape counts (λ g. (at g, len g))) i

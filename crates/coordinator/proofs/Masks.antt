@@ -1,5 +1,5 @@
 -- A mask that gains a logger.
-use Rattle.std.proofs.Common.{◌≡◌, ℕ, zero, suc, ◌+◌, ◌*◌, ◌%◌, ◌^◌, ◌<◌, ◌≤◌, Bool, true, false, inl, inr, ⊎_elim, List, length, refl, sym, ◌∙◌, ap, subst, arith, w8}
+use Rattle.std.proofs.Common.{◌≡◌, ℕ, ◌+◌, ◌*◌, ◌%◌, ◌^◌, ◌<◌, ⊎_elim, List, ◌∙◌, ap, arith, w8}
 use Rattle.std.specs.Prelude.{slice_index, nat_eq}
 use Rattle.std.specs.Int.{bit_at}
 use Rattle.std.specs.Int.RustNames.{bit_or}

@@ -1,21 +1,20 @@
 -- A commit from its phases: what it does, whatever phase it comes to.
-use Rattle.std.proofs.Common.{◌≡◌, ℕ, ◌+◌, ◌<◌, ◌≤◌, Bool, true, false, List, [], length, Result, Ok, Err, refl, sym, ◌∙◌, ap, subst, arith}
-use Rattle.std.specs.Prelude.{IsTrue, OnErr, OnOk, slice_index}
-use Rattle.std.proofs.lemmas.Result.{on_ok_weaker}
+use Rattle.std.proofs.Common.{◌≡◌, ℕ, ◌<◌, Bool, true, false, List, [], length, Result, Ok, Err, sym, subst}
+use Rattle.std.specs.Prelude.{IsTrue, OnErr}
 use Rattle.counted.specs.Causes.{Rose}
 use Rattle.counted.proofs.Going.{then}
-use Rattle.pcm_media.specs.Images.{Content, IsOutside, Touched}
+use Rattle.pcm_media.specs.Images.{IsOutside, Touched}
 use Rattle.pcm_media.specs.View.{View, LeavesOnly, Writes}
 use Rattle.pcm_media.proofs.Writing.{writes_none}
 use Rattle.array_shape.specs.declared.shape.Shape.{Shape}
 use Rattle.array_shape.specs.Places.{media_len}
-use Rattle.array_image.specs.Parts.{Part, applied, places_of}
+use Rattle.array_image.specs.Parts.{applied, places_of}
 use Rattle.array_image.specs.Image.{data_of}
 use Rattle.array_image.specs.Standing.{IsEither, IsClean, SameCells}
 use Rattle.array_image.specs.Marked.{named_parts, IsMaskOf, AreGood}
 use Rattle.coordinator.specs.Between.{body_places, vote_places, commit_places, HaveNames, HaveVotes, IsStaged}
 use Rattle.coordinator.proofs.Between.{prepare_after, votes_after, body_cells_stay, vote_cells_stay}
-use Rattle.array_image.proofs.Calls.{SoFar, goes_on, ends_with, hands_on}
+use Rattle.array_image.proofs.Calls.{SoFar, ends_with}
 use Rattle.coordinator.proofs.Committing.{bodies_within, votes_within, parts_within_all, same_cells_then, prepare_law, decide_law, install_law, installed, install_cells, release_law, released}
 
 -- what a commit does up to some phase, whatever it answers there

@@ -7,7 +7,6 @@ ghost use Rattle.array_image.specs.Image.{data_of};
 ghost use Rattle.array_image.specs.Marked.{named_parts, AreGood};
 ghost use Rattle.coordinator.specs.Between.{body_places, vote_places, HaveNames, HaveVotes};
 
-
 use array_shape::Shape;
 use counted::Failed;
 use logger::Logger;

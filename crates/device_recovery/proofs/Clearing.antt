@@ -1,25 +1,23 @@
 -- Images of which some votes were cleared, over data that the decided parts no longer change.
-use Rattle.std.proofs.Common.{◌≡◌, ◌≢◌, ℕ, zero, suc, ◌+◌, ◌<◌, ◌≤◌, ◌⊎◌, Bool, true, false, cond, inl, inr, ⊎_elim, List, [], ◌∷◌, ◌++◌, length, refl, sym, ◌∙◌, ap, subst, arith}
-use Rattle.std.proofs.lemmas.Bool.{cases_Bool, cases_eq, false≢true, false_from_ne_true}
+use Rattle.std.proofs.Common.{◌≡◌, ◌≢◌, ℕ, ◌+◌, ◌<◌, ◌≤◌, ◌⊎◌, Bool, true, false, cond, inl, inr, ⊎_elim, List, [], ◌∷◌, refl, sym, ◌∙◌, ap, subst, arith}
+use Rattle.std.proofs.lemmas.Bool.{cases_Bool, false≢true, false_from_ne_true}
 use Rattle.pcm_media.specs.Images.{SameOutside, IsOutside}
 use Rattle.array_shape.specs.declared.shape.Shape.{Shape}
-use Rattle.array_shape.specs.Places.{media_len, row_at, place_of, data_len}
-use Rattle.row_bytes.specs.declared.row.Row.{Row}
-use Rattle.array_image.specs.Joined.{joined}
-use Rattle.array_image.specs.Parts.{Part, applied, AllPlaced, AllOwned}
-use Rattle.array_image.specs.Image.{row_of, cell_of, parts_from, row_parts, data_of, IsGoodCell}
+use Rattle.array_shape.specs.Places.{row_at, place_of}
+use Rattle.array_image.specs.Parts.{Part, applied, AllOwned}
+use Rattle.array_image.specs.Image.{row_of, parts_from, row_parts, data_of, IsGoodCell}
 use Rattle.array_image.specs.Decided.{decided, decided_parts, number_parts, all_decided, settled_data}
-use Rattle.array_image.specs.Standing.{IsGoodRow, IsLawful, IsAtRest, SameCells}
+use Rattle.array_image.specs.Standing.{IsGoodRow, IsLawful, SameCells}
 use Rattle.array_image.proofs.Joined.{outside_joined, joined_none, joined_one}
 use Rattle.array_image.proofs.Places.{same_row, row_no_cell, row_no_data}
 use Rattle.array_image.proofs.Data.{data_away, length-data_of, joined_placed, all_placed}
-use Rattle.array_image.proofs.Rows.{SameRest, voted_same, rest_same, row_away, cell_away, parts_same}
-use Rattle.array_image.proofs.Deciding.{not_decided, decided_voted, decided_still}
+use Rattle.array_image.proofs.Rows.{SameRest, voted_same, rest_same, cell_away, parts_same}
+use Rattle.array_image.proofs.Deciding.{not_decided, decided_still}
 use Rattle.array_image.proofs.Standing.{not_decided_parts}
 use Rattle.array_image.proofs.Orders.{applied_some}
-use Rattle.device_recovery.specs.Recovered.{HasNoVote, at_rows, voted_places}
+use Rattle.device_recovery.specs.Recovered.{HasNoVote, voted_places}
 use Rattle.device_recovery.proofs.Frames.{decided_owned}
-use Rattle.device_recovery.proofs.Finding.{Found, find}
+use Rattle.device_recovery.proofs.Finding.{find}
 
 chosen_outside : (b : Bool) (r : ℕ × ℕ) (x : ℕ) → (b ≡ true → IsOutside (r ∷ []) x) → IsOutside (cond b (r ∷ []) []) x
 chosen_outside true r x f = f refl

@@ -1,13 +1,12 @@
 -- Images with the same rows and cells settle by the same parts.
-use Rattle.std.proofs.Common.{◌≡◌, ◌≢◌, ℕ, zero, suc, ◌+◌, ◌<◌, ◌≤◌, Bool, true, false, cond, ⊎_elim, List, [], ◌∷◌, ◌++◌, length, refl, sym, ◌∙◌, ap, subst, arith}
-use Rattle.std.proofs.lemmas.Bool.{cases_Bool, false≢true}
-use Rattle.pcm_media.specs.Images.{Content, MayLeave, SameOutside, IsOutside, partly}
+use Rattle.std.proofs.Common.{◌≡◌, ℕ, ◌<◌, ◌≤◌, Bool, true, cond, ⊎_elim, List, [], length, sym, ◌∙◌, ap, subst, arith}
+use Rattle.std.proofs.lemmas.Bool.{cases_Bool}
+use Rattle.pcm_media.specs.Images.{SameOutside}
 use Rattle.array_shape.specs.declared.shape.Shape.{Shape}
 use Rattle.array_shape.specs.Places.{media_len}
 use Rattle.row_bytes.specs.declared.row.Row.{Row}
-use Rattle.array_image.specs.Joined.{joined}
-use Rattle.array_image.specs.Parts.{Part, applied, AllFit, AllPlaced, AllOwned, ranges_of, places_of}
-use Rattle.array_image.specs.Image.{row_of, cell_of, parts_from, row_parts, data_of, IsGoodCell}
+use Rattle.array_image.specs.Parts.{Part, applied, AllPlaced, AllOwned, places_of}
+use Rattle.array_image.specs.Image.{row_of, parts_from, row_parts, data_of, IsGoodCell}
 use Rattle.array_image.specs.Decided.{decided, decided_parts, number_parts, all_decided, settled_data}
 use Rattle.array_image.specs.Standing.{IsGoodRow, IsLawful, SameCells}
 use Rattle.array_image.proofs.Joined.{joined_same}
@@ -15,7 +14,7 @@ use Rattle.array_image.proofs.Applied.{applied_equal}
 use Rattle.array_image.proofs.Data.{data_outside, all_fit_in, all_placed, joined_placed}
 use Rattle.array_image.proofs.Rows.{parts_same, parts_owned}
 use Rattle.array_image.proofs.Deciding.{decides_same}
-use Rattle.array_image.proofs.Frames.{data_rows, data_cells, left_within}
+use Rattle.array_image.proofs.Frames.{data_rows, data_cells}
 use Rattle.device_recovery.specs.Recovered.{AllGood}
 
 pub record SameFrame (shape : Shape) (old new : List ℕ) : Type 0 where

@@ -3,3 +3,8 @@ pub mod Finding
 pub mod Clearing
 pub mod Tests
 pub mod Tabling
+pub mod Read
+pub mod Applying
+pub mod Votes
+pub mod Lists
+pub mod Moments

@@ -1,12 +1,7 @@
 -- A table of rows that gains one.
-use Rattle.std.proofs.Common.{◌≡◌, ◌≢◌, ℕ, ◌+◌, ◌*◌, ◌<◌, ◌≤◌, inl, inr, ⊎_elim, List, length, get_or, set, refl, sym, ◌∙◌, ap, subst, arith}
-use Rattle.std.proofs.lemmas.List.{get_or-set_same, get_or-set_other, length-set}
-use Rattle.std.proofs.lemmas.Bool.{cases_eq}
-use Rattle.pcm_media.specs.Images.{Content, Touched}
-use Rattle.pcm_media.proofs.Left.{same_bytes}
-use Rattle.array_shape.specs.declared.shape.Shape.{Shape}
+use Rattle.std.proofs.Common.{◌≡◌, ℕ, ◌+◌, ◌*◌, ◌<◌, List, length, get_or, set, sym, ◌∙◌, ap, arith}
+use Rattle.std.proofs.lemmas.List.{get_or-set_same, get_or-set_other}
 use Rattle.row_bytes.specs.declared.row.Row.{Row}
-use Rattle.array_image.specs.Image.{row_of}
 use Rattle.device_recovery.specs.Table.{no_row, row_in}
 
 module _ (rows : List Row) (at g t : ℕ) (row : Row) (long : length rows ≡ 512) (is : at ≡ 8 * t + g) (below : at < 512) where

@@ -30,16 +30,23 @@ pub record IsFirstBad (shape : Shape) (image : List ℕ) (g t : ℕ) : Type 0 wh
   pub here : IsFirstBadAt shape image g t
   pub before : AllGood shape image t
 
+-- a row, as its logger and number
+abbrev pub row_name : ℕ → ℕ → ℕ × ℕ
+row_name g t = (g, t)
+
 -- what stands beside the rows of which a test holds, by rising number, then rising logger
+abbrev pub at_number : {A : Type 0} → Shape → (ℕ → ℕ → Bool) → (ℕ → ℕ → A) → ℕ → List A
+at_number shape test beside t = joined (λ g. if test g t then beside g t ∷ [] else []) 0 shape.loggers
+
 abbrev pub at_rows : {A : Type 0} → Shape → (ℕ → ℕ → Bool) → (ℕ → ℕ → A) → List A
-at_rows shape test beside = joined (λ t. joined (λ g. if test g t then beside g t ∷ [] else []) 0 shape.loggers) 0 shape.numbers
+at_rows shape test beside = joined (λ t. at_number shape test beside t) 0 shape.numbers
 
 -- the voted rows that are decided, and those that are not, each as its logger and number
 abbrev pub decided_rows : Shape → List ℕ → List (ℕ × ℕ)
-decided_rows shape image = at_rows shape (λ g t. decided shape image g t) (λ g t. (g, t))
+decided_rows shape image = at_rows shape (λ g t. decided shape image g t) row_name
 
 abbrev pub dropped_rows : Shape → List ℕ → List (ℕ × ℕ)
-dropped_rows shape image = at_rows shape (λ g t. (row_of shape image g t).voted && not (decided shape image g t)) (λ g t. (g, t))
+dropped_rows shape image = at_rows shape (λ g t. (row_of shape image g t).voted && not (decided shape image g t)) row_name
 
 -- no row is voted
 abbrev pub HasNoVote : Shape → List ℕ → Type 0
@@ -51,11 +58,19 @@ pub record Counts (shape : Shape) (image : List ℕ) (report : Report) : Type 0 
   pub dropped : report.dropped ≡ length (dropped_rows shape image)
 
 -- where recovery writes: the votes of voted rows, and the parts of decided ones
+abbrev pub number_votes : Shape → List ℕ → ℕ → List (ℕ × ℕ)
+number_votes shape image = at_number shape (λ g t. (row_of shape image g t).voted) (λ g t. (row_at shape g t, 1))
+
 abbrev pub voted_places : Shape → List ℕ → List (ℕ × ℕ)
 voted_places shape image = at_rows shape (λ g t. (row_of shape image g t).voted) (λ g t. (row_at shape g t, 1))
 
 abbrev pub recovered_places : Shape → List ℕ → List (ℕ × ℕ)
 recovered_places shape image = places_of shape (all_decided shape image) ++ voted_places shape image
+
+-- lawful, and it settles to what another image does
+pub record SettlesLike (shape : Shape) (other image : List ℕ) : Type 0 where
+  pub lawful : IsLawful shape image
+  pub same : settled_data shape image ≡ settled_data shape other
 
 -- lawful, and it settles to what some image does that could be left at first
 pub record KeepsSense (shape : Shape) (content : Content) (image : List ℕ) : Type 0 where

@@ -2,8 +2,12 @@
 #![tactic(auto)]
 
 mod checking;
+mod counting;
 mod reading;
+mod recovery;
 mod report;
+mod settling;
 mod table;
 
+pub use recovery::recover;
 pub use report::{RecoverFault, Report};

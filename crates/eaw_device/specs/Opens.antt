@@ -1,5 +1,5 @@
 -- Which media hold an array that can be opened.
-use Rattle.std.specs.Prelude.{ℕ, ◌≡◌, ◌<◌, ◌≤◌, Bool, false, IsTrue, List, take}
+use Rattle.std.specs.Prelude.{ℕ, ◌≡◌, ◌<◌, ◌≤◌, Bool, false, IsTrue, List, length, take}
 use Rattle.pcm_media.specs.View.{View}
 use Rattle.array_shape.specs.declared.shape.Shape.{Shape}
 use Rattle.array_shape.specs.Places.{media_len}
@@ -23,5 +23,6 @@ pub record Opens (tells : Bool) (shape : Shape) (media : View) (store : StoreVie
   pub bytes : IsTrue tells → store.bytes ≡ data_of shape media.content.bytes
   pub none_live : (t : ℕ) → t < shape.numbers → store.is_live t ≡ false
   pub none_held : (t g : ℕ) → store.held t g ≡ 0
+  pub none_logged : (t : ℕ) → length (store.logs t) ≡ 0
   pub alive : store.is_dead ≡ false
   pub faults : media.faults ≤ store.faults

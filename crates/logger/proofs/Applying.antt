@@ -1,7 +1,7 @@
 -- The parts in cells are written into the data, one cell after another.
-use Rattle.std.proofs.Common.{◌≡◌, ℕ, zero, suc, ◌+◌, ◌-◌, ◌*◌, ◌<◌, ◌≤◌, Bool, List, [], ◌∷◌, ◌++◌, Result, length, map, refl, sym, ◌∙◌, ap, subst, arith}
+use Rattle.std.proofs.Common.{◌≡◌, ℕ, zero, suc, ◌+◌, ◌-◌, ◌<◌, ◌≤◌, Bool, List, [], ◌∷◌, ◌++◌, Result, length, refl, sym, ◌∙◌, ap, subst, arith}
 use Rattle.std.specs.Prelude.{IsTrue}
-use Rattle.pcm_media.specs.Images.{put, SameOutside, IsOutside}
+use Rattle.pcm_media.specs.Images.{put, IsOutside}
 use Rattle.pcm_media.specs.View.{View, Writes}
 use Rattle.pcm_media.proofs.Puts.{length-put}
 use Rattle.pcm_media.proofs.Writing.{writes_none, writes_on}

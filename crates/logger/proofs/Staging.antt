@@ -1,5 +1,5 @@
 -- The parts of a write that go to cells, one after another.
-use Rattle.std.proofs.Common.{◌≡◌, ◌≢◌, ℕ, zero, suc, ◌+◌, ◌-◌, ◌*◌, ◌^◌, ◌<◌, ◌≤◌, Bool, true, false, cond, nat_eq, List, [], ◌∷◌, ◌++◌, Result, Ok, length, take, drop, map, inl, inr, refl, sym, ◌∙◌, ap, subst, arith}
+use Rattle.std.proofs.Common.{◌≡◌, ℕ, zero, suc, ◌+◌, ◌-◌, ◌<◌, ◌≤◌, Bool, true, false, cond, nat_eq, List, [], ◌∷◌, Result, Ok, length, drop, map, inl, inr, refl, sym, ◌∙◌, ap, subst, arith}
 use Rattle.std.specs.Prelude.{filter, All, IsTrue}
 use Rattle.std.proofs.lemmas.Bool.{eq-eqb, ne_eqb, eqb-true, cases_eq}
 use Rattle.std.proofs.lemmas.List.{length-map, length-drop, length-take-le}
@@ -10,11 +10,12 @@ use Rattle.pcm_media.specs.View.{View, Writes}
 use Rattle.pcm_media.proofs.Writing.{writes_none, writes_on}
 use Rattle.array_shape.specs.declared.shape.Shape.{Shape}
 use Rattle.array_shape.specs.declared.part.Part.{Part}
-use Rattle.array_shape.specs.Places.{data_len, cell_at}
+use Rattle.array_shape.specs.Places.{data_len, media_len, cell_at}
 use Rattle.array_shape.specs.Parts.{Tile, IsPartOf, parts_of, is_part_on, parts_on, piece_of, pieces_on}
 use Rattle.array_shape.proofs.Cutting.{parts_tile, parts_placed, pieces_on-parts}
 use Rattle.array_image.specs.Parts.{applied, IsOwned, AllOwned}
-use Rattle.logger.specs.Cells.{cell_writes, cell_ranges}
+use Rattle.logger.specs.Cells.{cell_writes, cell_ranges, HoldsParts}
+use Rattle.logger.proofs.Cells.{holds_parts}
 
 module _ (g : ℕ) (part : Part) (s rest : List Part) (next : s ≡ part ∷ rest) where
   -- a part of this logger, and one of another
@@ -111,16 +112,18 @@ module _ (shape : Shape) (g t held addr : ℕ) (bytes : List ℕ) (tells : Bool)
           writes_on tells (cell_ranges shape g t held (length (pieces_on shape g addr bytes))) ((cell_at shape g t e, 528) ∷ []) old now new done r
           (one_cell shape g t held (length (pieces_on shape g addr bytes)) e stands.from (cell_left is)) stands.does does
 
-      pub stands_next : (IsTrue tells → new.content.bytes ≡ applied (cell_writes shape g t e (piece_of addr bytes part ∷ [])) now.content.bytes)
+      pub stands_next : (piece : List ℕ) → piece ≡ (piece_of addr bytes part).1
+          → (IsTrue tells → new.content.bytes ≡ applied (cell_writes shape g t e ((part.addr, piece) ∷ [])) now.content.bytes)
           → StandsAt shape g t held addr bytes tells old new (e + 1) rest
-      stands_next written =
+      stands_next piece piece_is written =
           let kept = kept_here g part s rest next is in
           record {
             within = within_rest;
             from = omega (arith, stands.from);
             cells = omega (arith, stands.cells, ap length kept);
             written = λ told.
-                ap (applied (cell_writes shape g t (e + 1) (map (piece_of addr bytes) (filter (is_part_on g) rest)))) (written told)
+                ap (applied (cell_writes shape g t (e + 1) (map (piece_of addr bytes) (filter (is_part_on g) rest))))
+                (written told ∙ ap (λ (bs : List ℕ). applied (cell_writes shape g t e ((part.addr, bs) ∷ [])) now.content.bytes) piece_is)
                 ∙ ap (λ (ps : List Part). applied (cell_writes shape g t e (map (piece_of addr bytes) ps)) now.content.bytes) (sym kept)
                 ∙ stands.written told;
             does = writes_done tells (cell_ranges shape g t held (length (pieces_on shape g addr bytes))) old new r writes_more;
@@ -150,3 +153,11 @@ module _ (shape : Shape) (g addr : ℕ) (bytes : List ℕ) where
 
   pub pieces_owned : addr + length bytes ≤ data_len shape → AllOwned shape g (pieces_on shape g addr bytes)
   pieces_owned fits = subst (AllOwned shape g) (sym (pieces_on-parts shape addr bytes g)) (kept_owned (parts_of shape addr (length bytes)) (all_within shape addr (length bytes) fits))
+
+-- what was staged is in the cells
+pub staged_holds : (shape : Shape) (g t held addr : ℕ) (bytes old new : List ℕ) → g < shape.loggers → t < shape.numbers → length old ≡ media_len shape → addr + length bytes ≤ data_len shape
+    → held + length (pieces_on shape g addr bytes) ≤ shape.entries → new ≡ applied (cell_writes shape g t held (pieces_on shape g addr bytes)) old
+    → HoldsParts shape new g t held (pieces_on shape g addr bytes)
+staged_holds shape g t held addr bytes old new there small long range room is =
+    subst (λ (image : List ℕ). HoldsParts shape image g t held (pieces_on shape g addr bytes)) (sym is)
+    (holds_parts shape g t there small (pieces_on shape g addr bytes) held old long room (pieces_owned shape g addr bytes range))

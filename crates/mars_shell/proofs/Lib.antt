@@ -4,3 +4,4 @@ pub mod PutLemmas
 pub mod RecordLemmas
 pub mod Sound
 pub mod Stepping
+pub mod Running

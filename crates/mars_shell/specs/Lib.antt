@@ -9,3 +9,4 @@ pub mod Records
 pub mod Session
 pub mod Transcript
 pub mod Written
+pub mod Run

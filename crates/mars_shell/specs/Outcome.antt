@@ -55,6 +55,17 @@ Outcome limits old input NotMars cut text new = (length input ≤ MOST) × Idle 
 Outcome limits old input ReadFault cut text new = Idle old cut text new
 Outcome limits old input Usage cut text new = Idle old cut text new
 
+-- statuses that come before the media is opened, and only then
+abbrev pub IsEarly : Status → Type 0
+IsEarly Usage = Unit {0}
+IsEarly TooLong = Unit {0}
+IsEarly ReadFault = Unit {0}
+IsEarly Good = ⊥
+IsEarly WriteFault = ⊥
+IsEarly MediaFault = ⊥
+IsEarly NoMemory = ⊥
+IsEarly NotMars = ⊥
+
 -- statuses that come while lines are answered
 abbrev pub IsOfLines : Status → Type 0
 IsOfLines Good = Unit {0}

@@ -16,3 +16,4 @@ mod whole;
 pub use fault::fault_text;
 pub use gate::{Gate, OpenGate, Place};
 pub use status::Status;
+pub use whole::run;

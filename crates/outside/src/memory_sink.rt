@@ -75,7 +75,8 @@ impl Sink for MemorySink {
         ensures whole { IfOk result (λ n. n ≡ length piece.now) }
         ensures bytes { Puts self.old.text self.new.text result piece.now }
 
-        ensures listed { length self.old.text + length piece.now ≤ self.old.room → (IsErr result ↔ Contains self.old.listed self.new.calls) }
+        ensures listed { length self.old.text + length piece.now ≤ self.old.room →
+            (IsErr result ↔ Contains self.old.listed self.new.calls) }
         ensures past_room { Contains self.old.listed self.new.calls → IsErr result }
         ensures same_list { self.new.listed ≡ self.old.listed }
         ensures same_room { self.new.room ≡ self.old.room }

@@ -6,27 +6,27 @@ use Rattle.pcm_media.specs.declared.call.Call.{Call}
 use Rattle.pcm_media.specs.declared.call.Call.TheVariants.{Read, Write, Barrier}
 use Rattle.pcm_media.specs.declared.call.Record.{Record}
 use Rattle.pcm_media.specs.Images.{Content, IsOutside}
-use Rattle.pcm_media.specs.Replay.{range_of, stepped_by, settles, unsettled_by, unsettled_after, content_after, taken, stepped}
+use Rattle.pcm_media.specs.Replay.{range_of, next_content_by, is_settling, next_unsettled, unsettled_after, content_after, byte_count, next_content}
 use Rattle.pcm_media.specs.Choice.{IsInside, IsChosen, ranges_of}
 use Rattle.pcm_media.proofs.Left.{outside-append}
 
-unsettled_is_by : (call : Call) (is_done : Bool) (written : List ℕ) (content : Content) → (stepped_by call is_done written content).unsettled ≡ unsettled_by call is_done content.unsettled
-unsettled_is_by (Read at len) is_done written content = refl
-unsettled_is_by (Write at len) true written content = refl
-unsettled_is_by (Write at len) false written content = refl
-unsettled_is_by Barrier true written content = refl
-unsettled_is_by Barrier false written content = refl
+unsettled-next_content_by : (call : Call) (is_done : Bool) (written : List ℕ) (content : Content) → (next_content_by call is_done written content).unsettled ≡ next_unsettled call is_done content.unsettled
+unsettled-next_content_by (Read at len) is_done written content = refl
+unsettled-next_content_by (Write at len) true written content = refl
+unsettled-next_content_by (Write at len) false written content = refl
+unsettled-next_content_by Barrier true written content = refl
+unsettled-next_content_by Barrier false written content = refl
 
 -- what is not settled after some calls does not hang on the bytes
 pub unsettled_is : (records : List Record) (written : List ℕ) (content : Content) → (content_after records written content).unsettled ≡ unsettled_after records content.unsettled
 unsettled_is [] written content = refl
 unsettled_is (made ∷ later) written content =
-    unsettled_is later (drop (taken made) written) (stepped made written content)
-    ∙ ap (unsettled_after later) (unsettled_is_by made.call made.is_done written content)
+    unsettled_is later (drop (byte_count made) written) (next_content made written content)
+    ∙ ap (unsettled_after later) (unsettled-next_content_by made.call made.is_done written content)
 
-pub unsettled_after-push : (records : List Record) (made : Record) (ranges : List (ℕ × ℕ)) → unsettled_after (records ++ made ∷ []) ranges ≡ unsettled_by made.call made.is_done (unsettled_after records ranges)
+pub unsettled_after-push : (records : List Record) (made : Record) (ranges : List (ℕ × ℕ)) → unsettled_after (records ++ made ∷ []) ranges ≡ next_unsettled made.call made.is_done (unsettled_after records ranges)
 unsettled_after-push [] made ranges = refl
-unsettled_after-push (x ∷ records) made ranges = unsettled_after-push records made (unsettled_by x.call x.is_done ranges)
+unsettled_after-push (x ∷ records) made ranges = unsettled_after-push records made (next_unsettled x.call x.is_done ranges)
 
 pub ranges_of-push : (records : List Record) (made : Record) → ranges_of (records ++ made ∷ []) ≡ range_of made.call ++ ranges_of records
 ranges_of-push [] made = append-nil-same made.call
@@ -37,13 +37,13 @@ ranges_of-push [] made = append-nil-same made.call
     append-nil-same Barrier = refl
 ranges_of-push (x ∷ records) made = ap (λ (l : List (ℕ × ℕ)). l ++ range_of x.call) (ranges_of-push records made) ∙ append_assoc (range_of made.call) (ranges_of records) (range_of x.call)
 
-pub settled_by : (call : Call) (is_done : Bool) (ranges : List (ℕ × ℕ)) → settles call is_done ≡ true → unsettled_by call is_done ranges ≡ []
+pub settled_by : (call : Call) (is_done : Bool) (ranges : List (ℕ × ℕ)) → is_settling call is_done ≡ true → next_unsettled call is_done ranges ≡ []
 settled_by (Read at len) is_done ranges is = absurd (cc is)
 settled_by (Write at len) is_done ranges is = absurd (cc is)
 settled_by Barrier true ranges is = refl
 settled_by Barrier false ranges is = absurd (cc is)
 
-pub ranged_by : (call : Call) (is_done : Bool) (ranges : List (ℕ × ℕ)) → settles call is_done ≡ false → unsettled_by call is_done ranges ≡ range_of call ++ ranges
+pub ranged_by : (call : Call) (is_done : Bool) (ranges : List (ℕ × ℕ)) → is_settling call is_done ≡ false → next_unsettled call is_done ranges ≡ range_of call ++ ranges
 ranged_by (Read at len) is_done ranges is = refl
 ranged_by (Write at len) is_done ranges is = refl
 ranged_by Barrier true ranges is = absurd (cc is)
@@ -86,14 +86,14 @@ module _ (records : List Record) (i : ℕ) (made : Record) (more : take (i + 1) 
       subst (λ (ranges : List (ℕ × ℕ)). IsChosen choice ranges old new) (sym (ap ranges_of more ∙ ranges_of-push (take i records) made))
       (chosen_both choice (ranges_of (take i records)) (range_of made.call) old mid new first second)
 
-  after_more : unsettled_after (take (i + 1) records) [] ≡ unsettled_by made.call made.is_done (unsettled_after (take i records) [])
+  after_more : unsettled_after (take (i + 1) records) [] ≡ next_unsettled made.call made.is_done (unsettled_after (take i records) [])
   after_more = ap (λ (l : List Record). unsettled_after l []) more ∙ unsettled_after-push (take i records) made []
 
-  pub settled_here : settles made.call made.is_done ≡ true → unsettled_after (take (i + 1) records) [] ≡ ranges_of (drop (i + 1) (take (i + 1) records))
+  pub settled_here : is_settling made.call made.is_done ≡ true → unsettled_after (take (i + 1) records) [] ≡ ranges_of (drop (i + 1) (take (i + 1) records))
   settled_here is = after_more ∙ settled_by made.call made.is_done (unsettled_after (take i records) []) is
       ∙ sym (ap ranges_of (drop_all (i + 1) (take (i + 1) records) (omega (arith, length-take (i + 1) records))))
 
-  pub settled_before : (len : ℕ) → settles made.call made.is_done ≡ false → len ≤ i → i ≤ length records → unsettled_after (take i records) [] ≡ ranges_of (drop len (take i records))
+  pub settled_before : (len : ℕ) → is_settling made.call made.is_done ≡ false → len ≤ i → i ≤ length records → unsettled_after (take i records) [] ≡ ranges_of (drop len (take i records))
       → unsettled_after (take (i + 1) records) [] ≡ ranges_of (drop len (take (i + 1) records))
   settled_before len is le within before =
       after_more ∙ ranged_by made.call made.is_done (unsettled_after (take i records) []) is

@@ -1,5 +1,5 @@
 -- What a call does to a media behind a fuse.
-use Rattle.std.proofs.Common.{◌≡◌, ℕ, ◌+◌, ◌-◌, ◌^◌, ◌<◌, ◌≤◌, ◌⊎◌, min, Bool, inl, inr, ⊎_elim, List, Result, Err, refl, sym, subst, arith}
+use Rattle.std.proofs.Common.{◌≡◌, ℕ, ◌-◌, ◌^◌, ◌<◌, ◌≤◌, ◌⊎◌, min, Bool, inl, inr, ⊎_elim, List, Result, Err, refl, subst, arith}
 use Rattle.std.proofs.lemmas.Bool.{cases_lt}
 use Rattle.std.proofs.lemmas.Result.{on_err_weaker}
 use Rattle.std.specs.Prelude.{IsTrue}
@@ -8,12 +8,12 @@ use Rattle.counted.specs.Moments.{Ticks}
 use Rattle.pcm_media.specs.Images.{MayLeave, partly}
 use Rattle.pcm_media.specs.View.{View, Writes, LeavesOnly}
 use Rattle.pcm_media.specs.Kept.{next_count}
-use Rattle.pcm_media.specs.Fused.{view_behind}
+use Rattle.pcm_media.specs.Fused.{fused_view}
 use Rattle.pcm_media.proofs.Left.{touched_by_nothing, left_partly}
 
 -- a call that the fuse failed
 pub stopped : {T E : Type 0} (tells : Bool) (ranges : List (ℕ × ℕ)) (inner : View) (blown then : ℕ) (e : E) → blown ≤ then → then ≡ next_count blown
-    → (let r : Result T E = Err e in Writes tells ranges (view_behind inner blown) (view_behind inner then) r)
+    → (let r : Result T E = Err e in Writes tells ranges (fused_view inner blown) (fused_view inner then) r)
 stopped tells ranges inner blown then e le is = record {
   size = refl;
   cause = record { later = omega arith; failed = omega arith };
@@ -44,7 +44,7 @@ module _ (tells : Bool) (ranges : List (ℕ × ℕ)) (old new : View)
       go (inr last) = let here : t ≡ new.moment = omega arith in inr (only_new image told (subst (λ (m : ℕ). new.left_since m image) here left))
 
   module _ {T E : Type 0} (result : Result T E) (writes : Writes tells ranges old new result) (ticks : Ticks old.moment new.moment result) where
-    time : IsTrue tells → LeavesOnly (MayLeave (partly ranges old.content)) (view_behind old 0) (view_behind new 0)
+    time : IsTrue tells → LeavesOnly (MayLeave (partly ranges old.content)) (fused_view old 0) (fused_view new 0)
     time told =
         let inner : LeavesOnly (MayLeave (partly ranges old.content)) old new = writes.time told in record {
           later = omega (arith, inner.later);
@@ -62,7 +62,7 @@ module _ (tells : Bool) (ranges : List (ℕ × ℕ)) (old new : View)
         }
 
     -- a call that was passed on by a fuse that has not failed any
-    pub passed_on : Writes tells ranges (view_behind old 0) (view_behind new 0) result
+    pub passed_on : Writes tells ranges (fused_view old 0) (fused_view new 0) result
     passed_on = record {
       size = writes.size;
       cause = record { later = omega (arith, writes.cause.later); failed = on_err_weaker result (λ (rose : Rose old.faults new.faults). omega (arith, rose)) writes.cause.failed };

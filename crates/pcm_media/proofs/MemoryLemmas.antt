@@ -10,11 +10,11 @@ use Rattle.pcm_media.specs.declared.call.Record.{Record}
 use Rattle.pcm_media.specs.Images.{Content, MayLeave, Touched, put, written}
 use Rattle.pcm_media.specs.View.{Writes}
 use Rattle.pcm_media.specs.Kept.{Kept, IsKept, IsPassed, Makes}
-use Rattle.pcm_media.specs.Replay.{at_rest, range_of, taken_by, stepped_by, all_taken, content_after, LeftBefore, IsStamped}
+use Rattle.pcm_media.specs.Replay.{at_rest, range_of, byte_count_of, next_content_by, total_bytes, content_after, LeftBefore, IsStamped}
 use Rattle.pcm_media.specs.Memory.{Memory, content_of, LeftSince, view_of, Tells}
 use Rattle.pcm_media.proofs.Left.{touched_by_nothing, touched_by_write, touched_by_loss, touched_by_barrier, left_partly}
 use Rattle.pcm_media.proofs.Puts.{length-put}
-use Rattle.pcm_media.proofs.Replay.{content_push, before_push, before_last, before_only, before_past, all_taken-push, stamped_push, stamped_later}
+use Rattle.pcm_media.proofs.Replay.{content_push, before_push, before_last, before_only, before_past, total_bytes-push, stamped_push, stamped_later}
 
 -- A call and the bytes that it writes fit each other and the media.
 abbrev pub Suits : Call → List ℕ → ℕ → Type 0
@@ -27,15 +27,15 @@ abbrev pub own_bytes : Bool → List ℕ → List ℕ
 own_bytes true bytes = bytes
 own_bytes false bytes = []
 
-taken_is : (call : Call) (is_done : Bool) (bytes : List ℕ) (size : ℕ) → Suits call bytes size → taken_by call is_done ≡ length (own_bytes is_done bytes)
-taken_is (Read at len) true bytes size suits = sym (ap length suits)
-taken_is (Read at len) false bytes size suits = refl
-taken_is (Write at len) true bytes size suits = suits.0
-taken_is (Write at len) false bytes size suits = refl
-taken_is Barrier true bytes size suits = sym (ap length suits)
-taken_is Barrier false bytes size suits = refl
+byte_count_is : (call : Call) (is_done : Bool) (bytes : List ℕ) (size : ℕ) → Suits call bytes size → byte_count_of call is_done ≡ length (own_bytes is_done bytes)
+byte_count_is (Read at len) true bytes size suits = sym (ap length suits)
+byte_count_is (Read at len) false bytes size suits = refl
+byte_count_is (Write at len) true bytes size suits = suits.0
+byte_count_is (Write at len) false bytes size suits = refl
+byte_count_is Barrier true bytes size suits = sym (ap length suits)
+byte_count_is Barrier false bytes size suits = refl
 
-touched_by_step : (call : Call) (is_done : Bool) (bytes : List ℕ) (content : Content) → Suits call bytes (length content.bytes) → Touched (range_of call) content (stepped_by call is_done (own_bytes is_done bytes) content)
+touched_by_step : (call : Call) (is_done : Bool) (bytes : List ℕ) (content : Content) → Suits call bytes (length content.bytes) → Touched (range_of call) content (next_content_by call is_done (own_bytes is_done bytes) content)
 touched_by_step (Read at len) is_done bytes content suits = touched_by_nothing [] content
 touched_by_step (Write at len) true bytes content suits =
     let whole : take len bytes ≡ bytes = take_all len bytes (omega (arith, suits.0)) in
@@ -50,11 +50,11 @@ module _ (start : List ℕ) (old new : Kept) where
   abbrev shows : Kept → Memory
   shows kept = record { start = start; kept = kept }
 
-  module _ (call : Call) (is_done : Bool) (bytes : List ℕ) (kept : IsKept call is_done bytes old new) (whole : all_taken old.records ≡ length old.written) where
+  module _ (call : Call) (is_done : Bool) (bytes : List ℕ) (kept : IsKept call is_done bytes old new) (whole : total_bytes old.records ≡ length old.written) where
     made : Record
     made = record { moment = new.moment; call = call; is_done = is_done }
 
-    pub content_kept : content_of (shows new) ≡ stepped_by call is_done bytes (content_of (shows old))
+    pub content_kept : content_of (shows new) ≡ next_content_by call is_done bytes (content_of (shows old))
     unfolding made
     content_kept =
         ap (λ (l : List Record). content_after l new.written (at_rest start)) kept.records
@@ -89,9 +89,9 @@ module _ (start : List ℕ) (old new : Kept) where
     unfolding made
     stamped_kept stamped = subst (IsStamped new.moment) (sym kept.records) (stamped_push made new.moment old.records (omega arith) (stamped_later old.moment new.moment old.records (omega (arith, kept.later)) stamped))
 
-    pub whole_kept : taken_by call is_done ≡ length bytes → all_taken new.records ≡ length new.written
+    pub whole_kept : byte_count_of call is_done ≡ length bytes → total_bytes new.records ≡ length new.written
     unfolding made
-    whole_kept own = ap all_taken kept.records ∙ all_taken-push made bytes old.records ∙ omega (arith, length-append old.written bytes) ∙ sym (ap length kept.written)
+    whole_kept own = ap total_bytes kept.records ∙ total_bytes-push made bytes old.records ∙ omega (arith, length-append old.written bytes) ∙ sym (ap length kept.written)
 
   module _ (passed : IsPassed old new) where
     pub content_passed : content_of (shows new) ≡ content_of (shows old)
@@ -120,7 +120,7 @@ module _ (start : List ℕ) (old new : Kept) where
     pub tells_passed : (read : List ℕ) → Tells (shows old) read → Tells (shows new) read
     tells_passed read tells = record {
       stamped = subst (IsStamped new.moment) (sym passed.records) (stamped_later old.moment new.moment old.records passed.later tells.stamped);
-      whole = ap all_taken passed.records ∙ tells.whole ∙ sym (ap length passed.written);
+      whole = ap total_bytes passed.records ∙ tells.whole ∙ sym (ap length passed.written);
       bytes = (λ i. (content_passed i).bytes) ∙ tells.bytes;
     }
 
@@ -151,21 +151,21 @@ module _ (start : List ℕ) (old new : Kept) where
       time = λ told. weaker (left_partly (range_of call) (content_of (shows old)) (content_of (shows new)) change) (time result makes);
     }
 
-    pub content_done : IsKept call true bytes old new → content_of (shows new) ≡ stepped_by call true bytes (content_of (shows old))
+    pub content_done : IsKept call true bytes old new → content_of (shows new) ≡ next_content_by call true bytes (content_of (shows old))
     content_done kept = content_kept call true bytes kept tells.whole
 
     -- A call that was done leaves these bytes, and one that failed those that were there.
-    pub tells_done : (after : List ℕ) → (stepped_by call true bytes (content_of (shows old))).bytes ≡ after → IsKept call true bytes old new → Tells (shows new) after
+    pub tells_done : (after : List ℕ) → (next_content_by call true bytes (content_of (shows old))).bytes ≡ after → IsKept call true bytes old new → Tells (shows new) after
     tells_done after is kept = record {
       stamped = stamped_kept call true bytes kept tells.whole tells.stamped;
-      whole = whole_kept call true bytes kept tells.whole (taken_is call true bytes (length read) suits);
+      whole = whole_kept call true bytes kept tells.whole (byte_count_is call true bytes (length read) suits);
       bytes = (λ i. (content_done kept i).bytes) ∙ is;
     }
 
-    same_read : (stepped_by call false [] (content_of (shows old))).bytes ≡ read
+    same_read : (next_content_by call false [] (content_of (shows old))).bytes ≡ read
     same_read = stays call ∙ tells.bytes
       where
-        stays : (x : Call) → (stepped_by x false [] (content_of (shows old))).bytes ≡ (content_of (shows old)).bytes
+        stays : (x : Call) → (next_content_by x false [] (content_of (shows old))).bytes ≡ (content_of (shows old)).bytes
         stays (Read at len) = refl
         stays (Write at len) = refl
         stays Barrier = refl
@@ -175,30 +175,30 @@ module _ (start : List ℕ) (old new : Kept) where
         (λ passed. tells_passed passed read tells)
         (λ kept. record {
           stamped = stamped_kept call false [] kept tells.whole tells.stamped;
-          whole = whole_kept call false [] kept tells.whole (taken_is call false bytes (length read) suits);
+          whole = whole_kept call false [] kept tells.whole (byte_count_is call false bytes (length read) suits);
           bytes = (λ i. (content_kept call false [] kept tells.whole i).bytes) ∙ same_read;
         })
         failed
 
     -- the same for a call that changes no byte
-    pub tells_either : {T E : Type 0} (result : Result T E) → (stepped_by call true bytes (content_of (shows old))).bytes ≡ (content_of (shows old)).bytes → Makes call bytes old new result → Tells (shows new) read
+    pub tells_either : {T E : Type 0} (result : Result T E) → (next_content_by call true bytes (content_of (shows old))).bytes ≡ (content_of (shows old)).bytes → Makes call bytes old new result → Tells (shows new) read
     tells_either (Ok x) same makes = tells_done read (same ∙ tells.bytes) makes.done
     tells_either (Err e) same makes = tells_failed makes.failed
 
-    pub content_on_ok : {T E : Type 0} (result : Result T E) → Makes call bytes old new result → OnOk result (content_of (shows new) ≡ stepped_by call true bytes (content_of (shows old)))
+    pub content_on_ok : {T E : Type 0} (result : Result T E) → Makes call bytes old new result → OnOk result (content_of (shows new) ≡ next_content_by call true bytes (content_of (shows old)))
     content_on_ok (Ok x) makes = content_done makes.done
     content_on_ok (Err e) makes = tt
 
-    content_failed : IsPassed old new ⊎ IsKept call false [] old new → (content_of (shows new) ≡ content_of (shows old)) ⊎ (content_of (shows new) ≡ stepped_by call false [] (content_of (shows old)))
+    content_failed : IsPassed old new ⊎ IsKept call false [] old new → (content_of (shows new) ≡ content_of (shows old)) ⊎ (content_of (shows new) ≡ next_content_by call false [] (content_of (shows old)))
     content_failed failed = ⊎_elim (λ passed. inl (content_passed passed)) (λ kept. inr (content_kept call false [] kept tells.whole)) failed
 
     -- a call that does nothing where it failed
-    pub content_on_err : {T E : Type 0} (result : Result T E) → stepped_by call false [] (content_of (shows old)) ≡ content_of (shows old) → Makes call bytes old new result → OnErr result (content_of (shows new) ≡ content_of (shows old))
+    pub content_on_err : {T E : Type 0} (result : Result T E) → next_content_by call false [] (content_of (shows old)) ≡ content_of (shows old) → Makes call bytes old new result → OnErr result (content_of (shows new) ≡ content_of (shows old))
     content_on_err (Ok x) none makes = tt
     content_on_err (Err e) none makes = ⊎_elim (λ same. same) (λ step. step ∙ none) (content_failed makes.failed)
 
     -- a call that does nothing at all
-    pub content_same : {T E : Type 0} (result : Result T E) → stepped_by call true bytes (content_of (shows old)) ≡ content_of (shows old) → stepped_by call false [] (content_of (shows old)) ≡ content_of (shows old) → Makes call bytes old new result → content_of (shows new) ≡ content_of (shows old)
+    pub content_same : {T E : Type 0} (result : Result T E) → next_content_by call true bytes (content_of (shows old)) ≡ content_of (shows old) → next_content_by call false [] (content_of (shows old)) ≡ content_of (shows old) → Makes call bytes old new result → content_of (shows new) ≡ content_of (shows old)
     content_same (Ok x) done none makes = content_done makes.done ∙ done
     content_same (Err e) done none makes = ⊎_elim (λ same. same) (λ step. step ∙ none) (content_failed makes.failed)
 
@@ -206,13 +206,13 @@ module _ (start : List ℕ) (old new : Kept) where
     bytes_failed failed = ⊎_elim (λ same i. (same i).bytes) (λ step. (λ i. (step i).bytes) ∙ same_read ∙ sym tells.bytes) (content_failed failed)
 
     -- a call that failed, and for which there was room
-    pub content_lost : {T E : Type 0} (e : E) → (let r : Result T E = Err e in Makes call bytes old new r) → length old.records < old.calls_room → old.moment < 2 ^ 64 - 1 → content_of (shows new) ≡ stepped_by call false [] (content_of (shows old))
+    pub content_lost : {T E : Type 0} (e : E) → (let r : Result T E = Err e in Makes call bytes old new r) → length old.records < old.calls_room → old.moment < 2 ^ 64 - 1 → content_of (shows new) ≡ next_content_by call false [] (content_of (shows old))
     content_lost e makes room low =
         let written : new.written ≡ old.written ++ [] = ⊎_elim (λ passed. passed.written ∙ sym (append-nil old.written)) (λ kept. kept.written) makes.failed in
         content_kept call false [] (record { later = omega (arith, makes.ticks.next); records = makes.kept low room; written = written }) tells.whole
 
 -- a write that was done makes what a write makes
-pub step_written : (at : ℕ) (bytes : List ℕ) (content : Content) → stepped_by (Write at (length bytes)) true bytes content ≡ written at bytes content
+pub step_written : (at : ℕ) (bytes : List ℕ) (content : Content) → next_content_by (Write at (length bytes)) true bytes content ≡ written at bytes content
 step_written at bytes content = ap (λ (l : List ℕ). record { bytes = put content.bytes at l; unsettled = (at, length bytes) ∷ content.unsettled }) (take_all (length bytes) bytes (omega arith))
 
 -- a vector whose slice was changed as a whole

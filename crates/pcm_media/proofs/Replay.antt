@@ -5,24 +5,24 @@ use Rattle.pcm_media.specs.declared.call.Call.{Call}
 use Rattle.pcm_media.specs.declared.call.Call.TheVariants.{Read, Write, Barrier}
 use Rattle.pcm_media.specs.declared.call.Record.{Record}
 use Rattle.pcm_media.specs.Images.{Content, MayLeave, put}
-use Rattle.pcm_media.specs.Replay.{taken_by, stepped_by, taken, all_taken, stepped, IsStamped, content_after, LeftBefore}
+use Rattle.pcm_media.specs.Replay.{byte_count_of, next_content_by, byte_count, total_bytes, next_content, IsStamped, content_after, LeftBefore}
 
 -- bytes behind those of a call do not change what it does
-stepped-append : (call : Call) (is_done : Bool) (written more : List ℕ) (content : Content) → taken_by call is_done ≤ length written → stepped_by call is_done (written ++ more) content ≡ stepped_by call is_done written content
-stepped-append (Read at len) is_done written more content fits = refl
-stepped-append (Write at len) true written more content fits = ap (λ (bytes : List ℕ). record { bytes = put content.bytes at bytes; unsettled = (at, len) ∷ content.unsettled }) (take-append-le len written more fits)
-stepped-append (Write at len) false written more content fits = refl
-stepped-append Barrier true written more content fits = refl
-stepped-append Barrier false written more content fits = refl
+next_content_by-append : (call : Call) (is_done : Bool) (written more : List ℕ) (content : Content) → byte_count_of call is_done ≤ length written → next_content_by call is_done (written ++ more) content ≡ next_content_by call is_done written content
+next_content_by-append (Read at len) is_done written more content fits = refl
+next_content_by-append (Write at len) true written more content fits = ap (λ (bytes : List ℕ). record { bytes = put content.bytes at bytes; unsettled = (at, len) ∷ content.unsettled }) (take-append-le len written more fits)
+next_content_by-append (Write at len) false written more content fits = refl
+next_content_by-append Barrier true written more content fits = refl
+next_content_by-append Barrier false written more content fits = refl
 
 module _ (made : Record) (more : List ℕ) where
-  pub content_push : (records : List Record) (written : List ℕ) (content : Content) → all_taken records ≡ length written → content_after (records ++ made ∷ []) (written ++ more) content ≡ stepped made more (content_after records written content)
-  content_push [] written content whole = ap (λ (l : List ℕ). stepped made (l ++ more) content) (nil_from_length written (sym whole))
+  pub content_push : (records : List Record) (written : List ℕ) (content : Content) → total_bytes records ≡ length written → content_after (records ++ made ∷ []) (written ++ more) content ≡ next_content made more (content_after records written content)
+  content_push [] written content whole = ap (λ (l : List ℕ). next_content made (l ++ more) content) (nil_from_length written (sym whole))
   content_push (x ∷ records) written content whole =
-      let fits : taken x ≤ length written = omega arith in
-      ap (λ (l : List ℕ). content_after (records ++ made ∷ []) l (stepped x (written ++ more) content)) (drop-append-le (taken x) written more fits)
-      ∙ ap (content_after (records ++ made ∷ []) (drop (taken x) written ++ more)) (stepped-append x.call x.is_done written more content fits)
-      ∙ content_push records (drop (taken x) written) (stepped x written content) (omega (arith, length-drop (taken x) written))
+      let fits : byte_count x ≤ length written = omega arith in
+      ap (λ (l : List ℕ). content_after (records ++ made ∷ []) l (next_content x (written ++ more) content)) (drop-append-le (byte_count x) written more fits)
+      ∙ ap (content_after (records ++ made ∷ []) (drop (byte_count x) written ++ more)) (next_content_by-append x.call x.is_done written more content fits)
+      ∙ content_push records (drop (byte_count x) written) (next_content x written content) (omega (arith, length-drop (byte_count x) written))
 
   module _ (t : ℕ) (image : List ℕ) where
     -- the same written bytes and content, told in another way
@@ -30,38 +30,38 @@ module _ (made : Record) (more : List ℕ) where
     moved records written written' content content' w c left =
         subst (λ (x : Content). LeftBefore records written' x t image) c (subst (λ (x : List ℕ). LeftBefore records x content t image) w left)
 
-    pub before_push : (records : List Record) (written : List ℕ) (content : Content) → all_taken records ≡ length written → LeftBefore records written content t image → LeftBefore (records ++ made ∷ []) (written ++ more) content t image
+    pub before_push : (records : List Record) (written : List ℕ) (content : Content) → total_bytes records ≡ length written → LeftBefore records written content t image → LeftBefore (records ++ made ∷ []) (written ++ more) content t image
     before_push [] written content whole left = absurd left
     before_push (x ∷ records) written content whole left =
-        let fits : taken x ≤ length written = omega arith in
+        let fits : byte_count x ≤ length written = omega arith in
         ⊎_elim (λ here. inl here)
-        (λ later. inr (moved (records ++ made ∷ []) (drop (taken x) written ++ more) (drop (taken x) (written ++ more)) (stepped x written content) (stepped x (written ++ more) content)
-        (sym (drop-append-le (taken x) written more fits)) (sym (stepped-append x.call x.is_done written more content fits))
-        (before_push records (drop (taken x) written) (stepped x written content) (omega (arith, length-drop (taken x) written)) later)))
+        (λ later. inr (moved (records ++ made ∷ []) (drop (byte_count x) written ++ more) (drop (byte_count x) (written ++ more)) (next_content x written content) (next_content x (written ++ more) content)
+        (sym (drop-append-le (byte_count x) written more fits)) (sym (next_content_by-append x.call x.is_done written more content fits))
+        (before_push records (drop (byte_count x) written) (next_content x written content) (omega (arith, length-drop (byte_count x) written)) later)))
         left
 
-    pub before_last : (records : List Record) (written : List ℕ) (content : Content) → all_taken records ≡ length written → t < made.moment → MayLeave (content_after records written content) image → LeftBefore (records ++ made ∷ []) (written ++ more) content t image
+    pub before_last : (records : List Record) (written : List ℕ) (content : Content) → total_bytes records ≡ length written → t < made.moment → MayLeave (content_after records written content) image → LeftBefore (records ++ made ∷ []) (written ++ more) content t image
     before_last [] written content whole lt left = inl (lt, left)
     before_last (x ∷ records) written content whole lt left =
-        let fits : taken x ≤ length written = omega arith in
-        inr (moved (records ++ made ∷ []) (drop (taken x) written ++ more) (drop (taken x) (written ++ more)) (stepped x written content) (stepped x (written ++ more) content)
-        (sym (drop-append-le (taken x) written more fits)) (sym (stepped-append x.call x.is_done written more content fits))
-        (before_last records (drop (taken x) written) (stepped x written content) (omega (arith, length-drop (taken x) written)) lt left))
+        let fits : byte_count x ≤ length written = omega arith in
+        inr (moved (records ++ made ∷ []) (drop (byte_count x) written ++ more) (drop (byte_count x) (written ++ more)) (next_content x written content) (next_content x (written ++ more) content)
+        (sym (drop-append-le (byte_count x) written more fits)) (sym (next_content_by-append x.call x.is_done written more content fits))
+        (before_last records (drop (byte_count x) written) (next_content x written content) (omega (arith, length-drop (byte_count x) written)) lt left))
 
-    pub before_only : (records : List Record) (written : List ℕ) (content : Content) → all_taken records ≡ length written → LeftBefore (records ++ made ∷ []) (written ++ more) content t image → LeftBefore records written content t image ⊎ MayLeave (content_after records written content) image
+    pub before_only : (records : List Record) (written : List ℕ) (content : Content) → total_bytes records ≡ length written → LeftBefore (records ++ made ∷ []) (written ++ more) content t image → LeftBefore records written content t image ⊎ MayLeave (content_after records written content) image
     before_only [] written content whole left = ⊎_elim (λ here. inr here.1) (λ none. absurd none) left
     before_only (x ∷ records) written content whole left =
-        let fits : taken x ≤ length written = omega arith in
+        let fits : byte_count x ≤ length written = omega arith in
         ⊎_elim (λ here. inl (inl here))
         (λ later. ⊎_elim (λ before. inl (inr before)) (λ last. inr last)
-        (before_only records (drop (taken x) written) (stepped x written content) (omega (arith, length-drop (taken x) written))
-        (moved (records ++ made ∷ []) (drop (taken x) (written ++ more)) (drop (taken x) written ++ more) (stepped x (written ++ more) content) (stepped x written content)
-        (drop-append-le (taken x) written more fits) (stepped-append x.call x.is_done written more content fits) later)))
+        (before_only records (drop (byte_count x) written) (next_content x written content) (omega (arith, length-drop (byte_count x) written))
+        (moved (records ++ made ∷ []) (drop (byte_count x) (written ++ more)) (drop (byte_count x) written ++ more) (next_content x (written ++ more) content) (next_content x written content)
+        (drop-append-le (byte_count x) written more fits) (next_content_by-append x.call x.is_done written more content fits) later)))
         left
 
-  pub all_taken-push : (records : List Record) → all_taken (records ++ made ∷ []) ≡ all_taken records + taken made
-  all_taken-push [] = omega arith
-  all_taken-push (x ∷ records) = omega (arith, all_taken-push records)
+  pub total_bytes-push : (records : List Record) → total_bytes (records ++ made ∷ []) ≡ total_bytes records + byte_count made
+  total_bytes-push [] = omega arith
+  total_bytes-push (x ∷ records) = omega (arith, total_bytes-push records)
 
 pub stamped_push : (made : Record) (now : ℕ) (records : List Record) → made.moment ≤ now → IsStamped now records → IsStamped now (records ++ made ∷ [])
 stamped_push made now [] le stamped = (le, tt)
@@ -75,4 +75,4 @@ stamped_later now then (x ∷ records) le stamped = (omega (arith, stamped.0), s
 pub before_past : (now t : ℕ) (image : List ℕ) (records : List Record) (written : List ℕ) (content : Content) → IsStamped now records → LeftBefore records written content t image → t < now
 before_past now t image [] written content stamped left = absurd left
 before_past now t image (x ∷ records) written content stamped left =
-    ⊎_elim (λ here. omega (arith, here.0, stamped.0)) (λ later. before_past now t image records (drop (taken x) written) (stepped x written content) stamped.1 later) left
+    ⊎_elim (λ here. omega (arith, here.0, stamped.0)) (λ later. before_past now t image records (drop (byte_count x) written) (next_content x written content) stamped.1 later) left

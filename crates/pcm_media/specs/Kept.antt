@@ -18,8 +18,8 @@ pub record Kept : Type 0 where
   pub bytes_room : ℕ
 
 -- nothing yet
-abbrev pub nothing_kept : ℕ → ℕ → Kept
-nothing_kept calls bytes = record { records = []; written = []; moment = 0; listed = []; faults = 0; calls_room = calls; bytes_room = bytes }
+abbrev pub fresh_kept : ℕ → ℕ → Kept
+fresh_kept calls bytes = record { records = []; written = []; moment = 0; listed = []; faults = 0; calls_room = calls; bytes_room = bytes }
 
 -- one more, up to the last value of a u64
 abbrev pub next_count : ℕ → ℕ
@@ -39,13 +39,13 @@ abbrev pub HasRoom : Kept → ℕ → Type 0
 HasRoom kept count = (length kept.records < kept.calls_room) × (length kept.written + count ≤ kept.bytes_room)
 
 -- this call is kept behind the others, stamped with the moment to which it raised
-abbrev pub with_call : Kept → ℕ → Call → Bool → List Record
-with_call kept moment call is_done = kept.records ++ record { moment = moment; call = call; is_done = is_done } ∷ []
+abbrev pub records_with : Kept → ℕ → Call → Bool → List Record
+records_with kept moment call is_done = kept.records ++ record { moment = moment; call = call; is_done = is_done } ∷ []
 
 -- the call was kept, with the bytes that it wrote, at a moment of its own
 pub record IsKept (call : Call) (is_done : Bool) (bytes : List ℕ) (old new : Kept) : Type 0 where
   pub later : old.moment < new.moment
-  pub records : new.records ≡ with_call old new.moment call is_done
+  pub records : new.records ≡ records_with old new.moment call is_done
   pub written : new.written ≡ old.written ++ bytes
 
 -- no call was kept
@@ -62,7 +62,7 @@ pub record Makes {T E : Type 0} (call : Call) (bytes : List ℕ) (old new : Kept
   pub cause : HasCause old.faults new.faults result
   pub done : OnOk result (IsKept call true bytes old new)
   pub failed : OnErr result (IsPassed old new ⊎ IsKept call false [] old new)
-  pub kept : old.moment < 2 ^ 64 - 1 → length old.records < old.calls_room → new.records ≡ with_call old new.moment call (is_ok result)
+  pub kept : old.moment < 2 ^ 64 - 1 → length old.records < old.calls_room → new.records ≡ records_with old new.moment call (is_ok result)
   pub listed : new.listed ≡ old.listed
   pub calls_room : new.calls_room ≡ old.calls_room
   pub bytes_room : new.bytes_room ≡ old.bytes_room
@@ -75,7 +75,7 @@ pub record Takes (call : Call) (bytes : List ℕ) (old new : Kept) (is_done : Bo
   pub faults : new.faults ≡ old.faults
   pub done : OnTrue is_done (IsKept call true bytes old new)
   pub failed : OnFalse is_done (IsPassed old new ⊎ IsKept call false [] old new)
-  pub kept : old.moment < 2 ^ 64 - 1 → length old.records < old.calls_room → new.records ≡ with_call old new.moment call is_done
+  pub kept : old.moment < 2 ^ 64 - 1 → length old.records < old.calls_room → new.records ≡ records_with old new.moment call is_done
   pub listed : new.listed ≡ old.listed
   pub calls_room : new.calls_room ≡ old.calls_room
   pub bytes_room : new.bytes_room ≡ old.bytes_room

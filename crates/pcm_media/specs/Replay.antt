@@ -16,30 +16,32 @@ range_of (Write at len) = (at, len) ∷ []
 range_of Barrier = []
 
 -- how many bytes of those written are of this call, which was done or not
-abbrev pub taken_by : Call → Bool → ℕ
-taken_by (Read at len) is_done = 0
-taken_by (Write at len) true = len
-taken_by (Write at len) false = 0
-taken_by Barrier is_done = 0
+abbrev pub byte_count_of : Call → Bool → ℕ
+byte_count_of (Read at len) is_done = 0
+byte_count_of (Write at len) true = len
+byte_count_of (Write at len) false = 0
+byte_count_of Barrier is_done = 0
 
 -- what one call makes of the content, the written bytes from its own on at hand
-abbrev pub stepped_by : Call → Bool → List ℕ → Content → Content
-stepped_by (Read at len) is_done written content = content
-stepped_by (Write at len) true written content = record { bytes = put content.bytes at (take len written); unsettled = (at, len) ∷ content.unsettled }
-stepped_by (Write at len) false written content = partly ((at, len) ∷ []) content
-stepped_by Barrier true written content = settled content
-stepped_by Barrier false written content = content
+abbrev pub next_content_by : Call → Bool → List ℕ → Content → Content
+next_content_by (Read at len) is_done written content = content
+next_content_by (Write at len) true written content = record { bytes = put content.bytes at (take len written); unsettled = (at, len) ∷ content.unsettled }
+next_content_by (Write at len) false written content = partly ((at, len) ∷ []) content
+next_content_by Barrier true written content = settled content
+next_content_by Barrier false written content = content
 
-abbrev pub taken : Record → ℕ
-taken made = taken_by made.call made.is_done
+-- how many of the written bytes are of a call that is kept
+abbrev pub byte_count : Record → ℕ
+byte_count made = byte_count_of made.call made.is_done
 
-abbrev pub stepped : Record → List ℕ → Content → Content
-stepped made written content = stepped_by made.call made.is_done written content
+-- the same of a call that is kept
+abbrev pub next_content : Record → List ℕ → Content → Content
+next_content made written content = next_content_by made.call made.is_done written content
 
 -- how many of the written bytes are of these calls
-abbrev pub all_taken : List Record → ℕ
-all_taken [] = 0
-all_taken (made ∷ later) = taken made + all_taken later
+abbrev pub total_bytes : List Record → ℕ
+total_bytes [] = 0
+total_bytes (made ∷ later) = byte_count made + total_bytes later
 
 -- no stamp passes this moment
 abbrev pub IsStamped : ℕ → List Record → Type 0
@@ -47,29 +49,29 @@ IsStamped now [] = Unit {0}
 IsStamped now (made ∷ later) = (made.moment ≤ now) × IsStamped now later
 
 -- a call settles what was written before it
-abbrev pub settles : Call → Bool → Bool
-settles (Read at len) is_done = false
-settles (Write at len) is_done = false
-settles Barrier is_done = is_done
+abbrev pub is_settling : Call → Bool → Bool
+is_settling (Read at len) is_done = false
+is_settling (Write at len) is_done = false
+is_settling Barrier is_done = is_done
 
 -- the ranges that are not settled after a call, where these were not before it
-abbrev pub unsettled_by : Call → Bool → List (ℕ × ℕ) → List (ℕ × ℕ)
-unsettled_by (Read at len) is_done ranges = ranges
-unsettled_by (Write at len) is_done ranges = (at, len) ∷ ranges
-unsettled_by Barrier true ranges = []
-unsettled_by Barrier false ranges = ranges
+abbrev pub next_unsettled : Call → Bool → List (ℕ × ℕ) → List (ℕ × ℕ)
+next_unsettled (Read at len) is_done ranges = ranges
+next_unsettled (Write at len) is_done ranges = (at, len) ∷ ranges
+next_unsettled Barrier true ranges = []
+next_unsettled Barrier false ranges = ranges
 
 -- the same after all of these calls
 abbrev pub unsettled_after : List Record → List (ℕ × ℕ) → List (ℕ × ℕ)
 unsettled_after [] ranges = ranges
-unsettled_after (made ∷ later) ranges = unsettled_after later (unsettled_by made.call made.is_done ranges)
+unsettled_after (made ∷ later) ranges = unsettled_after later (next_unsettled made.call made.is_done ranges)
 
--- after these calls, the first of them first
+-- the content after these calls, the first of them first
 abbrev pub content_after : List Record → List ℕ → Content → Content
 content_after [] written content = content
-content_after (made ∷ later) written content = content_after later (drop (taken made) written) (stepped made written content)
+content_after (made ∷ later) written content = content_after later (drop (byte_count made) written) (next_content made written content)
 
 -- A loss of power before one of these calls, each of which raised the moment above this one, might have left the image.
 abbrev pub LeftBefore : List Record → List ℕ → Content → ℕ → List ℕ → Type 0
 LeftBefore [] written content t image = ⊥
-LeftBefore (made ∷ later) written content t image = ((t < made.moment) × MayLeave content image) ⊎ LeftBefore later (drop (taken made) written) (stepped made written content) t image
+LeftBefore (made ∷ later) written content t image = ((t < made.moment) × MayLeave content image) ⊎ LeftBefore later (drop (byte_count made) written) (next_content made written content) t image

@@ -1,7 +1,7 @@
 // An image that a loss of power may leave, its bytes chosen where nothing is sure.
 ghost use Rattle.std.specs.Prelude.{◌≡◌, ◌<◌, ◌≤◌, [], ◌∷◌, length, drop};
 ghost use Rattle.pcm_media.specs.Choice.{IsLeftBy, IsChosen, ranges_of};
-ghost use Rattle.pcm_media.specs.Replay.{range_of, settles, unsettled_after};
+ghost use Rattle.pcm_media.specs.Replay.{range_of, is_settling, unsettled_after};
 
 use crate::{Call, Record};
 
@@ -38,7 +38,7 @@ fn choose_all_written(image: &mut [u8], records: &[Record], choice: &[u8])
 }
 
 fn settles(made: &Record) -> bool
-    ensures { result ≡ settles made.now.call made.now.is_done }
+    ensures { result ≡ is_settling made.now.call made.now.is_done }
 {
     match made.call {
         Call::Barrier => made.is_done,

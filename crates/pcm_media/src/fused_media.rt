@@ -1,11 +1,11 @@
 // A media that passes so many calls on, and then fails each.
-ghost use Rattle.std.specs.Prelude.{◌≡◌, ◌+◌, ◌-◌, ◌<◌, ◌≤◌, ◌==◌, [], ◌∷◌, length, if◌then◌else◌, IsTrue, IsErr, OnOk};
+ghost use Rattle.std.specs.Prelude.{◌≡◌, ◌+◌, ◌-◌, ◌<◌, ◌≤◌, [], ◌∷◌, length, IsTrue, OnOk};
 ghost use Rattle.std.specs.Bool.{OnTrue, OnFalse};
 ghost use Rattle.counted.specs.Moments.{Ticks};
 ghost use Rattle.pcm_media.specs.Images.{range, written, settled};
 ghost use Rattle.pcm_media.specs.View.{Writes};
 ghost use Rattle.pcm_media.specs.Kept.{next_count};
-ghost use Rattle.pcm_media.specs.Fused.{view_behind};
+ghost use Rattle.pcm_media.specs.Fused.{fused_view, Burns};
 
 use crate::Media;
 use counted::Failed;
@@ -59,7 +59,8 @@ impl<M> FusedMedia<M> {
         ensures inner { self.new.inner ≡ self.old.inner }
         ensures passes { self.new.passes ≡ self.old.passes - 1 }
         ensures passed { OnTrue result ((0 < self.old.passes) × (self.old.blown ≡ 0) × (self.new.blown ≡ 0)) }
-        ensures stopped { OnFalse result ((self.old.passes ≡ 0) × (self.old.blown ≤ self.new.blown) × (self.new.blown ≡ next_count self.old.blown)) }
+        ensures stopped { OnFalse result
+            ((self.old.passes ≡ 0) × (self.old.blown ≤ self.new.blown) × (self.new.blown ≡ next_count self.old.blown)) }
     {
         if self.passes == 0 {
             self.blown = self.blown.saturating_add(1);
@@ -71,18 +72,18 @@ impl<M> FusedMedia<M> {
 }
 
 impl<M: Media> Media for FusedMedia<M> {
-    ghost use Rattle.pcm_media.specs.Fused.{view_behind, only_behind};
+    ghost use Rattle.pcm_media.specs.Fused.{fused_view, only_fused};
     ghost use Rattle.std.proofs.Common.{inr};
 
     ghost tells = { M.tells };
 
-    ghost view = { λ m. view_behind (M.view m.inner) m.blown };
+    ghost view = { λ m. fused_view (M.view m.inner) m.blown };
 
     ghost long = { λ m told. M.long m.inner told };
 
     ghost counts_now = { λ m t image told le left. inr left };
 
-    ghost only_now = { λ m image told left. only_behind (M.view m.inner) m.blown image left };
+    ghost only_now = { λ m image told left. only_fused (M.view m.inner) m.blown image left };
 
     fn len(&self) -> u64 {
         self.inner.len()
@@ -94,14 +95,20 @@ impl<M: Media> Media for FusedMedia<M> {
 
     fn read(&mut self, at: u64, buf: &mut [u8]) -> Result<(), Failed>
         requires { at + length buf.old ≤ (M.view self.old.inner).size }
-        ensures bytes { IsTrue M.tells → OnOk result (buf.new ≡ range (M.view self.old.inner).content.bytes at (length buf.old)) }
-        ensures does { Writes M.tells [] (view_behind (M.view self.old.inner) self.old.blown) (view_behind (M.view self.new.inner) self.new.blown) result }
-        ensures ticks { Ticks (view_behind (M.view self.old.inner) self.old.blown).moment (view_behind (M.view self.new.inner) self.new.blown).moment result }
+        ensures bytes { IsTrue M.tells →
+            OnOk result (buf.new ≡ range (M.view self.old.inner).content.bytes at (length buf.old)) }
+        ensures does { Writes M.tells []
+            (fused_view (M.view self.old.inner) self.old.blown)
+            (fused_view (M.view self.new.inner) self.new.blown)
+            result }
+        ensures ticks { Ticks
+            (fused_view (M.view self.old.inner) self.old.blown).moment
+            (fused_view (M.view self.new.inner) self.new.blown).moment
+            result }
 
-        ensures passed_on { 0 < self.old.passes → Writes M.tells [] (M.view self.old.inner) (M.view self.new.inner) result }
-        ensures stopped { self.old.passes ≡ 0 → IsErr result × (self.new.inner ≡ self.old.inner) }
-        ensures passes { self.new.passes ≡ self.old.passes - 1 }
-        ensures blown { self.new.blown ≡ (if self.old.passes == 0 then next_count self.old.blown else self.old.blown) }
+        ensures passed_on { 0 < self.old.passes →
+            Writes M.tells [] (M.view self.old.inner) (M.view self.new.inner) result }
+        ensures fuse { Burns self.old self.new result }
     {
         if !self.takes_pass() {
             return Err(Failed);
@@ -111,14 +118,20 @@ impl<M: Media> Media for FusedMedia<M> {
 
     fn write(&mut self, at: u64, bytes: &[u8]) -> Result<(), Failed>
         requires { at + length bytes.now ≤ (M.view self.old.inner).size }
-        ensures written { IsTrue M.tells → OnOk result ((M.view self.new.inner).content ≡ written at bytes.now (M.view self.old.inner).content) }
-        ensures does { Writes M.tells ((at, length bytes.now) ∷ []) (view_behind (M.view self.old.inner) self.old.blown) (view_behind (M.view self.new.inner) self.new.blown) result }
-        ensures ticks { Ticks (view_behind (M.view self.old.inner) self.old.blown).moment (view_behind (M.view self.new.inner) self.new.blown).moment result }
+        ensures written { IsTrue M.tells →
+            OnOk result ((M.view self.new.inner).content ≡ written at bytes.now (M.view self.old.inner).content) }
+        ensures does { Writes M.tells ((at, length bytes.now) ∷ [])
+            (fused_view (M.view self.old.inner) self.old.blown)
+            (fused_view (M.view self.new.inner) self.new.blown)
+            result }
+        ensures ticks { Ticks
+            (fused_view (M.view self.old.inner) self.old.blown).moment
+            (fused_view (M.view self.new.inner) self.new.blown).moment
+            result }
 
-        ensures passed_on { 0 < self.old.passes → Writes M.tells ((at, length bytes.now) ∷ []) (M.view self.old.inner) (M.view self.new.inner) result }
-        ensures stopped { self.old.passes ≡ 0 → IsErr result × (self.new.inner ≡ self.old.inner) }
-        ensures passes { self.new.passes ≡ self.old.passes - 1 }
-        ensures blown { self.new.blown ≡ (if self.old.passes == 0 then next_count self.old.blown else self.old.blown) }
+        ensures passed_on { 0 < self.old.passes →
+            Writes M.tells ((at, length bytes.now) ∷ []) (M.view self.old.inner) (M.view self.new.inner) result }
+        ensures fuse { Burns self.old self.new result }
     {
         if !self.takes_pass() {
             return Err(Failed);
@@ -127,14 +140,20 @@ impl<M: Media> Media for FusedMedia<M> {
     }
 
     fn barrier(&mut self) -> Result<(), Failed>
-        ensures settled { IsTrue M.tells → OnOk result ((M.view self.new.inner).content ≡ settled (M.view self.old.inner).content) }
-        ensures does { Writes M.tells [] (view_behind (M.view self.old.inner) self.old.blown) (view_behind (M.view self.new.inner) self.new.blown) result }
-        ensures ticks { Ticks (view_behind (M.view self.old.inner) self.old.blown).moment (view_behind (M.view self.new.inner) self.new.blown).moment result }
+        ensures settled { IsTrue M.tells →
+            OnOk result ((M.view self.new.inner).content ≡ settled (M.view self.old.inner).content) }
+        ensures does { Writes M.tells []
+            (fused_view (M.view self.old.inner) self.old.blown)
+            (fused_view (M.view self.new.inner) self.new.blown)
+            result }
+        ensures ticks { Ticks
+            (fused_view (M.view self.old.inner) self.old.blown).moment
+            (fused_view (M.view self.new.inner) self.new.blown).moment
+            result }
 
-        ensures passed_on { 0 < self.old.passes → Writes M.tells [] (M.view self.old.inner) (M.view self.new.inner) result }
-        ensures stopped { self.old.passes ≡ 0 → IsErr result × (self.new.inner ≡ self.old.inner) }
-        ensures passes { self.new.passes ≡ self.old.passes - 1 }
-        ensures blown { self.new.blown ≡ (if self.old.passes == 0 then next_count self.old.blown else self.old.blown) }
+        ensures passed_on { 0 < self.old.passes →
+            Writes M.tells [] (M.view self.old.inner) (M.view self.new.inner) result }
+        ensures fuse { Burns self.old self.new result }
     {
         if !self.takes_pass() {
             return Err(Failed);

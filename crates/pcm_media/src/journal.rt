@@ -1,6 +1,6 @@
 // The calls that a media in memory keeps, and those that are to fail.
 ghost use Rattle.std.specs.Prelude.{◌≡◌, ◌↔◌, [], ◌∷◌, ◌++◌, length, IfOk, OnOk, OnErr, IsErr};
-ghost use Rattle.pcm_media.specs.Kept.{nothing_kept, next_count, MustFail, HasRoom, Makes, Takes};
+ghost use Rattle.pcm_media.specs.Kept.{fresh_kept, next_count, MustFail, HasRoom, Makes, Takes};
 
 use crate::{Call, Record};
 use counted::{Failed, NoMemory};
@@ -33,7 +33,7 @@ impl Model for Journal {
 impl Journal {
     // With room for so many calls and so many bytes that they write.
     pub fn new(alloc: Global, calls: u64, bytes: u64) -> Result<Journal, NoMemory>
-        ensures { IfOk result (λ j. j ≡ nothing_kept calls bytes) }
+        ensures { IfOk result (λ j. j ≡ fresh_kept calls bytes) }
     {
         Ok(Journal {
             records: Vec::with_capacity(alloc, calls as usize)?,

@@ -5,7 +5,7 @@ ghost use Rattle.pcm_media.specs.Images.{put, range, written, settled, partly};
 ghost use Rattle.pcm_media.specs.View.{Writes};
 ghost use Rattle.pcm_media.specs.declared.call.Call.TheVariants.{Read, Write, Barrier};
 ghost use Rattle.pcm_media.specs.Kept.{MustFail, HasRoom, Makes};
-ghost use Rattle.pcm_media.specs.Memory.{made_anew, content_of, view_of};
+ghost use Rattle.pcm_media.specs.Memory.{fresh_memory, content_of, view_of};
 ghost use Rattle.pcm_media.specs.Choice.{IsLeftBy};
 
 use crate::choice::choose;
@@ -51,7 +51,7 @@ impl MemoryMedia {
         calls: u64,
         written: u64,
     ) -> Result<MemoryMedia, NoMemory>
-        ensures { IfOk result (λ m. m ≡ made_anew bytes.now calls written) }
+        ensures { IfOk result (λ m. m ≡ fresh_memory bytes.now calls written) }
     {
         MemoryMedia::over(alloc, Vec::from_slice(alloc, bytes)?, calls, written)
     }
@@ -63,7 +63,7 @@ impl MemoryMedia {
         calls: u64,
         written: u64,
     ) -> Result<MemoryMedia, NoMemory>
-        ensures { IfOk result (λ m. m ≡ made_anew bytes.items calls written) }
+        ensures { IfOk result (λ m. m ≡ fresh_memory bytes.items calls written) }
     {
         Ok(MemoryMedia {
             alloc,
@@ -76,7 +76,8 @@ impl MemoryMedia {
     /// Lists a call of `read`, `write` or `barrier` as one that fails: the `nth`, counted from 1 since the media was made.
     pub fn fail(&mut self, nth: u64) -> Result<(), NoMemory>
         ensures start { self.new.start ≡ self.old.start }
-        ensures ok { OnOk result (self.new.kept ≡ record self.old.kept { listed = self.old.kept.listed ++ nth ∷ [] }) }
+        ensures ok { OnOk result
+            (self.new.kept ≡ record self.old.kept { listed = self.old.kept.listed ++ nth ∷ [] }) }
         ensures err { OnErr result (self.new.kept ≡ self.old.kept) }
     {
         self.journal.fail(nth)
@@ -87,6 +88,23 @@ impl MemoryMedia {
         ensures { result.now ≡ (content_of self.now).bytes }
     {
         &self.bytes
+    }
+
+    /// An image that a loss of power now may leave, made anew with the same room. At each place that is not settled it has the
+    /// byte of `choice` for that place, over and over; an empty choice keeps what a read gives.
+    pub fn leave(&self, choice: &[u8]) -> Result<MemoryMedia, NoMemory>
+        ensures left { IfOk result (λ m. IsLeftBy choice.now (content_of self.now) m.start) }
+        ensures anew { IfOk result (λ m.
+            m ≡ fresh_memory m.start self.now.kept.calls_room self.now.kept.bytes_room) }
+    {
+        let mut image = Vec::from_slice(self.alloc, &self.bytes)?;
+        choose(&mut image, self.journal.records(), choice);
+        MemoryMedia::over(
+            self.alloc,
+            image,
+            self.journal.calls_room(),
+            self.journal.bytes_room(),
+        )
     }
 
     /// Its calls, the first of them first.
@@ -101,24 +119,6 @@ impl MemoryMedia {
         ensures { result.now ≡ self.now.kept.written }
     {
         self.journal.written()
-    }
-}
-
-impl MemoryMedia {
-    /// An image that a loss of power now may leave, made anew with the same room. At each place that is not settled it has the
-    /// byte of `choice` for that place, over and over; an empty choice keeps what a read gives.
-    pub fn leave(&self, choice: &[u8]) -> Result<MemoryMedia, NoMemory>
-        ensures left { IfOk result (λ m. IsLeftBy choice.now (content_of self.now) m.start) }
-        ensures anew { IfOk result (λ m. m ≡ made_anew m.start self.now.kept.calls_room self.now.kept.bytes_room) }
-    {
-        let mut image = Vec::from_slice(self.alloc, &self.bytes)?;
-        choose(&mut image, self.journal.records(), choice);
-        MemoryMedia::over(
-            self.alloc,
-            image,
-            self.journal.calls_room(),
-            self.journal.bytes_room(),
-        )
     }
 }
 
@@ -171,8 +171,9 @@ impl Media for MemoryMedia {
         requires { at + length bytes.now ≤ length (content_of self.old).bytes }
         ensures written { OnOk result (content_of self.new ≡ written at bytes.now (content_of self.old)) }
         ensures err { OnErr result ((content_of self.new).bytes ≡ (content_of self.old).bytes) }
-        // A write that failed leaves its range unsettled, where it was kept at all.
-        ensures lost { HasRoom self.old.kept 0 → self.old.kept.moment < 2 ^ 64 - 1 → OnErr result (content_of self.new ≡ partly ((at, length bytes.now) ∷ []) (content_of self.old)) }
+        // Within the room a write that failed leaves its range unsettled.
+        ensures lost { HasRoom self.old.kept 0 → self.old.kept.moment < 2 ^ 64 - 1 →
+            OnErr result (content_of self.new ≡ partly ((at, length bytes.now) ∷ []) (content_of self.old)) }
         ensures does { Writes true ((at, length bytes.now) ∷ []) (view_of self.old) (view_of self.new) result }
         ensures ticks { Ticks self.old.kept.moment self.new.kept.moment result }
 

@@ -1,5 +1,5 @@
 -- The header of an array: what its bytes say, and the bytes that are written.
-use Rattle.std.specs.Prelude.{ℕ, ◌≡◌, ◌≢◌, List, [], ◌∷◌, ◌++◌, take, replicate, slice_index, codes}
+use Rattle.std.specs.Prelude.{ℕ, ◌≡◌, ◌≢◌, List, ◌∷◌, ◌++◌, take, replicate, slice_index, codes}
 use Rattle.byteorder.specs.Endian.{little_from, little_bytes}
 use Rattle.array_shape.specs.declared.shape.Shape.{Shape}
 use Rattle.array_shape.specs.declared.bad_shape.ShapeNumber.{ShapeNumber}

@@ -1,4 +1,4 @@
-use Rattle.std.proofs.Common.{◌≡◌, ℕ, sym, ap, subst, List}
+use Rattle.std.proofs.Common.{sym, ap, subst, List}
 use Rattle.array_image.specs.Parts.{Part, applied}
 use Rattle.array_image.specs.Image.{data_of}
 use Rattle.array_image.specs.Marked.{IsMaskOf}

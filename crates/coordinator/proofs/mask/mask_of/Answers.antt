@@ -1,4 +1,4 @@
-use Rattle.std.proofs.Common.{ℕ, ◌+◌, ◌≡◌, ◌≤◌, ◌<◌, length, subst, sym, arith}
+use Rattle.std.proofs.Common.{◌+◌, subst, sym, arith}
 use Rattle.array_image.specs.Marked.{IsMaskOf}
 use Rattle.coordinator.proofs.Masks.{mask_gains, mask_skips}
 use Rattle.coordinator.proofs.mask.mask_of.Goals.{then-counts-logger-gt0, else-counts-logger-gt0}

@@ -1,4 +1,3 @@
-use Rattle.std.proofs.Common.{◌≤◌, length, ◌≡◌, ℕ}
 use Rattle.array_image.specs.Marked.{IsMaskOf}
 use Rattle.coordinator.proofs.mask.mask_of.Given as goal
 

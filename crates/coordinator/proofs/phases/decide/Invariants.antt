@@ -1,4 +1,4 @@
-use Rattle.std.proofs.Common.{◌≡◌, ℕ, true, IsTrue}
+use Rattle.std.proofs.Common.{true, IsTrue}
 use Rattle.coordinator.specs.Between.{vote_places, HaveVotes}
 use Rattle.array_image.proofs.Calls.{SoFar}
 use Rattle.coordinator.proofs.phases.decide.Given as goal

@@ -1,13 +1,11 @@
-use Rattle.std.proofs.Common.{◌≡◌, ℕ, ◌+◌, ◌<◌, ◌≤◌, ◌∙◌, sym, ap, subst, List, [], ◌∷◌, length, arith}
+use Rattle.std.proofs.Common.{◌≡◌, ℕ, ◌∙◌, sym, ap, subst, length, arith}
 use Rattle.std.specs.Prelude.{slice_index}
-use Rattle.std.proofs.lemmas.Result.{on_ok_weaker}
-use Rattle.pcm_media.specs.Images.{SameOutside, IsOutside, Touched}
+use Rattle.pcm_media.specs.Images.{IsOutside}
 use Rattle.array_shape.specs.declared.shape.Shape.{Shape}
 use Rattle.array_shape.specs.Places.{media_len}
-use Rattle.array_image.specs.Parts.{Part, applied, places_of}
+use Rattle.array_image.specs.Parts.{applied, places_of}
 use Rattle.array_image.specs.Image.{data_of, cell_of, parts_from, IsGoodCell}
-use Rattle.array_image.specs.Marked.{named_parts}
-use Rattle.array_image.proofs.Calls.{goes_on, hands_on, then_barrier, barrier_keeps}
+use Rattle.array_image.proofs.Calls.{goes_on, hands_on}
 use Rattle.coordinator.proofs.Applying.{still_good, parts_within, logger_applied}
 use Rattle.coordinator.proofs.phases.install.Goals as goal
 
@@ -32,10 +30,10 @@ returns-in_err-apply-clause-does g c =
     let shape = c.args.shape.now in
     let logger = c.new-logger.ensures in
     let named : parts_from c.new-logger.result.shape cur c.new-logger.result.number c.args.tid (slice_index c.args.firsts.now c.from-at.result) (slice_index c.args.counts.now c.from-at.result)
-        ≡ parts_from shape cur c.loop-number.number c.args.tid (slice_index c.args.firsts.now c.loop-number.number) (slice_index c.args.counts.now c.loop-number.number) =
+    ≡ parts_from shape cur c.loop-number.number c.args.tid (slice_index c.args.firsts.now c.loop-number.number) (slice_index c.args.counts.now c.loop-number.number) =
     (λ i. parts_from (logger.shape i) cur (logger.number i) c.args.tid (slice_index c.args.firsts.now (c.from-at.ensures i)) (slice_index c.args.counts.now (c.from-at.ensures i))) in
     let places : places_of c.new-logger.result.shape (parts_from c.new-logger.result.shape cur c.new-logger.result.number c.args.tid (slice_index c.args.firsts.now c.from-at.result) (slice_index c.args.counts.now c.from-at.result))
-        ≡ places_of shape (parts_from shape cur c.loop-number.number c.args.tid (slice_index c.args.firsts.now c.loop-number.number) (slice_index c.args.counts.now c.loop-number.number)) = (λ i. places_of (logger.shape i) (named i)) in
+    ≡ places_of shape (parts_from shape cur c.loop-number.number c.args.tid (slice_index c.args.firsts.now c.loop-number.number) (slice_index c.args.counts.now c.loop-number.number)) = (λ i. places_of (logger.shape i) (named i)) in
     hands_on m.tells _ _ _ _ _ (λ told i out.
     let long : length base ≡ media_len shape = g.met.M.Media.long c.args.media.now told ∙ c.requires.size in
     subst (λ rs. IsOutside rs i) (sym places)
@@ -50,10 +48,10 @@ loop-number-preserved g c =
     let shape = c.args.shape.now in
     let logger = c.new-logger.ensures in
     let named : parts_from c.new-logger.result.shape cur c.new-logger.result.number c.args.tid (slice_index c.args.firsts.now c.from-at.result) (slice_index c.args.counts.now c.from-at.result)
-        ≡ parts_from shape cur c.loop-number.number c.args.tid (slice_index c.args.firsts.now c.loop-number.number) (slice_index c.args.counts.now c.loop-number.number) =
+    ≡ parts_from shape cur c.loop-number.number c.args.tid (slice_index c.args.firsts.now c.loop-number.number) (slice_index c.args.counts.now c.loop-number.number) =
     (λ i. parts_from (logger.shape i) cur (logger.number i) c.args.tid (slice_index c.args.firsts.now (c.from-at.ensures i)) (slice_index c.args.counts.now (c.from-at.ensures i))) in
     let places : places_of c.new-logger.result.shape (parts_from c.new-logger.result.shape cur c.new-logger.result.number c.args.tid (slice_index c.args.firsts.now c.from-at.result) (slice_index c.args.counts.now c.from-at.result))
-        ≡ places_of shape (parts_from shape cur c.loop-number.number c.args.tid (slice_index c.args.firsts.now c.loop-number.number) (slice_index c.args.counts.now c.loop-number.number)) = (λ i. places_of (logger.shape i) (named i)) in
+    ≡ places_of shape (parts_from shape cur c.loop-number.number c.args.tid (slice_index c.args.firsts.now c.loop-number.number) (slice_index c.args.counts.now c.loop-number.number)) = (λ i. places_of (logger.shape i) (named i)) in
     record {
       does = goes_on m.tells _ _ _ _ _ (λ told i out.
           let long : length base ≡ media_len shape = g.met.M.Media.long c.args.media.now told ∙ c.requires.size in

@@ -1,4 +1,4 @@
-use Rattle.std.proofs.Common.{◌≡◌, ℕ, IsTrue}
+use Rattle.std.proofs.Common.{◌≡◌, IsTrue}
 use Rattle.array_image.specs.Joined.{joined}
 use Rattle.array_image.specs.Parts.{applied, places_of}
 use Rattle.array_image.specs.Image.{data_of}

@@ -1,12 +1,9 @@
-use Rattle.std.proofs.Common.{◌≡◌, ℕ, ◌+◌, ◌<◌, ◌≤◌, ◌∙◌, sym, ap, subst, List, [], ◌∷◌, Result, Ok, Err, arith}
+use Rattle.std.proofs.Common.{◌≡◌, ℕ, ◌+◌, ◌<◌, ◌∙◌, sym, ap, subst, [], ◌∷◌, arith}
 use Rattle.std.specs.Prelude.{slice_index}
-use Rattle.counted.specs.declared.Failed.{Failed}
 use Rattle.pcm_media.specs.Images.{IsOutside, Touched}
-use Rattle.row_bytes.specs.declared.row.Row.{Row}
-use Rattle.pcm_media.specs.View.{View, Writes}
 use Rattle.array_shape.specs.Places.{row_at}
 use Rattle.array_image.specs.Image.{row_of}
-use Rattle.coordinator.specs.Between.{body_places, Names, HaveNames}
+use Rattle.coordinator.specs.Between.{Names, HaveNames}
 use Rattle.array_image.proofs.Calls.{goes_on, hands_on, then_barrier, barrier_keeps}
 use Rattle.coordinator.proofs.Calls.{body_within, names_more, names_from}
 use Rattle.std.proofs.lemmas.Result.{on_ok_weaker}

@@ -1,5 +1,4 @@
-use Rattle.std.proofs.Common.{◌≡◌, ℕ, IsTrue}
-use Rattle.pcm_media.specs.View.{View}
+use Rattle.std.proofs.Common.{IsTrue}
 use Rattle.coordinator.specs.Between.{body_places, HaveNames}
 use Rattle.array_image.proofs.Calls.{SoFar}
 use Rattle.coordinator.proofs.phases.prepare.Given as goal

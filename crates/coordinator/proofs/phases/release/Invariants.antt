@@ -1,4 +1,4 @@
-use Rattle.std.proofs.Common.{◌≡◌, ℕ, false, IsTrue}
+use Rattle.std.proofs.Common.{false, IsTrue}
 use Rattle.coordinator.specs.Between.{vote_places, HaveVotes}
 use Rattle.array_image.proofs.Calls.{SoFar}
 use Rattle.coordinator.proofs.phases.release.Given as goal

@@ -1,4 +1,4 @@
-use Rattle.std.proofs.Common.{◌≡◌, ◌<◌, ◌≤◌, ℕ, [], IsTrue}
+use Rattle.std.proofs.Common.{◌<◌, ◌≤◌, ℕ, [], IsTrue}
 use Rattle.array_image.specs.Image.{cell_of, IsGoodCell}
 use Rattle.array_image.proofs.Calls.{SoFar}
 use Rattle.device_recovery.proofs.checking.has_bad_cell.Given as goal

@@ -1,4 +1,4 @@
-use Rattle.std.proofs.Common.{◌≡◌, ◌≢◌, ℕ, ◌+◌, ◌<◌, ◌≤◌, [], ⊎_elim, refl, sym, ◌∙◌, ap, set, arith}
+use Rattle.std.proofs.Common.{ℕ, [], ⊎_elim, sym, ◌∙◌, ap, set, arith}
 use Rattle.std.proofs.lemmas.List.{length-set}
 use Rattle.std.proofs.lemmas.Bool.{cases_eq}
 use Rattle.pcm_media.proofs.Left.{same_bytes}

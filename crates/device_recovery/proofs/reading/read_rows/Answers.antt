@@ -1,4 +1,4 @@
-use Rattle.std.proofs.Common.{◌≡◌, ℕ, ◌+◌, ◌<◌, ◌≤◌, [], ⊎_elim, sym, ◌∙◌, ap, arith}
+use Rattle.std.proofs.Common.{ℕ, [], ⊎_elim, sym, ◌∙◌, ap, arith}
 use Rattle.std.proofs.lemmas.Bool.{cases_eq}
 use Rattle.pcm_media.proofs.Left.{same_bytes}
 use Rattle.array_image.specs.Image.{row_of}

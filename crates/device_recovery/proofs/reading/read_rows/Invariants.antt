@@ -1,4 +1,4 @@
-use Rattle.std.proofs.Common.{◌≡◌, ◌<◌, ℕ, [], IsTrue}
+use Rattle.std.proofs.Common.{[], IsTrue}
 use Rattle.array_image.proofs.Calls.{SoFar}
 use Rattle.device_recovery.specs.Table.{RowsAre}
 use Rattle.device_recovery.proofs.reading.read_rows.Given as goal

@@ -1,6 +1,6 @@
-use Rattle.std.proofs.Common.{◌≡◌, ◌<◌, ◌≤◌, ◌+◌, ℕ, true, false, sym, ◌∙◌, arith}
+use Rattle.std.proofs.Common.{sym, ◌∙◌, arith}
 use Rattle.std.specs.Prelude.{not, ◌&&◌, ◌||◌, nat_eq}
-use Rattle.array_image.specs.Decided.{has_logger, all_below, agrees}
+use Rattle.array_image.specs.Decided.{has_logger, agrees}
 use Rattle.array_image.proofs.Deciding.{all_from, none_from}
 use Rattle.device_recovery.specs.Table.{row_in}
 use Rattle.device_recovery.proofs.table.all_agree.Goals as goal

@@ -1,4 +1,4 @@
-use Rattle.std.proofs.Common.{refl, sym, ◌∙◌, arith}
+use Rattle.std.proofs.Common.{sym, ◌∙◌, arith}
 use Rattle.row_bytes.proofs.Saying.{head_said-is, little_from-piece}
 use Rattle.row_bytes.proofs.head.read_head.Goals as goal
 

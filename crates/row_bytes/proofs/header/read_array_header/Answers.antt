@@ -1,5 +1,4 @@
 use Rattle.std.proofs.Common.{rules, true, refl, sym, ◌∙◌}
-use Rattle.row_bytes.specs.Header.{SaysShape}
 use Rattle.row_bytes.proofs.Heading.{mark_told}
 use Rattle.row_bytes.proofs.header.read_array_header.Goals as goal
 

@@ -1,4 +1,4 @@
-use Rattle.std.proofs.Common.{◌≡◌, ℕ, ◌++◌, List, drop, replicate, sym, ◌∙◌, ap, subst}
+use Rattle.std.proofs.Common.{ℕ, ◌++◌, List, drop, replicate, sym, ◌∙◌, ap, subst}
 use Rattle.std.proofs.lemmas.List.{drop-replicate}
 use Rattle.row_bytes.specs.Header.{SaysShape, header_front, header_bytes}
 use Rattle.row_bytes.proofs.Heading.{header_bytes-says}

@@ -1,5 +1,4 @@
-use Rattle.std.proofs.Common.{◌≡◌, ◌∷◌, sym, ◌∙◌, ap, length, List, arith}
-use Rattle.array_shape.specs.declared.part.Part.{Part}
+use Rattle.std.proofs.Common.{sym, ◌∙◌, ap, length, arith}
 use Rattle.array_shape.specs.Parts.{parts_of}
 use Rattle.array_shape.proofs.Cutting.{parts_of-none, parts_of-step}
 use Rattle.array_shape.proofs.parts.PartsIterator.next.Goals as goal

@@ -1,10 +1,9 @@
-use Rattle.std.proofs.Common.{◌≡◌, ℕ, ◌+◌, ◌-◌, List, sym, ◌∙◌, ap, subst, length, arith}
+use Rattle.std.proofs.Common.{◌≡◌, ◌∙◌, length, arith}
 use Rattle.std.specs.Prelude.{IsTrue}
 use Rattle.array_shape.specs.Places.{media_len}
-use Rattle.array_image.specs.Parts.{places_of, applied}
-use Rattle.array_image.specs.Image.{parts_from, data_of}
-use Rattle.logger.specs.Cells.{in_media}
-use Rattle.logger.proofs.Applying.{AppliedTo, applied_none, applied_more, writes_more, cell_good, data_after}
+use Rattle.array_image.specs.Parts.{places_of}
+use Rattle.array_image.specs.Image.{parts_from}
+use Rattle.logger.proofs.Applying.{applied_more, writes_more, cell_good, data_after}
 use Rattle.logger.proofs.Ranges.{writes_failed}
 use Rattle.logger.proofs.logger.Logger.apply.Goals as goal
 

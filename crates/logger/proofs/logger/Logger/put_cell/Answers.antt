@@ -1,5 +1,4 @@
-use Rattle.std.proofs.Common.{◌≡◌, ℕ, ◌+◌, ◌<◌, ◌≤◌, [], ◌∷◌, length, arith}
-use Rattle.pcm_media.specs.Images.{IsOutside}
+use Rattle.std.proofs.Common.{◌+◌, [], ◌∷◌, length, arith}
 use Rattle.pcm_media.proofs.Writing.{writes_on, writes_within}
 use Rattle.array_shape.specs.Places.{cell_at}
 use Rattle.array_image.proofs.Places.{cell_fits_in}

@@ -1,8 +1,7 @@
-use Rattle.std.proofs.Common.{◌≡◌, ℕ, ◌-◌, [], ◌∷◌, List, take, drop, sym, ◌∙◌, ap, subst, length, arith}
+use Rattle.std.proofs.Common.{◌-◌, drop, sym, ◌∙◌, ap, subst, length, arith}
 use Rattle.std.proofs.lemmas.List.{length-take}
 use Rattle.array_shape.specs.Parts.{pieces_on}
-use Rattle.array_image.specs.Parts.{applied}
-use Rattle.logger.specs.Cells.{cell_writes, cell_ranges}
+use Rattle.logger.specs.Cells.{cell_ranges}
 use Rattle.logger.proofs.Staging.{StandsAt, stands_first, stands_past, stands_next, within_here, writes_more}
 use Rattle.logger.proofs.Ranges.{writes_failed}
 use Rattle.logger.proofs.logger.Logger.put_parts.Goals as goal
@@ -30,8 +29,7 @@ returns-in_err-put_cell-clause-does g c =
 pub loop-part-preserved-then-part-self : goal.loop-part-preserved-then-part-self
 loop-part-preserved-then-part-self g c =
     let view = g.M.Media.view in
-    stands_next c.args.self.shape c.args.self.number c.args.tid c.args.held c.args.addr c.args.bytes.now g.M.Media.tells (view c.args.media.now) (view c.loop-part.media) c.loop-part.entry c.in-Some.part c.loop-part.part-iterator c.next.new.self c.in-Some.ensures.steps c.loop-part.invariant (view c.put_cell.new.media) c.put_cell.result c.if-part-self.true c.put_cell.ensures.does
-    (λ told. c.in_ok-put_cell.ensures.written told ∙ ap (λ (piece : List ℕ). applied (cell_writes c.args.self.shape c.args.self.number c.args.tid c.loop-part.entry ((c.in-Some.part.addr, piece) ∷ [])) (view c.loop-part.media).content.bytes) c.bytes_of-piece.ensures)
+    stands_next c.args.self.shape c.args.self.number c.args.tid c.args.held c.args.addr c.args.bytes.now g.M.Media.tells (view c.args.media.now) (view c.loop-part.media) c.loop-part.entry c.in-Some.part c.loop-part.part-iterator c.next.new.self c.in-Some.ensures.steps c.loop-part.invariant (view c.put_cell.new.media) c.put_cell.result c.if-part-self.true c.put_cell.ensures.does c.bytes_of-piece.result.now c.bytes_of-piece.ensures c.in_ok-put_cell.ensures.written
 
 pub loop-part-preserved : goal.loop-part-preserved
 loop-part-preserved g c =

@@ -1,13 +1,11 @@
-use Rattle.std.proofs.Common.{◌≡◌, ℕ, ◌+◌, ◌≤◌, List, refl, sym, ◌∙◌, ap, subst, length, arith}
+use Rattle.std.proofs.Common.{◌≡◌, ℕ, ◌+◌, ◌≤◌, List, refl, ◌∙◌, ap, length, arith}
 use Rattle.std.proofs.lemmas.List.{length-map}
 use Rattle.std.proofs.lemmas.Result.{err_from_is_err_and}
 use Rattle.array_shape.specs.declared.shape.Shape.{Shape}
 use Rattle.array_shape.specs.Places.{media_len}
 use Rattle.array_shape.specs.Parts.{parts_on, piece_of, pieces_on}
 use Rattle.array_shape.proofs.Cutting.{pieces_on-parts}
-use Rattle.logger.specs.Cells.{HoldsParts}
-use Rattle.logger.proofs.Cells.{holds_parts}
-use Rattle.logger.proofs.Staging.{pieces_owned}
+use Rattle.logger.proofs.Staging.{staged_holds}
 use Rattle.logger.proofs.logger.Logger.stage.Goals as goal
 
 as_many : (shape : Shape) (g addr : ℕ) (bytes : List ℕ) (n : ℕ) → n ≡ length (parts_on shape g addr (length bytes)) → n ≡ length (pieces_on shape g addr bytes)
@@ -50,10 +48,6 @@ returns-clause-full g c =
 
 pub returns-clause-holds : goal.returns-clause-holds
 returns-clause-holds g c told =
-    let old = (g.M.Media.view c.args.media.now).content.bytes in
-    let long : length old ≡ media_len c.args.self.shape = g.met.M.Media.long c.args.media.now told ∙ c.requires.size in
-    let pieces = pieces_on c.args.self.shape c.args.self.number c.args.addr c.args.bytes.now in
-    subst (λ (image : List ℕ). HoldsParts c.args.self.shape image c.args.self.number c.args.tid c.args.held (pieces_on c.args.self.shape c.args.self.number c.args.addr c.args.bytes.now))
-    (sym (c.in_ok-put_parts.ensures.written told))
-    (holds_parts c.args.self.shape c.args.self.number c.args.tid c.args.self.there c.requires.tid pieces c.args.held old long (returns-clause-fits g c)
-    (pieces_owned c.args.self.shape c.args.self.number c.args.addr c.args.bytes.now c.requires.range))
+    let view = g.M.Media.view in
+    let long : length (view c.args.media.now).content.bytes ≡ media_len c.args.self.shape = g.met.M.Media.long c.args.media.now told ∙ c.requires.size in
+    staged_holds c.args.self.shape c.args.self.number c.args.tid c.args.held c.args.addr c.args.bytes.now (view c.args.media.now).content.bytes (view c.put_parts.new.media).content.bytes c.args.self.there c.requires.tid long c.requires.range (returns-clause-fits g c) (c.in_ok-put_parts.ensures.written told)

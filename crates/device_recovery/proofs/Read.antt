@@ -1,0 +1,48 @@
+-- What the table and heads that were read say of the image.
+use Rattle.std.proofs.Common.{◌≡◌, ℕ, ◌+◌, ◌<◌, ◌≤◌, List, drop, sym, ◌∙◌, ap, subst, arith}
+use Rattle.std.proofs.lemmas.List.{take-take}
+use Rattle.pcm_media.specs.Images.{range}
+use Rattle.array_shape.specs.declared.shape.Shape.{Shape}
+use Rattle.row_bytes.specs.declared.row.Row.{Row}
+use Rattle.row_bytes.specs.declared.head.Head.{Head}
+use Rattle.row_bytes.specs.Said.{head_said}
+use Rattle.array_image.specs.Parts.{IsOwned}
+use Rattle.array_image.specs.Image.{row_of, cell_of, cell_head, IsGoodCell}
+use Rattle.array_image.specs.Decided.{decided}
+use Rattle.array_image.specs.Standing.{IsGoodRow}
+use Rattle.array_image.proofs.Deciding.{decides_same}
+use Rattle.device_recovery.specs.Table.{row_in, RowsAre, decided_in}
+
+pub head_of_range : (bytes : List ℕ) (at : ℕ) → cell_head (range bytes at 528) ≡ head_said (range bytes at 16)
+head_of_range bytes at = ap head_said (take-take 16 528 (drop at bytes) (omega arith))
+
+-- from the rows of one number
+pub number_decided : (shape : Shape) (image : List ℕ) (rows : List Row) (t : ℕ) → ((h : ℕ) → h < shape.loggers → row_in rows h t ≡ row_of shape image h t) → (g : ℕ) → g < shape.loggers → decided_in shape rows g t ≡ decided shape image g t
+number_decided shape image rows t are g lt = decides_same shape.loggers (λ h. row_in rows h t) (λ h. row_of shape image h t) are g lt
+
+module _ (shape : Shape) (image : List ℕ) (rows : List Row) (are : RowsAre shape image shape.numbers rows) (g t : ℕ) (lt : g < shape.loggers) (lt' : t < shape.numbers) where
+  pub table_decided : decided_in shape rows g t ≡ decided shape image g t
+  table_decided = decides_same shape.loggers (λ h. row_in rows h t) (λ h. row_of shape image h t) (λ h below. are h t below lt') g lt
+
+  pub table_fits : IsGoodRow shape image g t → (row_in rows g t).first + (row_in rows g t).count ≤ shape.entries
+  table_fits good = subst (λ (r : Row). r.first + r.count ≤ shape.entries) (sym (are g t lt lt')) good.fits
+
+  pub table_good : (row : Row) → row ≡ row_in rows g t → row.first + row.count ≤ shape.entries → ((e : ℕ) → row.first ≤ e → e < row.first + row.count → IsGoodCell shape g (cell_of shape image g t e)) → IsGoodRow shape image g t
+  table_good row is fits cells =
+      let same = is ∙ are g t lt lt' in
+      let first = ap (λ (r : Row). r.first) same in
+      let count = ap (λ (r : Row). r.count) same in
+      record { fits = omega (arith, first, count); cells = λ e from below. cells e (omega (arith, first)) (omega (arith, first, count)) }
+
+  pub table_bad : (row : Row) → row ≡ row_in rows g t → (e : ℕ) → row.first ≤ e → e < row.first + row.count → (IsGoodCell shape g (cell_of shape image g t e) → ⊥) → IsGoodRow shape image g t → ⊥
+  table_bad row is e from below bad good =
+      let same = is ∙ are g t lt lt' in
+      let first = ap (λ (r : Row). r.first) same in
+      let count = ap (λ (r : Row). r.count) same in
+      bad (good.cells e (omega (arith, first)) (omega (arith, first, count)))
+
+pub owned_is : (shape : Shape) (g : ℕ) (cell : List ℕ) (head : Head) → head ≡ cell_head cell → IsOwned shape g head.addr head.len → IsGoodCell shape g cell
+owned_is shape g cell head is owned = subst (λ (h : Head). IsOwned shape g h.addr h.len) is owned
+
+pub owned_from : (shape : Shape) (g : ℕ) (cell : List ℕ) (head : Head) → head ≡ cell_head cell → IsGoodCell shape g cell → IsOwned shape g head.addr head.len
+owned_from shape g cell head is good = subst (λ (h : Head). IsOwned shape g h.addr h.len) (sym is) good

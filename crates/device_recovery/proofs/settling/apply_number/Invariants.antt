@@ -1,0 +1,16 @@
+use Rattle.std.proofs.Common.{◌≡◌, IsTrue}
+use Rattle.array_image.specs.Joined.{joined}
+use Rattle.array_image.specs.Parts.{applied, places_of}
+use Rattle.array_image.specs.Image.{data_of}
+use Rattle.array_image.specs.Decided.{decided_parts, number_parts}
+use Rattle.array_image.proofs.Calls.{SoFar}
+use Rattle.device_recovery.proofs.settling.apply_number.Given as goal
+
+abbrev pub invariant-loop-number : goal.invariant-loop-number
+invariant-loop-number g l =
+    let m = g.M.Media in
+    let base = (m.view l.fn.media).content.bytes in
+    record {
+      does : SoFar m.tells (places_of l.shape (number_parts l.shape base l.tid)) (m.view l.fn.media) (m.view l.media);
+      applied : IsTrue m.tells → data_of l.shape (m.view l.media).content.bytes ≡ applied (joined (λ h. decided_parts l.shape base h l.tid) 0 l.number) (data_of l.shape base);
+    }

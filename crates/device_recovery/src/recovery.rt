@@ -1,0 +1,82 @@
+// Recovery of an array.
+ghost use Rattle.std.specs.Prelude.{◌≡◌, ◌+◌, ◌<◌, ◌≤◌, [], ℕ, List, true, IsTrue, IfOk, IfErr, OnOk};
+ghost use Rattle.pcm_media.specs.Images.{MayLeave, IsOutside, Touched};
+ghost use Rattle.pcm_media.specs.View.{View, LeavesOnly, Writes};
+ghost use Rattle.array_shape.specs.Places.{media_len};
+ghost use Rattle.array_image.specs.Image.{data_of};
+ghost use Rattle.array_image.specs.Decided.{settled_data};
+ghost use Rattle.array_image.specs.Standing.{IsLawful, IsClean};
+ghost use Rattle.device_recovery.specs.Table.{row_in, RowsAre, decided_in};
+ghost use Rattle.device_recovery.specs.Recovered.{AllGood, IsFirstBad, HasNoVote, Counts, KeepsSense, SettlesLike, recovered_places, media_answer};
+ghost use Rattle.device_recovery.specs.declared.report.RecoverFault.TheVariants.{BadRow};
+
+use crate::checking::check_rows;
+use crate::counting::count_rows;
+use crate::reading::read_rows;
+use crate::report::{RecoverFault, Report};
+use crate::settling::{settle_data, settle_votes};
+use crate::table::MOST;
+use array_shape::Shape;
+use counted::Failed;
+use pcm_media::Media;
+use row_bytes::Row;
+
+/// Makes of what a loss of power left an array at rest: the parts of decided rows go into the data, and every vote is cleared.
+/// It may lose power itself, at any moment, and then leaves what settles to the same.
+///
+/// Where no row is voted it writes nothing.
+pub fn recover<M: Media>(media: &mut M, shape: &Shape) -> Result<Report, RecoverFault>
+    requires size { (M.view media.old).size ≡ media_len shape.now }
+    // Whatever the bytes were, the data is what they settle to, and no vote is left.
+    ensures clean { IsTrue M.tells → OnOk result (IsClean shape.now (M.view media.new).content) }
+    ensures settled { IsTrue M.tells → OnOk result (data_of shape.now (M.view media.new).content.bytes ≡ settled_data shape.now (M.view media.old).content.bytes) }
+    ensures counts { IsTrue M.tells → IfOk result (Counts shape.now (M.view media.old).content.bytes) }
+    // It refuses just where a decided row is not good, and names the first one.
+    ensures good { IsTrue M.tells → OnOk result (AllGood shape.now (M.view media.old).content.bytes shape.now.numbers) }
+    ensures bad { IsTrue M.tells → IfErr result (λ fault. (g t : ℕ) → fault ≡ BadRow g t → IsFirstBad shape.now (M.view media.old).content.bytes g t) }
+    ensures unwritten { IsTrue M.tells → IfErr result (λ fault. (g t : ℕ) → fault ≡ BadRow g t → Touched [] (M.view media.old).content (M.view media.new).content) }
+    ensures idle { IsTrue M.tells → HasNoVote shape.now (M.view media.old).content.bytes → Touched [] (M.view media.old).content (M.view media.new).content }
+    ensures any_moment { IsTrue M.tells → ((image : List ℕ) → MayLeave (M.view media.old).content image → IsLawful shape.now image)
+        → LeavesOnly (KeepsSense shape.now (M.view media.old).content) (M.view media.old) (M.view media.new) }
+    ensures does { Writes M.tells (recovered_places shape.now (M.view media.old).content.bytes) (M.view media.old) (M.view media.new) (media_answer result) }
+{
+    let rows = read_sound(media, shape)?;
+    let report = count_rows(&rows, shape);
+    if report.decided + report.dropped == 0 {
+        return Ok(report);
+    }
+    settle(media, shape, &rows)?;
+    Ok(report)
+}
+
+// Reads the rows of an array that is sure, and refuses bad ones.
+fn read_sound<M: Media>(media: &mut M, shape: &Shape) -> Result<[Row; MOST], RecoverFault>
+    requires size { (M.view media.old).size ≡ media_len shape.now }
+    ensures rows { IsTrue M.tells → IfOk result (RowsAre shape.now (M.view media.old).content.bytes shape.now.numbers) }
+    ensures good { IsTrue M.tells → OnOk result (AllGood shape.now (M.view media.old).content.bytes shape.now.numbers) }
+    ensures bad { IsTrue M.tells → IfErr result (λ fault. (g t : ℕ) → fault ≡ BadRow g t → IsFirstBad shape.now (M.view media.old).content.bytes g t) }
+    ensures fits { IfOk result (λ rows. (g t : ℕ) → g < shape.now.loggers → t < shape.now.numbers → decided_in shape.now rows g t ≡ true → (row_in rows g t).first + (row_in rows g t).count ≤ shape.now.entries) }
+    ensures sure { IsTrue M.tells → OnOk result ((i : ℕ) → IsOutside (M.view media.new).content.unsettled i) }
+    ensures does { Writes M.tells [] (M.view media.old) (M.view media.new) (media_answer result) }
+{
+    media.barrier()?;
+    let rows = read_rows(media, shape)?;
+    check_rows(media, shape, &rows)?;
+    Ok(rows)
+}
+
+// Writes the parts of the decided rows into the data, then clears the votes, each behind a barrier.
+fn settle<M: Media>(media: &mut M, shape: &Shape, rows: &[Row; MOST]) -> Result<(), Failed>
+    requires size { (M.view media.old).size ≡ media_len shape.now }
+    requires fits { (g t : ℕ) → g < shape.now.loggers → t < shape.now.numbers → decided_in shape.now rows.now g t ≡ true → (row_in rows.now g t).first + (row_in rows.now g t).count ≤ shape.now.entries }
+    requires sure { IsTrue M.tells → (i : ℕ) → IsOutside (M.view media.old).content.unsettled i }
+    requires rows { IsTrue M.tells → RowsAre shape.now (M.view media.old).content.bytes shape.now.numbers rows.now }
+    requires good { IsTrue M.tells → AllGood shape.now (M.view media.old).content.bytes shape.now.numbers }
+    ensures clean { IsTrue M.tells → OnOk result (IsClean shape.now (M.view media.new).content) }
+    ensures settled { IsTrue M.tells → OnOk result (data_of shape.now (M.view media.new).content.bytes ≡ settled_data shape.now (M.view media.old).content.bytes) }
+    ensures any_moment { IsTrue M.tells → IsLawful shape.now (M.view media.old).content.bytes → LeavesOnly (SettlesLike shape.now (M.view media.old).content.bytes) (M.view media.old) (M.view media.new) }
+    ensures does { Writes M.tells (recovered_places shape.now (M.view media.old).content.bytes) (M.view media.old) (M.view media.new) result }
+{
+    settle_data(media, shape, rows)?;
+    settle_votes(media, shape, rows)
+}

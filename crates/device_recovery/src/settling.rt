@@ -1,0 +1,103 @@
+// Writes the parts of decided rows into the data, and clears the votes.
+ghost use Rattle.std.specs.Prelude.{◌≡◌, ◌+◌, ◌<◌, ◌≤◌, [], ℕ, true, false, IsTrue, OnOk};
+ghost use Rattle.pcm_media.specs.View.{Writes};
+ghost use Rattle.array_shape.specs.Places.{media_len};
+ghost use Rattle.array_image.specs.Parts.{applied, places_of};
+ghost use Rattle.array_image.specs.Image.{row_of, data_of};
+ghost use Rattle.array_image.specs.Decided.{decided, number_parts, all_decided, settled_data};
+ghost use Rattle.array_image.specs.Standing.{IsGoodRow};
+ghost use Rattle.device_recovery.specs.Table.{row_in, RowsAre, decided_in};
+ghost use Rattle.device_recovery.specs.Recovered.{AllGood, HasNoVote, number_votes, voted_places};
+
+use crate::table::{MOST, is_decided, row_in};
+use array_shape::Shape;
+use counted::Failed;
+use logger::Logger;
+use pcm_media::Media;
+use row_bytes::Row;
+
+// Writes the parts of the decided rows of one number into the data.
+fn apply_number<M: Media>(
+    media: &mut M,
+    shape: &Shape,
+    rows: &[Row; MOST],
+    tid: u8,
+) -> Result<(), Failed>
+    requires tid { tid < shape.now.numbers }
+    requires size { (M.view media.old).size ≡ media_len shape.now }
+    requires fits { (g : ℕ) → g < shape.now.loggers → decided_in shape.now rows.now g tid ≡ true → (row_in rows.now g tid).first + (row_in rows.now g tid).count ≤ shape.now.entries }
+    requires rows { IsTrue M.tells → (g : ℕ) → g < shape.now.loggers → row_in rows.now g tid ≡ row_of shape.now (M.view media.old).content.bytes g tid }
+    requires good { IsTrue M.tells → (g : ℕ) → g < shape.now.loggers → decided shape.now (M.view media.old).content.bytes g tid ≡ true → IsGoodRow shape.now (M.view media.old).content.bytes g tid }
+    ensures applied { IsTrue M.tells → OnOk result (data_of shape.now (M.view media.new).content.bytes ≡
+        applied (number_parts shape.now (M.view media.old).content.bytes tid) (data_of shape.now (M.view media.old).content.bytes)) }
+    ensures does { Writes M.tells (places_of shape.now (number_parts shape.now (M.view media.old).content.bytes tid)) (M.view media.old) (M.view media.new) result }
+{
+    for number in 0..shape.loggers {
+        if !is_decided(rows, shape, number, tid) {
+            continue;
+        }
+        let row = row_in(rows, number, tid);
+        let logger = Logger::new(*shape, number);
+        logger.apply(media, tid, row.first, row.count)?;
+    }
+    Ok(())
+}
+
+/// Writes the parts of all decided rows into the data, and makes that sure.
+pub(crate) fn settle_data<M: Media>(
+    media: &mut M,
+    shape: &Shape,
+    rows: &[Row; MOST],
+) -> Result<(), Failed>
+    requires size { (M.view media.old).size ≡ media_len shape.now }
+    requires fits { (g t : ℕ) → g < shape.now.loggers → t < shape.now.numbers → decided_in shape.now rows.now g t ≡ true → (row_in rows.now g t).first + (row_in rows.now g t).count ≤ shape.now.entries }
+    requires rows { IsTrue M.tells → RowsAre shape.now (M.view media.old).content.bytes shape.now.numbers rows.now }
+    requires good { IsTrue M.tells → AllGood shape.now (M.view media.old).content.bytes shape.now.numbers }
+    ensures applied { IsTrue M.tells → OnOk result (((M.view media.new).content.unsettled ≡ []) × (data_of shape.now (M.view media.new).content.bytes ≡ settled_data shape.now (M.view media.old).content.bytes)) }
+    ensures does { Writes M.tells (places_of shape.now (all_decided shape.now (M.view media.old).content.bytes)) (M.view media.old) (M.view media.new) result }
+{
+    for tid in 0..shape.numbers {
+        apply_number(media, shape, rows, tid)?;
+    }
+    media.barrier()
+}
+
+// Clears the votes of the voted rows of one number.
+fn clear_number<M: Media>(
+    media: &mut M,
+    shape: &Shape,
+    rows: &[Row; MOST],
+    tid: u8,
+) -> Result<(), Failed>
+    requires tid { tid < shape.now.numbers }
+    requires size { (M.view media.old).size ≡ media_len shape.now }
+    requires rows { IsTrue M.tells → (g : ℕ) → g < shape.now.loggers → row_in rows.now g tid ≡ row_of shape.now (M.view media.old).content.bytes g tid }
+    ensures cleared { IsTrue M.tells → OnOk result ((g : ℕ) → g < shape.now.loggers → (row_of shape.now (M.view media.new).content.bytes g tid).voted ≡ false) }
+    ensures does { Writes M.tells (number_votes shape.now (M.view media.old).content.bytes tid) (M.view media.old) (M.view media.new) result }
+{
+    for number in 0..shape.loggers {
+        if !row_in(rows, number, tid).voted {
+            continue;
+        }
+        let logger = Logger::new(*shape, number);
+        logger.unvote(media, tid)?;
+    }
+    Ok(())
+}
+
+/// Clears the votes of all voted rows, and makes that sure.
+pub(crate) fn settle_votes<M: Media>(
+    media: &mut M,
+    shape: &Shape,
+    rows: &[Row; MOST],
+) -> Result<(), Failed>
+    requires size { (M.view media.old).size ≡ media_len shape.now }
+    requires rows { IsTrue M.tells → RowsAre shape.now (M.view media.old).content.bytes shape.now.numbers rows.now }
+    ensures cleared { IsTrue M.tells → OnOk result (((M.view media.new).content.unsettled ≡ []) × HasNoVote shape.now (M.view media.new).content.bytes) }
+    ensures does { Writes M.tells (voted_places shape.now (M.view media.old).content.bytes) (M.view media.old) (M.view media.new) result }
+{
+    for tid in 0..shape.numbers {
+        clear_number(media, shape, rows, tid)?;
+    }
+    media.barrier()
+}
