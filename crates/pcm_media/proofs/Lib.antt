@@ -2,3 +2,7 @@ pub mod Puts
 pub mod Left
 pub mod Ranges
 pub mod Writing
+mod Replay
+mod MemoryLemmas
+mod ChoiceLemmas
+mod FusedLemmas

@@ -1,11 +1,10 @@
 -- Calls one after another that write within given ranges.
-use Rattle.std.proofs.Common.{ℕ, ◌≤◌, ◌≡◌, Bool, List, [], ◌∷◌, ◌++◌, Result, Ok, Err, refl, sym, ◌∙◌, arith, min, ◌+◌, ◌-◌, ◌^◌}
-use Rattle.std.specs.Prelude.{IsTrue, OnErr}
+use Rattle.std.proofs.Common.{ℕ, ◌≤◌, Bool, List, Result, Ok, Err, refl, ◌∙◌, arith}
+use Rattle.std.specs.Prelude.{OnErr}
 use Rattle.counted.specs.Causes.{Rose, HasCause}
-use Rattle.counted.specs.Moments.{Elapses}
 use Rattle.counted.proofs.Going.{stays, weaker, then}
-use Rattle.pcm_media.specs.Images.{Content, MayLeave, Touched, IsOutside, partly}
-use Rattle.pcm_media.specs.View.{View, LeavesOnly, Writes}
+use Rattle.pcm_media.specs.Images.{MayLeave, IsOutside, partly}
+use Rattle.pcm_media.specs.View.{View, Writes}
 use Rattle.pcm_media.proofs.Left.{touched_by_nothing, touched_within, left_partly_on}
 
 rose_later : {T E : Type 0} (before mid now : ℕ) (r : Result T E) → before ≤ mid → OnErr r (Rose mid now) → OnErr r (Rose before now)

@@ -1,2 +1,7 @@
 pub mod Images
 pub mod View
+pub mod Kept
+pub mod Replay
+pub mod Memory
+pub mod Choice
+pub mod Fused

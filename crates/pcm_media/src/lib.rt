@@ -1,6 +1,17 @@
-//! A media with torn writes and barriers.
+//! A media with torn writes and barriers: one in memory, and one that stops behind a fuse.
 #![tactic(auto)]
 
+mod call;
+mod choice;
+mod fused_media;
+mod journal;
 mod media;
+mod memory_media;
 
+pub use call::{Call, Record};
+pub use fused_media::FusedMedia;
 pub use media::Media;
+pub use memory_media::MemoryMedia;
+
+#[cfg(test)]
+mod tests;

@@ -1,0 +1,18 @@
+//! Sources of bytes and sinks for bytes, each with a count of its faults: two that stay in memory and fail at the calls
+//! that a test lists, and two over std's reader and writer.
+#![tactic(auto)]
+
+mod memory_sink;
+mod memory_source;
+mod sink;
+mod source;
+mod standard;
+
+pub use memory_sink::MemorySink;
+pub use memory_source::MemorySource;
+pub use sink::Sink;
+pub use source::Source;
+pub use standard::{StdSink, StdSource};
+
+#[cfg(test)]
+mod tests;

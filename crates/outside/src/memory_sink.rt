@@ -1,0 +1,99 @@
+// A sink in memory, which fails at the calls that are listed.
+ghost use Rattle.std.specs.Prelude.{◌≡◌, ◌+◌, ◌≤◌, ◌↔◌, true, [], ◌∷◌, ◌++◌, length, IfOk, OnOk, OnErr, IsErr, Contains};
+ghost use Rattle.counted.specs.Causes.{HasCause};
+ghost use Rattle.outside.specs.Told.{Puts, TakesPart};
+ghost use Rattle.outside.specs.Counts.{next_count, faults_after};
+
+use crate::Sink;
+use counted::{Failed, NoMemory};
+use std::alloc::Global;
+use std::marker::Model;
+
+/// A sink that keeps what is written. While its room suffices it fails exactly at the calls that are listed; past its
+/// room also where no memory is left.
+#[derive(Drop)]
+pub struct MemorySink {
+    text: Vec<u8>,
+    room: u64,
+    listed: Vec<u64>,
+    calls: u64,
+    faults: u64,
+}
+
+impl Model for MemorySink {
+    ghost use Rattle.std.specs.Prelude.{◌≤◌};
+    ghost use Rattle.std.specs.Vec.{vec_capacity};
+    ghost use Rattle.outside.specs.Memory.{Writing};
+
+    ghost Value = { Writing };
+
+    ghost view = { λ s. record { text = s.text.items; room = s.room; listed = s.listed.items; calls = s.calls; faults = s.faults } };
+
+    ghost invariant = { λ s. s.room ≤ vec_capacity s.text };
+}
+
+impl MemorySink {
+    /// A sink with room for so many bytes, with no call listed.
+    pub fn new(alloc: Global, room: u64) -> Result<MemorySink, NoMemory>
+        ensures { IfOk result (λ s. s ≡ record { text = []; room = room; listed = []; calls = 0; faults = 0 }) }
+    {
+        Ok(MemorySink {
+            text: Vec::with_capacity(alloc, room as usize)?,
+            room,
+            listed: Vec::new(alloc),
+            calls: 0,
+            faults: 0,
+        })
+    }
+
+    /// Lists a call as one that fails: the `nth`, counted from 1 since the object was made.
+    pub fn fail(&mut self, nth: u64) -> Result<(), NoMemory>
+        ensures ok { OnOk result (self.new ≡ record self.old { listed = self.old.listed ++ nth ∷ [] }) }
+        ensures err { OnErr result (self.new ≡ self.old) }
+    {
+        self.listed.push(nth)?;
+        Ok(())
+    }
+
+    /// What was written.
+    pub fn written(&self) -> &[u8]
+        ensures { result.now ≡ self.now.text }
+    {
+        &self.text
+    }
+}
+
+impl Sink for MemorySink {
+    ghost tells = { true };
+
+    ghost written = { λ s. s.text };
+
+    ghost faults = { λ s. s.faults };
+
+    fn write(&mut self, piece: &[u8]) -> Result<usize, Failed>
+        ensures part { TakesPart result piece.now }
+        ensures whole { IfOk result (λ n. n ≡ length piece.now) }
+        ensures bytes { Puts self.old.text self.new.text result piece.now }
+
+        ensures listed { length self.old.text + length piece.now ≤ self.old.room →
+            (IsErr result ↔ Contains self.old.listed self.new.calls) }
+        ensures past_room { Contains self.old.listed self.new.calls → IsErr result }
+        ensures same_list { self.new.listed ≡ self.old.listed }
+        ensures same_room { self.new.room ≡ self.old.room }
+
+        ensures calls { self.new.calls ≡ next_count self.old.calls }
+        ensures faults { self.new.faults ≡ faults_after self.old.faults result }
+        ensures cause { HasCause self.old.faults self.new.faults result }
+    {
+        self.calls = self.calls.saturating_add(1);
+        if self.listed.contains(&self.calls) {
+            self.faults = self.faults.saturating_add(1);
+            return Err(Failed);
+        }
+        if self.text.extend_from_slice(piece).is_err() {
+            self.faults = self.faults.saturating_add(1);
+            return Err(Failed);
+        }
+        Ok(piece.len())
+    }
+}

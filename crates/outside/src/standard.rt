@@ -1,0 +1,108 @@
+// The source over std's reader and the sink over std's writer.
+ghost use Rattle.std.specs.Prelude.{◌≡◌, ◌≤◌, false, [], length, IfOk};
+ghost use Rattle.std.specs.Io.KnownBytes.{ReadConsumes, WriteAppends};
+ghost use Rattle.counted.specs.Causes.{HasCause};
+ghost use Rattle.outside.specs.Told.{TakesPart};
+ghost use Rattle.outside.specs.Counts.{faults_after};
+
+use crate::{Sink, Source};
+use counted::Failed;
+use std::io::{Read, Write};
+use std::marker::Model;
+
+/// A source over a reader. As a source it tells no bytes: no contract says what a reader over the outside gives.
+#[derive(Drop)]
+pub struct StdSource<R: Read> {
+    reader: R,
+    faults: u64,
+}
+
+impl<R: Read> Model for StdSource<R> {
+    ghost use Rattle.outside.specs.Standard.{Reader};
+
+    ghost Value = { Reader };
+
+    ghost view = { λ s. record { coming = R.remaining s.reader; faults = s.faults } };
+}
+
+impl<R: Read> StdSource<R> {
+    /// A source that has not failed yet.
+    pub fn new(reader: R) -> Self
+        ensures { result ≡ record { coming = R.remaining reader; faults = 0 } }
+    {
+        StdSource { reader, faults: 0 }
+    }
+}
+
+impl<R: Read> Source for StdSource<R> {
+    ghost tells = { false };
+
+    ghost left = { λ _. [] };
+
+    ghost faults = { λ s. s.faults };
+
+    ghost steady = { λ _. false };
+
+    fn read(&mut self, buf: &mut [u8]) -> Result<usize, Failed>
+        ensures bound { IfOk result (λ n. n ≤ length buf.new) }
+        ensures passed_on { ReadConsumes self.old.coming self.new.coming result buf.new }
+        ensures faults { self.new.faults ≡ faults_after self.old.faults result }
+        ensures cause { HasCause self.old.faults self.new.faults result }
+    {
+        match self.reader.read(buf) {
+            Ok(count) => Ok(count),
+            Err(_) => {
+                self.faults = self.faults.saturating_add(1);
+                Err(Failed)
+            }
+        }
+    }
+}
+
+/// A sink over a writer. As a sink it tells no bytes: no contract says what a writer to the outside takes.
+#[derive(Drop)]
+pub struct StdSink<W: Write> {
+    writer: W,
+    faults: u64,
+}
+
+impl<W: Write> Model for StdSink<W> {
+    ghost use Rattle.outside.specs.Standard.{Writer};
+
+    ghost Value = { Writer };
+
+    ghost view = { λ s. record { held = W.contents s.writer; faults = s.faults } };
+}
+
+impl<W: Write> StdSink<W> {
+    /// A sink that has not failed yet.
+    pub fn new(writer: W) -> Self
+        ensures { result ≡ record { held = W.contents writer; faults = 0 } }
+    {
+        StdSink { writer, faults: 0 }
+    }
+}
+
+impl<W: Write> Sink for StdSink<W> {
+    ghost tells = { false };
+
+    ghost written = { λ _. [] };
+
+    ghost faults = { λ s. s.faults };
+
+    /// A writer that takes nothing of a piece that is not empty has failed.
+    fn write(&mut self, piece: &[u8]) -> Result<usize, Failed>
+        ensures part { TakesPart result piece.now }
+        ensures passed_on { WriteAppends self.old.held self.new.held result piece.now }
+        ensures faults { self.new.faults ≡ faults_after self.old.faults result }
+        ensures cause { HasCause self.old.faults self.new.faults result }
+    {
+        match self.writer.write(piece) {
+            Ok(count) if count > 0 || piece.is_empty() => Ok(count),
+            _ => {
+                self.faults = self.faults.saturating_add(1);
+                Err(Failed)
+            }
+        }
+    }
+}

@@ -1,0 +1,223 @@
+-- What a call does to a media in memory.
+use Rattle.std.proofs.Common.{◌≡◌, ℕ, ◌+◌, ◌-◌, ◌^◌, ◌<◌, ◌≤◌, ◌⊎◌, Bool, true, false, inl, inr, ⊎_elim, List, [], ◌∷◌, ◌++◌, length, take, drop, Result, Ok, Err, refl, sym, ◌∙◌, ap, subst, arith}
+use Rattle.std.proofs.lemmas.List.{take_all, drop_all, append-nil, length-append}
+use Rattle.std.specs.Prelude.{OnOk, OnErr}
+use Rattle.counted.specs.Moments.{Elapses}
+use Rattle.counted.proofs.Going.{weaker}
+use Rattle.pcm_media.specs.declared.call.Call.{Call}
+use Rattle.pcm_media.specs.declared.call.Call.TheVariants.{Read, Write, Barrier}
+use Rattle.pcm_media.specs.declared.call.Record.{Record}
+use Rattle.pcm_media.specs.Images.{Content, MayLeave, Touched, put, written}
+use Rattle.pcm_media.specs.View.{Writes}
+use Rattle.pcm_media.specs.Kept.{Kept, IsKept, IsPassed, Makes}
+use Rattle.pcm_media.specs.Replay.{at_rest, range_of, byte_count_of, next_content_by, total_bytes, content_after, LeftBefore, IsStamped}
+use Rattle.pcm_media.specs.Memory.{Memory, content_of, LeftSince, view_of, Tells}
+use Rattle.pcm_media.proofs.Left.{touched_by_nothing, touched_by_write, touched_by_loss, touched_by_barrier, left_partly}
+use Rattle.pcm_media.proofs.Puts.{length-put}
+use Rattle.pcm_media.proofs.Replay.{content_push, before_push, before_last, before_only, before_past, total_bytes-push, stamped_push, stamped_later}
+
+-- A call and the bytes that it writes fit each other and the media.
+abbrev pub Suits : Call → List ℕ → ℕ → Type 0
+Suits (Read at len) bytes size = bytes ≡ []
+Suits (Write at len) bytes size = (len ≡ length bytes) × (at + len ≤ size)
+Suits Barrier bytes size = bytes ≡ []
+
+-- the bytes that a call has for itself
+abbrev pub own_bytes : Bool → List ℕ → List ℕ
+own_bytes true bytes = bytes
+own_bytes false bytes = []
+
+byte_count_is : (call : Call) (is_done : Bool) (bytes : List ℕ) (size : ℕ) → Suits call bytes size → byte_count_of call is_done ≡ length (own_bytes is_done bytes)
+byte_count_is (Read at len) true bytes size suits = sym (ap length suits)
+byte_count_is (Read at len) false bytes size suits = refl
+byte_count_is (Write at len) true bytes size suits = suits.0
+byte_count_is (Write at len) false bytes size suits = refl
+byte_count_is Barrier true bytes size suits = sym (ap length suits)
+byte_count_is Barrier false bytes size suits = refl
+
+touched_by_step : (call : Call) (is_done : Bool) (bytes : List ℕ) (content : Content) → Suits call bytes (length content.bytes) → Touched (range_of call) content (next_content_by call is_done (own_bytes is_done bytes) content)
+touched_by_step (Read at len) is_done bytes content suits = touched_by_nothing [] content
+touched_by_step (Write at len) true bytes content suits =
+    let whole : take len bytes ≡ bytes = take_all len bytes (omega (arith, suits.0)) in
+    subst (λ (l : List ℕ). Touched ((at, len) ∷ []) content (record { bytes = put content.bytes at l; unsettled = (at, len) ∷ content.unsettled })) (sym whole)
+    (subst (λ (n : ℕ). Touched ((at, n) ∷ []) content (record { bytes = put content.bytes at bytes; unsettled = (at, n) ∷ content.unsettled })) (sym suits.0)
+    (touched_by_write content at bytes (omega (arith, suits.0, suits.1))))
+touched_by_step (Write at len) false bytes content suits = touched_by_loss content at len
+touched_by_step Barrier true bytes content suits = touched_by_barrier content
+touched_by_step Barrier false bytes content suits = touched_by_nothing [] content
+
+module _ (start : List ℕ) (old new : Kept) where
+  abbrev shows : Kept → Memory
+  shows kept = record { start = start; kept = kept }
+
+  module _ (call : Call) (is_done : Bool) (bytes : List ℕ) (kept : IsKept call is_done bytes old new) (whole : total_bytes old.records ≡ length old.written) where
+    made : Record
+    made = record { moment = new.moment; call = call; is_done = is_done }
+
+    pub content_kept : content_of (shows new) ≡ next_content_by call is_done bytes (content_of (shows old))
+    unfolding made
+    content_kept =
+        ap (λ (l : List Record). content_after l new.written (at_rest start)) kept.records
+        ∙ ap (λ (l : List ℕ). content_after (old.records ++ made ∷ []) l (at_rest start)) kept.written
+        ∙ content_push made bytes old.records old.written (at_rest start) whole
+
+    -- what might have been left before a call of those kept now
+    before : (t : ℕ) (image : List ℕ) → LeftBefore new.records new.written (at_rest start) t image ≡ LeftBefore (old.records ++ made ∷ []) (old.written ++ bytes) (at_rest start) t image
+    unfolding made
+    before t image =
+        ap (λ (l : List Record). LeftBefore l new.written (at_rest start) t image) kept.records
+        ∙ ap (λ (l : List ℕ). LeftBefore (old.records ++ made ∷ []) l (at_rest start) t image) kept.written
+
+    pub time_kept : IsStamped old.moment old.records → Elapses old.moment new.moment (LeftSince (shows old)) (LeftSince (shows new)) (MayLeave (content_of (shows new)))
+    unfolding made
+    time_kept stamped = record {
+      later = omega (arith, kept.later);
+      keeps = λ t image le left. ⊎_elim
+          (λ now. inr (omega (arith, kept.later), subst (λ (X : Type 0). X) (sym (before t image)) (before_last made bytes t image old.records old.written (at_rest start) whole (omega (arith, kept.later)) now)))
+          (λ past. inr (omega (arith, kept.later), subst (λ (X : Type 0). X) (sym (before t image)) (before_push made bytes t image old.records old.written (at_rest start) whole past.1)))
+          left;
+      only = λ t image le left. ⊎_elim
+          (λ now. inr now)
+          (λ past. ⊎_elim
+          (λ earlier. inl (inr (before_past old.moment t image old.records old.written (at_rest start) stamped earlier, earlier)))
+          (λ last. inl (inl last))
+          (before_only made bytes t image old.records old.written (at_rest start) whole (subst (λ (X : Type 0). X) (before t image) past.1)))
+          left;
+    }
+
+    pub stamped_kept : IsStamped old.moment old.records → IsStamped new.moment new.records
+    unfolding made
+    stamped_kept stamped = subst (IsStamped new.moment) (sym kept.records) (stamped_push made new.moment old.records (omega arith) (stamped_later old.moment new.moment old.records (omega (arith, kept.later)) stamped))
+
+    pub whole_kept : byte_count_of call is_done ≡ length bytes → total_bytes new.records ≡ length new.written
+    unfolding made
+    whole_kept own = ap total_bytes kept.records ∙ total_bytes-push made bytes old.records ∙ omega (arith, length-append old.written bytes) ∙ sym (ap length kept.written)
+
+  module _ (passed : IsPassed old new) where
+    pub content_passed : content_of (shows new) ≡ content_of (shows old)
+    content_passed =
+        ap (λ (l : List Record). content_after l new.written (at_rest start)) passed.records
+        ∙ ap (λ (l : List ℕ). content_after old.records l (at_rest start)) passed.written
+
+    before_same : (t : ℕ) (image : List ℕ) → LeftBefore new.records new.written (at_rest start) t image ≡ LeftBefore old.records old.written (at_rest start) t image
+    before_same t image =
+        ap (λ (l : List Record). LeftBefore l new.written (at_rest start) t image) passed.records
+        ∙ ap (λ (l : List ℕ). LeftBefore old.records l (at_rest start) t image) passed.written
+
+    pub time_passed : IsStamped old.moment old.records → Elapses old.moment new.moment (LeftSince (shows old)) (LeftSince (shows new)) (MayLeave (content_of (shows new)))
+    time_passed stamped = record {
+      later = passed.later;
+      keeps = λ t image early left. ⊎_elim
+          (λ now. inl (subst (λ (c : Content). MayLeave c image) (sym content_passed) now))
+          (λ past. inr (omega (arith, past.0, passed.later), subst (λ (X : Type 0). X) (sym (before_same t image)) past.1))
+          left;
+      only = λ t image early left. ⊎_elim
+          (λ now. inr now)
+          (λ past. let earlier = subst (λ (X : Type 0). X) (before_same t image) past.1 in inl (inr (before_past old.moment t image old.records old.written (at_rest start) stamped earlier, earlier)))
+          left;
+    }
+
+    pub tells_passed : (read : List ℕ) → Tells (shows old) read → Tells (shows new) read
+    tells_passed read tells = record {
+      stamped = subst (IsStamped new.moment) (sym passed.records) (stamped_later old.moment new.moment old.records passed.later tells.stamped);
+      whole = ap total_bytes passed.records ∙ tells.whole ∙ sym (ap length passed.written);
+      bytes = (λ i. (content_passed i).bytes) ∙ tells.bytes;
+    }
+
+  -- one call, whatever it answered
+  module _ (call : Call) (bytes read : List ℕ) (tells : Tells (shows old) read) (suits : Suits call bytes (length read)) where
+    suits_content : Suits call bytes (length (content_of (shows old)).bytes)
+    suits_content = subst (λ (l : List ℕ). Suits call bytes (length l)) (sym tells.bytes) suits
+
+    touched_kept : (is_done : Bool) → IsKept call is_done (own_bytes is_done bytes) old new → Touched (range_of call) (content_of (shows old)) (content_of (shows new))
+    touched_kept is_done kept = subst (Touched (range_of call) (content_of (shows old))) (sym (content_kept call is_done (own_bytes is_done bytes) kept tells.whole)) (touched_by_step call is_done bytes (content_of (shows old)) suits_content)
+
+    touched_passed : IsPassed old new → Touched (range_of call) (content_of (shows old)) (content_of (shows new))
+    touched_passed passed = subst (Touched (range_of call) (content_of (shows old))) (sym (content_passed passed)) (touched_by_nothing (range_of call) (content_of (shows old)))
+
+    pub touched : {T E : Type 0} (result : Result T E) → Makes call bytes old new result → Touched (range_of call) (content_of (shows old)) (content_of (shows new))
+    touched (Ok x) makes = touched_kept true makes.done
+    touched (Err e) makes = ⊎_elim touched_passed (touched_kept false) makes.failed
+
+    time : {T E : Type 0} (result : Result T E) → Makes call bytes old new result → Elapses old.moment new.moment (LeftSince (shows old)) (LeftSince (shows new)) (MayLeave (content_of (shows new)))
+    time (Ok x) makes = time_kept call true bytes makes.done tells.whole tells.stamped
+    time (Err e) makes = ⊎_elim (λ passed. time_passed passed tells.stamped) (λ kept. time_kept call false [] kept tells.whole tells.stamped) makes.failed
+
+    pub does : {T E : Type 0} (result : Result T E) → Makes call bytes old new result → Writes true (range_of call) (view_of (shows old)) (view_of (shows new)) result
+    does result makes = let change : Touched (range_of call) (content_of (shows old)) (content_of (shows new)) = touched result makes in record {
+      size = change.bytes.long;
+      cause = makes.cause;
+      touched = λ told. change;
+      time = λ told. weaker (left_partly (range_of call) (content_of (shows old)) (content_of (shows new)) change) (time result makes);
+    }
+
+    pub content_done : IsKept call true bytes old new → content_of (shows new) ≡ next_content_by call true bytes (content_of (shows old))
+    content_done kept = content_kept call true bytes kept tells.whole
+
+    -- A call that was done leaves these bytes, and one that failed those that were there.
+    pub tells_done : (after : List ℕ) → (next_content_by call true bytes (content_of (shows old))).bytes ≡ after → IsKept call true bytes old new → Tells (shows new) after
+    tells_done after is kept = record {
+      stamped = stamped_kept call true bytes kept tells.whole tells.stamped;
+      whole = whole_kept call true bytes kept tells.whole (byte_count_is call true bytes (length read) suits);
+      bytes = (λ i. (content_done kept i).bytes) ∙ is;
+    }
+
+    same_read : (next_content_by call false [] (content_of (shows old))).bytes ≡ read
+    same_read = stays call ∙ tells.bytes
+      where
+        stays : (x : Call) → (next_content_by x false [] (content_of (shows old))).bytes ≡ (content_of (shows old)).bytes
+        stays (Read at len) = refl
+        stays (Write at len) = refl
+        stays Barrier = refl
+
+    pub tells_failed : IsPassed old new ⊎ IsKept call false [] old new → Tells (shows new) read
+    tells_failed failed = ⊎_elim
+        (λ passed. tells_passed passed read tells)
+        (λ kept. record {
+          stamped = stamped_kept call false [] kept tells.whole tells.stamped;
+          whole = whole_kept call false [] kept tells.whole (byte_count_is call false bytes (length read) suits);
+          bytes = (λ i. (content_kept call false [] kept tells.whole i).bytes) ∙ same_read;
+        })
+        failed
+
+    -- the same for a call that changes no byte
+    pub tells_either : {T E : Type 0} (result : Result T E) → (next_content_by call true bytes (content_of (shows old))).bytes ≡ (content_of (shows old)).bytes → Makes call bytes old new result → Tells (shows new) read
+    tells_either (Ok x) same makes = tells_done read (same ∙ tells.bytes) makes.done
+    tells_either (Err e) same makes = tells_failed makes.failed
+
+    pub content_on_ok : {T E : Type 0} (result : Result T E) → Makes call bytes old new result → OnOk result (content_of (shows new) ≡ next_content_by call true bytes (content_of (shows old)))
+    content_on_ok (Ok x) makes = content_done makes.done
+    content_on_ok (Err e) makes = tt
+
+    content_failed : IsPassed old new ⊎ IsKept call false [] old new → (content_of (shows new) ≡ content_of (shows old)) ⊎ (content_of (shows new) ≡ next_content_by call false [] (content_of (shows old)))
+    content_failed failed = ⊎_elim (λ passed. inl (content_passed passed)) (λ kept. inr (content_kept call false [] kept tells.whole)) failed
+
+    -- a call that does nothing where it failed
+    pub content_on_err : {T E : Type 0} (result : Result T E) → next_content_by call false [] (content_of (shows old)) ≡ content_of (shows old) → Makes call bytes old new result → OnErr result (content_of (shows new) ≡ content_of (shows old))
+    content_on_err (Ok x) none makes = tt
+    content_on_err (Err e) none makes = ⊎_elim (λ same. same) (λ step. step ∙ none) (content_failed makes.failed)
+
+    -- a call that does nothing at all
+    pub content_same : {T E : Type 0} (result : Result T E) → next_content_by call true bytes (content_of (shows old)) ≡ content_of (shows old) → next_content_by call false [] (content_of (shows old)) ≡ content_of (shows old) → Makes call bytes old new result → content_of (shows new) ≡ content_of (shows old)
+    content_same (Ok x) done none makes = content_done makes.done ∙ done
+    content_same (Err e) done none makes = ⊎_elim (λ same. same) (λ step. step ∙ none) (content_failed makes.failed)
+
+    pub bytes_failed : IsPassed old new ⊎ IsKept call false [] old new → (content_of (shows new)).bytes ≡ (content_of (shows old)).bytes
+    bytes_failed failed = ⊎_elim (λ same i. (same i).bytes) (λ step. (λ i. (step i).bytes) ∙ same_read ∙ sym tells.bytes) (content_failed failed)
+
+    -- a call that failed, and for which there was room
+    pub content_lost : {T E : Type 0} (e : E) → (let r : Result T E = Err e in Makes call bytes old new r) → length old.records < old.calls_room → old.moment < 2 ^ 64 - 1 → content_of (shows new) ≡ next_content_by call false [] (content_of (shows old))
+    content_lost e makes room low =
+        let written : new.written ≡ old.written ++ [] = ⊎_elim (λ passed. passed.written ∙ sym (append-nil old.written)) (λ kept. kept.written) makes.failed in
+        content_kept call false [] (record { later = omega (arith, makes.ticks.next); records = makes.kept low room; written = written }) tells.whole
+
+-- a write that was done makes what a write makes
+pub step_written : (at : ℕ) (bytes : List ℕ) (content : Content) → next_content_by (Write at (length bytes)) true bytes content ≡ written at bytes content
+step_written at bytes content = ap (λ (l : List ℕ). record { bytes = put content.bytes at l; unsettled = (at, length bytes) ∷ content.unsettled }) (take_all (length bytes) bytes (omega arith))
+
+-- a vector whose slice was changed as a whole
+pub written_back : (items slice over more : List ℕ) (at n : ℕ) → n ≡ length items → slice ≡ items → over ≡ put slice at more → at + length more ≤ length items → take n (over ++ drop (length over) items) ≡ put items at more
+written_back items slice over more at n count is done fits =
+    let all : over ≡ put items at more = done ∙ ap (λ (l : List ℕ). put l at more) is in
+    let long : length over ≡ length items = ap length all ∙ length-put items at more fits in
+    ap (λ (l : List ℕ). take n (over ++ l)) (drop_all (length over) items (omega arith)) ∙ ap (take n) (append-nil over) ∙ take_all n over (omega arith) ∙ all

@@ -1,0 +1,81 @@
+-- What a media in memory keeps of its calls.
+use Rattle.std.specs.Prelude.{ℕ, ◌≡◌, ◌+◌, ◌-◌, ◌^◌, ◌<◌, ◌≤◌, ◌⊎◌, min, Bool, true, false, List, [], ◌∷◌, ◌++◌, length, Contains, Result, Ok, Err, OnOk, OnErr, is_ok}
+use Rattle.std.specs.Bool.{OnTrue, OnFalse}
+use Rattle.counted.specs.Causes.{HasCause}
+use Rattle.counted.specs.Moments.{Ticks}
+use Rattle.pcm_media.specs.declared.call.Call.{Call}
+use Rattle.pcm_media.specs.declared.call.Record.{Record}
+
+-- Its calls, the first of them first, and the bytes of the writes that were done, one after another; the moment; the numbers
+-- of the calls that are to fail; how many calls failed; and for how many calls and written bytes it has room.
+pub record Kept : Type 0 where
+  pub records : List Record
+  pub written : List ℕ
+  pub moment : ℕ
+  pub listed : List ℕ
+  pub faults : ℕ
+  pub calls_room : ℕ
+  pub bytes_room : ℕ
+
+-- nothing yet
+abbrev pub fresh_kept : ℕ → ℕ → Kept
+fresh_kept calls bytes = record { records = []; written = []; moment = 0; listed = []; faults = 0; calls_room = calls; bytes_room = bytes }
+
+-- one more, up to the last value of a u64
+abbrev pub next_count : ℕ → ℕ
+next_count n = min (n + 1) (2 ^ 64 - 1)
+
+-- the count of faults behind a call that answered this
+abbrev pub faults_after : {T E : Type 0} → ℕ → Result T E → ℕ
+faults_after n (Ok x) = n
+faults_after n (Err e) = next_count n
+
+-- the next call fails whatever it is: it is listed, or the moment stands at its last value
+abbrev pub MustFail : Kept → Type 0
+MustFail kept = (kept.moment ≡ 2 ^ 64 - 1) ⊎ Contains kept.listed (kept.moment + 1)
+
+-- there is room for one call more, which writes so many bytes
+abbrev pub HasRoom : Kept → ℕ → Type 0
+HasRoom kept count = (length kept.records < kept.calls_room) × (length kept.written + count ≤ kept.bytes_room)
+
+-- this call is kept behind the others, stamped with the moment to which it raised
+abbrev pub records_with : Kept → ℕ → Call → Bool → List Record
+records_with kept moment call is_done = kept.records ++ record { moment = moment; call = call; is_done = is_done } ∷ []
+
+-- the call was kept, with the bytes that it wrote, at a moment of its own
+pub record IsKept (call : Call) (is_done : Bool) (bytes : List ℕ) (old new : Kept) : Type 0 where
+  pub later : old.moment < new.moment
+  pub records : new.records ≡ records_with old new.moment call is_done
+  pub written : new.written ≡ old.written ++ bytes
+
+-- no call was kept
+pub record IsPassed (old new : Kept) : Type 0 where
+  pub later : old.moment ≤ new.moment
+  pub records : new.records ≡ old.records
+  pub written : new.written ≡ old.written
+
+-- A call was made, and wrote these bytes where it was done. It is kept where there was memory for that, and surely where there
+-- was room.
+pub record Makes {T E : Type 0} (call : Call) (bytes : List ℕ) (old new : Kept) (result : Result T E) : Type 0 where
+  pub ticks : Ticks old.moment new.moment result
+  pub faults : new.faults ≡ faults_after old.faults result
+  pub cause : HasCause old.faults new.faults result
+  pub done : OnOk result (IsKept call true bytes old new)
+  pub failed : OnErr result (IsPassed old new ⊎ IsKept call false [] old new)
+  pub kept : old.moment < 2 ^ 64 - 1 → length old.records < old.calls_room → new.records ≡ records_with old new.moment call (is_ok result)
+  pub listed : new.listed ≡ old.listed
+  pub calls_room : new.calls_room ≡ old.calls_room
+  pub bytes_room : new.bytes_room ≡ old.bytes_room
+
+-- the same, before a failure is counted
+pub record Takes (call : Call) (bytes : List ℕ) (old new : Kept) (is_done : Bool) : Type 0 where
+  pub must : MustFail old → is_done ≡ false
+  pub only : HasRoom old (length bytes) → is_done ≡ false → MustFail old
+  pub moment : new.moment ≡ next_count old.moment
+  pub faults : new.faults ≡ old.faults
+  pub done : OnTrue is_done (IsKept call true bytes old new)
+  pub failed : OnFalse is_done (IsPassed old new ⊎ IsKept call false [] old new)
+  pub kept : old.moment < 2 ^ 64 - 1 → length old.records < old.calls_room → new.records ≡ records_with old new.moment call is_done
+  pub listed : new.listed ≡ old.listed
+  pub calls_room : new.calls_room ≡ old.calls_room
+  pub bytes_room : new.bytes_room ≡ old.bytes_room
