@@ -9,3 +9,4 @@ pub mod Frames
 pub mod Orders
 pub mod Calls
 pub mod Headers
+pub mod Staging
