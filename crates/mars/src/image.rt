@@ -1,0 +1,30 @@
+// The image `-`.
+ghost use Rattle.std.specs.Prelude.{◌≡◌, IfOk};
+ghost use Rattle.array_shape.specs.declared.shape.Shape.{Shape};
+ghost use Rattle.array_shape.specs.Places.{HasNumbers};
+ghost use Rattle.pcm_media.specs.Memory.{content_of};
+ghost use Rattle.eaw_device.specs.Fresh.{IsFresh};
+
+use counted::NoMemory;
+use eaw_device::{first_shape, format};
+use pcm_media::MemoryMedia;
+use std::alloc::Global;
+
+// Room for the record of the calls that `format` makes, and of a short run. Past it the record grows as the run does.
+const CALLS: u64 = 1024;
+
+const WRITTEN: u64 = 262_144;
+
+/// A fresh array in memory.
+pub fn fresh_image(alloc: Global) -> Result<MemoryMedia, NoMemory>
+    ensures fresh { IfOk result (λ media. (shape : Shape) × HasNumbers 1 8 16 256 shape × IsFresh shape (content_of media)) }
+{
+    let shape = first_shape();
+    let zeros = vec![in alloc; 0; shape.media_len() as usize]?;
+    let mut media = MemoryMedia::new(alloc, &zeros, CALLS, WRITTEN)?;
+    match format(&mut media, &shape) {
+        Ok(()) => Ok(media),
+        // A media in memory with no call listed fails only where memory for its record does.
+        Err(_) => Err(NoMemory),
+    }
+}
