@@ -1,7 +1,8 @@
 -- Calls of a media one after another, and a barrier behind them.
-use Rattle.std.proofs.Common.{◌≡◌, ℕ, Bool, List, [], Result, Ok, Err, sym, ◌∙◌, ap, subst}
+use Rattle.std.proofs.Common.{◌≡◌, ℕ, inl, inr, ⊎_elim, Bool, List, [], Result, Ok, Err, sym, ◌∙◌, ap, subst}
 use Rattle.std.specs.Prelude.{IsTrue, OnErr}
 use Rattle.counted.specs.Causes.{Rose}
+use Rattle.counted.specs.Moments.{Elapses}
 use Rattle.counted.proofs.Going.{weaker, then}
 use Rattle.pcm_media.specs.Images.{Content, IsOutside, settled}
 use Rattle.pcm_media.specs.View.{View, Writes}
@@ -48,3 +49,7 @@ barrier_keeps P mid new holds is = (ap (λ (c : Content). c.unsettled) is, subst
 -- nothing was called yet
 pub none_yet : (tells : Bool) (ranges : List (ℕ × ℕ)) (now : View) → SoFar tells ranges now now
 none_yet tells ranges now = writes_none tells ranges now tt
+
+-- two facts about what is left anew
+pub both_left : {C : Type 0} {before now : ℕ} {past since : ℕ → C → Type 0} {P Q : C → Type 0} → Elapses before now past since P → Elapses before now past since Q → Elapses before now past since (λ c. P c × Q c)
+both_left a b = record { later = a.later; keeps = a.keeps; only = λ t c le left. ⊎_elim (λ was. inl was) (λ p. ⊎_elim (λ was. inl was) (λ q. inr (p, q)) (b.only t c le left)) (a.only t c le left) }

@@ -8,3 +8,5 @@ pub mod Standing
 pub mod Frames
 pub mod Orders
 pub mod Calls
+pub mod Headers
+pub mod Staging

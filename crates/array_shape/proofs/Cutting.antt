@@ -1,13 +1,14 @@
 -- The parts of a range and the pieces of a write, one after another.
-use Rattle.std.proofs.Common.{◌≡◌, ℕ, zero, suc, ◌+◌, ◌-◌, ◌*◌, ◌%◌, ◌^◌, ◌<◌, ◌≤◌, Bool, true, false, cond, nat_eq, inl, inr, min, List, [], ◌∷◌, length, take, drop, map, refl, length-drop, sym, ◌∙◌, ap, subst, arith}
+use Rattle.std.proofs.Common.{◌≡◌, ℕ, zero, suc, ◌+◌, ◌-◌, ◌*◌, ◌%◌, ◌^◌, ◌<◌, ◌≤◌, Bool, true, false, cond, nat_eq, inl, inr, min, List, [], ◌∷◌, ◌++◌, length, take, drop, map, refl, length-drop, sym, ◌∙◌, ap, subst, arith}
 use Rattle.std.proofs.lemmas.Bool.{cases_lt}
-use Rattle.std.proofs.lemmas.List.{take_min, drop-drop}
+use Rattle.std.proofs.lemmas.List.{take_min, drop-drop, length-take, take-append-drop}
+use Rattle.std.specs.List.{flat_map}
 use Rattle.std.proofs.lemmas.List.Elements.{All-nil, All-cons}
 use Rattle.std.proofs.lemmas.Nat.{mul-le}
 use Rattle.std.specs.Prelude.{All, filter}
 use Rattle.array_shape.specs.declared.shape.Shape.{Shape}
 use Rattle.array_shape.specs.declared.part.Part.{Part}
-use Rattle.array_shape.specs.Places.{logger_of, data_len}
+use Rattle.array_shape.specs.Places.{logger_of, data_len, IsPlaced}
 use Rattle.array_shape.specs.Parts.{page_left, first_parts, parts_of, Tile, AreCutAtPages, IsPartOf, first_pieces, pieces_of, piece_of, is_part_on, parts_on, is_piece_on, pieces_on}
 
 -- the first part of a range that is not empty
@@ -199,3 +200,41 @@ filter_few p (x ∷ xs) = few (p x) (filter_few p xs)
     few : (b : Bool) → length (filter p xs) ≤ length xs → length (cond b (x ∷ filter p xs) (filter p xs)) ≤ suc (length xs)
     few true le = omega arith
     few false le = omega arith
+
+-- the bytes of the pieces, one after another, are those of the write
+first_joined : (n addr : ℕ) (bytes : List ℕ) → length bytes ≤ n → flat_map (λ (p : ℕ × List ℕ). p.1) (first_pieces n addr bytes) ≡ bytes
+first_joined zero addr [] le = refl
+first_joined zero addr (b ∷ bytes) le = absurd (omega arith)
+first_joined (suc n) addr [] le = refl
+first_joined (suc n) addr (b ∷ bytes) le =
+    let long = length-drop (page_left addr) (b ∷ bytes) in
+    ap (λ (l : List ℕ). take (page_left addr) (b ∷ bytes) ++ l) (first_joined n (addr + page_left addr) (drop (page_left addr) (b ∷ bytes)) (omega arith))
+    ∙ take-append-drop (page_left addr) (b ∷ bytes)
+
+pub pieces_joined : (addr : ℕ) (bytes : List ℕ) → flat_map (λ (p : ℕ × List ℕ). p.1) (pieces_of addr bytes) ≡ bytes
+unfolding pieces_of
+pieces_joined addr bytes = first_joined (length bytes) addr bytes (omega arith)
+
+-- each piece lies in one page of the data
+abbrev pub IsPiece : Shape → ℕ × List ℕ → Type 0
+IsPiece shape piece = IsPlaced shape piece.0 (length piece.1)
+
+first_pieces_placed : (shape : Shape) (n addr : ℕ) (bytes : List ℕ) → addr + length bytes ≤ data_len shape → All (IsPiece shape) (first_pieces n addr bytes)
+first_pieces_placed shape zero addr bytes fits = All-nil (IsPiece shape)
+first_pieces_placed shape (suc n) addr [] fits = All-nil (IsPiece shape)
+first_pieces_placed shape (suc n) addr (b ∷ bytes) fits =
+    let long = length-take (page_left addr) (b ∷ bytes) in
+    All-cons (IsPiece shape) (addr, take (page_left addr) (b ∷ bytes)) _ (record { some = omega arith; page = omega arith; inside = omega arith })
+    (elim (cases_lt (length (b ∷ bytes)) (page_left addr)) [
+      | inl lt ↦ subst (All (IsPiece shape)) (sym (first_pieces_none n (addr + page_left addr) (drop (page_left addr) (b ∷ bytes)) (omega (arith, length-drop (page_left addr) (b ∷ bytes))))) (All-nil (IsPiece shape))
+      | inr le ↦ first_pieces_placed shape n (addr + page_left addr) (drop (page_left addr) (b ∷ bytes)) (omega (arith, length-drop (page_left addr) (b ∷ bytes)))
+    ])
+  where
+    first_pieces_none : (n addr : ℕ) (bytes : List ℕ) → length bytes ≡ 0 → first_pieces n addr bytes ≡ []
+    first_pieces_none zero addr bytes none = refl
+    first_pieces_none (suc n) addr [] none = refl
+    first_pieces_none (suc n) addr (b ∷ bytes) none = absurd (omega arith)
+
+pub pieces_placed : (shape : Shape) (addr : ℕ) (bytes : List ℕ) → addr + length bytes ≤ data_len shape → All (IsPiece shape) (pieces_of addr bytes)
+unfolding pieces_of
+pieces_placed shape addr bytes fits = first_pieces_placed shape (length bytes) addr bytes fits

@@ -15,4 +15,4 @@ pub use laws::{addresses_are_apart, areas_are_apart};
 pub use part::Part;
 pub use parts::Parts;
 pub use place::Place;
-pub use shape::Shape;
+pub use shape::{CELL_LEN, HEAD_LEN, HEADER_LEN, PAGE_LEN, ROW_LEN, Shape};

@@ -3,7 +3,7 @@ ghost use Rattle.std.specs.Prelude.{List};
 ghost use Rattle.array_shape.specs.declared.part.Part.{Part};
 
 use crate::part::Part;
-use crate::shape::Shape;
+use crate::shape::{PAGE_LEN, Shape};
 use std::marker::Model;
 
 /// The parts of a range that are still to come, in rising order. Contracts see it as their list.
@@ -58,7 +58,7 @@ impl Iterator for Parts {
             return None;
         }
         let addr = self.addr;
-        let len = (512 - addr % 512).min(self.left);
+        let len = (PAGE_LEN - addr % PAGE_LEN).min(self.left);
         self.addr += len;
         self.left -= len;
         Some(Part {

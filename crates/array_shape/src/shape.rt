@@ -1,10 +1,26 @@
-// The four numbers of an array. Each value of the type has them in range.
+// The numbers of an array, and its places.
 ghost use Rattle.array_shape.specs.Numbers.{AreInRange};
 
 use crate::bad_shape::{BadShape, ShapeNumber};
 use crate::parts::Parts;
 use crate::place::Place;
 
+/// Bytes of the header, with which the media begins.
+pub const HEADER_LEN: u64 = 512;
+
+/// Bytes of a row.
+pub const ROW_LEN: u64 = 16;
+
+/// Bytes of the head with which a cell begins.
+pub const HEAD_LEN: u64 = 16;
+
+/// Bytes of a cell: its head, and room for a page.
+pub const CELL_LEN: u64 = HEAD_LEN + PAGE_LEN;
+
+/// Bytes of a page.
+pub const PAGE_LEN: u64 = 512;
+
+/// The four numbers of an array. Each value of the type has them in range.
 #[derive(Clone, Copy, Debug, PartialEq, Eq)]
 pub struct Shape {
     /// Loggers, 1 to 8.
@@ -73,14 +89,14 @@ impl Shape {
     pub fn data_len(&self) -> u64
         ensures { result ≡ data_len self.now }
     {
-        512 * self.page_count()
+        PAGE_LEN * self.page_count()
     }
 
     /// How many bytes the media of the array has.
     pub fn media_len(&self) -> u64
         ensures { result ≡ media_len self.now }
     {
-        512 + u64::from(self.loggers) * self.region_len()
+        HEADER_LEN + u64::from(self.loggers) * self.region_len()
     }
 
     /// Where the row of the transaction number `tid` at a logger lies in the media.
@@ -89,7 +105,7 @@ impl Shape {
         requires tid { tid < self.now.numbers }
         ensures { result ≡ row_at self.now logger tid }
     {
-        self.region_at(logger) + 16 * u64::from(tid)
+        self.region_at(logger) + ROW_LEN * u64::from(tid)
     }
 
     /// Where a cell of the transaction number `tid` at a logger lies in the media.
@@ -100,7 +116,7 @@ impl Shape {
         ensures { result ≡ cell_at self.now logger tid entry }
     {
         let cell = u64::from(tid) * u64::from(self.entries) + u64::from(entry);
-        self.region_at(logger) + 16 * u64::from(self.numbers) + 528 * cell
+        self.region_at(logger) + ROW_LEN * u64::from(self.numbers) + CELL_LEN * cell
     }
 
     /// Where the pages of a logger lie in the media.
@@ -109,7 +125,7 @@ impl Shape {
         ensures { result ≡ data_at self.now logger }
     {
         let cells = u64::from(self.numbers) * u64::from(self.entries);
-        self.region_at(logger) + 16 * u64::from(self.numbers) + 528 * cells
+        self.region_at(logger) + ROW_LEN * u64::from(self.numbers) + CELL_LEN * cells
     }
 
     /// The logger that has an address of the data, and the offset within that logger's data.
@@ -118,11 +134,11 @@ impl Shape {
         ensures logger { result.logger ≡ logger_of self.now addr }
         ensures offset { result.offset ≡ offset_of self.now addr }
     {
-        let page = addr / 512;
+        let page = addr / PAGE_LEN;
         let loggers = u64::from(self.loggers);
         Place {
             logger: (page % loggers) as u8,
-            offset: 512 * (page / loggers) + addr % 512,
+            offset: PAGE_LEN * (page / loggers) + addr % PAGE_LEN,
         }
     }
 
@@ -151,14 +167,14 @@ impl Shape {
         ensures { result ≡ region_len self.now }
     {
         let cells = u64::from(self.numbers) * u64::from(self.entries);
-        16 * u64::from(self.numbers) + 528 * cells + 512 * u64::from(self.pages)
+        ROW_LEN * u64::from(self.numbers) + CELL_LEN * cells + PAGE_LEN * u64::from(self.pages)
     }
 
     fn region_at(&self, logger: u8) -> u64
         requires { logger < self.now.loggers }
         ensures { result ≡ region_at self.now logger }
     {
-        512 + u64::from(logger) * self.region_len()
+        HEADER_LEN + u64::from(logger) * self.region_len()
     }
 }
 

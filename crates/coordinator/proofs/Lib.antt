@@ -4,3 +4,4 @@ pub mod Calls
 pub mod Applying
 pub mod Committing
 pub mod Whole
+pub mod Header

@@ -1,5 +1,5 @@
 -- What recovery leaves while it applies parts and clears votes, and what holds after that.
-use Rattle.std.proofs.Common.{◌≡◌, ℕ, List, [], length, refl, sym, ◌∙◌, ap, subst, arith}
+use Rattle.std.proofs.Common.{◌≡◌, ℕ, List, [], length, refl, sym, ◌∙◌, subst, arith}
 use Rattle.std.proofs.lemmas.List.{ext_get_or}
 use Rattle.counted.proofs.Going.{weaker}
 use Rattle.pcm_media.specs.Images.{Content, MayLeave, SameOutside, IsOutside, Touched, partly}
@@ -13,11 +13,12 @@ use Rattle.array_image.specs.Image.{data_of}
 use Rattle.array_image.specs.Decided.{all_decided, settled_data}
 use Rattle.array_image.specs.Standing.{IsLawful, IsAtRest, IsClean}
 use Rattle.array_image.proofs.Joined.{joined_same}
+use Rattle.array_image.proofs.Headers.{AreBehind, places_behind, header_stays}
 use Rattle.array_image.proofs.Frames.{left_within}
 use Rattle.device_recovery.specs.Table.{RowsAre}
 use Rattle.device_recovery.specs.Recovered.{AllGood, HasNoVote, KeepsSense, SettlesLike, number_votes, voted_places, recovered_places}
 use Rattle.device_recovery.proofs.Frames.{SameFrame, decided_placed, data_frame, frame_lawful, applying_settles}
-use Rattle.device_recovery.proofs.Clearing.{cleared_data, cleared_lawful, cleared_settles}
+use Rattle.device_recovery.proofs.Clearing.{votes_away, cleared_data, cleared_lawful, cleared_settles}
 use Rattle.device_recovery.proofs.Votes.{same_votes}
 
 -- with nothing unsettled before writes in these ranges
@@ -27,13 +28,20 @@ left_sure old ranges image sure left = record { long = left.long; same = λ i ou
 pub none_unsettled : (now : Content) → now.unsettled ≡ [] → (i : ℕ) → IsOutside now.unsettled i
 none_unsettled now none i = subst (λ us. IsOutside us i) (sym none) tt
 
+votes_behind : (shape : Shape) (image : List ℕ) → AreBehind (voted_places shape image)
+votes_behind shape image i lt = votes_away shape image i (λ g t below below' so is. omega arith)
+
 module _ (shape : Shape) (old : View) (long : length old.content.bytes ≡ media_len shape) (sure : (i : ℕ) → IsOutside old.content.unsettled i) (good : AllGood shape old.content.bytes shape.numbers) where
   -- while parts are applied
   pub data_law : (now : View) → IsLawful shape old.content.bytes → LeavesOnly (MayLeave (partly (places_of shape (all_decided shape old.content.bytes)) old.content)) old now → LeavesOnly (SettlesLike shape old.content.bytes) old now
   data_law now lawful time = weaker (λ image left.
       let same = left_sure old.content (places_of shape (all_decided shape old.content.bytes)) image sure left in
       let frame = data_frame shape (all_decided shape old.content.bytes) old.content.bytes image (decided_placed shape old.content.bytes long good) same in
-      record { lawful = frame_lawful shape old.content.bytes image frame lawful; same = applying_settles shape old.content.bytes image long good same }) time
+      record {
+        lawful = frame_lawful shape old.content.bytes image frame lawful;
+        header = header_stays (places_of shape (all_decided shape old.content.bytes)) old.content.bytes image (places_behind shape (all_decided shape old.content.bytes)) same;
+        same = applying_settles shape old.content.bytes image long good same;
+      }) time
 
   module _ (mid : View) (touched : Touched (places_of shape (all_decided shape old.content.bytes)) old.content mid.content) (applied : (mid.content.unsettled ≡ []) × (data_of shape mid.content.bytes ≡ settled_data shape old.content.bytes)) where
     pub mid_frame : SameFrame shape old.content.bytes mid.content.bytes
@@ -55,6 +63,9 @@ module _ (shape : Shape) (old : View) (long : length old.content.bytes ≡ media
         let mid_lawful = frame_lawful shape old.content.bytes mid.content.bytes mid_frame lawful in
         record {
           lawful = cleared_lawful shape mid.content.bytes image same mid_lawful;
+          header =
+              header_stays (voted_places shape mid.content.bytes) mid.content.bytes image (votes_behind shape mid.content.bytes) same
+              ∙ header_stays (places_of shape (all_decided shape old.content.bytes)) old.content.bytes mid.content.bytes (places_behind shape (all_decided shape old.content.bytes)) touched.bytes;
           same = cleared_settles shape mid.content.bytes image same mid_lawful (mid_settles ∙ sym applied.1) ∙ mid_settles;
         }) time
 
@@ -75,13 +86,8 @@ clean_from shape now long sure none image left =
 
 -- while nothing is written
 pub reading_law : (shape : Shape) (old now : View) → ((image : List ℕ) → MayLeave old.content image → IsLawful shape image) → LeavesOnly (MayLeave (partly [] old.content)) old now → LeavesOnly (KeepsSense shape old.content) old now
-reading_law shape old now lawful time = weaker (λ image left. record { lawful = lawful image left; earlier = image; left = left; same = refl }) time
+reading_law shape old now lawful time = weaker (λ image left. record { earlier = image; left = left; like = record { lawful = lawful image left; header = refl; same = refl } }) time
 
 -- from what settles like the bytes that were read
 pub sense_law : (shape : Shape) (old mid now : View) → old.content.bytes ≡ mid.content.bytes → LeavesOnly (SettlesLike shape mid.content.bytes) mid now → LeavesOnly (KeepsSense shape old.content) mid now
-sense_law shape old mid now is time = weaker (λ image like. record {
-  lawful = like.lawful;
-  earlier = old.content.bytes;
-  left = left_as_read old.content;
-  same = like.same ∙ ap (λ (l : List ℕ). settled_data shape l) (sym is);
-}) time
+sense_law shape old mid now is time = weaker (λ image like. record { earlier = old.content.bytes; left = left_as_read old.content; like = subst (λ other. SettlesLike shape other image) (sym is) like }) time

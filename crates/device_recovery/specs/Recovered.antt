@@ -1,7 +1,7 @@
 -- What recovery finds, says and writes.
 use Rattle.std.specs.Prelude.{ℕ, ◌≡◌, ◌<◌, Bool, true, false, ◌&&◌, not, if◌then◌else◌, List, [], ◌∷◌, ◌++◌, length, Result, Ok, Err}
 use Rattle.counted.specs.declared.Failed.{Failed}
-use Rattle.pcm_media.specs.Images.{Content, MayLeave}
+use Rattle.pcm_media.specs.Images.{Content, MayLeave, range}
 use Rattle.array_shape.specs.declared.shape.Shape.{Shape}
 use Rattle.array_shape.specs.Places.{row_at}
 use Rattle.array_image.specs.Joined.{joined}
@@ -67,17 +67,17 @@ voted_places shape image = at_rows shape (λ g t. (row_of shape image g t).voted
 abbrev pub recovered_places : Shape → List ℕ → List (ℕ × ℕ)
 recovered_places shape image = places_of shape (all_decided shape image) ++ voted_places shape image
 
--- lawful, and it settles to what another image does
+-- lawful, with the header of another image, and it settles to what that does
 pub record SettlesLike (shape : Shape) (other image : List ℕ) : Type 0 where
   pub lawful : IsLawful shape image
+  pub header : range image 0 512 ≡ range other 0 512
   pub same : settled_data shape image ≡ settled_data shape other
 
--- lawful, and it settles to what some image does that could be left at first
+-- the same as some image that could be left at first
 pub record KeepsSense (shape : Shape) (content : Content) (image : List ℕ) : Type 0 where
-  pub lawful : IsLawful shape image
   pub earlier : List ℕ
   pub left : MayLeave content earlier
-  pub same : settled_data shape image ≡ settled_data shape earlier
+  pub like : SettlesLike shape earlier image
 
 -- what the media answered
 abbrev pub media_answer : {T : Type 0} → Result T RecoverFault → Result (Unit {0}) Failed

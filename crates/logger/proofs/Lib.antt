@@ -3,3 +3,4 @@ pub mod Cells
 pub mod Ranges
 pub mod Staging
 pub mod Applying
+pub mod Pieces

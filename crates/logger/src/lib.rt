@@ -3,6 +3,8 @@
 
 mod logger;
 mod stage_fault;
+#[cfg(test)]
+mod tests;
 
 pub use logger::Logger;
 pub use stage_fault::StageFault;

@@ -4,7 +4,7 @@ ghost use Rattle.array_shape.specs.Parts.{piece_of};
 ghost use Rattle.array_image.specs.Image.{cell_head};
 
 use crate::stage_fault::StageFault;
-use array_shape::{Part, Shape};
+use array_shape::{HEAD_LEN, PAGE_LEN, Part, Shape};
 use counted::Failed;
 use pcm_media::Media;
 use row_bytes::{Head, Row, VOTED, read_head, write_head, write_row};
@@ -174,7 +174,7 @@ impl Logger {
             (M.view media.old) (M.view media.new) result }
     {
         let cell = self.shape.cell_at(self.number, tid, entry);
-        media.write(cell + 16 + u64::from(at), bytes)
+        media.write(cell + HEAD_LEN + u64::from(at), bytes)
     }
 
     /// Reads a cell: what its head says, and the 512 bytes of its data, of which the length in its head counts.
@@ -288,7 +288,7 @@ impl Logger {
         let mut head_bytes = [0; 16];
         write_head(&head, &mut head_bytes);
         media.write(at, &head_bytes)?;
-        media.write(at + 16, bytes)
+        media.write(at + HEAD_LEN, bytes)
     }
 
     fn read_cell<M: Media>(self, media: &mut M, tid: u8, entry: u16) -> Result<[u8; 528], Failed>
@@ -338,7 +338,7 @@ impl Logger {
         if head.addr >= data_len || len == 0 {
             return false;
         }
-        head.addr % 512 + len <= 512
+        head.addr % PAGE_LEN + len <= PAGE_LEN
             && head.addr + len <= data_len
             && self.shape.place(head.addr).logger == self.number
     }

@@ -1,0 +1,71 @@
+-- The pieces of a write, applied to data, are the write.
+use Rattle.std.proofs.Common.{◌≡◌, ℕ, zero, suc, ◌+◌, ◌-◌, ◌≤◌, inl, inr, List, [], ◌∷◌, ◌++◌, length, get_or, take, drop, refl, sym, ◌∙◌, ap, arith}
+use Rattle.std.proofs.lemmas.Bool.{cases_lt}
+use Rattle.std.proofs.lemmas.List.{ext_get_or, get_or_append_left, get_or-append_right, length-append, append-nil, length-take, length-drop, take-append-drop, take_all}
+use Rattle.pcm_media.specs.Images.{put}
+use Rattle.pcm_media.proofs.Puts.{length-put, get_or-put_inside}
+use Rattle.pcm_media.proofs.Left.{get_or-put_outside}
+use Rattle.array_shape.specs.Parts.{page_left, first_pieces, pieces_of}
+use Rattle.array_image.specs.Parts.{applied}
+
+-- two writes, the second behind the first
+pub put-append : (d : List ℕ) (at : ℕ) (xs ys : List ℕ) → at + length xs + length ys ≤ length d → put (put d at xs) (at + length xs) ys ≡ put d at (xs ++ ys)
+put-append d at xs ys fits =
+    let both = length-append xs ys in
+    let first = length-put d at xs (omega arith) in
+    let inner : at + length xs + length ys ≤ length (put d at xs) = omega arith in
+    let whole : at + length (xs ++ ys) ≤ length d = omega arith in
+    ext_get_or 0 (put (put d at xs) (at + length xs) ys) (put d at (xs ++ ys))
+    (length-put (put d at xs) (at + length xs) ys inner ∙ first ∙ sym (length-put d at (xs ++ ys) whole))
+    (λ i lt. elim (cases_lt i at) [
+      | inl before ↦
+          get_or-put_outside (put d at xs) (at + length xs) ys inner i (λ le lt'. omega arith) ∙ get_or-put_outside d at xs (omega arith) i (λ le lt'. omega arith)
+          ∙ sym (get_or-put_outside d at (xs ++ ys) whole i (λ le lt'. omega arith))
+      | inr from ↦ elim (cases_lt i (at + length xs)) [
+        | inl in_first ↦
+            get_or-put_outside (put d at xs) (at + length xs) ys inner i (λ le lt'. omega arith) ∙ get_or-put_inside d at xs (omega arith) i from in_first
+            ∙ sym (get_or-put_inside d at (xs ++ ys) whole i from (omega arith) ∙ get_or_append_left xs ys 0 (i - at) (omega arith))
+        | inr past ↦ elim (cases_lt i (at + length xs + length ys)) [
+          | inl in_second ↦
+              get_or-put_inside (put d at xs) (at + length xs) ys inner i past in_second
+              ∙ ap (λ (k : ℕ). get_or ys k 0) (omega arith)
+              ∙ sym (get_or-put_inside d at (xs ++ ys) whole i from (omega arith) ∙ get_or-append_right xs ys (length xs) (i - at) 0 refl (omega arith))
+          | inr after ↦
+              get_or-put_outside (put d at xs) (at + length xs) ys inner i (λ le lt'. omega arith) ∙ get_or-put_outside d at xs (omega arith) i (λ le lt'. omega arith)
+              ∙ sym (get_or-put_outside d at (xs ++ ys) whole i (λ le lt'. omega arith))
+        ]
+      ]
+    ])
+
+first_none : (n addr : ℕ) (bytes : List ℕ) → length bytes ≡ 0 → first_pieces n addr bytes ≡ []
+first_none zero addr bytes none = refl
+first_none (suc n) addr [] none = refl
+first_none (suc n) addr (b ∷ bytes) none = absurd (omega arith)
+
+put_nothing : (d : List ℕ) (at : ℕ) → put d at [] ≡ d
+put_nothing d at = (let here : at + 0 ≡ at = omega arith in λ i. append-nil (take at d) i ++ drop (here i) d) ∙ take-append-drop at d
+
+first_applied : (n addr : ℕ) (bytes d : List ℕ) → length bytes ≤ n → addr + length bytes ≤ length d → applied (first_pieces n addr bytes) d ≡ put d addr bytes
+first_applied zero addr [] d le fits = sym (put_nothing d addr)
+first_applied zero addr (b ∷ bytes) d le fits = absurd (omega arith)
+first_applied (suc n) addr [] d le fits = sym (put_nothing d addr)
+first_applied (suc n) addr (b ∷ bytes) d le fits =
+    let k = page_left addr in
+    let here = take (page_left addr) (b ∷ bytes) in
+    let later = drop (page_left addr) (b ∷ bytes) in
+    let here_long = length-take (page_left addr) (b ∷ bytes) in
+    let later_long = length-drop (page_left addr) (b ∷ bytes) in
+    elim (cases_lt (length (b ∷ bytes)) (page_left addr)) [
+      | inl lt ↦
+          ap (λ (ps : List (ℕ × List ℕ)). applied ps (put d addr (take (page_left addr) (b ∷ bytes)))) (first_none n (addr + page_left addr) later (omega arith))
+          ∙ ap (put d addr) (take_all (page_left addr) (b ∷ bytes) (omega arith))
+      | inr whole ↦
+          first_applied n (addr + page_left addr) later (put d addr here) (omega arith) (omega (arith, length-put d addr here (omega arith)))
+          ∙ ap (λ (j : ℕ). put (put d addr (take (page_left addr) (b ∷ bytes))) (addr + j) (drop (page_left addr) (b ∷ bytes))) (omega arith)
+          ∙ put-append d addr here later (omega arith)
+          ∙ ap (put d addr) (take-append-drop (page_left addr) (b ∷ bytes))
+    ]
+
+pub applied_pieces : (addr : ℕ) (bytes d : List ℕ) → addr + length bytes ≤ length d → applied (pieces_of addr bytes) d ≡ put d addr bytes
+unfolding pieces_of
+applied_pieces addr bytes d fits = first_applied (length bytes) addr bytes d (omega arith) fits
