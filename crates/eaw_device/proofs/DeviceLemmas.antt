@@ -1,10 +1,10 @@
 -- A device after a command.
-use Rattle.std.proofs.Common.{◌≡◌, ◌≢◌, ℕ, zero, suc, ◌+◌, ◌-◌, ◌*◌, ◌/◌, ◌%◌, ◌<◌, ◌≤◌, inl, inr, Bool, true, false, nat_eq, cond, List, [], ◌∷◌, ◌++◌, length, get_or, filter, refl, sym, ap, subst, ◌∙◌, arith, Result}
-use Rattle.std.specs.Prelude.{IsTrue, slice_index, slice_set, replicate}
-use Rattle.std.proofs.lemmas.Bool.{cases_lt, cases_eq, eq-eqb, ne_eqb}
-use Rattle.std.proofs.lemmas.List.{append-nil, length-append, length-replicate, get_or-replicate, get_or_past}
+use Rattle.std.proofs.Common.{◌≡◌, ◌≢◌, ℕ, zero, suc, ◌+◌, ◌-◌, ◌/◌, ◌%◌, ◌<◌, ◌≤◌, inl, inr, Bool, false, cond, List, [], ◌∷◌, ◌++◌, length, get_or, filter, refl, sym, ap, subst, ◌∙◌, arith, Result}
+use Rattle.std.specs.Prelude.{IsTrue, slice_index, replicate}
+use Rattle.std.proofs.lemmas.Bool.{cases_lt, eq-eqb, ne_eqb}
+use Rattle.std.proofs.lemmas.List.{length-replicate, get_or-replicate, get_or_past}
 use Rattle.std.proofs.lemmas.List.{ext_get_or}
-use Rattle.pcm_media.specs.Images.{Content, MayLeave, Touched, range}
+use Rattle.pcm_media.specs.Images.{range}
 use Rattle.pcm_media.proofs.Ranges.{get_or-range, length-range}
 use Rattle.array_shape.proofs.Apart.{place_below}
 use Rattle.array_image.proofs.Data.{length-data_of, get_or-data_of}
@@ -12,11 +12,11 @@ use Rattle.pcm_media.specs.View.{View, Writes}
 use Rattle.pcm_media.proofs.Left.{left_before}
 use Rattle.array_shape.specs.declared.shape.Shape.{Shape}
 use Rattle.array_shape.specs.Places.{media_len, logger_of, place_of, data_at, data_len, IsShape}
-use Rattle.array_shape.specs.Parts.{pieces_of, pieces_on, is_piece_on}
+use Rattle.array_shape.specs.Parts.{is_piece_on}
 use Rattle.array_image.specs.Parts.{Part}
 use Rattle.array_image.specs.Image.{cell_of, cell_part, data_of, parts_from, IsGoodCell}
 use Rattle.array_image.specs.Standing.{IsAtRest, IsClean}
-use Rattle.eaw_face.specs.StoreView.{StoreView, SameNumber, IsSame, parts_at}
+use Rattle.eaw_face.specs.StoreView.{IsSame}
 use Rattle.eaw_device.specs.Sound.{IsSound, view_of}
 use Rattle.eaw_device.proofs.Reading.{read_only}
 

@@ -7,8 +7,8 @@ use Rattle.pcm_media.proofs.Puts.{length-put, get_or-put_inside}
 use Rattle.pcm_media.proofs.Left.{same_outside-put}
 use Rattle.pcm_media.proofs.Ranges.{length-range, get_or-range, range_away, range-put}
 use Rattle.array_shape.specs.declared.shape.Shape.{Shape}
-use Rattle.array_shape.specs.Places.{media_len, region_at, row_at, data_at, page_count, data_len, place_of, logger_of, IsPlaced}
-use Rattle.array_shape.proofs.Apart.{row_end, data_end, region_end, region_fits, place_start, place_end, place_below, place_along, logger_below}
+use Rattle.array_shape.specs.Places.{media_len, row_at, data_at, page_count, data_len, place_of, logger_of, IsPlaced}
+use Rattle.array_shape.proofs.Apart.{row_end, data_end, region_end, region_fits, place_start, place_end, place_below, place_along}
 use Rattle.array_image.specs.Image.{data_of}
 use Rattle.array_image.proofs.Data.{length-data_of, data_put, data_away}
 use Rattle.eaw_device.specs.Fresh.{fresh_page, super_page, empty_index, HasPages, HasRows}

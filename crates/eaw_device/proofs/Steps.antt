@@ -1,5 +1,5 @@
 -- What a logger's stage and the coordinator's commit say, at the device's own fields.
-use Rattle.std.proofs.Common.{◌≡◌, ◌∙◌, ◌+◌, ◌<◌, ◌≤◌, Bool, true, false, ap, sym, subst, refl, ℕ, List, [], ◌∷◌, get_or, length, arith, Result}
+use Rattle.std.proofs.Common.{◌≡◌, ◌∙◌, ◌+◌, ◌<◌, ◌≤◌, Bool, true, false, sym, subst, refl, ℕ, List, length, arith, Result}
 use Rattle.std.specs.Prelude.{IsTrue, slice_index, slice_set}
 use Rattle.pcm_media.specs.View.{View, Writes}
 use Rattle.array_shape.specs.declared.shape.Shape.{Shape}

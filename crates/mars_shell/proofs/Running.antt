@@ -1,5 +1,5 @@
 -- A whole run: one that ends before its lines, and one that answers them.
-use Rattle.std.proofs.Common.{◌≡◌, ℕ, ◌≤◌, ◌<◌, ◌*◌, ◌++◌, List, [], length, ◌∷◌, Bool, false, Option, None, refl, sym, ap, subst, ◌∙◌, arith}
+use Rattle.std.proofs.Common.{◌≡◌, ℕ, ◌≤◌, ◌++◌, List, [], length, ◌∷◌, Bool, false, Option, None, refl, sym, ap, subst, ◌∙◌, arith}
 use Rattle.std.specs.Prelude.{IsTrue}
 use Rattle.std.proofs.lemmas.List.{append-nil}
 use Rattle.std.proofs.lemmas.Bool.{false≢true}
@@ -11,18 +11,15 @@ use Rattle.array_image.specs.Image.{data_of}
 use Rattle.array_image.proofs.Data.{length-data_of}
 use Rattle.eaw_face.specs.StoreView.{StoreView}
 use Rattle.eaw_device.specs.Opens.{IsArray, IsQuiet, Opens}
-use Rattle.history.specs.Table.{Table}
-use Rattle.history.specs.Legal.{records}
 use Rattle.history.specs.declared.call.Call.{Call}
 use Rattle.history.specs.declared.call.Reply.{Reply}
 use Rattle.history.specs.declared.transaction.Done.{Done}
-use Rattle.mars_shell.specs.Exchange.{Exchange}
 use Rattle.mars_shell.specs.Kept.{IsReady, IsKept, limits_of, slots_of, state_over}
 use Rattle.mars_shell.specs.Lines.{lines_of}
 use Rattle.mars_shell.specs.Outcome.{ArraySays, Outcome, IsOfLines}
 use Rattle.mars_shell.specs.Records.{records_of}
-use Rattle.mars_shell.specs.Run.{IsFirstShape, records_in, IsLeft, Runs}
-use Rattle.mars_shell.specs.Session.{State, opened, IsSound}
+use Rattle.mars_shell.specs.Run.{IsFirstShape, records_in, Runs}
+use Rattle.mars_shell.specs.Session.{opened}
 use Rattle.mars_shell.specs.Transcript.{Answered}
 use Rattle.mars_shell.specs.declared.status.Status.{Status}
 use Rattle.mars_shell.specs.declared.status.Status.TheVariants.{Good, Usage, TooLong, ReadFault, WriteFault, MediaFault, NoMemory, NotMars}

@@ -1,4 +1,4 @@
-use Rattle.std.proofs.Common.{false, List, [], ◌++◌, ℕ, ◌≡◌, ap, sym, subst, ◌∙◌, arith}
+use Rattle.std.proofs.Common.{false, [], ◌++◌, ap, sym, subst, ◌∙◌, arith}
 use Rattle.std.proofs.lemmas.Bool.{false≢true}
 use Rattle.std.proofs.lemmas.List.{append_assoc, append-nil}
 use Rattle.array_shape.specs.declared.shape.Shape.{Shape}

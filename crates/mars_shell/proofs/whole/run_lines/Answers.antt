@@ -1,14 +1,11 @@
-use Rattle.std.proofs.Common.{◌≡◌, ℕ, List, None, Err, refl, sym, ap, subst, inl}
+use Rattle.std.proofs.Common.{ℕ, List, None, Err, refl, sym, ap, subst, inl}
 use Rattle.eaw_device.specs.Sound.{view_of}
 use Rattle.history.specs.declared.transaction.Done.{Done}
 use Rattle.mars_shell.specs.Kept.{IsKept, limits_of, state_over}
 use Rattle.mars_shell.specs.Lines.{lines_of}
 use Rattle.mars_shell.specs.Transcript.{Answered}
-use Rattle.pcm_media.specs.View.{View}
-use Rattle.mars_shell.specs.Outcome.{Idle}
-use Rattle.mars_shell.specs.Run.{IsFirstShape, records_in}
-use Rattle.mars_shell.specs.Session.{State, opened}
-use Rattle.mars_shell.proofs.Running.{first, is_first, runs_idle, ready, kept, runs_lines, array_says}
+use Rattle.mars_shell.specs.Run.{records_in}
+use Rattle.mars_shell.proofs.Running.{first, is_first, runs_idle, kept, runs_lines, array_says}
 use Rattle.mars_shell.proofs.whole.run_lines.Goals as goal
 
 pub returns-in-Err-TooLong-clause-ran : goal.returns-in-Err-TooLong-clause-ran

@@ -1,4 +1,4 @@
-use Rattle.std.proofs.Common.{◌≡◌, ◌<◌, Bool, false, ap, sym, subst, refl, ℕ, List, [], ◌∷◌, get_or, arith}
+use Rattle.std.proofs.Common.{◌≡◌, ◌<◌, false, ap, sym, subst, refl, ℕ, [], ◌∷◌, get_or, arith}
 use Rattle.std.specs.Prelude.{slice_set}
 use Rattle.eaw_face.specs.StoreView.{Commits}
 use Rattle.eaw_device.specs.Sound.{view_of}

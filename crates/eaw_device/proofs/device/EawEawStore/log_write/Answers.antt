@@ -1,4 +1,4 @@
-use Rattle.std.proofs.Common.{◌≡◌, ◌∙◌, ◌<◌, get_or, arith, Result, Ok}
+use Rattle.std.proofs.Common.{◌∙◌, ◌<◌, get_or, arith, Result, Ok}
 use Rattle.counted.specs.declared.Failed.{Failed}
 use Rattle.eaw_device.proofs.Steps.{IsStaged, staged_sound, staged_logs, staged_len}
 use Rattle.eaw_device.proofs.device.EawEawStore.log_write.Goals as goal
