@@ -29,6 +29,7 @@ parts_from-more shape image g t e zero n = (λ i. parts_from shape image g t (at
   where
     at : e ≡ e + zero
     at = omega arith
+
     count : zero + n ≡ n
     count = omega arith
 parts_from-more shape image g t e (suc m) n =
@@ -135,11 +136,11 @@ range_one shape image addr n one inside fits =
     let inner : length (range (data_of shape image) addr n) ≡ n = length-range (data_of shape image) addr n (omega (arith, long)) in
     ext_get_or 0 (range image (place_of shape addr) n) (range (data_of shape image) addr n) (outer ∙ sym inner)
     (λ i lt.
-        let below : i < n = omega (arith, outer) in
-        get_or-range image (place_of shape addr) n i below
-        ∙ ap (λ (k : ℕ). get_or image k 0) (omega (arith, place_one shape addr one, place_one shape (addr + i) one))
-        ∙ sym (get_or-data_of shape image (addr + i) (omega arith))
-        ∙ sym (get_or-range (data_of shape image) addr n i below))
+    let below : i < n = omega (arith, outer) in
+    get_or-range image (place_of shape addr) n i below
+    ∙ ap (λ (k : ℕ). get_or image k 0) (omega (arith, place_one shape addr one, place_one shape (addr + i) one))
+    ∙ sym (get_or-data_of shape image (addr + i) (omega arith))
+    ∙ sym (get_or-range (data_of shape image) addr n i below))
 
 pub fits_one : (shape : Shape) (addr n : ℕ) → shape.loggers ≡ 1 → 0 < n → addr + n ≤ data_len shape → place_of shape addr + n ≤ media_len shape
 fits_one shape addr n one some inside = omega (arith, place_one shape addr one, place_one shape (addr + n - 1) one, place_below shape (addr + n - 1) (omega arith))

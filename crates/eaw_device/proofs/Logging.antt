@@ -76,7 +76,7 @@ module _ (tells : Bool) (old new : View) (shape : Shape) (held : List ℕ) (live
           | inr ne ↦
               let low : e < slice_index held u = omega (arith, get_or-set_other held t u (k + n) 0 ne, below) in
               subst (IsGoodCell shape 0) (sym (cell_kept shape 0 t k n here small room old.content.bytes new.content.bytes (does.touched told).bytes 0 u e here lt (omega (arith, sound.room u lt))
-                  (λ f from to is. ne (let both : u ≡ t = cc in both)))) (sound.good told is_alive u e lt low)
+              (λ f from to is. ne (let both : u ≡ t = cc in both)))) (sound.good told is_alive u e lt low)
         ];
       }
         where

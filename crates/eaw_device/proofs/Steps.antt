@@ -26,7 +26,7 @@ module _ {T E : Type 0} (tells : Bool) (t addr : ℕ) (bytes : List ℕ) (old ne
   said : IsStaged tells t addr bytes old new r n shape 0 (slice_index held t)
   said = subst (λ (i : ℕ). IsStaged tells t addr bytes old new r n shape 0 (slice_index held i)) is
       (subst (λ (g : ℕ). IsStaged tells t addr bytes old new r n shape g (slice_index held at)) zero_is
-          (subst (λ (s : Shape). IsStaged tells t addr bytes old new r n s number (slice_index held at)) same staged))
+      (subst (λ (s : Shape). IsStaged tells t addr bytes old new r n s number (slice_index held at)) same staged))
 
   room : slice_index held t + n ≤ shape.entries
   room = omega (arith, said.fits, said.took)
