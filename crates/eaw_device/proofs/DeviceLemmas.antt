@@ -1,10 +1,10 @@
 -- A device after a command.
-use Rattle.std.proofs.Common.{◌≡◌, ◌≢◌, ℕ, zero, suc, ◌+◌, ◌-◌, ◌*◌, ◌/◌, ◌%◌, ◌<◌, ◌≤◌, inl, inr, Bool, true, false, nat_eq, cond, List, [], ◌∷◌, ◌++◌, length, get_or, filter, refl, sym, ap, subst, ◌∙◌, arith, Result}
-use Rattle.std.specs.Prelude.{IsTrue, slice_index, slice_set, replicate}
-use Rattle.std.proofs.lemmas.Bool.{cases_lt, cases_eq, eq-eqb, ne_eqb}
-use Rattle.std.proofs.lemmas.List.{append-nil, length-append, length-replicate, get_or-replicate, get_or_past}
+use Rattle.std.proofs.Common.{◌≡◌, ◌≢◌, ℕ, zero, suc, ◌+◌, ◌-◌, ◌/◌, ◌%◌, ◌<◌, ◌≤◌, inl, inr, Bool, false, cond, List, [], ◌∷◌, ◌++◌, length, get_or, filter, refl, sym, ap, subst, ◌∙◌, arith, Result}
+use Rattle.std.specs.Prelude.{IsTrue, slice_index, replicate}
+use Rattle.std.proofs.lemmas.Bool.{cases_lt, eq-eqb, ne_eqb}
+use Rattle.std.proofs.lemmas.List.{length-replicate, get_or-replicate, get_or_past}
 use Rattle.std.proofs.lemmas.List.{ext_get_or}
-use Rattle.pcm_media.specs.Images.{Content, MayLeave, Touched, range}
+use Rattle.pcm_media.specs.Images.{range}
 use Rattle.pcm_media.proofs.Ranges.{get_or-range, length-range}
 use Rattle.array_shape.proofs.Apart.{place_below}
 use Rattle.array_image.proofs.Data.{length-data_of, get_or-data_of}
@@ -12,11 +12,11 @@ use Rattle.pcm_media.specs.View.{View, Writes}
 use Rattle.pcm_media.proofs.Left.{left_before}
 use Rattle.array_shape.specs.declared.shape.Shape.{Shape}
 use Rattle.array_shape.specs.Places.{media_len, logger_of, place_of, data_at, data_len, IsShape}
-use Rattle.array_shape.specs.Parts.{pieces_of, pieces_on, is_piece_on}
+use Rattle.array_shape.specs.Parts.{is_piece_on}
 use Rattle.array_image.specs.Parts.{Part}
 use Rattle.array_image.specs.Image.{cell_of, cell_part, data_of, parts_from, IsGoodCell}
 use Rattle.array_image.specs.Standing.{IsAtRest, IsClean}
-use Rattle.eaw_face.specs.StoreView.{StoreView, SameNumber, IsSame, parts_at}
+use Rattle.eaw_face.specs.StoreView.{IsSame}
 use Rattle.eaw_device.specs.Sound.{IsSound, view_of}
 use Rattle.eaw_device.proofs.Reading.{read_only}
 
@@ -29,6 +29,7 @@ parts_from-more shape image g t e zero n = (λ i. parts_from shape image g t (at
   where
     at : e ≡ e + zero
     at = omega arith
+
     count : zero + n ≡ n
     count = omega arith
 parts_from-more shape image g t e (suc m) n =
@@ -135,11 +136,11 @@ range_one shape image addr n one inside fits =
     let inner : length (range (data_of shape image) addr n) ≡ n = length-range (data_of shape image) addr n (omega (arith, long)) in
     ext_get_or 0 (range image (place_of shape addr) n) (range (data_of shape image) addr n) (outer ∙ sym inner)
     (λ i lt.
-        let below : i < n = omega (arith, outer) in
-        get_or-range image (place_of shape addr) n i below
-        ∙ ap (λ (k : ℕ). get_or image k 0) (omega (arith, place_one shape addr one, place_one shape (addr + i) one))
-        ∙ sym (get_or-data_of shape image (addr + i) (omega arith))
-        ∙ sym (get_or-range (data_of shape image) addr n i below))
+    let below : i < n = omega (arith, outer) in
+    get_or-range image (place_of shape addr) n i below
+    ∙ ap (λ (k : ℕ). get_or image k 0) (omega (arith, place_one shape addr one, place_one shape (addr + i) one))
+    ∙ sym (get_or-data_of shape image (addr + i) (omega arith))
+    ∙ sym (get_or-range (data_of shape image) addr n i below))
 
 pub fits_one : (shape : Shape) (addr n : ℕ) → shape.loggers ≡ 1 → 0 < n → addr + n ≤ data_len shape → place_of shape addr + n ≤ media_len shape
 fits_one shape addr n one some inside = omega (arith, place_one shape addr one, place_one shape (addr + n - 1) one, place_below shape (addr + n - 1) (omega arith))

@@ -7,8 +7,8 @@ use Rattle.pcm_media.proofs.Puts.{length-put, get_or-put_inside}
 use Rattle.pcm_media.proofs.Left.{same_outside-put}
 use Rattle.pcm_media.proofs.Ranges.{length-range, get_or-range, range_away, range-put}
 use Rattle.array_shape.specs.declared.shape.Shape.{Shape}
-use Rattle.array_shape.specs.Places.{media_len, region_at, row_at, data_at, page_count, data_len, place_of, logger_of, IsPlaced}
-use Rattle.array_shape.proofs.Apart.{row_end, data_end, region_end, region_fits, place_start, place_end, place_below, place_along, logger_below}
+use Rattle.array_shape.specs.Places.{media_len, row_at, data_at, page_count, data_len, place_of, logger_of, IsPlaced}
+use Rattle.array_shape.proofs.Apart.{row_end, data_end, region_end, region_fits, place_start, place_end, place_below, place_along}
 use Rattle.array_image.specs.Image.{data_of}
 use Rattle.array_image.proofs.Data.{length-data_of, data_put, data_away}
 use Rattle.eaw_device.specs.Fresh.{fresh_page, super_page, empty_index, HasPages, HasRows}
@@ -46,10 +46,10 @@ module _ (shape : Shape) (image : List ℕ) (long : length image ≡ media_len s
       let fits : 512 * p + length page ≤ length (data_of shape image) = omega (arith, length-data_of shape image, size) in
       below_more _ _
       (λ q below.
-          ap (λ (d : List ℕ). range d (512 * q) 512) now
-          ∙ range_away _ (data_of shape image) (put (data_of shape image) (512 * p) page) (512 * q) 512 (same_outside-put (data_of shape image) (512 * p) page fits)
-            (λ i le past. ((λ le' past'. omega arith), tt))
-          ∙ have q below)
+      ap (λ (d : List ℕ). range d (512 * q) 512) now
+      ∙ range_away _ (data_of shape image) (put (data_of shape image) (512 * p) page) (512 * q) 512 (same_outside-put (data_of shape image) (512 * p) page fits)
+      (λ i le past. ((λ le' past'. omega arith), tt))
+      ∙ have q below)
       (ap (λ (d : List ℕ). range d (512 * p) 512) now ∙ range-put (data_of shape image) page (512 * p) 512 (sym size) fits ∙ is)
 
   -- the rows of one logger are written with zeros
@@ -66,12 +66,12 @@ module _ (shape : Shape) (image : List ℕ) (long : length image ≡ media_len s
         let inside : row_at shape g t + 16 ≤ length after = omega (arith, length-put image (row_at shape g 0) zeros fits, size, fits, lt) in
         ext_get_or 0 (range after (row_at shape g t) 16) (replicate 16 0) (length-range after (row_at shape g t) 16 inside ∙ sym (length-replicate {A = ℕ} 16 0))
         (λ i below.
-            let small : i < 16 = omega (arith, length-range after (row_at shape g t) 16 inside) in
-            get_or-range after (row_at shape g t) 16 i small
-            ∙ get_or-put_inside image (row_at shape g 0) zeros fits (row_at shape g t + i) (omega arith) (omega (arith, size, lt))
-            ∙ ap (λ (l : List ℕ). get_or l (row_at shape g t + i - row_at shape g 0) 0) is
-            ∙ get_or-replicate (16 * shape.numbers) (row_at shape g t + i - row_at shape g 0) 0 0 (omega (arith, lt))
-            ∙ sym (get_or-replicate 16 i 0 0 small))
+        let small : i < 16 = omega (arith, length-range after (row_at shape g t) 16 inside) in
+        get_or-range after (row_at shape g t) 16 i small
+        ∙ get_or-put_inside image (row_at shape g 0) zeros fits (row_at shape g t + i) (omega arith) (omega (arith, size, lt))
+        ∙ ap (λ (l : List ℕ). get_or l (row_at shape g t + i - row_at shape g 0) 0) is
+        ∙ get_or-replicate (16 * shape.numbers) (row_at shape g t + i - row_at shape g 0) 0 0 (omega (arith, lt))
+        ∙ sym (get_or-replicate 16 i 0 0 small))
 
     pub rows_more : HasRows shape g image → HasRows shape (g + 1) (put image (row_at shape g 0) zeros)
     rows_more have h t below lt = elim (cases_eq h g) [

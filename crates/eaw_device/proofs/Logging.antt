@@ -1,20 +1,20 @@
 -- A device whose number has logged more, or has committed.
-use Rattle.std.proofs.Common.{◌≡◌, ◌≢◌, ℕ, ◌+◌, ◌-◌, ◌<◌, ◌≤◌, inl, inr, Bool, true, false, nat_eq, cond, List, [], ◌∷◌, ◌++◌, length, get_or, filter, refl, sym, ap, subst, ◌∙◌, arith, Result}
+use Rattle.std.proofs.Common.{◌≡◌, ◌≢◌, ℕ, ◌+◌, ◌<◌, ◌≤◌, inl, inr, Bool, true, false, nat_eq, cond, List, ◌++◌, length, get_or, sym, ap, subst, ◌∙◌, arith, Result}
 use Rattle.std.specs.Prelude.{IsTrue, slice_index, slice_set}
 use Rattle.std.proofs.lemmas.Bool.{cases_lt, cases_eq, eq-eqb, ne_eqb}
 use Rattle.std.proofs.lemmas.List.{append-nil, get_or-set_same, get_or-set_other, length-set}
 use Rattle.pcm_media.specs.View.{View, Writes}
 use Rattle.array_shape.specs.declared.shape.Shape.{Shape}
 use Rattle.array_shape.specs.Places.{media_len}
-use Rattle.array_shape.specs.Parts.{pieces_of, pieces_on, is_piece_on}
+use Rattle.array_shape.specs.Parts.{pieces_of, pieces_on}
 use Rattle.array_image.specs.Parts.{Part, applied}
 use Rattle.array_image.specs.Joined.{joined}
 use Rattle.array_image.specs.Marked.{named_at, named_parts}
 use Rattle.array_image.specs.Image.{cell_of, data_of, parts_from, IsGoodCell}
-use Rattle.array_image.specs.Standing.{IsClean, SameCells}
+use Rattle.array_image.specs.Standing.{SameCells}
 use Rattle.array_image.proofs.Rows.{parts_same}
 use Rattle.logger.specs.Cells.{cell_ranges, HoldsParts}
-use Rattle.eaw_face.specs.StoreView.{StoreView, SameNumber, Logs, Commits, parts_at}
+use Rattle.eaw_face.specs.StoreView.{SameNumber, Logs, Commits, parts_at}
 use Rattle.eaw_device.specs.Sound.{IsSound, view_of}
 use Rattle.eaw_device.proofs.DeviceLemmas.{length-parts_from, parts_from-more, all_on, none_on}
 use Rattle.eaw_device.proofs.Staged.{data_kept, others_kept, earlier_kept, cell_kept, clean_kept}
@@ -76,7 +76,7 @@ module _ (tells : Bool) (old new : View) (shape : Shape) (held : List ℕ) (live
           | inr ne ↦
               let low : e < slice_index held u = omega (arith, get_or-set_other held t u (k + n) 0 ne, below) in
               subst (IsGoodCell shape 0) (sym (cell_kept shape 0 t k n here small room old.content.bytes new.content.bytes (does.touched told).bytes 0 u e here lt (omega (arith, sound.room u lt))
-                  (λ f from to is. ne (let both : u ≡ t = cc in both)))) (sound.good told is_alive u e lt low)
+              (λ f from to is. ne (let both : u ≡ t = cc in both)))) (sound.good told is_alive u e lt low)
         ];
       }
         where

@@ -1,11 +1,11 @@
 -- Media that were only read, and media of which nothing is unsettled.
-use Rattle.std.proofs.Common.{◌≡◌, ℕ, ◌<◌, Bool, true, false, List, [], length, get_or, Result, Ok, Err, refl, sym, ap, subst, ◌∙◌, arith}
+use Rattle.std.proofs.Common.{◌≡◌, ℕ, Bool, true, false, List, [], length, Result, Ok, Err, refl, sym, subst}
 use Rattle.std.specs.Prelude.{IsTrue, IfOk, OnErr, MatchBool, take}
 use Rattle.counted.specs.Causes.{Rose}
 use Rattle.std.proofs.lemmas.Bool.{false≢true}
 use Rattle.row_bytes.specs.Header.{header_bytes}
 use Rattle.std.proofs.lemmas.List.{ext_get_or}
-use Rattle.pcm_media.specs.Images.{Content, MayLeave, IsOutside}
+use Rattle.pcm_media.specs.Images.{Content, IsOutside}
 use Rattle.pcm_media.specs.View.{View, Writes}
 use Rattle.pcm_media.proofs.Left.{same_bytes}
 use Rattle.array_shape.specs.declared.shape.Shape.{Shape}

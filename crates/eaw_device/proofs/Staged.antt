@@ -1,14 +1,13 @@
 -- An array in which cells of one number at one logger were written.
-use Rattle.std.proofs.Common.{◌≡◌, ◌≢◌, ℕ, zero, suc, ◌+◌, ◌-◌, ◌*◌, ◌<◌, ◌≤◌, ◌⊎◌, inl, inr, List, [], ◌∷◌, ◌++◌, length, refl, sym, ap, subst, ◌∙◌, arith}
+use Rattle.std.proofs.Common.{◌≡◌, ◌≢◌, ℕ, zero, suc, ◌+◌, ◌<◌, ◌≤◌, ◌⊎◌, inl, inr, List, length, sym, ap, subst, ◌∙◌, arith}
 use Rattle.std.proofs.lemmas.Bool.{cases_lt, cases_eq}
-use Rattle.pcm_media.specs.Images.{Content, MayLeave, SameOutside, IsOutside, Touched, partly}
+use Rattle.pcm_media.specs.Images.{Content, SameOutside, IsOutside, Touched}
 use Rattle.pcm_media.proofs.Left.{left_partly}
 use Rattle.array_shape.specs.declared.shape.Shape.{Shape}
-use Rattle.array_shape.specs.Places.{media_len, region_at, row_at, cell_at, data_at, data_len, place_of, logger_of}
-use Rattle.array_shape.specs.Areas.{Area, row, cell, HasArea}
+use Rattle.array_shape.specs.Places.{media_len, row_at, cell_at, data_at, data_len, place_of, logger_of}
+use Rattle.array_shape.specs.Areas.{row, cell, HasArea}
 use Rattle.array_shape.proofs.Apart.{areas_apart, areas_inside, cell_end, data_end, region_end, place_start, place_end}
-use Rattle.array_image.specs.Parts.{Part}
-use Rattle.array_image.specs.Image.{row_of, cell_of, data_of, parts_from, IsGoodCell}
+use Rattle.array_image.specs.Image.{row_of, cell_of, data_of, parts_from}
 use Rattle.array_image.specs.Standing.{IsAtRest, IsClean}
 use Rattle.array_image.proofs.Data.{data_away}
 use Rattle.array_image.proofs.Rows.{row_away, cell_away, parts_same}

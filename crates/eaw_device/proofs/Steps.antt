@@ -1,5 +1,5 @@
 -- What a logger's stage and the coordinator's commit say, at the device's own fields.
-use Rattle.std.proofs.Common.{◌≡◌, ◌∙◌, ◌+◌, ◌<◌, ◌≤◌, Bool, true, false, ap, sym, subst, refl, ℕ, List, [], ◌∷◌, get_or, length, arith, Result}
+use Rattle.std.proofs.Common.{◌≡◌, ◌∙◌, ◌+◌, ◌<◌, ◌≤◌, Bool, true, false, sym, subst, refl, ℕ, List, length, arith, Result}
 use Rattle.std.specs.Prelude.{IsTrue, slice_index, slice_set}
 use Rattle.pcm_media.specs.View.{View, Writes}
 use Rattle.array_shape.specs.declared.shape.Shape.{Shape}
@@ -26,7 +26,7 @@ module _ {T E : Type 0} (tells : Bool) (t addr : ℕ) (bytes : List ℕ) (old ne
   said : IsStaged tells t addr bytes old new r n shape 0 (slice_index held t)
   said = subst (λ (i : ℕ). IsStaged tells t addr bytes old new r n shape 0 (slice_index held i)) is
       (subst (λ (g : ℕ). IsStaged tells t addr bytes old new r n shape g (slice_index held at)) zero_is
-          (subst (λ (s : Shape). IsStaged tells t addr bytes old new r n s number (slice_index held at)) same staged))
+      (subst (λ (s : Shape). IsStaged tells t addr bytes old new r n s number (slice_index held at)) same staged))
 
   room : slice_index held t + n ≤ shape.entries
   room = omega (arith, said.fits, said.took)

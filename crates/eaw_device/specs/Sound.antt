@@ -1,5 +1,5 @@
 -- What a device keeps true.
-use Rattle.std.specs.Prelude.{ℕ, ◌≡◌, ◌<◌, ◌≤◌, Bool, true, false, IsTrue, nat_eq, nat_lt, if◌then◌else◌, get_or, List, length, slice_index, refl}
+use Rattle.std.specs.Prelude.{ℕ, ◌≡◌, ◌<◌, ◌≤◌, Bool, true, false, IsTrue, nat_eq, if◌then◌else◌, get_or, List, length, slice_index, refl}
 use Rattle.std.proofs.Common.{ap}
 use Rattle.pcm_media.specs.View.{View}
 use Rattle.array_shape.specs.declared.shape.Shape.{Shape}

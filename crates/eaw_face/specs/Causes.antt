@@ -1,5 +1,5 @@
 -- When each answer of a command comes. The refusals stand in their order: a later one comes only where no earlier one does.
-use Rattle.std.specs.Prelude.{ℕ, ◌≡◌, ◌+◌, ◌<◌, ◌≤◌, true, false, List, length, Result, Ok, Err}
+use Rattle.std.specs.Prelude.{ℕ, ◌≡◌, ◌+◌, ◌<◌, ◌≤◌, true, false, List, Result, Ok, Err}
 use Rattle.counted.specs.Causes.{Rose}
 use Rattle.array_image.specs.Parts.{Part}
 use Rattle.eaw_face.specs.StoreView.{StoreView, parts_at}

@@ -2,7 +2,7 @@
 use Rattle.std.proofs.Common.{Bool, false, ◌≡◌, ℕ, ◌+◌, ◌≤◌, List, [], ◌∷◌, ◌++◌, length, refl, sym, subst, inl, inr}
 use Rattle.script_text.specs.declared.line.Line.{Line}
 use Rattle.script_text.specs.declared.line.Line.TheVariants.{Nothing, Told, Bad}
-use Rattle.mars_shell.specs.Session.{Limits, State, Step, IsSound}
+use Rattle.mars_shell.specs.Session.{Limits, State, IsSound}
 use Rattle.mars_shell.specs.Transcript.{Gives, LineGives, Ends, Answered}
 use Rattle.mars_shell.specs.Lines.{lines_of}
 use Rattle.mars_shell.specs.Outcome.{Outcome, IsOfLines}

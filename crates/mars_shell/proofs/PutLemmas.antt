@@ -2,7 +2,6 @@
 use Rattle.std.proofs.Common.{◌≡◌, ℕ, Bool, true, false, nat_eq, cond, List, [], ◌∷◌, ◌++◌, Option, Some, None, length, take, refl, sym, ap, ◌∙◌, arith}
 use Rattle.std.specs.Option.{IsNone, option_to_list}
 use Rattle.std.proofs.lemmas.List.{append_assoc, append-nil, take_at, length-append}
-use Rattle.history.specs.Table.{Table, after, left_by}
 use Rattle.history.specs.declared.call.Call.{Call}
 use Rattle.history.specs.declared.call.Call.TheVariants.{Get, Put}
 use Rattle.history.specs.declared.call.Reply.{Reply}

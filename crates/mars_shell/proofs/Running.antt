@@ -1,5 +1,5 @@
 -- A whole run: one that ends before its lines, and one that answers them.
-use Rattle.std.proofs.Common.{◌≡◌, ℕ, ◌≤◌, ◌<◌, ◌*◌, ◌++◌, List, [], length, ◌∷◌, Bool, false, Option, None, refl, sym, ap, subst, ◌∙◌, arith}
+use Rattle.std.proofs.Common.{◌≡◌, ℕ, ◌≤◌, ◌++◌, List, [], length, ◌∷◌, Bool, false, Option, None, refl, sym, ap, subst, ◌∙◌, arith}
 use Rattle.std.specs.Prelude.{IsTrue}
 use Rattle.std.proofs.lemmas.List.{append-nil}
 use Rattle.std.proofs.lemmas.Bool.{false≢true}
@@ -11,18 +11,15 @@ use Rattle.array_image.specs.Image.{data_of}
 use Rattle.array_image.proofs.Data.{length-data_of}
 use Rattle.eaw_face.specs.StoreView.{StoreView}
 use Rattle.eaw_device.specs.Opens.{IsArray, IsQuiet, Opens}
-use Rattle.history.specs.Table.{Table}
-use Rattle.history.specs.Legal.{records}
 use Rattle.history.specs.declared.call.Call.{Call}
 use Rattle.history.specs.declared.call.Reply.{Reply}
 use Rattle.history.specs.declared.transaction.Done.{Done}
-use Rattle.mars_shell.specs.Exchange.{Exchange}
 use Rattle.mars_shell.specs.Kept.{IsReady, IsKept, limits_of, slots_of, state_over}
 use Rattle.mars_shell.specs.Lines.{lines_of}
 use Rattle.mars_shell.specs.Outcome.{ArraySays, Outcome, IsOfLines}
 use Rattle.mars_shell.specs.Records.{records_of}
-use Rattle.mars_shell.specs.Run.{IsFirstShape, records_in, IsLeft, Runs}
-use Rattle.mars_shell.specs.Session.{State, opened, IsSound}
+use Rattle.mars_shell.specs.Run.{IsFirstShape, records_in, Runs}
+use Rattle.mars_shell.specs.Session.{opened}
 use Rattle.mars_shell.specs.Transcript.{Answered}
 use Rattle.mars_shell.specs.declared.status.Status.{Status}
 use Rattle.mars_shell.specs.declared.status.Status.TheVariants.{Good, Usage, TooLong, ReadFault, WriteFault, MediaFault, NoMemory, NotMars}
@@ -30,17 +27,23 @@ use Rattle.mars_shell.specs.declared.input.TheConstants.{MOST}
 use Rattle.mars_shell.proofs.AnsweredLemmas.{Answered-keeps, outcome_of}
 
 pub first : Shape
-first = record { loggers = 1; numbers = 8; entries = 16; pages = 256; in_range = record {
-  some_loggers = omega arith;
-  most_loggers = omega arith;
-  some_numbers = omega arith;
-  most_numbers = omega arith;
-  some_entries = omega arith;
-  most_entries = omega arith;
-  some_pages = omega arith;
-  most_pages = omega arith;
-  even_pages = refl;
-} }
+first = record {
+  loggers = 1;
+  numbers = 8;
+  entries = 16;
+  pages = 256;
+  in_range = record {
+    some_loggers = omega arith;
+    most_loggers = omega arith;
+    some_numbers = omega arith;
+    most_numbers = omega arith;
+    some_entries = omega arith;
+    most_entries = omega arith;
+    some_pages = omega arith;
+    most_pages = omega arith;
+    even_pages = refl;
+  };
+}
 
 pub is_first : IsFirstShape first
 unfolding first
@@ -87,7 +90,7 @@ module _ (tells : Bool) (shape : Shape) (old : View) (store : StoreView) (one : 
       let same : applied (store.logs 0) store.bytes ≡ store.bytes = ap (λ (ps : List Part). applied ps store.bytes) none in
       let its : store.bytes ≡ data_of shape old.content.bytes = opens.bytes told in
       let table : records_of (slots_of store.shape) store.bytes ≡ records_in shape old =
-          ap (λ (s : Shape). records_of (slots_of s) store.bytes) opens.same_shape ∙ ap (records_of (slots_of shape)) its in
+      ap (λ (s : Shape). records_of (slots_of s) store.bytes) opens.same_shape ∙ ap (records_of (slots_of shape)) its in
       record {
         long = ap length (same ∙ its) ∙ length-data_of shape old.content.bytes ∙ sym (ap data_len opens.same_shape);
         records_kept = table;
@@ -108,7 +111,7 @@ module _ (tells : Bool) (shape : Shape) (old : View) (store : StoreView) (one : 
       let same : store'.shape ≡ shape = stays ∙ opens.same_shape in
       let base = records_in shape old in
       let mine : Answered (limits_of shape) (opened base) 1 (lines_of input) status cut text (state_over base history live) =
-          subst (λ (s : Shape). Answered (limits_of s) (opened base) 1 (lines_of input) status cut text (state_over base history live)) opens.same_shape answered in
+      subst (λ (s : Shape). Answered (limits_of s) (opened base) 1 (lines_of input) status cut text (state_over base history live)) opens.same_shape answered in
       record {
         shape = shape;
         first = is_first;
@@ -121,13 +124,16 @@ module _ (tells : Bool) (shape : Shape) (old : View) (store : StoreView) (one : 
           read = read;
           wrote = wrote;
           failed = failed;
-          does = (outcome_of (limits_of shape) (opened base) input status cut text (state_over base history live) kind short mine, λ good. record {
-            quiet = subst (λ (s : Shape). IsQuiet s new.content.bytes) same (quiet good);
-            exact =
-                ap (λ (s : Shape). records_of (slots_of s) (data_of s new.content.bytes)) (sym same)
-                ∙ ap (records_of (slots_of store'.shape)) same_data
-                ∙ (kept' good).records_kept;
-          });
+          does = (
+            outcome_of (limits_of shape) (opened base) input status cut text (state_over base history live) kind short mine,
+            λ good. record {
+              quiet = subst (λ (s : Shape). IsQuiet s new.content.bytes) same (quiet good);
+              exact =
+                  ap (λ (s : Shape). records_of (slots_of s) (data_of s new.content.bytes)) (sym same)
+                  ∙ ap (records_of (slots_of store'.shape)) same_data
+                  ∙ (kept' good).records_kept;
+            },
+          );
           legal = (Answered-keeps (limits_of shape) (opened base) 1 (lines_of input) status cut text (state_over base history live) mine (record { legal = tt; right = tt })).legal;
         };
       }

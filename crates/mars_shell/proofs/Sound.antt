@@ -1,11 +1,8 @@
 -- A step keeps the history legal and the running transaction right.
-use Rattle.std.proofs.Common.{◌≡◌, ℕ, ◌+◌, List, [], ◌∷◌, ◌++◌, length, Option, Some, None, refl, sym, subst, inl, inr, arith}
-use Rattle.history.specs.Table.{Table, Answers, after, left_by, IsRight}
-use Rattle.history.specs.Legal.{records, IsLegalFrom}
+use Rattle.std.proofs.Common.{◌≡◌, List, Option, Some, None, refl, sym, subst, inl, inr}
 use Rattle.history.specs.declared.call.Call.{Call}
 use Rattle.history.specs.declared.call.Call.TheVariants.{Begin, Get, Put, Commit}
 use Rattle.history.specs.declared.call.Reply.{Reply}
-use Rattle.history.specs.declared.transaction.Done.{Done}
 use Rattle.mars_shell.specs.Session.{Limits, State, StepAt, Step, IsSound, done_with}
 use Rattle.history.proofs.OneMore.{IsRight-push, IsLegal-push}
 

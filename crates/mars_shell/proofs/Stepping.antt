@@ -1,17 +1,17 @@
 -- Calls that are answered by a store.
-use Rattle.std.proofs.Common.{◌≡◌, ◌≢◌, ℕ, ◌+◌, ◌-◌, ◌*◌, ◌/◌, ◌%◌, ◌<◌, ◌≤◌, inl, inr, Bool, true, false, nat_eq, cond, List, [], ◌∷◌, ◌++◌, length, get_or, take, drop, Option, Some, None, refl, sym, ap, subst, ◌∙◌, arith}
+use Rattle.std.proofs.Common.{◌≡◌, ℕ, ◌+◌, ◌*◌, ◌/◌, ◌%◌, ◌<◌, ◌≤◌, inl, inr, Bool, nat_eq, cond, List, [], ◌∷◌, ◌++◌, length, Option, Some, None, refl, sym, ap, subst, ◌∙◌, arith}
 use Rattle.std.specs.Prelude.{IsTrue}
 use Rattle.std.specs.FinMap.{get, insert}
 use Rattle.std.proofs.lemmas.Bool.{eq-eqb, ne_eqb, cases_eq}
-use Rattle.std.proofs.lemmas.List.{append-nil, append_assoc, length-append, take_all, drop_all, nil_from_length}
+use Rattle.std.proofs.lemmas.List.{length-append, take_all, drop_all, nil_from_length}
 use Rattle.pcm_media.specs.Images.{put}
 use Rattle.pcm_media.proofs.Puts.{length-put}
 use Rattle.array_shape.specs.declared.shape.Shape.{Shape}
-use Rattle.array_shape.specs.Places.{IsShape, logger_of, page_count, data_len}
+use Rattle.array_shape.specs.Places.{data_len}
 use Rattle.array_shape.specs.Parts.{page_left, pieces_of}
 use Rattle.array_shape.proofs.Cutting.{pieces_of-none, pieces_of-some}
 use Rattle.array_image.specs.Parts.{Part, applied}
-use Rattle.eaw_face.specs.StoreView.{StoreView, parts_at, Stays, IsSame, Logs}
+use Rattle.eaw_face.specs.StoreView.{StoreView, parts_at, IsSame, Logs}
 use Rattle.eaw_face.specs.Causes.{HasRoom, IsFull}
 use Rattle.record_slots.specs.Slots.{slot_said}
 use Rattle.record_slots.specs.declared.slot.Slot.TheVariants.{Present}

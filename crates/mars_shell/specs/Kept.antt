@@ -1,5 +1,5 @@
 -- What a session over a store keeps true.
-use Rattle.std.specs.Prelude.{ℕ, ◌+◌, ◌*◌, ◌≡◌, ◌<◌, Bool, false, IsTrue, List, [], Option, unwrap_or, length}
+use Rattle.std.specs.Prelude.{ℕ, ◌*◌, ◌≡◌, ◌<◌, Bool, false, IsTrue, List, [], Option, unwrap_or, length}
 use Rattle.array_shape.specs.declared.shape.Shape.{Shape}
 use Rattle.array_shape.specs.Places.{page_count, data_len}
 use Rattle.array_image.specs.Parts.{applied}

@@ -1,5 +1,5 @@
 -- The records of an array's data: the record of key k stands in slot k.
-use Rattle.std.specs.Prelude.{ℕ, zero, suc, ◌+◌, ◌*◌, ◌≡◌, nat_eq, if◌then◌else◌, List, Option, Some, None}
+use Rattle.std.specs.Prelude.{ℕ, zero, suc, ◌+◌, ◌*◌, nat_eq, if◌then◌else◌, List, Option, Some, None}
 use Rattle.std.specs.FinMap.{empty, insert}
 use Rattle.pcm_media.specs.Images.{range}
 use Rattle.history.specs.Table.{Table}

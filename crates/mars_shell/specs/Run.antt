@@ -39,4 +39,4 @@ pub record Runs (source_tells : Bool) (given : List ℕ) (sink_tells : Bool) (be
   pub array : ArraySays (IsArray shape old.size old.content.bytes) status
   pub exchange : Exchange source_tells given sink_tells before after sink_failed
       (λ input cut text final. Outcome (limits_of shape) (opened (records_in shape old)) input status cut text final
-          × (status ≡ Good → IsLeft shape new final))
+      × (status ≡ Good → IsLeft shape new final))

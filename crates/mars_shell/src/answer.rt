@@ -32,12 +32,12 @@ pub fn answer_line<K: Sink, S: EawStore>(
     ensures ready { OnOk result (IsReady (S.view session.new.store) session.new.live) }
     ensures ok { OnOk result ((text : List ℕ) × (IsTrue K.tells → K.written sink.new ≡ K.written sink.old ++ text)
         × (IsTrue S.tells → (base : Table) → IsKept base (S.view session.old.store) session.old.history session.old.live
-            → LineGives (limits_of (S.view session.old.store).shape) (state_over base session.old.history session.old.live) n bytes.now text (state_over base session.new.history session.new.live)
-                × IsKept base (S.view session.new.store) session.new.history session.new.live)) }
+        → LineGives (limits_of (S.view session.old.store).shape) (state_over base session.old.history session.old.live) n bytes.now text (state_over base session.new.history session.new.live)
+        × IsKept base (S.view session.new.store) session.new.history session.new.live)) }
     ensures err { IfErr result (λ status. (cut : Bool) × (text : List ℕ) × (IsTrue K.tells → K.written sink.new ≡ K.written sink.old ++ text)
         × (IsTrue cut → Rose (K.faults sink.old) (K.faults sink.new))
         × (IsTrue S.tells → (base : Table) → IsKept base (S.view session.old.store) session.old.history session.old.live
-            → Ends (limits_of (S.view session.old.store).shape) (state_over base session.old.history session.old.live) n bytes.now status cut text (state_over base session.new.history session.new.live))) }
+        → Ends (limits_of (S.view session.old.store).shape) (state_over base session.old.history session.old.live) n bytes.now status cut text (state_over base session.new.history session.new.live))) }
     ensures write_fault { IsErrOf result Status.WriteFault → Rose (K.faults sink.old) (K.faults sink.new) }
     ensures media_fault { IsErrOf result Status.MediaFault → Rose (S.view session.old.store).faults (S.view session.new.store).faults }
     ensures kind { IfErr result IsEnding }
@@ -63,9 +63,7 @@ pub fn answer_line<K: Sink, S: EawStore>(
 #[derive(Clone, Copy, Debug, PartialEq, Eq)]
 enum Stop {
     /// The media failed in a call of this caller.
-    Media {
-        caller: u8,
-    },
+    Media { caller: u8 },
     NoMemory,
 }
 
@@ -80,7 +78,7 @@ fn prepare<S: EawStore>(
     ensures ready { OnOk result (IsReady (S.view session.new.store) session.new.live) }
     ensures ok { OnOk result (IsTrue S.tells → (base : Table) → IsKept base (S.view session.old.store) session.old.history session.old.live
         → LineGives (limits_of (S.view session.old.store).shape) (state_over base session.old.history session.old.live) n bytes.now out.new.items (state_over base session.new.history session.new.live)
-            × IsKept base (S.view session.new.store) session.new.history session.new.live) }
+        × IsKept base (S.view session.new.store) session.new.history session.new.live) }
     ensures err { IfErr result (λ stop. IsTrue S.tells → (base : Table) → IsKept base (S.view session.old.store) session.old.history session.old.live
         → Stops (limits_of (S.view session.old.store).shape) (state_over base session.old.history session.old.live) n bytes.now stop (state_over base session.new.history session.new.live)) }
     ensures media { IfErr result (λ stop. WhereMedia stop (Rose (S.view session.old.store).faults (S.view session.new.store).faults)) }

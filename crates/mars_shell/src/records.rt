@@ -66,13 +66,7 @@ fn value_of(bytes: &[u8; 64], key: u64) -> Option<Value>
     ensures { result ≡ value_in key (slot_said bytes.now) }
 {
     match &read_slot(bytes) {
-        Some(Slot::Present { key: own, value }) => {
-            if *own == key {
-                Some(*value)
-            } else {
-                None
-            }
-        }
+        Some(Slot::Present { key: own, value }) => { if *own == key { Some(*value) } else { None } }
         Some(Slot::Absent { .. }) | None => None,
     }
 }

@@ -118,11 +118,13 @@ impl<S: EawStore> Session<S> {
         }
         match put_record(&mut self.store, key, value) {
             Ok(()) => Ok(Reply::Fine),
-            Err(EawFault::LogFull {
-                logger,
-                held,
-                needed,
-            }) => {
+            Err(
+                EawFault::LogFull {
+                    logger,
+                    held,
+                    needed,
+                },
+            ) => {
                 live.revoke_put();
                 Ok(Reply::LogFull {
                     logger,

@@ -121,7 +121,7 @@ pub fn answer_all<K: Sink, S: EawStore>(
     ensures answered { (cut : Bool) × (text : List ℕ) × (IsTrue K.tells → K.written sink.new ≡ K.written sink.old ++ text)
         × (IsTrue cut → Rose (K.faults sink.old) (K.faults sink.new))
         × (IsTrue S.tells → (base : Table) → IsKept base (S.view session.old.store) session.old.history session.old.live
-            → Answered (limits_of (S.view session.old.store).shape) (state_over base session.old.history session.old.live) 1 (lines_of input.now) result cut text (state_over base session.new.history session.new.live)) }
+        → Answered (limits_of (S.view session.old.store).shape) (state_over base session.old.history session.old.live) 1 (lines_of input.now) result cut text (state_over base session.new.history session.new.live)) }
     ensures kept { result ≡ Status.Good → IsTrue S.tells → (base : Table) → IsKept base (S.view session.old.store) session.old.history session.old.live
         → IsKept base (S.view session.new.store) session.new.history session.new.live }
     ensures ready { result ≡ Status.Good → IsReady (S.view session.new.store) session.new.live }

@@ -49,4 +49,4 @@ range-put old bytes at n is fits =
     let size : length (range (put old at bytes) at n) ≡ n = length-range (put old at bytes) at n (omega arith) in
     ext_get_or 0 (range (put old at bytes) at n) bytes (omega arith)
     (λ i lt. get_or-range (put old at bytes) at n i (omega arith) ∙ get_or-put_inside old at bytes fits (at + i) (omega arith) (omega arith)
-        ∙ ap (λ (j : ℕ). get_or bytes j 0) (omega arith))
+    ∙ ap (λ (j : ℕ). get_or bytes j 0) (omega arith))

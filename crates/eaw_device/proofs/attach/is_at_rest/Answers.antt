@@ -1,4 +1,4 @@
-use Rattle.std.proofs.Common.{◌≡◌, ℕ, true, [], length, sym, ap, subst, ◌∙◌, arith}
+use Rattle.std.proofs.Common.{◌≡◌, ℕ, length, sym, ap, subst, ◌∙◌}
 use Rattle.eaw_device.specs.Opens.{IsQuiet}
 use Rattle.pcm_media.specs.Images.{IsOutside}
 use Rattle.array_shape.specs.Places.{media_len}

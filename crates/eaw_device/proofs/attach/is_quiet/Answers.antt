@@ -1,8 +1,6 @@
-use Rattle.std.proofs.Common.{◌≡◌, ℕ, [], true, false, sym, ap, ◌∙◌, arith, below_more}
+use Rattle.std.proofs.Common.{◌≡◌, [], sym, ap, ◌∙◌, arith, below_more}
 use Rattle.std.proofs.lemmas.Bool.{false≢true}
-use Rattle.std.specs.Prelude.{IsTrue}
 use Rattle.pcm_media.specs.Images.{range}
-use Rattle.array_shape.specs.Places.{row_at}
 use Rattle.row_bytes.specs.Said.{row_said}
 use Rattle.array_image.specs.Image.{row_of}
 use Rattle.pcm_media.proofs.Writing.{writes_on}

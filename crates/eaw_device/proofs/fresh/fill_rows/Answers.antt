@@ -1,8 +1,8 @@
-use Rattle.std.proofs.Common.{◌≡◌, ◌+◌, ◌*◌, ◌≤◌, ℕ, List, length, sym, ap, subst, ◌∙◌, arith, replicate}
+use Rattle.std.proofs.Common.{◌≡◌, ◌+◌, ◌*◌, ◌≤◌, ℕ, length, sym, ap, subst, ◌∙◌, arith}
 use Rattle.std.proofs.lemmas.List.{length-replicate}
 use Rattle.pcm_media.specs.Images.{put}
 use Rattle.pcm_media.proofs.Writing.{writes_on}
-use Rattle.array_shape.specs.Places.{media_len, row_at}
+use Rattle.array_shape.specs.Places.{media_len}
 use Rattle.array_image.specs.Image.{data_of}
 use Rattle.eaw_device.specs.Fresh.{HasRows}
 use Rattle.eaw_device.proofs.Reading.{writes_failed}

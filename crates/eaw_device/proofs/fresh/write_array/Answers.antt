@@ -1,12 +1,11 @@
-use Rattle.std.proofs.Common.{◌≡◌, ◌+◌, ◌*◌, ◌<◌, ◌≤◌, ℕ, List, [], length, refl, sym, ap, subst, ◌∙◌, arith}
+use Rattle.std.proofs.Common.{◌≡◌, ℕ, List, [], length, refl, sym, ap, subst, ◌∙◌, arith}
 use Rattle.std.proofs.lemmas.Result.{on_ok_weaker}
-use Rattle.pcm_media.specs.Images.{Content, put, settled}
+use Rattle.pcm_media.specs.Images.{put, settled}
 use Rattle.pcm_media.proofs.Ranges.{range-put}
 use Rattle.pcm_media.proofs.Writing.{writes_on}
 use Rattle.array_shape.specs.Places.{media_len, page_count}
-use Rattle.array_image.specs.Image.{data_of}
-use Rattle.eaw_device.specs.Fresh.{HasRows, HasPages, IsFresh}
-use Rattle.eaw_device.proofs.Reading.{writes_failed, read_only}
+use Rattle.eaw_device.specs.Fresh.{HasPages, IsFresh}
+use Rattle.eaw_device.proofs.Reading.{writes_failed}
 use Rattle.eaw_device.proofs.FreshLemmas.{within, same_pages, header_fits, header_rows, header_data}
 use Rattle.eaw_device.proofs.fresh.write_array.Goals as goal
 

@@ -1,4 +1,4 @@
-use Rattle.std.proofs.Common.{ℕ, [], ◌∷◌, Ok, Result}
+use Rattle.std.proofs.Common.{[], ◌∷◌, Ok, Result}
 use Rattle.std.specs.Prelude.{IsTrue}
 use Rattle.counted.specs.declared.Failed.{Failed}
 use Rattle.pcm_media.specs.View.{Writes}

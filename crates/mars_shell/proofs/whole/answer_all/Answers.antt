@@ -1,4 +1,4 @@
-use Rattle.std.proofs.Common.{false, List, [], ◌++◌, ℕ, ◌≡◌, ap, sym, subst, ◌∙◌, arith}
+use Rattle.std.proofs.Common.{false, [], ◌++◌, ap, sym, subst, ◌∙◌, arith}
 use Rattle.std.proofs.lemmas.Bool.{false≢true}
 use Rattle.std.proofs.lemmas.List.{append_assoc, append-nil}
 use Rattle.array_shape.specs.declared.shape.Shape.{Shape}
@@ -40,8 +40,8 @@ loop-line-preserved g c =
             let more = so_far.2 told base kept in
             let gives = line.2 told base more.1 in (
               (λ status cut text final rest. rw append_assoc (more.0 status cut (line.0 ++ text) final (Answered-more _ _ _ _ _ _ line.0 _ status cut text final c.in-Some.ensures.0
-                (subst (λ (s : Shape). LineGives (limits_of s) (state_over base c.loop-line.session.history c.loop-line.session.live) c.loop-line.n c.in-Some.line.now
-                line.0 (state_over base c.answer_line.new.session.history c.answer_line.new.session.live)) shape gives.0) rest))),
+                  (subst (λ (s : Shape). LineGives (limits_of s) (state_over base c.loop-line.session.history c.loop-line.session.live) c.loop-line.n c.in-Some.line.now
+                  line.0 (state_over base c.answer_line.new.session.history c.answer_line.new.session.live)) shape gives.0) rest))),
               gives.1,
             ),
       );

@@ -16,10 +16,10 @@ invariant-loop-line g l =
     record {
       so_far : (done : List ℕ) × (IsTrue k.tells → k.written l.sink ≡ k.written l.fn.sink ++ done)
           × (IsTrue s.tells → (base : Table) → IsKept base (s.view l.fn.session.store) l.fn.session.history l.fn.session.live
-              → ((status : Status) (cut : Bool) (text : List ℕ) (final : State)
-                  → Answered (limits_of (s.view l.fn.session.store).shape) (state_over base l.session.history l.session.live) l.n (lines_of l.rest) status cut text final
-                  → Answered (limits_of (s.view l.fn.session.store).shape) (state_over base l.fn.session.history l.fn.session.live) 1 (lines_of l.input) status cut (done ++ text) final)
-                × IsKept base (s.view l.session.store) l.session.history l.session.live);
+          → ((status : Status) (cut : Bool) (text : List ℕ) (final : State)
+          → Answered (limits_of (s.view l.fn.session.store).shape) (state_over base l.session.history l.session.live) l.n (lines_of l.rest) status cut text final
+          → Answered (limits_of (s.view l.fn.session.store).shape) (state_over base l.fn.session.history l.fn.session.live) 1 (lines_of l.input) status cut (done ++ text) final)
+          × IsKept base (s.view l.session.store) l.session.history l.session.live);
       ready : IsReady (s.view l.session.store) l.session.live;
       count : l.n + length l.rest ≤ length l.input + 1;
       sink_later : k.faults l.fn.sink ≤ k.faults l.sink;

@@ -1,4 +1,4 @@
-use Rattle.std.proofs.Common.{Some, List, [], ◌∷◌, ◌++◌, ◌≡◌, ap, subst, sym, ◌∙◌}
+use Rattle.std.proofs.Common.{Some, [], ◌∷◌, ◌++◌, ◌≡◌, ap, subst, sym, ◌∙◌}
 use Rattle.history.specs.declared.call.Call.TheVariants.{Get}
 use Rattle.mars_shell.specs.Kept.{IsReady, IsKept}
 use Rattle.mars_shell.proofs.Stepping.{get_ready, get_steps, steps_at}

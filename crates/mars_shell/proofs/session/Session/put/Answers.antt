@@ -1,7 +1,7 @@
-use Rattle.std.proofs.Common.{Some, List, ◌≡◌, ap, subst, sym, ◌∙◌}
+use Rattle.std.proofs.Common.{Some, ◌≡◌, ap, subst, sym, ◌∙◌}
 use Rattle.eaw_face.specs.declared.fault.EawFault.TheVariants.{LogFull as full_fault, Media as media_fault}
 use Rattle.history.specs.declared.call.Call.TheVariants.{Put}
-use Rattle.history.specs.declared.call.Reply.TheVariants.{Fine, LogFull}
+use Rattle.history.specs.declared.call.Reply.TheVariants.{Fine}
 use Rattle.mars_shell.specs.Kept.{IsReady, IsKept}
 use Rattle.mars_shell.proofs.Stepping.{put_ready, put_steps, put_refused, steps_at}
 use Rattle.mars_shell.proofs.session.Session.put.Goals as goal
