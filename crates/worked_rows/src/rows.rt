@@ -68,11 +68,12 @@ fn scripts_are_answered(rt: HostRuntime) -> Result<(), Fail> {
     Ok(())
 }
 
-// Bytes at a place, where an image has them in place of those before.
+// Puts bytes at a place of an image.
 fn overwrite(image: &mut [u8], at: usize, bytes: &[u8]) {
     for (i, byte) in bytes.iter().enumerate() {
-        if at + i < image.len() {
-            image[at + i] = *byte;
+        let place = at.saturating_add(i);
+        if place < image.len() {
+            image[place] = *byte;
         }
     }
 }
