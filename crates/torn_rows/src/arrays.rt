@@ -5,9 +5,10 @@ use crate::untold::Untold;
 use array_shape::Shape;
 use coordinator::commit_from;
 use counted::Failed;
+use device_recovery::{RecoverFault, Report, recover};
 use eaw_device::format;
 use logger::Logger;
-use pcm_media::{Media, MemoryMedia};
+use pcm_media::{Call, FusedMedia, Media, MemoryMedia};
 use std::alloc::Global;
 use std::process::Abort;
 use std::test::Fail;
@@ -22,6 +23,10 @@ pub const OLD: [u8; 4] = [b'w', b'x', b'y', b'z'];
 
 /// And after.
 pub const NEW: [u8; 4] = [b'a', b'b', b'c', b'd'];
+
+/// The calls of a transaction until it is decided: two cells are staged by two writes each, then come the rows, a barrier, the
+/// votes and a second barrier.
+pub const DECIDED: u64 = 10;
 
 /// Two loggers, two transaction numbers, 8 entries and four pages.
 pub fn small_shape(rt: &impl Abort) -> Shape
@@ -128,4 +133,35 @@ pub fn data_at_510<M: Media>(rt: &impl Abort, media: &mut M) -> Result<[u8; 4], 
     let low = pair_at(rt, media, 510)?;
     let high = pair_at(rt, media, 512)?;
     Ok([low[0], low[1], high[0], high[1]])
+}
+
+/// The media after so many calls of a transaction, and whether it answered Ok.
+pub fn stopped_after(
+    rt: &impl Abort,
+    alloc: Global,
+    passes: u64,
+) -> Result<(bool, MemoryMedia), Fail> {
+    let mut media = Untold {
+        inner: FusedMedia::new(with_old(rt, alloc)?, passes),
+    };
+    let is_done = replace(rt, &mut media, 1, &NEW).is_ok();
+    Ok((is_done, media.inner.into_inner()))
+}
+
+/// Recovers the array.
+pub fn recovered<M: Media>(rt: &impl Abort, media: &mut M) -> Result<Report, RecoverFault> {
+    let shape = small_shape(rt);
+    assert!(rt; media.len() == shape.media_len());
+    recover(media, &shape)
+}
+
+/// Of the calls that the media was asked for none is a write.
+pub fn writes_nothing(rt: &impl Abort, media: &MemoryMedia) {
+    for record in media.calls() {
+        let is_write = match record.call {
+            Call::Write { at: _, len: _ } => true,
+            _ => false,
+        };
+        assert!(rt; !is_write);
+    }
 }

@@ -1,6 +1,9 @@
-// The calls of a commit, each of them and in their order.
-use crate::arrays::{NEW, commit, media_of, small_shape, stage_both, with_old};
+// The calls of a commit and of a recovery, each of them and in their order.
+use crate::arrays::{
+    DECIDED, NEW, commit, media_of, recovered, stage_both, stopped_after, with_old,
+};
 use crate::untold::Untold;
+use device_recovery::Report;
 use pcm_media::Call::{Barrier, Read, Write};
 use pcm_media::{Call, MemoryMedia, Record};
 use std::process::Abort;
@@ -66,6 +69,40 @@ const SECOND: [Call; 9] = [
     Barrier,
 ];
 
+// Recovery looks at the heads of the cells of all decided rows before it writes.
+const RECOVERED: [Call; 15] = [
+    Barrier,
+    Read { at: 512, len: 16 },
+    Read {
+        at: 11_040,
+        len: 16,
+    },
+    Read { at: 528, len: 16 },
+    Read {
+        at: 11_056,
+        len: 16,
+    },
+    Read { at: 4_768, len: 16 },
+    Read {
+        at: 15_296,
+        len: 16,
+    },
+    Read {
+        at: 4_768,
+        len: 528,
+    },
+    Write { at: 9_502, len: 2 },
+    Read {
+        at: 15_296,
+        len: 528,
+    },
+    Write { at: 19_520, len: 2 },
+    Barrier,
+    Write { at: 528, len: 1 },
+    Write { at: 11_056, len: 1 },
+    Barrier,
+];
+
 // The media made these calls, all of them done.
 fn made_just(rt: &impl Abort, media: &MemoryMedia, calls: &[Call]) {
     let records = media.calls();
@@ -99,6 +136,22 @@ fn a_commit_makes_these_calls(rt: HostRuntime) -> Result<(), Fail> {
         };
         assert_eq!(rt; commit(&rt, &mut media, 1, counts), Ok(()));
         made_just(&rt, &media.inner, calls);
+    }
+    Ok(())
+}
+
+#[test]
+fn a_recovery_makes_these_calls(rt: HostRuntime) -> Result<(), Fail> {
+    let rows = [(DECIDED - 3, &RECOVERED[..5], 0), (DECIDED, &RECOVERED, 2)];
+    for (passes, calls, decided) in rows {
+        let (_, stopped) = stopped_after(&rt, rt.alloc(), passes)?;
+        let mut media = stopped.leave(&[])?;
+        let report = Report {
+            decided,
+            dropped: 0,
+        };
+        assert_eq!(rt; recovered(&rt, &mut media), Ok(report));
+        made_just(&rt, &media, calls);
     }
     Ok(())
 }

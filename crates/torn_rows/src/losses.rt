@@ -1,20 +1,18 @@
 // Power is lost at each call of a transaction over two loggers, and at each call of its recovery.
-use crate::arrays::{NEW, OLD, data_at_510, replace, small_shape, with_old};
+use crate::arrays::{
+    DECIDED, NEW, OLD, data_at_510, recovered, replace, stopped_after, with_old, writes_nothing,
+};
 use crate::untold::Untold;
-use device_recovery::{RecoverFault, Report, recover};
-use pcm_media::{Call, FusedMedia, Media, MemoryMedia};
-use std::alloc::Global;
+use device_recovery::Report;
+use pcm_media::{FusedMedia, MemoryMedia};
 use std::process::Abort;
 use std::test::Fail;
 
 // What may stand where nothing is sure: what a read gave, or these bytes over and over.
 const CHOICES: [&[u8]; 4] = [&[], &[0], &[0xc3], &[0xc3, 0]];
 
-// The calls of a transaction: two cells are staged by two writes each, then come the rows, a barrier, the votes and a second
-// barrier, behind which the transaction is decided.
+// The calls of a transaction.
 const CALLS: u64 = 18;
-
-pub const DECIDED: u64 = 10;
 
 // The most calls of a recovery: a barrier, four rows, the heads of two cells; two cells and their parts, a barrier, two votes, a
 // barrier.
@@ -24,25 +22,6 @@ const NOTHING: Report = Report {
     decided: 0,
     dropped: 0,
 };
-
-pub fn recovered<M: Media>(rt: &impl Abort, media: &mut M) -> Result<Report, RecoverFault> {
-    let shape = small_shape(rt);
-    assert!(rt; media.len() == shape.media_len());
-    recover(media, &shape)
-}
-
-// The media after so many calls of a transaction, and whether it answered Ok.
-pub fn stopped_after(
-    rt: &impl Abort,
-    alloc: Global,
-    passes: u64,
-) -> Result<(bool, MemoryMedia), Fail> {
-    let mut media = Untold {
-        inner: FusedMedia::new(with_old(rt, alloc)?, passes),
-    };
-    let is_done = replace(rt, &mut media, 1, &NEW).is_ok();
-    Ok((is_done, media.inner.into_inner()))
-}
 
 // The media after so many calls of its recovery, and whether that answered Ok.
 fn recovery_stopped(rt: &impl Abort, media: MemoryMedia, passes: u64) -> (bool, MemoryMedia) {
@@ -60,16 +39,6 @@ fn recovered_data(rt: &impl Abort, mut image: MemoryMedia) -> Result<[u8; 4], Fa
     Ok(data_at_510(rt, &mut later)?)
 }
 
-pub fn writes_nothing(rt: &impl Abort, media: &MemoryMedia) {
-    for record in media.calls() {
-        let is_write = match record.call {
-            Call::Write { at: _, len: _ } => true,
-            _ => false,
-        };
-        assert!(rt; !is_write);
-    }
-}
-
 // Whatever a recovery of an image leaves, wherever it stops, stands for what the image stood for.
 fn recovery_stops(rt: &impl Abort, image: &MemoryMedia, choice: &[u8]) -> Result<(), Fail> {
     let data = recovered_data(rt, image.leave(&[])?)?;
@@ -82,16 +51,39 @@ fn recovery_stops(rt: &impl Abort, image: &MemoryMedia, choice: &[u8]) -> Result
     Ok(())
 }
 
+// Whatever is left of a transaction after so many calls stands for all of its bytes or for none, and for none before a second
+// vote may stand.
+fn leaves_all_or_none(rt: &impl Abort, media: &MemoryMedia, passes: u64) -> Result<(), Fail> {
+    for choice in CHOICES {
+        let data = recovered_data(rt, media.leave(choice)?)?;
+        assert!(rt; data == NEW || data == OLD, "{passes} passed");
+        assert!(rt; data == NEW || passes < DECIDED, "{passes} passed");
+        assert!(rt; data == OLD || passes >= DECIDED - 2, "{passes} passed");
+    }
+    Ok(())
+}
+
 #[test]
 fn a_transaction_stops(rt: HostRuntime) -> Result<(), Fail> {
     for passes in 0..=CALLS {
         let (is_done, stopped) = stopped_after(&rt, rt.alloc(), passes)?;
         assert_eq!(rt; is_done, passes == CALLS, "{passes} passed");
-        for choice in CHOICES {
-            let data = recovered_data(&rt, stopped.leave(choice)?)?;
-            assert!(rt; data == NEW || data == OLD, "{passes} passed");
-            assert!(rt; data == NEW || passes < DECIDED, "{passes} passed");
-        }
+        leaves_all_or_none(&rt, &stopped, passes)?;
+    }
+    Ok(())
+}
+
+#[test]
+fn a_call_of_a_transaction_fails(rt: HostRuntime) -> Result<(), Fail> {
+    for passes in 0..CALLS {
+        let mut media = Untold {
+            inner: with_old(&rt, rt.alloc())?,
+        };
+        media.inner.fail(passes + 1)?;
+        assert!(rt; replace(&rt, &mut media, 1, &NEW).is_err());
+        // It is the last call.
+        assert_eq!(rt; media.inner.calls().len() as u64, passes + 1);
+        leaves_all_or_none(&rt, &media.inner, passes)?;
     }
     Ok(())
 }

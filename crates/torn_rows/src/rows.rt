@@ -1,8 +1,6 @@
 // Recovery of images that no transaction leaves.
-use crate::arrays::media_of;
-use crate::losses::{DECIDED, recovered, stopped_after, writes_nothing};
+use crate::arrays::{DECIDED, media_of, recovered, stopped_after, writes_nothing};
 use device_recovery::{RecoverFault, Report};
-use pcm_media::MemoryMedia;
 use std::alloc::Global;
 use std::test::Fail;
 
