@@ -103,3 +103,16 @@ fn a_decided_row_may_be_bad(rt: HostRuntime) -> Result<(), Fail> {
     }
     Ok(())
 }
+
+#[test]
+fn a_lower_number_is_named_before_a_lower_logger(rt: HostRuntime) -> Result<(), Fail> {
+    let mut image = counted_up(rt.alloc(), 2, 0)?;
+    for at in VOTES {
+        change(&mut image, at, 0xc3);
+    }
+    // Now logger 0 has a bad row too, of number 1.
+    change(&mut image, 529, 1);
+    let mut media = media_of(rt.alloc(), &image)?;
+    assert_eq!(rt; recovered(&rt, &mut media), bad(1, 0));
+    Ok(())
+}
