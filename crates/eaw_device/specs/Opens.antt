@@ -1,28 +1,89 @@
--- Which media hold an array that can be opened.
-use Rattle.std.specs.Prelude.{ℕ, ◌≡◌, ◌<◌, ◌≤◌, Bool, false, IsTrue, List, length, take}
+-- What an image of an array opens with, and what an opening finds.
+use Rattle.std.specs.Prelude.{ℕ, ◌≡◌, ◌≤◌, Bool, false, IsTrue, List, [], Option, None}
+use Rattle.counted.specs.Causes.{Rose}
+use Rattle.counted.specs.Moments.{Elapses}
+use Rattle.pcm_media.specs.Images.{Content, MayLeave, Touched, range}
 use Rattle.pcm_media.specs.View.{View}
 use Rattle.array_shape.specs.declared.shape.Shape.{Shape}
 use Rattle.array_shape.specs.Places.{media_len}
-use Rattle.row_bytes.specs.Header.{header_bytes}
-use Rattle.array_image.specs.Image.{row_of, data_of}
+use Rattle.row_bytes.specs.Header.{HasMark, SaysShape, IsBadIn}
+use Rattle.array_image.specs.Image.{data_of}
+use Rattle.array_image.specs.Decided.{settled_data}
+use Rattle.array_image.specs.Standing.{StandsFor}
+use Rattle.device_recovery.specs.Recovered.{AllGood, IsFirstBad, HasNoVote}
 use Rattle.eaw_face.specs.StoreView.{StoreView}
+use Rattle.eaw_device.specs.declared.fault.AttachFault.{AttachFault}
+use Rattle.eaw_device.specs.declared.fault.AttachFault.TheVariants.{NotMars, BadShape, BadRow, Media, NoMemory}
 
--- no row is voted
-abbrev pub IsQuiet : Shape → List ℕ → Type 0
-IsQuiet shape bytes = (g t : ℕ) → g < shape.loggers → t < shape.numbers → (row_of shape bytes g t).voted ≡ false
+-- the first 512 bytes
+abbrev pub header_of : List ℕ → List ℕ
+header_of image = range image 0 512
 
--- It has the length of an array of this shape, begins with the numbers of its header, and no row is voted.
-pub record IsArray (shape : Shape) (size : ℕ) (bytes : List ℕ) : Type 0 where
-  pub sized : size ≡ media_len shape
-  pub header : take 16 bytes ≡ take 16 (header_bytes shape)
-  pub quiet : IsQuiet shape bytes
+-- Its header says the shape, it is lawful, and it settles to this data.
+pub record Opens (shape : Shape) (image bytes : List ℕ) : Type 0 where
+  pub header : SaysShape (header_of image) shape
+  pub stands : StandsFor shape image bytes
 
--- A store over the media: it has the media's data, and no number is live or holds an entry.
-pub record Opens (tells : Bool) (shape : Shape) (media : View) (store : StoreView) : Type 0 where
-  pub same_shape : store.shape ≡ shape
-  pub bytes : IsTrue tells → store.bytes ≡ data_of shape media.content.bytes
-  pub none_live : (t : ℕ) → t < shape.numbers → store.is_live t ≡ false
-  pub none_held : (t g : ℕ) → store.held t g ≡ 0
-  pub none_logged : (t : ℕ) → length (store.logs t) ≡ 0
+-- it opens with some data
+pub record CanOpen (shape : Shape) (image : List ℕ) : Type 0 where
+  pub bytes : List ℕ
+  pub opens : Opens shape image bytes
+
+-- so does each image that a loss of power may leave
+abbrev pub AllOpen : Shape → Content → Type 0
+AllOpen shape content = (image : List ℕ) → MayLeave content image → CanOpen shape image
+
+-- it opens with the data of some image that could be left at first
+pub record OpensLike (shape : Shape) (content : Content) (image : List ℕ) : Type 0 where
+  pub earlier : List ℕ
+  pub left : MayLeave content earlier
+  pub bytes : List ℕ
+  pub was : Opens shape earlier bytes
+  pub now : Opens shape image bytes
+
+-- An opening keeps what an array stands for, at each of its moments: where all that could be left at first opens, so does all
+-- that might be left anew, with data of the former.
+abbrev pub KeepsData : Bool → View → ℕ → (ℕ → List ℕ → Type 0) → Type 0
+KeepsData tells media now since = IsTrue tells → (shape : Shape) → AllOpen shape media.content → Elapses media.moment now media.left_since since (OpensLike shape media.content)
+
+-- A store over the media: of the shape that its header says, with the data that it settles to, and no number is live.
+pub record Attached (tells : Bool) (media : View) (store : StoreView) : Type 0 where
+  pub shape_is : IsTrue tells → SaysShape (header_of media.content.bytes) store.shape
+  pub sized : media.size ≡ media_len store.shape
+  pub good : IsTrue tells → AllGood store.shape media.content.bytes store.shape.numbers
+  pub bytes : IsTrue tells → store.state.bytes ≡ settled_data store.shape media.content.bytes
+  pub free : (t : ℕ) → store.ranges t ≡ None
   pub alive : store.is_dead ≡ false
   pub faults : media.faults ≤ store.faults
+
+-- a decided row is bad, the first one
+pub record HasBadRow (media : View) (g t : ℕ) : Type 0 where
+  pub shape : Shape
+  pub header : SaysShape (header_of media.content.bytes) shape
+  pub sized : media.size ≡ media_len shape
+  pub bad : IsFirstBad shape media.content.bytes g t
+
+-- why a media is not opened, where so many faults are counted behind that
+abbrev pub AttachCause : Bool → View → ℕ → AttachFault → Type 0
+AttachCause tells media faults NotMars = 512 ≤ media.size → IsTrue tells → HasMark (header_of media.content.bytes) → ⊥
+AttachCause tells media faults (BadShape bad) = (512 ≤ media.size) × (IsTrue tells → HasMark (header_of media.content.bytes) × IsBadIn (header_of media.content.bytes) media.size bad.which bad.given)
+AttachCause tells media faults (BadRow g t) = IsTrue tells → HasBadRow media g t
+AttachCause tells media faults Media = Rose media.faults faults
+AttachCause tells media faults NoMemory = Unit {0}
+
+-- but where the media failed, nothing was written
+abbrev pub AttachLeaves : Bool → View → View → AttachFault → Type 0
+AttachLeaves tells old new NotMars = IsTrue tells → Touched [] old.content new.content
+AttachLeaves tells old new (BadShape bad) = IsTrue tells → Touched [] old.content new.content
+AttachLeaves tells old new (BadRow g t) = IsTrue tells → Touched [] old.content new.content
+AttachLeaves tells old new Media = Unit {0}
+AttachLeaves tells old new NoMemory = IsTrue tells → Touched [] old.content new.content
+
+-- The media behind a store: its data, its moments and faults are the store's; while that was not dead, no row is voted.
+pub record IsBehind (tells : Bool) (store : StoreView) (media : View) : Type 0 where
+  pub size : media.size ≡ media_len store.shape
+  pub bytes : data_of store.shape media.content.bytes ≡ store.state.bytes
+  pub quiet : IsTrue tells → store.is_dead ≡ false → HasNoVote store.shape media.content.bytes
+  pub faults : media.faults ≡ store.faults
+  pub moment : media.moment ≡ store.moment
+  pub left : (t : ℕ) (image : List ℕ) → media.left_since t image → store.left_since t image

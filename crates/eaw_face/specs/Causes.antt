@@ -1,48 +1,80 @@
 -- When each answer of a command comes. The refusals stand in their order: a later one comes only where no earlier one does.
-use Rattle.std.specs.Prelude.{ℕ, ◌≡◌, ◌+◌, ◌<◌, ◌≤◌, true, false, List, Result, Ok, Err}
+use Rattle.std.specs.Prelude.{ℕ, ◌≡◌, ◌+◌, ◌<◌, ◌≤◌, true, false, List, [], Result, Ok, Err}
 use Rattle.counted.specs.Causes.{Rose}
-use Rattle.array_image.specs.Parts.{Part}
-use Rattle.eaw_face.specs.StoreView.{StoreView, parts_at}
+use Rattle.array_shape.specs.Parts.{pieces_of}
+use Rattle.array_image.specs.Parts.{ranges_of}
+use Rattle.eaw_face.specs.State.{listed, count_on}
+use Rattle.eaw_face.specs.StoreView.{StoreView, IsLive}
+use Rattle.eaw_face.specs.Command.{Command, log_write, log_edit, commit, abort, nested_top, partial_abort, atomic_write, log_read, read}
 use Rattle.eaw_face.specs.declared.fault.EawFault.{EawFault}
 use Rattle.eaw_face.specs.declared.fault.EawFault.TheVariants.{UnknownTid, LogFull, Media, Dead}
 
+-- the store has met no fault of the media
 abbrev pub IsAlive : StoreView → Type 0
 IsAlive store = store.is_dead ≡ false
 
--- the number is one of the array's, and holds a log
-pub record IsLive (store : StoreView) (t : ℕ) : Type 0 where
-  pub small : t < store.shape.numbers
-  pub live : store.is_live t ≡ true
+-- A write into a log needs a number of the array; what is done with a log needs a live one.
+abbrev pub Knows : StoreView → Command → Type 0
+Knows store (log_write t addr bytes) = t < store.shape.numbers
+Knows store (log_edit t pos at bytes) = IsLive store t
+Knows store (commit t) = IsLive store t
+Knows store (abort t) = IsLive store t
+Knows store (nested_top t offset) = IsLive store t
+Knows store (partial_abort t offset) = IsLive store t
+Knows store (atomic_write t addr bytes) = Unit {0}
+Knows store (log_read t) = IsLive store t
+Knows store read = Unit {0}
 
--- each logger has room for its share of these parts
-abbrev pub HasRoom : StoreView → ℕ → List Part → Type 0
-HasRoom store t parts = (g : ℕ) → g < store.shape.loggers → store.held t g + parts_at store.shape g parts ≤ store.shape.entries
+-- the number that a command names to the store
+abbrev pub IsNumberOf : Command → ℕ → Type 0
+IsNumberOf (log_write t addr bytes) u = u ≡ t
+IsNumberOf (log_edit t pos at bytes) u = u ≡ t
+IsNumberOf (commit t) u = u ≡ t
+IsNumberOf (abort t) u = u ≡ t
+IsNumberOf (nested_top t offset) u = u ≡ t
+IsNumberOf (partial_abort t offset) u = u ≡ t
+IsNumberOf (atomic_write t addr bytes) u = u ≡ t
+IsNumberOf (log_read t) u = u ≡ t
+IsNumberOf read u = ⊥
 
--- logger g is the first one that has no room: it holds so many parts, and as many again are needed
-pub record IsFull (store : StoreView) (t : ℕ) (parts : List Part) (g held needed : ℕ) : Type 0 where
+-- behind these parts each logger has room for its share of those
+abbrev pub Fit : StoreView → List (ℕ × ℕ) → List (ℕ × ℕ) → Type 0
+Fit store held needed = (g : ℕ) → g < store.shape.loggers → count_on store.shape g held + count_on store.shape g needed ≤ store.shape.entries
+
+abbrev pub HasRoom : StoreView → Command → Type 0
+HasRoom store (log_write t addr bytes) = Fit store (listed (store.ranges t)) (ranges_of (pieces_of addr bytes))
+HasRoom store (log_edit t pos at bytes) = Unit {0}
+HasRoom store (commit t) = Unit {0}
+HasRoom store (abort t) = Unit {0}
+HasRoom store (nested_top t offset) = Unit {0}
+HasRoom store (partial_abort t offset) = Unit {0}
+HasRoom store (atomic_write t addr bytes) = Fit store [] (ranges_of (pieces_of addr bytes))
+HasRoom store (log_read t) = Unit {0}
+HasRoom store read = Unit {0}
+
+-- logger g is the first that has no room: it holds so many parts, and as many more are needed
+pub record IsFirstFull (store : StoreView) (held needed : List (ℕ × ℕ)) (g h n : ℕ) : Type 0 where
   pub logger : g < store.shape.loggers
-  pub held_is : held ≡ store.held t g
-  pub needed_is : needed ≡ parts_at store.shape g parts
-  pub full : store.shape.entries < held + needed
-  pub first : (h : ℕ) → h < g → store.held t h + parts_at store.shape h parts ≤ store.shape.entries
+  pub held_is : h ≡ count_on store.shape g held
+  pub needed_is : n ≡ count_on store.shape g needed
+  pub full : store.shape.entries < h + n
+  pub before : (k : ℕ) → k < g → count_on store.shape k held + count_on store.shape k needed ≤ store.shape.entries
 
-abbrev pub LogWriteCause : {T : Type 0} → StoreView → ℕ → List Part → ℕ → Result T EawFault → Type 0
-LogWriteCause old t parts faults (Ok len) = IsAlive old × (t < old.shape.numbers) × HasRoom old t parts
-LogWriteCause old t parts faults (Err Dead) = old.is_dead ≡ true
-LogWriteCause old t parts faults (Err (UnknownTid u)) = IsAlive old × (u ≡ t) × (old.shape.numbers ≤ t)
-LogWriteCause old t parts faults (Err (LogFull g held needed)) = IsAlive old × (t < old.shape.numbers) × IsFull old t parts g held needed
-LogWriteCause old t parts faults (Err Media) = IsAlive old × (t < old.shape.numbers) × HasRoom old t parts × Rose old.faults faults
+abbrev pub IsFull : StoreView → Command → ℕ → ℕ → ℕ → Type 0
+IsFull store (log_write t addr bytes) g h n = IsFirstFull store (listed (store.ranges t)) (ranges_of (pieces_of addr bytes)) g h n
+IsFull store (log_edit t pos at bytes) g h n = ⊥
+IsFull store (commit t) g h n = ⊥
+IsFull store (abort t) g h n = ⊥
+IsFull store (nested_top t offset) g h n = ⊥
+IsFull store (partial_abort t offset) g h n = ⊥
+IsFull store (atomic_write t addr bytes) g h n = IsFirstFull store [] (ranges_of (pieces_of addr bytes)) g h n
+IsFull store (log_read t) g h n = ⊥
+IsFull store read g h n = ⊥
 
-abbrev pub CommitCause : {T : Type 0} → StoreView → ℕ → ℕ → Result T EawFault → Type 0
-CommitCause old t faults (Ok done) = IsAlive old × IsLive old t
-CommitCause old t faults (Err Dead) = old.is_dead ≡ true
-CommitCause old t faults (Err (UnknownTid u)) = IsAlive old × (u ≡ t) × (IsLive old t → ⊥)
-CommitCause old t faults (Err (LogFull g held needed)) = ⊥
-CommitCause old t faults (Err Media) = IsAlive old × IsLive old t × Rose old.faults faults
-
-abbrev pub ReadCause : {T : Type 0} → StoreView → ℕ → Result T EawFault → Type 0
-ReadCause old faults (Ok done) = IsAlive old
-ReadCause old faults (Err Dead) = old.is_dead ≡ true
-ReadCause old faults (Err (UnknownTid u)) = ⊥
-ReadCause old faults (Err (LogFull g held needed)) = ⊥
-ReadCause old faults (Err Media) = IsAlive old × Rose old.faults faults
+-- the answer to a command, where so many faults are counted behind it
+abbrev pub Cause : {T : Type 0} → StoreView → Command → ℕ → Result T EawFault → Type 0
+Cause old command faults (Ok answer) = IsAlive old × Knows old command × HasRoom old command
+Cause old command faults (Err Dead) = old.is_dead ≡ true
+Cause old command faults (Err (UnknownTid u)) = IsAlive old × IsNumberOf command u × (Knows old command → ⊥)
+Cause old command faults (Err (LogFull g h n)) = IsAlive old × Knows old command × IsFull old command g h n
+Cause old command faults (Err Media) = IsAlive old × Knows old command × HasRoom old command × Rose old.faults faults

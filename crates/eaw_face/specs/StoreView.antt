@@ -1,55 +1,36 @@
--- What a store shows, and what its commands do to that.
-use Rattle.std.specs.Prelude.{ℕ, ◌≡◌, ◌≢◌, ◌+◌, ◌≤◌, Bool, true, false, IsTrue, List, ◌++◌, length, filter}
+-- What a store shows.
+use Rattle.std.specs.Prelude.{ℕ, ◌≡◌, ◌<◌, Bool, false, List, [], ◌∷◌, length, Option, IsSome}
+use Rattle.counted.specs.Moments.{Elapses}
 use Rattle.array_shape.specs.declared.shape.Shape.{Shape}
-use Rattle.array_shape.specs.Parts.{pieces_of, is_piece_on}
-use Rattle.array_image.specs.Parts.{Part, applied}
+use Rattle.array_shape.specs.Places.{IsPlaced}
+use Rattle.eaw_face.specs.State.{Logs, State, listed}
 
--- Its shape; its data; which numbers are live; the parts that each has logged, in order; how many of them each logger holds;
--- whether an earlier call has met a fault of the media; how often the media has failed.
-pub record StoreView : Type 0 where
+-- Its shape; its data and logs; for each live number the ranges of its parts; whether an earlier call has met a fault of the
+-- media; how often the media has failed; the moment; whether a loss of power at some moment from this one on might have left
+-- this image.
+pub record StoreView : Type 1 where
   pub shape : Shape
-  pub bytes : List ℕ
-  pub is_live : ℕ → Bool
-  pub logs : ℕ → List Part
-  pub held : ℕ → ℕ → ℕ
+  pub state : State
+  pub ranges : Logs (ℕ × ℕ)
   pub is_dead : Bool
   pub faults : ℕ
+  pub moment : ℕ
+  pub left_since : ℕ → List ℕ → Type 0
 
--- how many of these parts are on logger g
-abbrev pub parts_at : Shape → ℕ → List Part → ℕ
-parts_at shape g parts = length (filter (is_piece_on shape g) parts)
+-- how many parts a number has logged
+abbrev pub log_len : StoreView → ℕ → ℕ
+log_len store t = length (listed (store.ranges t))
 
--- what every command keeps
-pub record Stays (old new : StoreView) : Type 0 where
-  pub shape : new.shape ≡ old.shape
-  pub later : old.faults ≤ new.faults
+-- the number is one of the array's, and has a log
+pub record IsLive (store : StoreView) (t : ℕ) : Type 0 where
+  pub small : t < store.shape.numbers
+  pub live : IsSome (store.ranges t)
 
--- number t shows the same
-pub record SameNumber (tells : Bool) (old new : StoreView) (t : ℕ) : Type 0 where
-  pub live : new.is_live t ≡ old.is_live t
-  pub log : IsTrue tells → new.logs t ≡ old.logs t
-  pub len : length (new.logs t) ≡ length (old.logs t)
-  pub held : (g : ℕ) → new.held t g ≡ old.held t g
+-- from one view to a later one each image that might have been left anew has P
+abbrev pub LeavesOnly : (List ℕ → Type 0) → StoreView → StoreView → Type 0
+LeavesOnly P old new = Elapses old.moment new.moment old.left_since new.left_since P
 
--- the data and all numbers are as they were
-pub record IsSame (tells : Bool) (old new : StoreView) : Type 0 where
-  pub bytes : IsTrue tells → new.bytes ≡ old.bytes
-  pub numbers : (t : ℕ) → SameNumber tells old new t
-  pub dead : new.is_dead ≡ old.is_dead
-
--- the pieces of a write stand behind what number t has logged
-pub record Logs (tells : Bool) (t addr : ℕ) (bytes : List ℕ) (old new : StoreView) : Type 0 where
-  pub data_same : IsTrue tells → new.bytes ≡ old.bytes
-  pub live : new.is_live t ≡ true
-  pub log : IsTrue tells → new.logs t ≡ old.logs t ++ pieces_of addr bytes
-  pub len : length (new.logs t) ≡ length (old.logs t) + length (pieces_of addr bytes)
-  pub held : (g : ℕ) → new.held t g ≡ old.held t g + parts_at old.shape g (pieces_of addr bytes)
-  pub others : (u : ℕ) → u ≢ t → SameNumber tells old new u
-  pub alive : new.is_dead ≡ false
-
--- what number t has logged is written into the data, and its log is given up
-pub record Commits (tells : Bool) (t : ℕ) (old new : StoreView) : Type 0 where
-  pub bytes : IsTrue tells → new.bytes ≡ applied (old.logs t) old.bytes
-  pub free : new.is_live t ≡ false
-  pub others : (u : ℕ) → u ≢ t → SameNumber tells old new u
-  pub alive : new.is_dead ≡ false
+-- each range lies within one page of the data, and is not empty
+abbrev pub ArePlaced : Shape → List (ℕ × ℕ) → Type 0
+ArePlaced shape [] = Unit {0}
+ArePlaced shape (r ∷ rs) = IsPlaced shape r.0 r.1 × ArePlaced shape rs

@@ -1,69 +1,145 @@
 // The commands, as the layers above see them.
-ghost use Rattle.std.specs.Prelude.{◌≡◌, ◌≢◌, ◌+◌, ◌≤◌, ◌<◌, true, false, Bool, ℕ, length, IsTrue, IfOk, IfErr, OnOk, IsErrOf};
+ghost use Rattle.std.specs.Prelude.{◌≡◌, ◌≢◌, ◌+◌, ◌≤◌, ◌<◌, true, false, Bool, List, ℕ, take, drop, length, Option, None, is_some, IsTrue, IfOk, IfErr, OnOk, OnErr};
+ghost use Rattle.std.specs.Option.{option_map};
 ghost use Rattle.pcm_media.specs.Images.{range};
-ghost use Rattle.array_shape.specs.Parts.{pieces_of};
+ghost use Rattle.array_shape.specs.declared.shape.Shape.{Shape};
 ghost use Rattle.array_shape.specs.Places.{data_len, IsShape};
-ghost use Rattle.eaw_face.specs.StoreView.{StoreView, Stays, IsSame, Logs, Commits};
-ghost use Rattle.eaw_face.specs.Causes.{LogWriteCause, CommitCause, ReadCause};
+ghost use Rattle.array_image.specs.Parts.{ranges_of};
+ghost use Rattle.eaw_face.specs.State.{listed, range_at, part_at, count_on};
+ghost use Rattle.eaw_face.specs.Command.{log_write, log_edit, commit, abort, nested_top, partial_abort, atomic_write, log_read, read};
+ghost use Rattle.eaw_face.specs.StoreView.{StoreView, IsLive, ArePlaced, log_len};
+ghost use Rattle.eaw_face.specs.Does.{Does};
 
 use crate::fault::EawFault;
 use array_shape::Shape;
 
-/// An array of editable atomic writes (SOSP 2013). A write is logged under a transaction number, and changes the data when
-/// that number commits.
+/// An array of editable atomic writes (SOSP 2013). A write is logged under a transaction number, cut into parts at the
+/// multiples of 512, and changes the data when that number commits. Until then its log can be read and edited.
+///
+/// Each command is one of the model's (`Does`): what it makes of data and logs, when each refusal comes, and what a loss of
+/// power within it may leave. After a refusal other than `Media` nothing has changed. After `Media` each command answers `Dead`.
 pub trait EawStore {
     /// Whether it tells its data. Each clause on bytes holds where it does.
     ghost tells: { Bool };
 
-    /// Its shape, its data, and the log of each number.
+    /// Its shape, its data and logs, and what a loss of power might have left.
     ghost view: { Self → StoreView };
+
+    /// An image that a loss of power left can be opened as an array of this shape, with this data.
+    ghost opens: { Shape → List ℕ → List ℕ → Type 0 };
 
     fn shape(&self) -> Shape
         ensures { result ≡ (view self.now).shape };
 
-    /// Logs a write of these bytes at this address, cut into parts at the multiples of 512. It makes a free number live.
-    /// Gives how many parts the number has logged now.
+    /// LogWrite: logs a write of these bytes at this address, and makes a free number live. Gives how many parts the number has
+    /// logged now.
     fn log_write(&mut self, tid: u8, addr: u64, bytes: &[u8]) -> Result<u32, EawFault>
         requires some { 0 < length bytes.now }
         requires inside { addr + length bytes.now ≤ data_len (view self.old).shape }
-        ensures cause { LogWriteCause (view self.old) tid (pieces_of addr bytes.now) (view self.new).faults result }
-        ensures logs { OnOk result (Logs tells tid addr bytes.now (view self.old) (view self.new)) }
-        ensures len { IfOk result (λ n. n ≡ length ((view self.new).logs tid)) }
-        ensures refused { IfErr result (λ fault. fault ≢ EawFault.Media → IsSame tells (view self.old) (view self.new)) }
-        ensures dies { IsErrOf result EawFault.Media → (view self.new).is_dead ≡ true }
-        ensures stays { Stays (view self.old) (view self.new) };
+        ensures does { Does tells (opens (view self.old).shape) (log_write tid addr bytes.now) (view self.old) (view self.new) result }
+        ensures len { IfOk result (λ n. n ≡ log_len (view self.new) tid) }
+        ensures refused { IfErr result (λ fault. fault ≢ EawFault.Media → self.new ≡ self.old) };
 
-    /// Writes what the number has logged into the data, and frees the number.
+    /// Commit: writes all that the number has logged into the data at once, and frees the number.
     fn commit(&mut self, tid: u8) -> Result<(), EawFault>
-        ensures cause { CommitCause (view self.old) tid (view self.new).faults result }
-        ensures commits { OnOk result (Commits tells tid (view self.old) (view self.new)) }
-        ensures refused { IfErr result (λ fault. fault ≢ EawFault.Media → IsSame tells (view self.old) (view self.new)) }
-        ensures dies { IsErrOf result EawFault.Media → (view self.new).is_dead ≡ true }
-        ensures stays { Stays (view self.old) (view self.new) };
+        ensures does { Does tells (opens (view self.old).shape) (commit tid) (view self.old) (view self.new) result }
+        ensures idle { log_len (view self.old) tid ≡ 0 → (view self.new).moment ≡ (view self.old).moment }
+        ensures refused { IfErr result (λ fault. fault ≢ EawFault.Media → self.new ≡ self.old) };
+
+    /// Abort: drops all that the number has logged, and frees the number.
+    fn abort(&mut self, tid: u8) -> Result<(), EawFault>
+        ensures does { Does tells (opens (view self.old).shape) (abort tid) (view self.old) (view self.new) result }
+        ensures idle { (view self.new).moment ≡ (view self.old).moment }
+        ensures refused { OnErr result (self.new ≡ self.old) };
+
+    /// NestedTopAction: commits the parts from this offset of the log on, which then stay whatever becomes of the rest. The
+    /// number keeps the parts before it, and stays live.
+    fn nested_top(&mut self, tid: u8, offset: u32) -> Result<(), EawFault>
+        requires { offset ≤ log_len (view self.old) tid }
+        ensures does { Does tells (opens (view self.old).shape) (nested_top tid offset) (view self.old) (view self.new) result }
+        ensures idle { log_len (view self.old) tid ≡ offset → (view self.new).moment ≡ (view self.old).moment }
+        ensures refused { IfErr result (λ fault. fault ≢ EawFault.Media → self.new ≡ self.old) };
+
+    /// PartialAbort: drops the parts from this offset of the log on. The number stays live.
+    fn partial_abort(&mut self, tid: u8, offset: u32) -> Result<(), EawFault>
+        requires { offset ≤ log_len (view self.old) tid }
+        ensures does { Does tells (opens (view self.old).shape) (partial_abort tid offset) (view self.old) (view self.new) result }
+        ensures idle { (view self.new).moment ≡ (view self.old).moment }
+        ensures refused { OnErr result (self.new ≡ self.old) };
+
+    /// AtomicWrite: a transaction of one write, under a number that is free and is free again behind it.
+    fn atomic_write(&mut self, tid: u8, addr: u64, bytes: &[u8]) -> Result<(), EawFault>
+        requires some { 0 < length bytes.now }
+        requires inside { addr + length bytes.now ≤ data_len (view self.old).shape }
+        requires tid { tid < (view self.old).shape.numbers }
+        requires free { (view self.old).ranges tid ≡ None }
+        ensures does { Does tells (opens (view self.old).shape) (atomic_write tid addr bytes.now) (view self.old) (view self.new) result }
+        ensures refused { IfErr result (λ fault. fault ≢ EawFault.Media → self.new ≡ self.old) };
+
+    /// Reads the part at a position of the log: its bytes go to the front of the buffer. Gives its address and its length.
+    fn log_read(&mut self, tid: u8, pos: u32, buf: &mut [u8; 512]) -> Result<(u64, u16), EawFault>
+        requires { IsLive (view self.old) tid → pos < log_len (view self.old) tid }
+        ensures does { Does tells (opens (view self.old).shape) (log_read tid) (view self.old) (view self.new) result }
+        ensures part { IfOk result (λ part. part ≡ range_at (listed ((view self.old).ranges tid)) pos) }
+        ensures bytes { IsTrue tells → IfOk result (λ part. take part.1 buf.new ≡ (part_at (listed ((view self.old).state.logs tid)) pos).1) }
+        ensures refused { IfErr result (λ fault. fault ≢ EawFault.Media → self.new ≡ self.old) };
+
+    /// Replaces bytes within the part at a position of the log, from this place in it on.
+    fn log_edit(&mut self, tid: u8, pos: u32, at: u32, bytes: &[u8]) -> Result<(), EawFault>
+        requires pos { IsLive (view self.old) tid → pos < log_len (view self.old) tid }
+        requires within { IsLive (view self.old) tid → at + length bytes.now ≤ (range_at (listed ((view self.old).ranges tid)) pos).1 }
+        ensures does { Does tells (opens (view self.old).shape) (log_edit tid pos at bytes.now) (view self.old) (view self.new) result }
+        ensures refused { IfErr result (λ fault. fault ≢ EawFault.Media → self.new ≡ self.old) };
 
     /// Reads committed data from this address on, as many bytes as the buffer has.
     fn read(&mut self, addr: u64, buf: &mut [u8]) -> Result<(), EawFault>
-        requires inside { addr + length buf.old ≤ data_len (view self.old).shape }
-        ensures cause { ReadCause (view self.old) (view self.new).faults result }
-        ensures bytes { IsTrue tells → OnOk result (buf.new ≡ range (view self.old).bytes addr (length buf.old)) }
-        ensures same { IfErr result (λ fault. fault ≢ EawFault.Media) → IsSame tells (view self.old) (view self.new) }
-        ensures dies { IsErrOf result EawFault.Media → (view self.new).is_dead ≡ true }
-        ensures stays { Stays (view self.old) (view self.new) };
+        requires { addr + length buf.old ≤ data_len (view self.old).shape }
+        ensures does { Does tells (opens (view self.old).shape) read (view self.old) (view self.new) result }
+        ensures bytes { IsTrue tells → OnOk result (buf.new ≡ range (view self.old).state.bytes addr (length buf.old)) }
+        ensures refused { IfErr result (λ fault. fault ≢ EawFault.Media → self.new ≡ self.old) };
 
     /// How many parts the number has logged, 0 where it is not live.
     fn log_len(&self, tid: u8) -> u32
         requires { tid < (view self.now).shape.numbers }
-        ensures { result ≡ length ((view self.now).logs tid) };
+        ensures { result ≡ log_len (view self.now) tid };
+
+    /// How many of them this logger holds.
+    fn held(&self, tid: u8, logger: u8) -> u16
+        requires tid { tid < (view self.now).shape.numbers }
+        requires logger { logger < (view self.now).shape.loggers }
+        ensures { result ≡ count_on (view self.now).shape logger (listed ((view self.now).ranges tid)) };
+
+    fn is_live(&self, tid: u8) -> bool
+        requires { tid < (view self.now).shape.numbers }
+        ensures { result ≡ is_some ((view self.now).ranges tid) };
+
+    /// The address and the length of the part at a position of the log.
+    fn part_range(&self, tid: u8, pos: u32) -> (u64, u16)
+        requires tid { tid < (view self.now).shape.numbers }
+        requires pos { pos < log_len (view self.now) tid }
+        ensures { result ≡ range_at (listed ((view self.now).ranges tid)) pos };
 
     /// Its numbers are in range.
     ghost shaped: { (s : Self) → IsShape (view s).shape };
 
     /// It tells as many bytes as its shape has.
-    ghost long: { (s : Self) → IsTrue tells → length (view s).bytes ≡ data_len (view s).shape };
+    ghost long: { (s : Self) → IsTrue tells → length (view s).state.bytes ≡ data_len (view s).shape };
 
-    /// A number that is not live has logged nothing.
-    ghost idle: { (s : Self) (t : ℕ) → (view s).is_live t ≡ false → length ((view s).logs t) ≡ 0 };
+    /// The ranges are those of the parts that it has logged.
+    ghost outlines: { (s : Self) (t : ℕ) → IsTrue tells → (view s).is_dead ≡ false → (view s).ranges t ≡ option_map ranges_of ((view s).state.logs t) };
 
-    /// No logger holds a part of it.
-    ghost unheld: { (s : Self) (t g : ℕ) → (view s).is_live t ≡ false → (view s).held t g ≡ 0 };
+    /// Each lies within one page of the data.
+    ghost placed: { (s : Self) (t : ℕ) → ArePlaced (view s).shape (listed ((view s).ranges t)) };
+
+    /// Beyond the array's numbers none is live.
+    ghost beyond: { (s : Self) (t : ℕ) → (view s).shape.numbers ≤ t → (view s).ranges t ≡ None };
+
+    /// What may be left now is left since each moment up to now.
+    ghost counts_now: { (s : Self) (t : ℕ) (image : List ℕ) → IsTrue tells → t ≤ (view s).moment → (view s).left_since (view s).moment image → (view s).left_since t image };
+
+    /// While it is not dead, whatever may be left now opens with the data.
+    ghost only_now: { (s : Self) (image : List ℕ) → IsTrue tells → (view s).is_dead ≡ false → (view s).left_since (view s).moment image → opens (view s).shape image (view s).state.bytes };
+
+    /// An image opens with one data alone.
+    ghost one_data: { (shape : Shape) (image a b : List ℕ) → opens shape image a → opens shape image b → a ≡ b };
 }

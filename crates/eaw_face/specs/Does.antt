@@ -1,0 +1,28 @@
+-- What a command does.
+use Rattle.std.specs.Prelude.{ℕ, ◌≡◌, ◌⊎◌, ◌≤◌, Bool, true, false, IsTrue, List, Result, OnOk, IsErrOf}
+use Rattle.eaw_face.specs.StoreView.{StoreView, LeavesOnly}
+use Rattle.eaw_face.specs.Command.{Command, after, ranges_after}
+use Rattle.eaw_face.specs.Causes.{Cause}
+use Rattle.eaw_face.specs.declared.fault.EawFault.{EawFault}
+use Rattle.eaw_face.specs.declared.fault.EawFault.TheVariants.{Media}
+
+-- It is done: data and logs are as the model says, and the store is not dead.
+pub record Becomes (tells : Bool) (command : Command) (old new : StoreView) : Type 0 where
+  pub alive : new.is_dead ≡ false
+  pub ranges : new.ranges ≡ ranges_after command old.ranges
+  pub state : IsTrue tells → new.state ≡ after command old.state
+
+-- an image opens with the data before or with the data after
+abbrev pub IsEither : (List ℕ → List ℕ → Type 0) → List ℕ → List ℕ → List ℕ → Type 0
+IsEither Opens before after image = Opens image before ⊎ Opens image after
+
+-- A command of a store, of which an image that a loss of power leaves is opened so. Each answer has its cause; an Ok is the model's
+-- command; a fault of the media leaves the store dead; and whatever the answer, at each moment of a store that was not dead a
+-- loss of power leaves what it might have left before, or an image that opens with the data before the command or after it.
+pub record Does {T : Type 0} (tells : Bool) (Opens : List ℕ → List ℕ → Type 0) (command : Command) (old new : StoreView) (result : Result T EawFault) : Type 0 where
+  pub shape : new.shape ≡ old.shape
+  pub later : old.faults ≤ new.faults
+  pub cause : Cause old command new.faults result
+  pub done : OnOk result (Becomes tells command old new)
+  pub dies : IsErrOf result Media → new.is_dead ≡ true
+  pub time : IsTrue tells → old.is_dead ≡ false → LeavesOnly (IsEither Opens old.state.bytes (after command old.state).bytes) old new

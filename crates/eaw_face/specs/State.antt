@@ -1,0 +1,45 @@
+-- The model of a store: plain data, and the parts that each live number has logged.
+use Rattle.std.specs.Prelude.{ℕ, zero, suc, nat_eq, if◌then◌else◌, List, [], ◌∷◌, length, filter, slice_index_or, Bool, Option, Some, None}
+use Rattle.pcm_media.specs.Images.{put}
+use Rattle.array_shape.specs.declared.shape.Shape.{Shape}
+use Rattle.array_shape.specs.Places.{logger_of}
+use Rattle.array_image.specs.Parts.{Part}
+
+-- something logged for each live number
+abbrev pub Logs : Type 0 → Type 0
+Logs A = ℕ → Option (List A)
+
+-- the data, and for each live number its parts, in the order in which they were logged
+pub record State : Type 0 where
+  pub bytes : List ℕ
+  pub logs : Logs Part
+
+-- what a number has logged: nothing where it is not live
+abbrev pub listed : {A : Type 0} → Option (List A) → List A
+listed None = []
+listed (Some log) = log
+
+-- number t has this log now, or is free
+abbrev pub with_log : {A : Type 0} → Logs A → ℕ → Option (List A) → Logs A
+with_log logs t log u = if nat_eq u t then log else logs u
+
+-- bytes replaced within the part at a position
+abbrev pub edited : ℕ → ℕ → List ℕ → List Part → List Part
+edited pos at bytes [] = []
+edited zero at bytes (p ∷ ps) = (p.0, put p.1 at bytes) ∷ ps
+edited (suc pos) at bytes (p ∷ ps) = p ∷ edited pos at bytes ps
+
+-- the range of a part, its address and its length, at a position
+abbrev pub range_at : List (ℕ × ℕ) → ℕ → ℕ × ℕ
+range_at ranges pos = slice_index_or ranges pos (0, 0)
+
+-- the bytes of the part at a position
+abbrev pub part_at : List Part → ℕ → Part
+part_at parts pos = slice_index_or parts pos (0, [])
+
+-- how many of these ranges logger g has
+abbrev pub is_range_on : Shape → ℕ → ℕ × ℕ → Bool
+is_range_on shape g range = nat_eq (logger_of shape range.0) g
+
+abbrev pub count_on : Shape → ℕ → List (ℕ × ℕ) → ℕ
+count_on shape g ranges = length (filter (is_range_on shape g) ranges)
