@@ -1,8 +1,8 @@
 -- Why an opening was refused, and the header of what it leaves.
-use Rattle.std.proofs.Common.{◌≡◌, ℕ, ◌≤◌, Bool, List, [], Err, Result, refl, sym, ◌∙◌, ap, subst, arith}
+use Rattle.std.proofs.Common.{◌≡◌, ℕ, ◌≤◌, Bool, List, [], Err, Result, refl, sym, ◌∙◌, subst, arith}
 use Rattle.std.specs.Prelude.{IsTrue, OnErr}
 use Rattle.counted.specs.Causes.{Rose}
-use Rattle.pcm_media.specs.Images.{Content, MayLeave, Touched, range}
+use Rattle.pcm_media.specs.Images.{Content, Touched}
 use Rattle.pcm_media.specs.View.{View}
 use Rattle.pcm_media.proofs.Left.{left_clean, outside-both, same_bytes, touched_after_nothing}
 use Rattle.array_shape.specs.declared.shape.Shape.{Shape}
@@ -18,7 +18,7 @@ use Rattle.device_recovery.specs.Recovered as recovered
 use Rattle.device_recovery.proofs.Clearing.{votes_away}
 use Rattle.eaw_device.specs.declared.fault.AttachFault.{AttachFault}
 use Rattle.eaw_device.specs.declared.fault.AttachFault.TheVariants.{NotMars, BadShape, BadRow, Media, NoMemory}
-use Rattle.eaw_device.specs.Opens.{header_of, HasBadRow, AttachCause, AttachLeaves}
+use Rattle.eaw_device.specs.Opens.{header_of, AttachCause, AttachLeaves}
 use Rattle.eaw_device.specs.Attaching.{AllSay, recovery_fault}
 
 -- recovery writes behind the header alone
@@ -38,9 +38,12 @@ pub cause_on : (tells : Bool) (old mid : View) (faults : ℕ) (fault : AttachFau
     → AttachCause tells mid faults fault → AttachCause tells old faults fault
 cause_on tells old mid faults NotMars size touched later cause = λ long told marked.
     cause (subst (λ n. 512 ≤ n) (sym size) long) told (subst (λ b. HasMark (header_of b)) (sym (same_bytes old.content mid.content (touched told))) marked)
-cause_on tells old mid faults (BadShape bad) size touched later cause = (subst (λ n. 512 ≤ n) size cause.0, λ told.
-    let same = same_bytes old.content mid.content (touched told) in
-    (subst (λ b. HasMark (header_of b)) same (cause.1 told).0, subst (λ b. IsBadIn (header_of b) old.size bad.which bad.given) same (subst (λ n. IsBadIn (header_of mid.content.bytes) n bad.which bad.given) size (cause.1 told).1)))
+cause_on tells old mid faults (BadShape bad) size touched later cause = (
+  subst (λ n. 512 ≤ n) size cause.0,
+  λ told.
+      let same = same_bytes old.content mid.content (touched told) in
+      (subst (λ b. HasMark (header_of b)) same (cause.1 told).0, subst (λ b. IsBadIn (header_of b) old.size bad.which bad.given) same (subst (λ n. IsBadIn (header_of mid.content.bytes) n bad.which bad.given) size (cause.1 told).1)),
+)
 cause_on tells old mid faults (BadRow g t) size touched later cause = λ told.
     let same = same_bytes old.content mid.content (touched told) in
     let found = cause told in

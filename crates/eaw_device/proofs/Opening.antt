@@ -1,5 +1,5 @@
 -- What an opening keeps of what an array stands for, step by step.
-use Rattle.std.proofs.Common.{◌≡◌, ℕ, ◌≤◌, Bool, List, [], Result, refl, sym, ◌∙◌, ap, subst, arith}
+use Rattle.std.proofs.Common.{◌≡◌, ℕ, Bool, List, [], Result, sym, ◌∙◌, ap, subst}
 use Rattle.std.specs.Prelude.{IsTrue}
 use Rattle.std.proofs.Props.{props}
 use Rattle.counted.proofs.Going.{weaker, then}
@@ -11,9 +11,12 @@ use Rattle.array_shape.specs.Numbers.{AreInRange}
 use Rattle.array_shape.specs.Places.{HasNumbers}
 use Rattle.row_bytes.specs.Header.{SaysShape}
 use Rattle.row_bytes.proofs.Heading.{says_one}
-use Rattle.array_image.specs.Standing.{IsLawful}
+use Rattle.array_image.specs.Image.{data_of}
+use Rattle.array_image.specs.Standing.{IsLawful, IsClean}
+use Rattle.array_image.proofs.Standing.{at_rest_stands}
 use Rattle.device_recovery.specs.Recovered.{KeepsSense}
 use Rattle.eaw_device.specs.Opens.{header_of, AllOpen, OpensLike, KeepsData}
+use Rattle.eaw_device.specs.Attaching.{AllSay, AllOpenWith}
 
 in_range_prop : {loggers numbers entries pages : ℕ} → IsProp (AreInRange loggers numbers entries pages)
 in_range_prop = hlevel props
@@ -78,3 +81,7 @@ keeps_then tells old mid new touched first second told shape opens =
     then (first told shape opens)
     (weaker (λ image like. record { earlier = like.earlier; left = was like.earlier like.left; bytes = like.bytes; was = like.was; now = like.now })
     (second told shape (λ image left. opens image (was image left))))
+
+-- an array at rest opens with its data, where each image has its header
+pub clean_opens : (shape : Shape) (content : Content) → IsClean shape content → AllSay shape content → AllOpenWith shape content (data_of shape content.bytes)
+clean_opens shape content clean says image left = record { header = says image left; stands = at_rest_stands shape image (data_of shape content.bytes) (clean image left) }

@@ -1,5 +1,5 @@
 -- The two steps of an opening: the header is read, and the array is settled.
-use Rattle.std.specs.Prelude.{ℕ, ◌≡◌, Bool, IsTrue, List, Result, Ok, Err, ⊤}
+use Rattle.std.specs.Prelude.{ℕ, List, Result, Ok, Err, ⊤}
 use Rattle.counted.specs.declared.Failed.{Failed}
 use Rattle.pcm_media.specs.Images.{Content, MayLeave}
 use Rattle.array_shape.specs.declared.shape.Shape.{Shape}
@@ -10,7 +10,7 @@ use Rattle.device_recovery.specs.declared.report.RecoverFault.{RecoverFault}
 use Rattle.device_recovery.specs.declared.report.RecoverFault.TheVariants as recovery
 use Rattle.eaw_device.specs.declared.fault.AttachFault.{AttachFault}
 use Rattle.eaw_device.specs.declared.fault.AttachFault.TheVariants.{NotMars, BadShape, BadRow, Media, NoMemory}
-use Rattle.eaw_device.specs.Opens.{header_of}
+use Rattle.eaw_device.specs.Opens.{header_of, Opens}
 
 -- what an opening answers for a wrong header, and for a recovery that was refused
 abbrev pub header_fault : HeaderFault → AttachFault
@@ -49,3 +49,7 @@ media_answer (Err NoMemory) = Ok tt
 -- each image that may be left has the header of this shape
 abbrev pub AllSay : Shape → Content → Type 0
 AllSay shape content = (image : List ℕ) → MayLeave content image → SaysShape (header_of image) shape
+
+-- each image that may be left opens with this data
+abbrev pub AllOpenWith : Shape → Content → List ℕ → Type 0
+AllOpenWith shape content bytes = (image : List ℕ) → MayLeave content image → Opens shape image bytes
