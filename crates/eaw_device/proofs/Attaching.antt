@@ -56,6 +56,13 @@ cause_on tells old mid faults (BadRow g t) size touched later cause = λ told.
 cause_on tells old mid faults Media size touched later cause = omega (arith, cause, later)
 cause_on tells old mid faults NoMemory size touched later cause = tt
 
+pub reading_leaves : (tells : Bool) (old new : View) (fault : AttachFault) → (IsTrue tells → Touched [] old.content new.content) → AttachLeaves tells old new fault
+reading_leaves tells old new NotMars touched = touched
+reading_leaves tells old new (BadShape bad) touched = touched
+reading_leaves tells old new (BadRow g t) touched = touched
+reading_leaves tells old new Media touched = tt
+reading_leaves tells old new NoMemory touched = touched
+
 pub leaves_on : (tells : Bool) (old mid new : View) (fault : AttachFault) → (IsTrue tells → Touched [] old.content mid.content) → AttachLeaves tells mid new fault → AttachLeaves tells old new fault
 leaves_on tells old mid new NotMars touched leaves = λ told. touched_after_nothing [] old.content mid.content new.content (touched told) (leaves told)
 leaves_on tells old mid new (BadShape bad) touched leaves = λ told. touched_after_nothing [] old.content mid.content new.content (touched told) (leaves told)

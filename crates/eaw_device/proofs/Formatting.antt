@@ -14,13 +14,13 @@ use Rattle.array_image.proofs.Headers.{AreBehind, header_stays}
 use Rattle.array_image.proofs.Frames.{before_all, left_within}
 use Rattle.eaw_device.specs.Opens.{header_of}
 use Rattle.eaw_device.specs.Attaching.{AllOpenWith}
-use Rattle.eaw_device.specs.Fresh.{IsFresh, IsSure, HasParts, IsHalfFresh, behind_header}
+use Rattle.eaw_device.specs.Fresh.{IsFresh, LeavesAsRead, HasParts, IsHalfFresh, behind_header}
 use Rattle.eaw_device.proofs.FreshLemmas.{header_parts}
 use Rattle.eaw_device.proofs.Opening.{clean_opens}
 
 -- with nothing unsettled, a loss of power leaves what a read gives
-pub none_unsure : (content : Content) → content.unsettled ≡ [] → IsSure content
-none_unsure content none image left = ext_get_or 0 image content.bytes left.long (λ i lt. left.same i (subst (λ us. IsOutside us i) (sym none) tt))
+pub settled_as_read : (content : Content) → content.unsettled ≡ [] → LeavesAsRead content
+settled_as_read content none image left = ext_get_or 0 image content.bytes left.long (λ i lt. left.same i (subst (λ us. IsOutside us i) (sym none) tt))
 
 -- a row of zeros is not voted
 zero_row : (row_said (replicate 16 0)).voted ≡ false
@@ -29,7 +29,7 @@ zero_row = refl
 
 pub fresh_opens : (shape : Shape) (content : Content) → length content.bytes ≡ media_len shape → IsFresh shape content → AllOpenWith shape content (data_of shape content.bytes)
 fresh_opens shape content long fresh =
-    let sure = none_unsure content fresh.settled in
+    let sure = settled_as_read content fresh.settled in
     clean_opens shape content
     (λ image left.
     let is = sure image left in

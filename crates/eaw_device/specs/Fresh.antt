@@ -41,8 +41,8 @@ pub record IsFresh (shape : Shape) (content : Content) : Type 0 where
   pub pages : HasPages shape (page_count shape) content.bytes
 
 -- a loss of power leaves what a read gives
-abbrev pub IsSure : Content → Type 0
-IsSure content = (image : List ℕ) → MayLeave content image → image ≡ content.bytes
+abbrev pub LeavesAsRead : Content → Type 0
+LeavesAsRead content = (image : List ℕ) → MayLeave content image → image ≡ content.bytes
 
 -- all of an array but its header
 abbrev pub behind_header : Shape → List (ℕ × ℕ)

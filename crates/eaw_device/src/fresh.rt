@@ -6,7 +6,7 @@ ghost use Rattle.pcm_media.specs.View.{Writes, LeavesOnly};
 ghost use Rattle.array_shape.specs.Places.{media_len, row_at, page_count};
 ghost use Rattle.array_image.specs.Image.{data_of};
 ghost use Rattle.eaw_device.specs.Attaching.{AllOpenWith};
-ghost use Rattle.eaw_device.specs.Fresh.{IsFresh, IsSure, IsHalfFresh, HasParts, HasPages, HasRows, behind_header, fresh_page, super_page, empty_index, IsWrongLength};
+ghost use Rattle.eaw_device.specs.Fresh.{IsFresh, LeavesAsRead, IsHalfFresh, HasParts, HasPages, HasRows, behind_header, fresh_page, super_page, empty_index, IsWrongLength};
 
 use array_shape::{BadShape, Shape, ShapeNumber};
 use counted::Failed;
@@ -29,7 +29,7 @@ pub enum FormatFault {
 pub fn format<M: Media>(media: &mut M, shape: &Shape) -> Result<(), FormatFault>
     // Whatever a loss of power leaves then is the fresh array, and opens.
     ensures fresh { IsTrue M.tells → OnOk result (IsFresh shape.now (M.view media.new).content) }
-    ensures sure { IsTrue M.tells → OnOk result (IsSure (M.view media.new).content) }
+    ensures sure { IsTrue M.tells → OnOk result (LeavesAsRead (M.view media.new).content) }
     ensures opens { IsTrue M.tells → OnOk result (AllOpenWith shape.now (M.view media.new).content (data_of shape.now (M.view media.new).content.bytes)) }
     ensures any_moment { IsTrue M.tells → LeavesOnly (IsHalfFresh shape.now (M.view media.old).content) (M.view media.old) (M.view media.new) }
     ensures sized { OnOk result ((M.view media.old).size ≡ media_len shape.now) }
