@@ -2,7 +2,7 @@
 use Rattle.std.proofs.Common.{◌≡◌, ℕ, zero, suc, ◌+◌, ◌-◌, ◌*◌, ◌<◌, ◌≤◌, inl, inr, List, [], ◌∷◌, length, get_or, refl, sym, ap, ◌∙◌, arith, replicate, below_more}
 use Rattle.std.proofs.lemmas.Bool.{cases_lt, cases_eq}
 use Rattle.std.proofs.lemmas.List.{ext_get_or, get_or-replicate, length-replicate}
-use Rattle.pcm_media.specs.Images.{put, range, IsOutside}
+use Rattle.pcm_media.specs.Images.{put, range, SameOutside, IsOutside}
 use Rattle.pcm_media.proofs.Puts.{length-put, get_or-put_inside}
 use Rattle.pcm_media.proofs.Left.{same_outside-put}
 use Rattle.pcm_media.proofs.Ranges.{length-range, get_or-range, range_away, range-put}
@@ -11,11 +11,19 @@ use Rattle.array_shape.specs.Places.{media_len, row_at, data_at, page_count, dat
 use Rattle.array_shape.proofs.Apart.{row_end, data_end, region_end, region_fits, place_start, place_end, place_below, place_along}
 use Rattle.array_image.specs.Image.{data_of}
 use Rattle.array_image.proofs.Data.{length-data_of, data_put, data_away}
-use Rattle.eaw_device.specs.Fresh.{fresh_page, super_page, empty_index, HasPages, HasRows}
+use Rattle.eaw_device.specs.Fresh.{fresh_page, super_page, empty_index, behind_header, HasPages, HasRows, HasParts}
 
--- a write within the media
-pub within : (size at n i : ℕ) → at + n ≤ size → IsOutside ((0, size) ∷ []) i → IsOutside ((at, n) ∷ []) i
-within size at n i fits out = ((λ le lt. out.0 (omega arith) (omega arith)), tt)
+-- pages of the same data
+pub same_pages : (shape : Shape) (n : ℕ) (old new : List ℕ) → data_of shape new ≡ data_of shape old → HasPages shape n old → HasPages shape n new
+same_pages shape n old new same have p lt = ap (λ (d : List ℕ). range d (512 * p) 512) same ∙ have p lt
+
+-- a write behind the header
+pub within : (shape : Shape) (at n i : ℕ) → 512 ≤ at → at + n ≤ media_len shape → IsOutside (behind_header shape) i → IsOutside ((at, n) ∷ []) i
+within shape at n i behind fits out = ((λ le lt. out.0 (omega arith) (omega arith)), tt)
+
+-- all of it and the header lie in the array
+pub whole : (shape : Shape) (i : ℕ) → IsOutside ((0, media_len shape) ∷ []) i → IsOutside (behind_header shape) i × IsOutside ((0, 512) ∷ []) i
+whole shape i out = (((λ le lt. out.0 (omega arith) (omega arith)), tt), ((λ le lt. out.0 (omega arith) (omega arith)), tt))
 
 pub other_page : (p : ℕ) → (p ≡ 0 → ⊥) → (p ≡ 1 → ⊥) → fresh_page p ≡ replicate 512 0
 other_page zero not_first not_second = absurd (not_first refl)
@@ -95,19 +103,8 @@ module _ (shape : Shape) (image : List ℕ) (long : length image ≡ media_len s
         ]
 
 -- the header lies before all rows and pages
-module _ (shape : Shape) (image header : List ℕ) (long : length image ≡ media_len shape) (size : length header ≡ 512) where
-  pub header_fits : 0 + length header ≤ length image
-  header_fits = omega (arith, long, size)
-
-  pub header_rows : HasRows shape shape.loggers image → HasRows shape shape.loggers (put image 0 header)
-  header_rows have g t lt small =
-      range_away _ image (put image 0 header) (row_at shape g t) 16 (same_outside-put image 0 header header_fits) (λ i le past. ((λ le' past'. omega (arith, size)), tt))
-      ∙ have g t lt small
-
-  pub header_data : data_of shape (put image 0 header) ≡ data_of shape image
-  header_data = data_away shape _ image (put image 0 header) (same_outside-put image 0 header header_fits)
-      (λ addr lt. ((λ le past. omega (arith, place_start shape addr, size)), tt))
-
--- pages of the same data
-pub same_pages : (shape : Shape) (n : ℕ) (old new : List ℕ) → data_of shape new ≡ data_of shape old → HasPages shape n old → HasPages shape n new
-same_pages shape n old new same have p lt = ap (λ (d : List ℕ). range d (512 * p) 512) same ∙ have p lt
+pub header_parts : (shape : Shape) (old new : List ℕ) → SameOutside ((0, 512) ∷ []) old new → HasParts shape old → HasParts shape new
+header_parts shape old new same have = record {
+  rows = λ g t lt small. range_away _ old new (row_at shape g t) 16 same (λ i le past. ((λ le' past'. omega arith), tt)) ∙ have.rows g t lt small;
+  pages = same_pages shape (page_count shape) old new (data_away shape _ old new same (λ addr lt. ((λ le past. omega (arith, place_start shape addr)), tt))) have.pages;
+}

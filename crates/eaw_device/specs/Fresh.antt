@@ -1,14 +1,15 @@
 -- What a fresh array holds.
-use Rattle.std.specs.Prelude.{ℕ, zero, suc, ◌*◌, ◌≡◌, ◌<◌, List, [], ◌∷◌, ◌++◌, replicate, codes}
+use Rattle.std.specs.Prelude.{ℕ, zero, suc, ◌*◌, ◌≡◌, ◌<◌, ◌⊎◌, List, [], ◌∷◌, ◌++◌, replicate, codes}
 use Rattle.byteorder.specs.Endian.{little_bytes}
-use Rattle.pcm_media.specs.Images.{Content, range}
+use Rattle.pcm_media.specs.Images.{Content, MayLeave, range}
 use Rattle.array_shape.specs.declared.shape.Shape.{Shape}
-use Rattle.array_shape.specs.Places.{row_at, page_count, media_len}
+use Rattle.array_shape.specs.Places.{row_at, page_count, region_len, media_len}
 use Rattle.array_shape.specs.declared.bad_shape.ShapeNumber.TheVariants.{MediaLength}
 use Rattle.row_bytes.specs.Header.{header_bytes}
 use Rattle.array_image.specs.Image.{data_of}
 use Rattle.eaw_device.specs.declared.fresh.FormatFault.{FormatFault}
 use Rattle.eaw_device.specs.declared.fresh.FormatFault.TheVariants.{BadShape, Media}
+use Rattle.eaw_device.specs.Opens.{header_of}
 
 -- the super page: its mark, the version 1, the form 0, no slot given and 2 the next page to give
 unfoldable pub super_page : List ℕ
@@ -38,6 +39,29 @@ pub record IsFresh (shape : Shape) (content : Content) : Type 0 where
   pub header : range content.bytes 0 512 ≡ header_bytes shape
   pub rows : HasRows shape shape.loggers content.bytes
   pub pages : HasPages shape (page_count shape) content.bytes
+
+-- a loss of power leaves what a read gives
+abbrev pub LeavesAsRead : Content → Type 0
+LeavesAsRead content = (image : List ℕ) → MayLeave content image → image ≡ content.bytes
+
+-- all of an array but its header
+abbrev pub behind_header : Shape → List (ℕ × ℕ)
+behind_header shape = (512, shape.loggers * region_len shape) ∷ []
+
+-- each row is zero, and each page is as at first
+pub record HasParts (shape : Shape) (image : List ℕ) : Type 0 where
+  pub rows : HasRows shape shape.loggers image
+  pub pages : HasPages shape (page_count shape) image
+
+-- the header is that of an image that could be left at first
+pub record HasOldHeader (content : Content) (image : List ℕ) : Type 0 where
+  pub earlier : List ℕ
+  pub left : MayLeave content earlier
+  pub same : header_of image ≡ header_of earlier
+
+-- while an array is formatted: the header is an old one, until all that lies behind it is fresh
+abbrev pub IsHalfFresh : Shape → Content → List ℕ → Type 0
+IsHalfFresh shape content image = HasOldHeader content image ⊎ HasParts shape image
 
 -- the media has another length than the shape, and that is told
 abbrev pub IsWrongLength : Shape → ℕ → FormatFault → Type 0

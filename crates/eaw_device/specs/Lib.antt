@@ -1,3 +1,4 @@
+pub mod Attaching
 pub mod Fresh
 pub mod Opens
 pub mod Sound

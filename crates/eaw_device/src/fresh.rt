@@ -2,10 +2,11 @@
 ghost use Rattle.std.specs.Prelude.{◌≡◌, ◌≢◌, ◌≤◌, ◌<◌, ◌*◌, ◌↔◌, [], ◌∷◌, ℕ, Ok, IsTrue, IfErr, OnOk, IsErrOf, replicate};
 ghost use Rattle.counted.specs.Causes.{Rose};
 ghost use Rattle.pcm_media.specs.Images.{range};
-ghost use Rattle.pcm_media.specs.View.{Writes};
+ghost use Rattle.pcm_media.specs.View.{Writes, LeavesOnly};
 ghost use Rattle.array_shape.specs.Places.{media_len, row_at, page_count};
 ghost use Rattle.array_image.specs.Image.{data_of};
-ghost use Rattle.eaw_device.specs.Fresh.{IsFresh, HasPages, HasRows, fresh_page, super_page, empty_index, IsWrongLength};
+ghost use Rattle.eaw_device.specs.Attaching.{AllOpenWith};
+ghost use Rattle.eaw_device.specs.Fresh.{IsFresh, LeavesAsRead, IsHalfFresh, HasParts, HasPages, HasRows, behind_header, fresh_page, super_page, empty_index, IsWrongLength};
 
 use array_shape::{BadShape, Shape, ShapeNumber};
 use counted::Failed;
@@ -23,12 +24,17 @@ pub enum FormatFault {
     Media,
 }
 
-/// Writes a fresh array of this shape: rows and pages, and behind a barrier the header, so that what is broken off has none.
-/// The cells are left as they are.
+/// Writes a fresh array of this shape: rows and pages, and behind a barrier the header. Where it is broken off, the header is
+/// an old one, or all behind it is fresh. The cells are left as they are.
 pub fn format<M: Media>(media: &mut M, shape: &Shape) -> Result<(), FormatFault>
+    // Whatever a loss of power leaves then is the fresh array, and opens.
     ensures fresh { IsTrue M.tells → OnOk result (IsFresh shape.now (M.view media.new).content) }
+    ensures sure { IsTrue M.tells → OnOk result (LeavesAsRead (M.view media.new).content) }
+    ensures opens { IsTrue M.tells → OnOk result (AllOpenWith shape.now (M.view media.new).content (data_of shape.now (M.view media.new).content.bytes)) }
+    ensures any_moment { IsTrue M.tells → LeavesOnly (IsHalfFresh shape.now (M.view media.old).content) (M.view media.old) (M.view media.new) }
     ensures sized { OnOk result ((M.view media.old).size ≡ media_len shape.now) }
     ensures bad_shape { IfErr result (IsWrongLength shape.now (M.view media.old).size) }
+    ensures untouched { IfErr result (λ fault. fault ≢ FormatFault.Media → media.new ≡ media.old) }
     ensures media { IsErrOf result FormatFault.Media → Rose (M.view media.old).faults (M.view media.new).faults }
     ensures size { (M.view media.new).size ≡ (M.view media.old).size }
     ensures later { (M.view media.old).faults ≤ (M.view media.new).faults }
@@ -49,11 +55,34 @@ pub fn format<M: Media>(media: &mut M, shape: &Shape) -> Result<(), FormatFault>
 fn write_array<M: Media>(media: &mut M, shape: &Shape) -> Result<(), Failed>
     requires size { (M.view media.old).size ≡ media_len shape.now }
     ensures fresh { IsTrue M.tells → OnOk result (IsFresh shape.now (M.view media.new).content) }
+    ensures any_moment { IsTrue M.tells → LeavesOnly (IsHalfFresh shape.now (M.view media.old).content) (M.view media.old) (M.view media.new) }
     ensures does { Writes M.tells ((0, media_len shape.now) ∷ []) (M.view media.old) (M.view media.new) result }
+{
+    write_parts(media, shape)?;
+    write_header(media, shape)
+}
+
+// All but the header, and makes it sure.
+fn write_parts<M: Media>(media: &mut M, shape: &Shape) -> Result<(), Failed>
+    requires size { (M.view media.old).size ≡ media_len shape.now }
+    ensures parts { IsTrue M.tells → OnOk result (HasParts shape.now (M.view media.new).content.bytes) }
+    ensures sure { IsTrue M.tells → OnOk result ((M.view media.new).content.unsettled ≡ []) }
+    ensures does { Writes M.tells (behind_header shape.now) (M.view media.old) (M.view media.new) result }
 {
     write_pages(media, shape)?;
     clear_rows(media, shape)?;
-    media.barrier()?;
+    media.barrier()
+}
+
+// The header of what is sure to be a fresh array otherwise.
+fn write_header<M: Media>(media: &mut M, shape: &Shape) -> Result<(), Failed>
+    requires size { (M.view media.old).size ≡ media_len shape.now }
+    requires parts { IsTrue M.tells → HasParts shape.now (M.view media.old).content.bytes }
+    requires sure { IsTrue M.tells → (M.view media.old).content.unsettled ≡ [] }
+    ensures fresh { IsTrue M.tells → OnOk result (IsFresh shape.now (M.view media.new).content) }
+    ensures any_moment { IsTrue M.tells → LeavesOnly (HasParts shape.now) (M.view media.old) (M.view media.new) }
+    ensures does { Writes M.tells ((0, 512) ∷ []) (M.view media.old) (M.view media.new) result }
+{
     let mut header = [0; 512];
     write_array_header(shape, &mut header);
     media.write(0, &header)?;
@@ -63,7 +92,7 @@ fn write_array<M: Media>(media: &mut M, shape: &Shape) -> Result<(), Failed>
 fn write_pages<M: Media>(media: &mut M, shape: &Shape) -> Result<(), Failed>
     requires size { (M.view media.old).size ≡ media_len shape.now }
     ensures pages { IsTrue M.tells → OnOk result (HasPages shape.now (page_count shape.now) (M.view media.new).content.bytes) }
-    ensures does { Writes M.tells ((0, media_len shape.now) ∷ []) (M.view media.old) (M.view media.new) result }
+    ensures does { Writes M.tells (behind_header shape.now) (M.view media.old) (M.view media.new) result }
 {
     for page in 0..shape.page_count() {
         media.write(shape.byte_at(512 * page), &fresh_page(page))?;
@@ -75,7 +104,7 @@ fn clear_rows<M: Media>(media: &mut M, shape: &Shape) -> Result<(), Failed>
     requires size { (M.view media.old).size ≡ media_len shape.now }
     ensures rows { IsTrue M.tells → OnOk result (HasRows shape.now shape.now.loggers (M.view media.new).content.bytes) }
     ensures pages { IsTrue M.tells → OnOk result (data_of shape.now (M.view media.new).content.bytes ≡ data_of shape.now (M.view media.old).content.bytes) }
-    ensures does { Writes M.tells ((0, media_len shape.now) ∷ []) (M.view media.old) (M.view media.new) result }
+    ensures does { Writes M.tells (behind_header shape.now) (M.view media.old) (M.view media.new) result }
 {
     let zeros = [0; 1024];
     fill_rows(media, shape, &zeros[..16 * usize::from(shape.numbers)])
@@ -87,7 +116,7 @@ fn fill_rows<M: Media>(media: &mut M, shape: &Shape, zeros: &[u8]) -> Result<(),
     requires zeros { zeros.now ≡ replicate (16 * shape.now.numbers) 0 }
     ensures rows { IsTrue M.tells → OnOk result (HasRows shape.now shape.now.loggers (M.view media.new).content.bytes) }
     ensures pages { IsTrue M.tells → OnOk result (data_of shape.now (M.view media.new).content.bytes ≡ data_of shape.now (M.view media.old).content.bytes) }
-    ensures does { Writes M.tells ((0, media_len shape.now) ∷ []) (M.view media.old) (M.view media.new) result }
+    ensures does { Writes M.tells (behind_header shape.now) (M.view media.old) (M.view media.new) result }
 {
     for logger in 0..shape.loggers {
         media.write(shape.row_at(logger, 0), zeros)?;

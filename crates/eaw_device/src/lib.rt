@@ -7,7 +7,6 @@ mod fault;
 mod fresh;
 mod shapes;
 
-pub use attach::check_array;
 pub use device::Eaw;
 pub use fault::AttachFault;
 pub use fresh::{FormatFault, format};

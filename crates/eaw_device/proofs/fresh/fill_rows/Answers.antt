@@ -24,7 +24,7 @@ returns-in_err-write-clause-does g c =
     let long : length c.args.zeros.now ≡ 16 * shape.numbers = ap length c.requires.zeros ∙ length-replicate {A = ℕ} (16 * shape.numbers) 0 in
     let inside = fits _ _ _ _ (media_len shape) c.row_at.ensures long (rows_fit shape c.loop-logger.logger c.loop-logger-test.true) in
     writes_failed _ _ _ _ _ _ c.from_residual.result c.in_err-write.was
-    (writes_on _ _ _ _ _ _ _ c.write.result (λ i out. within (media_len shape) _ _ i inside out) c.loop-logger.invariant.does c.write.ensures.does)
+    (writes_on _ _ _ _ _ _ _ c.write.result (λ i out. within shape _ _ i (omega (arith, c.row_at.ensures)) inside out) c.loop-logger.invariant.does c.write.ensures.does)
 
 pub loop-logger-preserved : goal.loop-logger-preserved
 loop-logger-preserved g c =
@@ -41,5 +41,5 @@ loop-logger-preserved g c =
       rows = λ told. subst (HasRows shape (logger + 1)) (sym (now told))
           (rows_more shape before (sized told) logger zeros c.loop-logger-test.true c.requires.zeros (c.loop-logger.invariant.rows told));
       data_same = λ told. ap (data_of shape) (now told) ∙ rows_apart shape before (sized told) logger zeros c.loop-logger-test.true c.requires.zeros ∙ c.loop-logger.invariant.data_same told;
-      does = writes_on _ _ _ _ _ _ _ _ (λ i out. within (media_len shape) _ _ i inside out) c.loop-logger.invariant.does c.in_ok-write.ensures.does;
+      does = writes_on _ _ _ _ _ _ _ _ (λ i out. within shape _ _ i (omega (arith, c.row_at.ensures)) inside out) c.loop-logger.invariant.does c.in_ok-write.ensures.does;
     }

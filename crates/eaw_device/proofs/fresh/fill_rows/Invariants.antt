@@ -1,10 +1,9 @@
-use Rattle.std.proofs.Common.{◌≡◌, [], ◌∷◌, Ok, Result}
+use Rattle.std.proofs.Common.{◌≡◌, Ok, Result}
 use Rattle.std.specs.Prelude.{IsTrue}
 use Rattle.counted.specs.declared.Failed.{Failed}
 use Rattle.pcm_media.specs.View.{Writes}
-use Rattle.array_shape.specs.Places.{media_len}
 use Rattle.array_image.specs.Image.{data_of}
-use Rattle.eaw_device.specs.Fresh.{HasRows}
+use Rattle.eaw_device.specs.Fresh.{HasRows, behind_header}
 use Rattle.eaw_device.proofs.fresh.fill_rows.Given as goal
 
 abbrev pub invariant-loop-logger : goal.invariant-loop-logger
@@ -13,5 +12,5 @@ invariant-loop-logger g l =
     record {
       rows : IsTrue m.tells → HasRows l.shape l.logger (m.view l.media).content.bytes;
       data_same : IsTrue m.tells → data_of l.shape (m.view l.media).content.bytes ≡ data_of l.shape (m.view l.fn.media).content.bytes;
-      does : let done : Result (Unit {0}) Failed = Ok tt in Writes m.tells ((0, media_len l.shape) ∷ []) (m.view l.fn.media) (m.view l.media) done;
+      does : let done : Result (Unit {0}) Failed = Ok tt in Writes m.tells (behind_header l.shape) (m.view l.fn.media) (m.view l.media) done;
     }

@@ -16,7 +16,7 @@ returns-in_err-write-clause-does g c =
     let long = ap length c.fresh_page.ensures ∙ length-fresh_page c.loop-page.page in
     let inside = fits _ _ (length c.fresh_page.result) (media_len shape) c.byte_at.ensures long (page_fits shape c.loop-page.page (omega arith)) in
     writes_failed _ _ _ _ _ _ c.from_residual.result c.in_err-write.was
-    (writes_on _ _ _ _ _ _ _ c.write.result (λ i out. within (media_len shape) _ _ i inside out) c.loop-page.invariant.does c.write.ensures.does)
+    (writes_on _ _ _ _ _ _ _ c.write.result (λ i out. within shape _ _ i (omega (arith, c.byte_at.ensures)) inside out) c.loop-page.invariant.does c.write.ensures.does)
 
 pub loop-page-preserved : goal.loop-page-preserved
 loop-page-preserved g c =
@@ -32,5 +32,5 @@ loop-page-preserved g c =
           ap (λ x. x.bytes) (c.in_ok-write.ensures.written told) ∙ ap (λ (at : ℕ). put before at c.fresh_page.result) c.byte_at.ensures in
           subst (HasPages shape (c.loop-page.page + 1)) (sym now)
           (page_more shape before sized c.loop-page.page c.fresh_page.result (omega arith) c.fresh_page.ensures long (c.loop-page.invariant.pages told));
-      does = writes_on _ _ _ _ _ _ _ _ (λ i out. within (media_len shape) _ _ i inside out) c.loop-page.invariant.does c.in_ok-write.ensures.does;
+      does = writes_on _ _ _ _ _ _ _ _ (λ i out. within shape _ _ i (omega (arith, c.byte_at.ensures)) inside out) c.loop-page.invariant.does c.in_ok-write.ensures.does;
     }
