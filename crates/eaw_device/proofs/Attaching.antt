@@ -2,9 +2,9 @@
 use Rattle.std.proofs.Common.{◌≡◌, ℕ, ◌≤◌, Bool, List, [], Err, Result, refl, sym, ◌∙◌, subst, arith}
 use Rattle.std.specs.Prelude.{IsTrue, OnErr}
 use Rattle.counted.specs.Causes.{Rose}
-use Rattle.pcm_media.specs.Images.{Content, Touched}
+use Rattle.pcm_media.specs.Images.{Content, IsOutside, Touched}
 use Rattle.pcm_media.specs.View.{View}
-use Rattle.pcm_media.proofs.Left.{left_clean, outside-both, same_bytes, touched_after_nothing}
+use Rattle.pcm_media.proofs.Left.{outside-both, same_bytes, touched_after_nothing}
 use Rattle.array_shape.specs.declared.shape.Shape.{Shape}
 use Rattle.array_shape.specs.Places.{media_len}
 use Rattle.row_bytes.specs.Header.{HasMark, SaysShape, IsBadIn}
@@ -27,11 +27,12 @@ recovered_behind shape image i lt =
     outside-both (places_of shape (all_decided shape image)) (voted_places shape image) i (places_behind shape (all_decided shape image) i lt)
     (votes_away shape image i (λ g t below below' so is. omega arith))
 
--- so what it leaves of an array that was sure has the header of that
-pub recovered_says : (shape : Shape) (old new : Content) → old.unsettled ≡ [] → SaysShape (header_of old.bytes) shape → Touched (recovered_places shape old.bytes) old new → AllSay shape new
+-- so where all is sure behind it, each image left has the header that was read
+pub recovered_says : (shape : Shape) (old new : Content) → ((i : ℕ) → IsOutside new.unsettled i) → SaysShape (header_of old.bytes) shape → Touched (recovered_places shape old.bytes) old new → AllSay shape new
 recovered_says shape old new sure says touched image left =
-    let same = left_clean (recovered_places shape old.bytes) old new touched sure image left in
-    subst (λ (h : List ℕ). SaysShape h shape) (sym (header_stays (recovered_places shape old.bytes) old.bytes image (recovered_behind shape old.bytes) same)) says
+    let kept = header_stays (recovered_places shape old.bytes) old.bytes new.bytes (recovered_behind shape old.bytes) touched.bytes in
+    let read = header_stays new.unsettled new.bytes image (λ i lt. sure i) left in
+    subst (λ (h : List ℕ). SaysShape h shape) (sym (read ∙ kept)) says
 
 -- A step that wrote nothing, and a later one that was refused: the cause holds from the first one on.
 pub cause_on : (tells : Bool) (old mid : View) (faults : ℕ) (fault : AttachFault) → mid.size ≡ old.size → (IsTrue tells → Touched [] old.content mid.content) → old.faults ≤ mid.faults

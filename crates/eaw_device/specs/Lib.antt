@@ -1,4 +1,3 @@
 pub mod Attaching
 pub mod Fresh
 pub mod Opens
-pub mod Sound

@@ -32,9 +32,7 @@ pub(crate) fn read_header<M: Media>(media: &mut M) -> Result<Shape, AttachFault>
     Ok(read_array_header(&header, media.len())?)
 }
 
-/// Makes of an array of this shape one at rest, by recovery.
-///
-/// The header that was read is made sure first: no later write reaches it.
+/// Makes of an array of this shape one at rest, by recovery. The header that was read is sure then, as all else is.
 pub(crate) fn settle<M: Media>(media: &mut M, shape: &Shape) -> Result<(), AttachFault>
     requires size { (M.view media.old).size ≡ media_len shape.now }
     requires header { IsTrue M.tells → SaysShape (header_of (M.view media.old).content.bytes) shape.now }
@@ -49,7 +47,6 @@ pub(crate) fn settle<M: Media>(media: &mut M, shape: &Shape) -> Result<(), Attac
     ensures size { (M.view media.new).size ≡ (M.view media.old).size }
     ensures later { (M.view media.old).faults ≤ (M.view media.new).faults }
 {
-    media.barrier()?;
     recover(media, shape)?;
     Ok(())
 }

@@ -2,12 +2,10 @@
 #![tactic(auto)]
 
 mod attach;
-mod device;
 mod fault;
 mod fresh;
 mod shapes;
 
-pub use device::Eaw;
 pub use fault::AttachFault;
 pub use fresh::{FormatFault, format};
 pub use shapes::first_shape;
