@@ -1,0 +1,94 @@
+-- Logged parts, the ranges where they lie, and how many a logger has.
+use Rattle.std.proofs.Common.{◌≡◌, ℕ, zero, suc, ◌+◌, ◌<◌, ◌≤◌, Bool, true, false, cond, nat_eq, List, [], ◌∷◌, ◌++◌, length, get_or, set, take, drop, refl, sym, ◌∙◌, ap, subst, arith}
+use Rattle.std.specs.Prelude.{All, filter}
+use Rattle.std.proofs.lemmas.List.{take_more, length-append}
+use Rattle.std.proofs.lemmas.List.Elements.{All-head, All-tail}
+use Rattle.pcm_media.specs.Images.{put}
+use Rattle.array_shape.specs.declared.shape.Shape.{Shape}
+use Rattle.array_shape.specs.Places.{data_len, logger_of}
+use Rattle.array_shape.specs.Parts.{is_piece_on}
+use Rattle.array_shape.proofs.Cutting.{filter_few}
+use Rattle.array_image.specs.Parts.{Part, AllFit, ranges_of}
+use Rattle.eaw_face.specs.State.{edited, range_at, is_range_on, count_on}
+use Rattle.eaw_face.specs.StoreView.{ArePlaced}
+use Rattle.memory_eaw.specs.Log.{IsPiece}
+
+-- the range of the part at a position
+pub range_at-parts : (ps : List Part) (pos : ℕ) (d : Part) → pos < length ps → range_at (ranges_of ps) pos ≡ ((get_or ps pos d).0, length (get_or ps pos d).1)
+range_at-parts [] pos d lt = absurd (omega arith)
+range_at-parts (p ∷ ps) zero d lt = refl
+range_at-parts (p ∷ ps) (suc pos) d lt = range_at-parts ps pos d (omega arith)
+
+-- an edit replaces one part
+pub edited-set : (ps : List Part) (pos at : ℕ) (bytes : List ℕ) (d : Part) → pos < length ps → set ps pos ((get_or ps pos d).0, put (get_or ps pos d).1 at bytes) ≡ edited pos at bytes ps
+edited-set [] pos at bytes d lt = absurd (omega arith)
+edited-set (p ∷ ps) zero at bytes d lt = refl
+edited-set (p ∷ ps) (suc pos) at bytes d lt = ap (λ (l : List Part). p ∷ l) (edited-set ps pos at bytes d (omega arith))
+
+-- the same, by the part itself
+pub range_at-part : (ps : List Part) (pos : ℕ) (part : Part) → pos < length ps → part ≡ get_or ps pos part → range_at (ranges_of ps) pos ≡ (part.0, length part.1)
+range_at-part ps pos part lt is = range_at-parts ps pos part lt ∙ (λ i. ((sym is i).0, length (sym is i).1))
+
+pub edited-part : (ps : List Part) (pos at : ℕ) (bytes : List ℕ) (part new : Part) → pos < length ps → part ≡ get_or ps pos part → new ≡ (part.0, put part.1 at bytes) → set ps pos new ≡ edited pos at bytes ps
+edited-part ps pos at bytes part new lt is done =
+    ap (set ps pos) (done ∙ (λ i. ((is i).0, put (is i).1 at bytes))) ∙ edited-set ps pos at bytes part lt
+
+pub length-ranges_of : (ps : List Part) → length (ranges_of ps) ≡ length ps
+length-ranges_of [] = refl
+length-ranges_of (p ∷ ps) = ap suc (length-ranges_of ps)
+
+pub ranges_of-append : (ps qs : List Part) → ranges_of (ps ++ qs) ≡ ranges_of ps ++ ranges_of qs
+ranges_of-append [] qs = refl
+ranges_of-append (p ∷ ps) qs = ap (λ (l : List (ℕ × ℕ)). (p.0, length p.1) ∷ l) (ranges_of-append ps qs)
+
+pub ranges_of-take : (n : ℕ) (ps : List Part) → ranges_of (take n ps) ≡ take n (ranges_of ps)
+ranges_of-take zero ps = refl
+ranges_of-take (suc n) [] = refl
+ranges_of-take (suc n) (p ∷ ps) = ap (λ (l : List (ℕ × ℕ)). (p.0, length p.1) ∷ l) (ranges_of-take n ps)
+
+module _ (shape : Shape) where
+  -- the parts that a logger has are those whose ranges it has
+  pub count_on-pieces : (g : ℕ) (ps : List Part) → count_on shape g (ranges_of ps) ≡ length (filter (is_piece_on shape g) ps)
+  count_on-pieces g [] = refl
+  count_on-pieces g (p ∷ ps) = go (nat_eq (logger_of shape p.0) g) (count_on-pieces g ps)
+    where
+      go : (on : Bool) → count_on shape g (ranges_of ps) ≡ length (filter (is_piece_on shape g) ps)
+          → length (cond on ((p.0, length p.1) ∷ filter (is_range_on shape g) (ranges_of ps)) (filter (is_range_on shape g) (ranges_of ps)))
+          ≡ length (cond on (p ∷ filter (is_piece_on shape g) ps) (filter (is_piece_on shape g) ps))
+      go true is = ap suc is
+      go false is = is
+
+  pub count_on-few : (g : ℕ) (ps : List Part) → count_on shape g (ranges_of ps) ≤ length ps
+  count_on-few g ps = omega (arith, filter_few (is_range_on shape g) (ranges_of ps), length-ranges_of ps)
+
+  pub count_on-append : (g : ℕ) (rs ss : List (ℕ × ℕ)) → count_on shape g (rs ++ ss) ≡ count_on shape g rs + count_on shape g ss
+  count_on-append g [] ss = omega arith
+  count_on-append g (r ∷ rs) ss = go (nat_eq (logger_of shape r.0) g) (count_on-append g rs ss)
+    where
+      go : (on : Bool) → count_on shape g (rs ++ ss) ≡ count_on shape g rs + count_on shape g ss
+          → length (cond on (r ∷ filter (is_range_on shape g) (rs ++ ss)) (filter (is_range_on shape g) (rs ++ ss)))
+          ≡ length (cond on (r ∷ filter (is_range_on shape g) rs) (filter (is_range_on shape g) rs)) + count_on shape g ss
+      go true is = omega arith
+      go false is = is
+
+  -- one part more of a list that is gone through
+  pub count_on-more : (g : ℕ) (ps : List Part) (i : ℕ) (d : Part) → i < length ps
+      → count_on shape g (ranges_of (take (i + 1) ps)) ≡ count_on shape g (ranges_of (take i ps)) + cond (nat_eq (logger_of shape (get_or ps i d).0) g) 1 0
+  count_on-more g ps i d lt =
+      ap (λ (l : List Part). count_on shape g (ranges_of l)) (take_more ps i d lt)
+      ∙ ap (count_on shape g) (ranges_of-append (take i ps) (get_or ps i d ∷ []))
+      ∙ count_on-append g (ranges_of (take i ps)) (ranges_of (get_or ps i d ∷ []))
+      ∙ one (nat_eq (logger_of shape (get_or ps i d).0) g)
+    where
+      one : (on : Bool) → count_on shape g (ranges_of (take i ps)) + length (cond on (ranges_of (get_or ps i d ∷ [])) []) ≡ count_on shape g (ranges_of (take i ps)) + cond on 1 0
+      one true = refl
+      one false = refl
+
+  -- parts that lie in the data fit it, and their ranges are placed
+  pub all_fit : (ps : List Part) → All (IsPiece shape) ps → AllFit (data_len shape) ps
+  all_fit [] placed = tt
+  all_fit (p ∷ ps) placed = ((All-head (IsPiece shape) p ps placed).inside, all_fit ps (All-tail (IsPiece shape) p ps placed))
+
+  pub are_placed : (ps : List Part) → All (IsPiece shape) ps → ArePlaced shape (ranges_of ps)
+  are_placed [] placed = tt
+  are_placed (p ∷ ps) placed = (All-head (IsPiece shape) p ps placed, are_placed ps (All-tail (IsPiece shape) p ps placed))
