@@ -1,3 +1,4 @@
 pub mod Lists
+pub mod Versions
 pub mod Parts
 pub mod Pushing

@@ -1,5 +1,5 @@
 -- What a store in memory keeps of its calls.
-use Rattle.std.specs.Prelude.{ℕ, ◌≡◌, ◌+◌, ◌-◌, ◌^◌, ◌<◌, ◌⊎◌, List, [], ◌∷◌, ◌++◌, Contains}
+use Rattle.std.specs.Prelude.{ℕ, ◌≡◌, ◌+◌, ◌-◌, ◌*◌, ◌^◌, ◌<◌, ◌≤◌, ◌⊎◌, List, [], ◌∷◌, ◌++◌, length, take, drop, Contains}
 use Rattle.pcm_media.specs.Kept.{next_count}
 
 -- the data as it was until a call raised the moment to this one
@@ -45,3 +45,14 @@ changed bytes kept = record kept { moment = kept.moment + 1; past = kept.past ++
 abbrev pub WasBefore : List Version → ℕ → List ℕ → Type 0
 WasBefore [] t image = ⊥
 WasBefore (v ∷ vs) t image = ((t < v.until) × (image ≡ v.bytes)) ⊎ WasBefore vs t image
+
+-- the versions whose moments, and whose bytes one behind another, are these
+abbrev pub versions : ℕ → List ℕ → List ℕ → List Version
+versions size [] past = []
+versions size (until ∷ untils) past = record { until = until; bytes = take size past } ∷ versions size untils (drop size past)
+
+-- each moment has as many bytes as the data, and there is room for so many changes more
+pub record HoldsPast (size room : ℕ) (untils past : List ℕ) (untils_room past_room : ℕ) : Type 0 where
+  pub whole : length past ≡ length untils * size
+  pub moments : length untils + room ≤ untils_room
+  pub bytes : length past + room * size ≤ past_room
