@@ -1,13 +1,14 @@
 -- Logged parts, the ranges where they lie, and how many a logger has.
 use Rattle.std.proofs.Common.{◌≡◌, ℕ, zero, suc, ◌+◌, ◌<◌, ◌≤◌, Bool, true, false, cond, nat_eq, List, [], ◌∷◌, ◌++◌, length, get_or, set, take, drop, refl, sym, ◌∙◌, ap, subst, arith}
 use Rattle.std.specs.Prelude.{All, filter}
-use Rattle.std.proofs.lemmas.List.{take_more, length-append}
-use Rattle.std.proofs.lemmas.List.Elements.{All-head, All-tail}
+use Rattle.std.proofs.lemmas.List.{take_more, length-append, length-map}
+use Rattle.std.proofs.lemmas.List.Elements.{All-cons, All-head, All-tail}
 use Rattle.pcm_media.specs.Images.{put}
+use Rattle.pcm_media.proofs.Puts.{length-put}
 use Rattle.array_shape.specs.declared.shape.Shape.{Shape}
-use Rattle.array_shape.specs.Places.{data_len, logger_of}
-use Rattle.array_shape.specs.Parts.{is_piece_on}
-use Rattle.array_shape.proofs.Cutting.{filter_few}
+use Rattle.array_shape.specs.Places.{data_len, logger_of, IsPlaced}
+use Rattle.array_shape.specs.Parts.{pieces_of, piece_of, parts_on, is_piece_on}
+use Rattle.array_shape.proofs.Cutting.{filter_few, pieces_on-parts}
 use Rattle.array_image.specs.Parts.{Part, AllFit, ranges_of}
 use Rattle.eaw_face.specs.State.{edited, range_at, is_range_on, count_on}
 use Rattle.eaw_face.specs.StoreView.{ArePlaced}
@@ -32,6 +33,12 @@ range_at-part ps pos part lt is = range_at-parts ps pos part lt ∙ (λ i. ((sym
 pub edited-part : (ps : List Part) (pos at : ℕ) (bytes : List ℕ) (part new : Part) → pos < length ps → part ≡ get_or ps pos part → new ≡ (part.0, put part.1 at bytes) → set ps pos new ≡ edited pos at bytes ps
 edited-part ps pos at bytes part new lt is done =
     ap (set ps pos) (done ∙ (λ i. ((is i).0, put (is i).1 at bytes))) ∙ edited-set ps pos at bytes part lt
+
+-- an edit within a part leaves each where it is
+pub ranges_of-edited : (ps : List Part) (pos at : ℕ) (bytes : List ℕ) → at + length bytes ≤ (range_at (ranges_of ps) pos).1 → ranges_of (edited pos at bytes ps) ≡ ranges_of ps
+ranges_of-edited [] pos at bytes within = refl
+ranges_of-edited (p ∷ ps) zero at bytes within = ap (λ (n : ℕ). (p.0, n) ∷ ranges_of ps) (length-put p.1 at bytes within)
+ranges_of-edited (p ∷ ps) (suc pos) at bytes within = ap (λ (l : List (ℕ × ℕ)). (p.0, length p.1) ∷ l) (ranges_of-edited ps pos at bytes within)
 
 pub length-ranges_of : (ps : List Part) → length (ranges_of ps) ≡ length ps
 length-ranges_of [] = refl
@@ -83,6 +90,23 @@ module _ (shape : Shape) where
       one : (on : Bool) → count_on shape g (ranges_of (take i ps)) + length (cond on (ranges_of (get_or ps i d ∷ [])) []) ≡ count_on shape g (ranges_of (take i ps)) + cond on 1 0
       one true = refl
       one false = refl
+
+  -- how many parts of a write a logger has
+  pub count_on-write : (g addr : ℕ) (bytes : List ℕ) → count_on shape g (ranges_of (pieces_of addr bytes)) ≡ length (parts_on shape g addr (length bytes))
+  count_on-write g addr bytes =
+      count_on-pieces g (pieces_of addr bytes) ∙ ap length (pieces_on-parts shape addr bytes g) ∙ length-map (parts_on shape g addr (length bytes)) (piece_of addr bytes)
+
+  placed_from : (ps qs : List Part) → ranges_of qs ≡ ranges_of ps → All (IsPiece shape) ps → All (IsPiece shape) qs
+  placed_from [] [] same placed = placed
+  placed_from [] (q ∷ qs) same placed = absurd (cc same)
+  placed_from (p ∷ ps) [] same placed = absurd (cc same)
+  placed_from (p ∷ ps) (q ∷ qs) same placed =
+      let first : (q.0, length q.1) ≡ (p.0, length p.1) = cc same in
+      let rest : ranges_of qs ≡ ranges_of ps = cc same in
+      All-cons (IsPiece shape) q qs (subst (λ (r : ℕ × ℕ). IsPlaced shape r.0 r.1) (sym first) (All-head (IsPiece shape) p ps placed)) (placed_from ps qs rest (All-tail (IsPiece shape) p ps placed))
+
+  pub placed_edited : (ps : List Part) (pos at : ℕ) (bytes : List ℕ) → at + length bytes ≤ (range_at (ranges_of ps) pos).1 → All (IsPiece shape) ps → All (IsPiece shape) (edited pos at bytes ps)
+  placed_edited ps pos at bytes within placed = placed_from ps (edited pos at bytes ps) (ranges_of-edited ps pos at bytes within) placed
 
   -- parts that lie in the data fit it, and their ranges are placed
   pub all_fit : (ps : List Part) → All (IsPiece shape) ps → AllFit (data_len shape) ps

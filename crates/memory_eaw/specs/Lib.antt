@@ -1,2 +1,7 @@
 pub mod Kept
 pub mod Log
+pub mod Plain
+pub mod Steps
+pub mod Calls
+pub mod Fresh
+pub mod Shown
