@@ -4,3 +4,6 @@ pub mod Parts
 pub mod Pushing
 pub mod Views
 pub mod Sound
+pub mod Stopping
+pub mod Time
+pub mod Doing

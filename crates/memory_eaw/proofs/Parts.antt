@@ -96,14 +96,19 @@ module _ (shape : Shape) where
   count_on-write g addr bytes =
       count_on-pieces g (pieces_of addr bytes) ∙ ap length (pieces_on-parts shape addr bytes g) ∙ length-map (parts_on shape g addr (length bytes)) (piece_of addr bytes)
 
+  abbrev IsThere : ℕ × ℕ → Type 0
+  IsThere r = IsPlaced shape r.0 r.1
+
   placed_from : (ps qs : List Part) → ranges_of qs ≡ ranges_of ps → All (IsPiece shape) ps → All (IsPiece shape) qs
   placed_from [] [] same placed = placed
   placed_from [] (q ∷ qs) same placed = absurd (cc same)
   placed_from (p ∷ ps) [] same placed = absurd (cc same)
   placed_from (p ∷ ps) (q ∷ qs) same placed =
-      let first : (q.0, length q.1) ≡ (p.0, length p.1) = cc same in
       let rest : ranges_of qs ≡ ranges_of ps = cc same in
-      All-cons (IsPiece shape) q qs (subst (λ (r : ℕ × ℕ). IsPlaced shape r.0 r.1) (sym first) (All-head (IsPiece shape) p ps placed)) (placed_from ps qs rest (All-tail (IsPiece shape) p ps placed))
+      All-cons (IsPiece shape) q qs (subst IsThere (head_is (q.0, length q.1) (p.0, length p.1) (ranges_of qs) (ranges_of ps) (sym same)) (All-head (IsPiece shape) p ps placed)) (placed_from ps qs rest (All-tail (IsPiece shape) p ps placed))
+    where
+      head_is : (r s : ℕ × ℕ) (rs ss : List (ℕ × ℕ)) → s ∷ ss ≡ r ∷ rs → s ≡ r
+      head_is r s rs ss is = cc is
 
   pub placed_edited : (ps : List Part) (pos at : ℕ) (bytes : List ℕ) → at + length bytes ≤ (range_at (ranges_of ps) pos).1 → All (IsPiece shape) ps → All (IsPiece shape) (edited pos at bytes ps)
   placed_edited ps pos at bytes within placed = placed_from ps (edited pos at bytes ps) (ranges_of-edited ps pos at bytes within) placed

@@ -46,6 +46,7 @@ pub record IsSound (plain : Plain) : Type 0 where
   pub numbers : length plain.logs ≡ plain.shape.numbers
   pub logs : All (IsSoundLog plain.shape) plain.logs
   pub low : plain.kept.moment ≤ 2 ^ 64 - 1
+  pub few : plain.kept.faults ≤ 2 ^ 64 - 1
   pub stamped : All (λ v. v.until ≤ plain.kept.moment) plain.kept.past
 
 -- Two stores show the same.

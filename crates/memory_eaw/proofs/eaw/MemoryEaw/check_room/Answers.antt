@@ -24,7 +24,7 @@ module _ (c : After-count_range-needed) where
 
 pub returns-then-from-clause-full : goal.returns-then-from-clause-full
 returns-then-from-clause-full c =
-    let at = (goal.at.returns-then-from c).After-count_range-needed in
+    let at = (goal.at.returns-then-from-clause-full c).After-count_range-needed in
     record {
       g = c.loop-logger.logger;
       h = c.count_on-held.result;
