@@ -7,3 +7,5 @@ pub mod Sound
 pub mod Stopping
 pub mod Time
 pub mod Doing
+pub mod Room
+pub mod Counting

@@ -113,11 +113,7 @@ module _ (shape : Shape) where
   pub placed_edited : (ps : List Part) (pos at : ℕ) (bytes : List ℕ) → at + length bytes ≤ (range_at (ranges_of ps) pos).1 → All (IsPiece shape) ps → All (IsPiece shape) (edited pos at bytes ps)
   placed_edited ps pos at bytes within placed = placed_from ps (edited pos at bytes ps) (ranges_of-edited ps pos at bytes within) placed
 
-  -- parts that lie in the data fit it, and their ranges are placed
+  -- parts that lie in the data fit it
   pub all_fit : (ps : List Part) → All (IsPiece shape) ps → AllFit (data_len shape) ps
   all_fit [] placed = tt
   all_fit (p ∷ ps) placed = ((All-head (IsPiece shape) p ps placed).inside, all_fit ps (All-tail (IsPiece shape) p ps placed))
-
-  pub are_placed : (ps : List Part) → All (IsPiece shape) ps → ArePlaced shape (ranges_of ps)
-  are_placed [] placed = tt
-  are_placed (p ∷ ps) placed = (All-head (IsPiece shape) p ps placed, are_placed ps (All-tail (IsPiece shape) p ps placed))

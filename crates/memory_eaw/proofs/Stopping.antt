@@ -66,9 +66,9 @@ module _ (T : Type 0) (store : StoreView) (command : Command) (fault : EawFault)
     uncounted = λ not. refl;
   }
 
-after_failed : {T : Type 0} (change : Bool) (fault : EawFault) (bytes : List ℕ) (kept : Kept) → failed kept ≡ kept_after change (stop T fault) bytes kept
-after_failed true fault bytes kept = refl
-after_failed false fault bytes kept = refl
+after_failed : (T : Type 0) (change : Bool) (fault : EawFault) (bytes : List ℕ) (kept : Kept) → failed kept ≡ kept_after change (stop T fault) bytes kept
+after_failed T true fault bytes kept = refl
+after_failed T false fault bytes kept = refl
 
 module _ (T : Type 0) (old : Plain) (command : Command) (counted : IsCounted (view_of old) command) where
   does_at_media : IsSound old → Does true IsData command (view_of old) (view_of (failed_plain old)) (stop T Media)
@@ -84,7 +84,7 @@ module _ (T : Type 0) (old : Plain) (command : Command) (counted : IsCounted (vi
   counts_at_media : FailsAs (is_change command) old.kept → Counts command (view_of old) old.kept (failed old.kept) (stop T Media)
   counts_at_media must = record {
     fails = (λ is. (counted, must), λ both. refl);
-    counted = λ is. after_failed (is_change command) Media old.bytes old.kept;
+    counted = λ is. after_failed T (is_change command) Media old.bytes old.kept;
     uncounted = λ not. absurd (not counted);
   }
 

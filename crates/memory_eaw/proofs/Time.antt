@@ -6,7 +6,7 @@ use Rattle.array_image.specs.Parts.{Part, applied}
 use Rattle.eaw_face.specs.StoreView.{StoreView, LeavesOnly}
 use Rattle.eaw_face.specs.Does.{IsEither}
 use Rattle.memory_eaw.specs.Kept.{Version, Kept}
-use Rattle.memory_eaw.specs.Plain.{Plain, WasBefore, LeftSince, IsData, view_of, IsSound}
+use Rattle.memory_eaw.specs.Plain.{Plain, WasBefore, LeftSince, IsData, view_of}
 use Rattle.memory_eaw.specs.Steps.{committed, changed_plain}
 
 pub was_push : (past : List Version) (v : Version) (t : ℕ) (image : List ℕ) → WasBefore past t image → WasBefore (past ++ v ∷ []) t image
@@ -20,24 +20,6 @@ was_last (u ∷ past) v t image lt is = inr (was_last past v t image lt is)
 was_only : (past : List Version) (v : Version) (t : ℕ) (image : List ℕ) → WasBefore (past ++ v ∷ []) t image → WasBefore past t image ⊎ (image ≡ v.bytes)
 was_only [] v t image was = ⊎_elim (λ here. inr here.1) (λ none. absurd none) was
 was_only (u ∷ past) v t image was = ⊎_elim (λ here. inl (inl here)) (λ later. ⊎_elim (λ before. inl (inr before)) (λ last. inr last) (was_only past v t image later)) was
-
-was_earlier : (past : List Version) (t now : ℕ) (image : List ℕ) → t ≤ now → WasBefore past now image → WasBefore past t image
-was_earlier [] t now image le was = was
-was_earlier (v ∷ past) t now image le was = ⊎_elim (λ here. inl (omega (arith, here.0), here.1)) (λ later. inr (was_earlier past t now image le later)) was
-
-was_none : (past : List Version) (now : ℕ) (image : List ℕ) → All (λ v. v.until ≤ now) past → WasBefore past now image → ⊥
-was_none [] now image stamped was = was
-was_none (v ∷ past) now image stamped was = ⊎_elim
-    (λ here. omega (arith, here.0, All-head (λ w. w.until ≤ now) v past stamped))
-    (λ later. was_none past now image (All-tail (λ w. w.until ≤ now) v past stamped) later)
-    was
-
--- what is left now is left since each moment up to now, and while no change comes it is the data
-pub counts_now : (plain : Plain) (t : ℕ) (image : List ℕ) → t ≤ plain.kept.moment → LeftSince plain.bytes plain.kept.past plain.kept.moment image → LeftSince plain.bytes plain.kept.past t image
-counts_now plain t image le left = ⊎_elim (λ now. inl now) (λ was. inr (was_earlier plain.kept.past t plain.kept.moment image le was)) left
-
-pub only_now : (plain : Plain) (image : List ℕ) → IsSound plain → LeftSince plain.bytes plain.kept.past plain.kept.moment image → IsData image plain.bytes
-only_now plain image sound left = ⊎_elim (λ now. now) (λ was. absurd (was_none plain.kept.past plain.kept.moment image sound.stamped was)) left
 
 module _ (old new : Plain) (P : List ℕ → Type 0) where
   -- the data is the same

@@ -17,11 +17,6 @@ logged-at [] t lt = absurd (omega arith)
 logged-at (log ∷ logs) zero lt = refl
 logged-at (log ∷ logs) (suc t) lt = logged-at logs t (omega arith)
 
-pub logged-past : (logs : List Log) (t : ℕ) → length logs ≤ t → logged logs t ≡ None
-logged-past [] t le = refl
-logged-past (log ∷ logs) zero le = absurd (omega arith)
-logged-past (log ∷ logs) (suc t) le = logged-past logs t (omega arith)
-
 logged-set_same : (logs : List Log) (t : ℕ) (log : Log) → t < length logs → logged (set logs t log) t ≡ log_of log
 logged-set_same [] t log lt = absurd (omega arith)
 logged-set_same (l ∷ logs) zero log lt = refl

@@ -5,3 +5,4 @@ pub mod Steps
 pub mod Calls
 pub mod Fresh
 pub mod Shown
+pub mod Laws

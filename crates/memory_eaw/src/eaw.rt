@@ -1,15 +1,19 @@
 // An array in memory.
-ghost use Rattle.std.specs.Prelude.{ℕ, ◌≡◌, ◌+◌, ◌*◌, ◌^◌, ◌≤◌, ◌<◌, true, false, [], ◌∷◌, ◌++◌, length, take, drop, replicate, IfOk, IfErr, OnOk, OnErr};
+ghost use Rattle.std.specs.Prelude.{ℕ, ◌≡◌, ◌≢◌, ◌+◌, ◌*◌, ◌^◌, ◌≤◌, ◌<◌, true, false, [], ◌∷◌, ◌++◌, length, take, drop, replicate, IfOk, IfErr, OnOk, OnErr};
 ghost use Rattle.pcm_media.specs.Images.{put, range};
 ghost use Rattle.array_shape.specs.Places.{data_len};
 ghost use Rattle.array_shape.specs.Parts.{pieces_of};
 ghost use Rattle.array_image.specs.Parts.{applied, ranges_of};
 ghost use Rattle.eaw_face.specs.State.{listed, edited, range_at, part_at};
-ghost use Rattle.eaw_face.specs.StoreView.{IsLive};
+ghost use Rattle.eaw_face.specs.StoreView.{IsLive, log_len};
+ghost use Rattle.eaw_face.specs.Command.{log_write, log_edit, commit, abort, nested_top, partial_abort, atomic_write, log_read, read};
+ghost use Rattle.eaw_face.specs.Does.{Does};
 ghost use Rattle.eaw_face.specs.Causes.{Fit};
 ghost use Rattle.memory_eaw.specs.Kept.{fresh_kept, MustFail, MustFailChange};
 ghost use Rattle.memory_eaw.specs.Plain.{IsSound, SameStore};
 ghost use Rattle.memory_eaw.specs.Fresh.{IsFresh};
+ghost use Rattle.memory_eaw.specs.Plain.{IsData};
+ghost use Rattle.memory_eaw.specs.Calls.{Counts};
 ghost use Rattle.memory_eaw.specs.Steps.{log_at, relogged, called_plain, changed_plain, failed_plain, committed, IsUnknown, IsFullBy};
 
 use crate::journal::Journal;
@@ -17,7 +21,7 @@ use crate::log::{PlainLog, count_range};
 use crate::part::overwrite;
 use array_shape::Shape;
 use counted::NoMemory;
-use eaw_face::EawFault;
+use eaw_face::{EawFault, EawStore};
 use std::alloc::Global;
 
 /// An array of editable atomic writes in plain memory, for tests.
@@ -242,5 +246,197 @@ impl MemoryEaw {
         ensures { plain_of self.new ≡ relogged tid false [] (plain_of self.old) }
     {
         self.logs[usize::from(tid)].free();
+    }
+
+    // Reads a logged part.
+    fn read_part(&self, tid: u8, pos: usize, buf: &mut [u8; 512]) -> (u64, u16)
+        requires tid { tid < self.now.shape.numbers }
+        requires pos { pos < length (log_at (plain_of self.now).logs tid).parts }
+        ensures range { result ≡ range_at (ranges_of (log_at (plain_of self.now).logs tid).parts) pos }
+        ensures bytes { take result.1 buf.new ≡ (part_at (log_at (plain_of self.now).logs tid).parts pos).1 }
+    {
+        self.logs[usize::from(tid)].read(pos, buf)
+    }
+
+    // Reads the data.
+    fn copy_range(&self, addr: u64, buf: &mut [u8])
+        requires { addr + length buf.old ≤ data_len self.now.shape }
+        ensures { buf.new ≡ range (plain_of self.now).bytes addr (length buf.old) }
+    {
+        let at = addr as usize;
+        buf.copy_from_slice(&self.bytes[at..at + buf.len()]);
+    }
+}
+
+impl EawStore for MemoryEaw {
+    ghost use Rattle.std.specs.Prelude.{true, refl};
+    ghost use Rattle.std.proofs.Common.{sym, ◌∙◌};
+    ghost use Rattle.memory_eaw.specs.Plain.{IsData};
+    ghost use Rattle.memory_eaw.specs.Shown.{plain_of, shown, kept_of};
+    ghost use Rattle.memory_eaw.specs.Laws.{beyond_in, placed_in, counts_now, only_now};
+
+    ghost tells = { true };
+
+    ghost view = { shown };
+
+    ghost opens = { λ shape. IsData };
+
+    ghost shaped = { λ s. s.shape.in_range };
+
+    ghost long = { λ s told. s.sound.long };
+
+    ghost outlines = { λ s t told alive. refl };
+
+    ghost placed = { λ s t. placed_in (plain_of s) s.sound t };
+
+    ghost beyond = { λ s t le. beyond_in (plain_of s) s.sound t le };
+
+    ghost counts_now = { λ s t image told le left. counts_now (plain_of s) s.sound t image le left };
+
+    ghost only_now = { λ s image told alive left. only_now (plain_of s) s.sound image left };
+
+    ghost one_data = { λ shape image a b is also. sym is ∙ also };
+
+    fn shape(&self) -> Shape {
+        self.shape
+    }
+
+    fn log_write(&mut self, tid: u8, addr: u64, bytes: &[u8]) -> Result<u32, EawFault>
+        requires some { 0 < length bytes.now }
+        requires inside { addr + length bytes.now ≤ data_len self.old.shape }
+        ensures does { Does true IsData (log_write tid addr bytes.now) (shown self.old) (shown self.new) result }
+        ensures len { IfOk result (λ n. n ≡ log_len (shown self.new) tid) }
+        ensures refused { IfErr result (λ fault. fault ≢ EawFault.Media → self.new ≡ self.old) }
+        ensures calls { Counts (log_write tid addr bytes.now) (shown self.old) (kept_of self.old) (kept_of self.new) result }
+    {
+        self.check_number(tid)?;
+        self.check_room(tid, addr, bytes)?;
+        self.call()?;
+        Ok(self.append(tid, addr, bytes))
+    }
+
+    fn commit(&mut self, tid: u8) -> Result<(), EawFault>
+        ensures does { Does true IsData (commit tid) (shown self.old) (shown self.new) result }
+        ensures idle { log_len (shown self.old) tid ≡ 0 → (shown self.new).moment ≡ (shown self.old).moment }
+        ensures refused { IfErr result (λ fault. fault ≢ EawFault.Media → self.new ≡ self.old) }
+        ensures calls { Counts (commit tid) (shown self.old) (kept_of self.old) (kept_of self.new) result }
+    {
+        self.check_live(tid)?;
+        self.commit_from(tid, 0)?;
+        self.free(tid);
+        Ok(())
+    }
+
+    fn abort(&mut self, tid: u8) -> Result<(), EawFault>
+        ensures does { Does true IsData (abort tid) (shown self.old) (shown self.new) result }
+        ensures idle { (shown self.new).moment ≡ (shown self.old).moment }
+        ensures refused { OnErr result (self.new ≡ self.old) }
+        ensures calls { Counts (abort tid) (shown self.old) (kept_of self.old) (kept_of self.new) result }
+    {
+        self.check_live(tid)?;
+        self.free(tid);
+        Ok(())
+    }
+
+    fn nested_top(&mut self, tid: u8, offset: u32) -> Result<(), EawFault>
+        requires { offset ≤ log_len (shown self.old) tid }
+        ensures does { Does true IsData (nested_top tid offset) (shown self.old) (shown self.new) result }
+        ensures idle { log_len (shown self.old) tid ≡ offset → (shown self.new).moment ≡ (shown self.old).moment }
+        ensures refused { IfErr result (λ fault. fault ≢ EawFault.Media → self.new ≡ self.old) }
+        ensures calls { Counts (nested_top tid offset) (shown self.old) (kept_of self.old) (kept_of self.new) result }
+    {
+        self.check_live(tid)?;
+        self.commit_from(tid, offset as usize)?;
+        self.truncate(tid, offset as usize);
+        Ok(())
+    }
+
+    fn partial_abort(&mut self, tid: u8, offset: u32) -> Result<(), EawFault>
+        requires { offset ≤ log_len (shown self.old) tid }
+        ensures does { Does true IsData (partial_abort tid offset) (shown self.old) (shown self.new) result }
+        ensures idle { (shown self.new).moment ≡ (shown self.old).moment }
+        ensures refused { OnErr result (self.new ≡ self.old) }
+        ensures calls { Counts (partial_abort tid offset) (shown self.old) (kept_of self.old) (kept_of self.new) result }
+    {
+        self.check_live(tid)?;
+        self.truncate(tid, offset as usize);
+        Ok(())
+    }
+
+    fn atomic_write(&mut self, tid: u8, addr: u64, bytes: &[u8]) -> Result<(), EawFault>
+        requires some { 0 < length bytes.now }
+        requires inside { addr + length bytes.now ≤ data_len self.old.shape }
+        requires tid { tid < self.old.shape.numbers }
+        requires free { (shown self.old).ranges tid ≡ None }
+        ensures does { Does true IsData (atomic_write tid addr bytes.now) (shown self.old) (shown self.new) result }
+        ensures refused { IfErr result (λ fault. fault ≢ EawFault.Media → self.new ≡ self.old) }
+        ensures calls { Counts (atomic_write tid addr bytes.now) (shown self.old) (kept_of self.old) (kept_of self.new) result }
+    {
+        self.check_alive()?;
+        self.check_room(tid, addr, bytes)?;
+        self.change()?;
+        self.put(addr, bytes);
+        Ok(())
+    }
+
+    fn log_read(
+        &mut self,
+        tid: u8,
+        pos: u32,
+        buf: &mut [u8; 512],
+    ) -> Result<(u64, u16), EawFault>
+        requires { IsLive (shown self.old) tid → pos < log_len (shown self.old) tid }
+        ensures does { Does true IsData (log_read tid) (shown self.old) (shown self.new) result }
+        ensures part { IfOk result (λ part. part ≡ range_at (listed ((shown self.old).ranges tid)) pos) }
+        ensures bytes { IfOk result (λ part. take part.1 buf.new ≡ (part_at (listed ((shown self.old).state.logs tid)) pos).1) }
+        ensures refused { IfErr result (λ fault. fault ≢ EawFault.Media → self.new ≡ self.old) }
+        ensures calls { Counts (log_read tid) (shown self.old) (kept_of self.old) (kept_of self.new) result }
+    {
+        self.check_live(tid)?;
+        self.call()?;
+        Ok(self.read_part(tid, pos as usize, buf))
+    }
+
+    fn log_edit(&mut self, tid: u8, pos: u32, at: u32, bytes: &[u8]) -> Result<(), EawFault>
+        requires pos { IsLive (shown self.old) tid → pos < log_len (shown self.old) tid }
+        requires within { IsLive (shown self.old) tid →
+            at + length bytes.now ≤ (range_at (listed ((shown self.old).ranges tid)) pos).1 }
+        ensures does { Does true IsData (log_edit tid pos at bytes.now) (shown self.old) (shown self.new) result }
+        ensures refused { IfErr result (λ fault. fault ≢ EawFault.Media → self.new ≡ self.old) }
+        ensures calls { Counts (log_edit tid pos at bytes.now) (shown self.old) (kept_of self.old) (kept_of self.new) result }
+    {
+        self.check_live(tid)?;
+        self.call()?;
+        self.edit_part(tid, pos as usize, at, bytes);
+        Ok(())
+    }
+
+    fn read(&mut self, addr: u64, buf: &mut [u8]) -> Result<(), EawFault>
+        requires { addr + length buf.old ≤ data_len self.old.shape }
+        ensures does { Does true IsData read (shown self.old) (shown self.new) result }
+        ensures bytes { OnOk result (buf.new ≡ range (shown self.old).state.bytes addr (length buf.old)) }
+        ensures refused { IfErr result (λ fault. fault ≢ EawFault.Media → self.new ≡ self.old) }
+        ensures calls { Counts read (shown self.old) (kept_of self.old) (kept_of self.new) result }
+    {
+        self.check_alive()?;
+        self.call()?;
+        self.copy_range(addr, buf);
+        Ok(())
+    }
+
+    fn log_len(&self, tid: u8) -> u32 {
+        self.logs[usize::from(tid)].len() as u32
+    }
+
+    fn held(&self, tid: u8, logger: u8) -> u16 {
+        self.logs[usize::from(tid)].count_on(self.shape, logger)
+    }
+
+    fn is_live(&self, tid: u8) -> bool {
+        self.logs[usize::from(tid)].is_live()
+    }
+
+    fn part_range(&self, tid: u8, pos: u32) -> (u64, u16) {
+        self.logs[usize::from(tid)].range(pos as usize)
     }
 }
