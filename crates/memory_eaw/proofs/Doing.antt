@@ -21,6 +21,9 @@ use Rattle.memory_eaw.proofs.Views.{logged-at, logged-set, outline-with, with_lo
 abbrev pub answer : {T : Type 0} → T → Result T EawFault
 answer x = Ok x
 
+abbrev pub done : Result (Unit {0}) EawFault
+done = Ok tt
+
 -- a command may be done
 abbrev pub May : StoreView → Command → Type 0
 May store command = IsAlive store × Knows store command × HasRoom store command

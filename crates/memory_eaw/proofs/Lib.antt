@@ -9,3 +9,4 @@ pub mod Time
 pub mod Doing
 pub mod Room
 pub mod Counting
+pub mod Commands

@@ -21,7 +21,12 @@ later before now past le stamped = All-weaker (λ v. v.until ≤ before) (λ v. 
 module _ (plain : Plain) (sound : IsSound plain) where
   pub sound_failed : IsSound (failed_plain plain)
   sound_failed = record {
-    long = sound.long; size = sound.size; numbers = sound.numbers; logs = sound.logs; low = omega arith; few = omega arith;
+    long = sound.long;
+    size = sound.size;
+    numbers = sound.numbers;
+    logs = sound.logs;
+    low = omega arith;
+    few = omega arith;
     stamped = later plain.kept.moment (failed_plain plain).kept.moment plain.kept.past (omega (arith, sound.low)) sound.stamped;
   }
 
@@ -30,19 +35,34 @@ module _ (plain : Plain) (sound : IsSound plain) where
 
   pub sound_called : (MustFail plain.kept → ⊥) → IsSound (called_plain plain)
   sound_called fine = record {
-    long = sound.long; size = sound.size; numbers = sound.numbers; logs = sound.logs; low = omega (arith, below_last fine); few = sound.few;
+    long = sound.long;
+    size = sound.size;
+    numbers = sound.numbers;
+    logs = sound.logs;
+    low = omega (arith, below_last fine);
+    few = sound.few;
     stamped = later plain.kept.moment (called_plain plain).kept.moment plain.kept.past (omega arith) sound.stamped;
   }
 
   pub sound_changed : (bytes : List ℕ) → (MustFailChange plain.kept → ⊥) → length bytes ≡ length plain.bytes → IsSound (changed_plain bytes plain)
   sound_changed bytes fine long = record {
-    long = long ∙ sound.long; size = sound.size; numbers = sound.numbers; logs = sound.logs; low = omega (arith, below_last (λ must. fine (inl must))); few = sound.few;
+    long = long ∙ sound.long;
+    size = sound.size;
+    numbers = sound.numbers;
+    logs = sound.logs;
+    low = omega (arith, below_last (λ must. fine (inl must)));
+    few = sound.few;
     stamped = All-push (λ v. v.until ≤ plain.kept.moment + 1) plain.kept.past _ (later plain.kept.moment (plain.kept.moment + 1) plain.kept.past (omega arith) sound.stamped) (omega arith);
   }
 
   pub sound_set : (n : ℕ) (log : Log) → IsSoundLog plain.shape log → IsSound (record plain { logs = set plain.logs n log })
   sound_set n log is = record {
-    long = sound.long; size = sound.size; numbers = length-set plain.logs n log ∙ sound.numbers; low = sound.low; few = sound.few; stamped = sound.stamped;
+    long = sound.long;
+    size = sound.size;
+    numbers = length-set plain.logs n log ∙ sound.numbers;
+    low = sound.low;
+    few = sound.few;
+    stamped = sound.stamped;
     logs = All-set (IsSoundLog plain.shape) plain.logs n log is sound.logs;
   }
 

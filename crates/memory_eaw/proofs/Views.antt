@@ -1,6 +1,6 @@
 -- The logs of a store in memory, as the model says them.
 use Rattle.std.proofs.Common.{◌≡◌, ◌≢◌, ℕ, zero, suc, ◌+◌, ◌*◌, ◌<◌, ◌≤◌, Bool, true, false, cond, nat_eq, List, [], ◌∷◌, ◌++◌, length, get_or, set, take, replicate, refl, sym, ◌∙◌, ap, subst, arith}
-use Rattle.std.specs.Prelude.{Option, Some, None, IsSome, All, if◌then◌else◌}
+use Rattle.std.specs.Prelude.{Option, Some, None, is_some, IsSome, All, if◌then◌else◌}
 use Rattle.std.specs.Option.{option_map}
 use Rattle.std.proofs.lemmas.Bool.{eqb-true, eq-eqb}
 use Rattle.std.proofs.lemmas.List.{get_or_default}
@@ -97,6 +97,14 @@ module _ (logs : List Log) (t : ℕ) (lt : t < length logs) where
   some_from live =
       subst (λ (o : Option (List Part)). IsSome (option_map ranges_of o)) (sym (logged-at logs t lt))
       (subst (λ (b : Bool). IsSome (option_map ranges_of (cond b (Some (log_at logs t).parts) None))) (sym live) refl)
+
+-- whether a number is live
+pub is_some-outline : (logs : List Log) (t : ℕ) → t < length logs → is_some (outline (logged logs) t) ≡ (log_at logs t).is_live
+is_some-outline logs t lt = ap (λ (o : Option (List Part)). is_some (option_map ranges_of o)) (logged-at logs t lt) ∙ go (log_at logs t).is_live
+  where
+    go : (b : Bool) → is_some (option_map ranges_of (cond b (Some (log_at logs t).parts) None)) ≡ b
+    go true = refl
+    go false = refl
 
 -- a log that was read from the list
 pub log_is : (logs : List Log) (t n : ℕ) (log : Log) → t < length logs → n ≡ t → log ≡ get_or logs n log → log ≡ log_at logs t

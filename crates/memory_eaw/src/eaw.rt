@@ -379,12 +379,7 @@ impl EawStore for MemoryEaw {
         Ok(())
     }
 
-    fn log_read(
-        &mut self,
-        tid: u8,
-        pos: u32,
-        buf: &mut [u8; 512],
-    ) -> Result<(u64, u16), EawFault>
+    fn log_read(&mut self, tid: u8, pos: u32, buf: &mut [u8; 512]) -> Result<(u64, u16), EawFault>
         requires { IsLive (shown self.old) tid → pos < log_len (shown self.old) tid }
         ensures does { Does true IsData (log_read tid) (shown self.old) (shown self.new) result }
         ensures part { IfOk result (λ part. part ≡ range_at (listed ((shown self.old).ranges tid)) pos) }

@@ -79,6 +79,10 @@ impl PlainPart {
         requires { self.now.0 + length self.now.1 ≤ length target.old }
         ensures { target.new ≡ put target.old self.now.0 self.now.1 }
     {
-        overwrite(target, self.addr as usize, &self.bytes[..usize::from(self.len)]);
+        overwrite(
+            target,
+            self.addr as usize,
+            &self.bytes[..usize::from(self.len)],
+        );
     }
 }

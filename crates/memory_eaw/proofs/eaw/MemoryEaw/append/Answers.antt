@@ -13,6 +13,8 @@ invariant_of-self c =
     let at : c.from.result < length self.logs.items = omega (arith, c.from.ensures) in
     let is = log_is self.logs.items c.args.tid c.from.result log lt c.from.ensures c.index_mut-log.ensures.value in
     let sound = sound_read self.shape self.logs.items c.from.result log self.sound.logs at c.index_mut-log.ensures.value in
-    record { sound = sound_set (plain_of self) self.sound c.from.result c.append.new.self
-        (subst (IsSoundLog self.shape) (sym c.append.ensures)
-        (sound_appended self.shape log sound c.args.addr c.args.bytes.now c.requires.inside (rw (← is) at c.requires.room))) }
+    record {
+      sound = sound_set (plain_of self) self.sound c.from.result c.append.new.self
+          (subst (IsSoundLog self.shape) (sym c.append.ensures)
+          (sound_appended self.shape log sound c.args.addr c.args.bytes.now c.requires.inside (rw (← is) at c.requires.room)));
+    }

@@ -13,6 +13,8 @@ invariant_of-self c =
     let at : c.from.result < length self.logs.items = omega (arith, c.from.ensures) in
     let is = log_is self.logs.items c.args.tid c.from.result log lt c.from.ensures c.index_mut.ensures.value in
     let sound = sound_read self.shape self.logs.items c.from.result log self.sound.logs at c.index_mut.ensures.value in
-    record { sound = sound_set (plain_of self) self.sound c.from.result c.edit.new.self
-        (subst (IsSoundLog self.shape) (sym c.edit.ensures)
-        (sound_edited self.shape log sound c.args.pos c.args.at c.args.bytes.now (rw (← is) at c.requires.pos) (rw (← is) at c.requires.within))) }
+    record {
+      sound = sound_set (plain_of self) self.sound c.from.result c.edit.new.self
+          (subst (IsSoundLog self.shape) (sym c.edit.ensures)
+          (sound_edited self.shape log sound c.args.pos c.args.at c.args.bytes.now (rw (← is) at c.requires.pos) (rw (← is) at c.requires.within)));
+    }
