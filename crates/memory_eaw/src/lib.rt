@@ -7,3 +7,6 @@ mod log;
 mod part;
 
 pub use eaw::MemoryEaw;
+
+#[cfg(test)]
+mod tests;
