@@ -3,5 +3,7 @@ pub mod LineLemmas
 pub mod PutLemmas
 pub mod RecordLemmas
 pub mod Sound
+pub mod StoreLemmas
 pub mod Stepping
-pub mod Running
+pub mod PrefixLemmas
+pub mod Calling

@@ -1,12 +1,12 @@
-pub mod Exchange
+pub mod Called
 pub mod Fault
 pub mod Kept
 pub mod Lines
 pub mod Live
 pub mod Outcome
+pub mod Prefix
 pub mod Prepared
 pub mod Records
 pub mod Session
 pub mod Transcript
 pub mod Written
-pub mod Run

@@ -2,6 +2,7 @@
 #![tactic(auto)]
 
 mod answer;
+mod damage;
 mod fault;
 mod gate;
 mod input;
@@ -11,9 +12,7 @@ mod output;
 mod records;
 mod session;
 mod status;
-mod whole;
 
 pub use fault::fault_text;
 pub use gate::{Gate, OpenGate, Place};
 pub use status::Status;
-pub use whole::run;

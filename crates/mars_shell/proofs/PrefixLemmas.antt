@@ -1,0 +1,86 @@
+-- What a loss of power leaves of a session.
+use Rattle.std.proofs.Common.{◌≡◌, ℕ, ◌+◌, ◌≤◌, ◌⊎◌, inl, inr, ⊎_elim, Bool, false, List, [], ◌∷◌, ◌++◌, length, take, Option, Some, None, refl, sym, ap, subst, ◌∙◌, arith, IsTrue}
+use Rattle.std.proofs.lemmas.List.{length-append, take_all, take_at, append_assoc, append-nil}
+use Rattle.counted.specs.Moments.{Elapses}
+use Rattle.counted.proofs.Going as going
+use Rattle.array_shape.specs.declared.shape.Shape.{Shape}
+use Rattle.eaw_face.specs.StoreView.{StoreView, LeavesOnly}
+use Rattle.eaw_face.specs.Does.{IsEither}
+use Rattle.history.specs.Table.{Table}
+use Rattle.history.specs.Legal.{records}
+use Rattle.history.specs.declared.transaction.Done.{Done}
+use Rattle.mars_shell.specs.Records.{Holds}
+use Rattle.mars_shell.specs.Prefix.{HasPrefix, with_doubt}
+use Rattle.mars_shell.specs.Kept.{Work, work_of, slots_of, IsReady, IsKept}
+use Rattle.mars_shell.specs.Called.{HasPrefixOf, LeavesAll, KeepsPrefix}
+
+-- the committed ones come before the one in doubt
+take_certain : (history : List Done) (doubt : Option Done) → take (length history) (with_doubt history doubt) ≡ history
+take_certain history None = take_all (length history) history (omega arith)
+take_certain history (Some done) = take_at history (done ∷ []) (length history) refl
+
+pub certain_fit : (history : List Done) (doubt : Option Done) → length history ≤ length (with_doubt history doubt)
+certain_fit history None = omega arith
+certain_fit history (Some done) = omega (arith, length-append history (done ∷ []))
+
+module _ (Opens : Shape → List ℕ → List ℕ → Type 0) (base : Table) where
+  -- an image that opens with the records of all that is committed
+  pub prefix_all : (shape : Shape) (work : Work) (image bytes : List ℕ) → Opens shape image bytes → Holds (slots_of shape) (records base work.history) bytes
+      → HasPrefixOf Opens shape base work (length work.history) image
+  prefix_all shape work image bytes opens holds = record {
+    bytes = bytes;
+    opens = opens;
+    count = length work.history;
+    at_least = omega arith;
+    at_most = certain_fit work.history work.doubt;
+    holds = subst (λ (h : List Done). Holds (slots_of shape) (records base h) bytes) (sym (take_certain work.history work.doubt)) holds;
+  }
+
+  -- or of one more, the last one
+  prefix_more : (shape : Shape) (history : List Done) (done : Done) (image bytes : List ℕ) → Opens shape image bytes → Holds (slots_of shape) (records base (history ++ done ∷ [])) bytes
+      → HasPrefix (Opens shape) (slots_of shape) base (history ++ done ∷ []) (length history) image
+  prefix_more shape history done image bytes opens holds = record {
+    bytes = bytes;
+    opens = opens;
+    count = length history + 1;
+    at_least = omega arith;
+    at_most = omega (arith, length-append history (done ∷ []));
+    holds = subst (λ (h : List Done). Holds (slots_of shape) (records base h) bytes) (sym (take_all (length history + 1) (history ++ done ∷ []) (omega (arith, length-append history (done ∷ []))))) holds;
+  }
+
+  -- a store that nothing was done to, and one whose data was not changed
+  pub time_none : (store : StoreView) (before after : Work) → LeavesOnly (HasPrefixOf Opens store.shape base after (length before.history)) store store
+  time_none store before after = going.stays store.moment store.left_since (HasPrefixOf Opens store.shape base after (length before.history))
+
+  pub time_same : (old new : StoreView) (before after : Work) → after.history ≡ before.history → IsKept base old before
+      → LeavesOnly (IsEither (Opens old.shape) old.state.bytes old.state.bytes) old new → LeavesOnly (HasPrefixOf Opens old.shape base after (length before.history)) old new
+  time_same old new before after same kept time =
+      let holds : Holds (slots_of old.shape) (records base after.history) old.state.bytes = subst (λ (h : List Done). Holds (slots_of old.shape) (records base h) old.state.bytes) (sym same) kept.stored in
+      let one = λ (image : List ℕ) (opens : Opens old.shape image old.state.bytes).
+      subst (λ (h : List Done). HasPrefixOf Opens old.shape base after (length h) image) same (prefix_all old.shape after image old.state.bytes opens holds) in
+      going.weaker (λ image either. ⊎_elim (one image) (one image) either) time
+
+  -- a commit, acknowledged or in doubt
+  pub time_commit : (old new : StoreView) (before after : Work) (bytes : List ℕ) (done : Done) → with_doubt after.history after.doubt ≡ before.history ++ done ∷ [] → IsKept base old before
+      → Holds (slots_of old.shape) (records base (before.history ++ done ∷ [])) bytes
+      → LeavesOnly (IsEither (Opens old.shape) old.state.bytes bytes) old new → LeavesOnly (HasPrefixOf Opens old.shape base after (length before.history)) old new
+  time_commit old new before after bytes done is kept more time =
+      going.weaker (λ image either. subst (λ (h : List Done). HasPrefix (Opens old.shape) (slots_of old.shape) base h (length before.history) image) (sym is)
+      (⊎_elim (λ was. prefix_all old.shape (work_of before.history before.live (Some done)) image old.state.bytes was kept.stored)
+      (λ now. prefix_more old.shape before.history done image bytes now more) either)) time
+
+  -- what may be left now, of a session that is kept and of one in which the last call failed
+  pub now_kept : (store : StoreView) (work : Work) → ((image : List ℕ) → store.left_since store.moment image → Opens store.shape image store.state.bytes) → IsKept base store work → LeavesAll Opens base store work
+  now_kept store work only kept image left = prefix_all store.shape work image store.state.bytes (only image left) kept.stored
+
+  pub now_failed : (old new : StoreView) (before after : Work) → new.shape ≡ old.shape → after.history ≡ before.history
+      → ((image : List ℕ) → new.left_since new.moment image → new.left_since old.moment image)
+      → ((image : List ℕ) → old.left_since old.moment image → Opens old.shape image old.state.bytes)
+      → IsKept base old before → LeavesOnly (HasPrefixOf Opens old.shape base after (length before.history)) old new → LeavesAll Opens base new after
+  now_failed old new before after shape same counts only kept time image left =
+      let holds : Holds (slots_of old.shape) (records base after.history) old.state.bytes = subst (λ (h : List Done). Holds (slots_of old.shape) (records base h) old.state.bytes) (sym same) kept.stored in
+      let found : HasPrefixOf Opens old.shape base after (length after.history) image =
+      ⊎_elim (λ was. prefix_all old.shape after image old.state.bytes (only image was) holds)
+      (λ anew. subst (λ (h : List Done). HasPrefixOf Opens old.shape base after (length h) image) (sym same) anew)
+      (time.only old.moment image (omega arith) (counts image left)) in
+      subst (λ (s : Shape). HasPrefixOf Opens s base after (length after.history) image) (sym shape) found
