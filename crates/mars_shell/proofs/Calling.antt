@@ -147,7 +147,7 @@ module _ (tells : Bool) (Opens : Shape → List ℕ → List ℕ → Type 0) whe
     }
 
 -- a call that failed changes no history
-breaks_history : (live : Option (List (Call × Reply))) (old : State) (call : Call) (new : State) → BreaksAt live old call new → new.history ≡ old.history
+pub breaks_history : (live : Option (List (Call × Reply))) (old : State) (call : Call) (new : State) → BreaksAt live old call new → new.history ≡ old.history
 breaks_history None old call new broken = ap (λ (s : State). s.history) broken
 breaks_history (Some calls) old Begin new broken = ap (λ (s : State). s.history) broken
 breaks_history (Some calls) old (Get key) new broken = ap (λ (s : State). s.history) broken

@@ -1,6 +1,6 @@
 -- What a loss of power leaves of a session.
 use Rattle.std.proofs.Common.{◌≡◌, ℕ, ◌+◌, ◌≤◌, ◌⊎◌, inl, inr, ⊎_elim, Bool, false, List, [], ◌∷◌, ◌++◌, length, take, Option, Some, None, refl, sym, ap, subst, ◌∙◌, arith, IsTrue}
-use Rattle.std.proofs.lemmas.List.{length-append, take_all, take_at, append_assoc, append-nil}
+use Rattle.std.proofs.lemmas.List.{length-append, take_all, take_at, take-append-le, append_assoc, append-nil}
 use Rattle.counted.specs.Moments.{Elapses}
 use Rattle.counted.proofs.Going as going
 use Rattle.array_shape.specs.declared.shape.Shape.{Shape}
@@ -84,3 +84,55 @@ module _ (Opens : Shape → List ℕ → List ℕ → Type 0) (base : Table) whe
       (λ anew. subst (λ (h : List Done). HasPrefixOf Opens old.shape base after (length h) image) (sym same) anew)
       (time.only old.moment image (omega arith) (counts image left)) in
       subst (λ (s : Shape). HasPrefixOf Opens s base after (length after.history) image) (sym shape) found
+
+-- a history that goes on as another did
+pub record Grows (old new : List Done) : Type 0 where
+  pub more : List Done
+  pub is : new ≡ old ++ more
+
+pub grows_none : (history : List Done) → Grows history history
+grows_none history = record { more = []; is = sym (append-nil history) }
+
+pub grows_on : (old mid new : List Done) → Grows old mid → Grows mid new → Grows old new
+grows_on old mid new a b = record { more = a.more ++ b.more; is = b.is ∙ ap (λ (l : List Done). l ++ b.more) a.is ∙ append_assoc old a.more b.more }
+
+grows_longer : (old new : List Done) → Grows old new → length old ≤ length new
+grows_longer old new grows = omega (arith, ap length grows.is, length-append old grows.more)
+
+-- so is the one with the transaction in doubt
+grows_doubt : (old new : List Done) (doubt : Option Done) → Grows old new → Grows old (with_doubt new doubt)
+grows_doubt old new None grows = grows
+grows_doubt old new (Some done) grows = record { more = grows.more ++ done ∷ []; is = ap (λ (l : List Done). l ++ done ∷ []) grows.is ∙ append_assoc old grows.more (done ∷ []) }
+
+module _ (Opens : Shape → List ℕ → List ℕ → Type 0) (base : Table) where
+  -- the first transactions of a history are the first ones of what it grows to
+  longer : (shape : Shape) (old new : List Done) (least fewer : ℕ) (image : List ℕ) → Grows old new → fewer ≤ least → HasPrefix (Opens shape) (slots_of shape) base old least image → HasPrefix (Opens shape) (slots_of shape) base new fewer image
+  longer shape old new least fewer image grows le has = record {
+    bytes = has.bytes;
+    opens = has.opens;
+    count = has.count;
+    at_least = omega (arith, le, has.at_least);
+    at_most = omega (arith, has.at_most, grows_longer old new grows);
+    holds =
+        subst (λ (h : List Done). Holds (slots_of shape) (records base h) has.bytes)
+        (sym (ap (take has.count) grows.is ∙ take-append-le has.count old grows.more has.at_most)) has.holds;
+  }
+
+  -- one more line, and none
+  pub keeps_on : (old mid new : StoreView) (before middle after : Work) → mid.shape ≡ old.shape → middle.doubt ≡ None → Grows before.history middle.history → Grows middle.history after.history
+      → KeepsPrefix Opens base old mid before middle → KeepsPrefix Opens base mid new middle after → KeepsPrefix Opens base old new before after
+  keeps_on old mid new before middle after shape certain first second a b =
+      let all : with_doubt middle.history middle.doubt ≡ middle.history = ap (with_doubt middle.history) certain in
+      let grows : Grows (with_doubt middle.history middle.doubt) (with_doubt after.history after.doubt) =
+      subst (λ (l : List Done). Grows l (with_doubt after.history after.doubt)) (sym all) (grows_doubt middle.history after.history after.doubt second) in
+      let at_shape = subst (λ (s : Shape). LeavesOnly (HasPrefixOf Opens s base after (length middle.history)) mid new) shape b.since in
+      record {
+        since = going.then
+            (going.weaker (λ image has. longer old.shape (with_doubt middle.history middle.doubt) (with_doubt after.history after.doubt) (length before.history) (length before.history) image grows (omega arith) has) a.since)
+            (going.weaker (λ image has. longer old.shape (with_doubt after.history after.doubt) (with_doubt after.history after.doubt) (length middle.history) (length before.history) image
+                (grows_none (with_doubt after.history after.doubt)) (grows_longer before.history middle.history first) has) at_shape);
+        now = b.now;
+      }
+
+  pub keeps_none : (store : StoreView) (work : Work) → ((image : List ℕ) → store.left_since store.moment image → Opens store.shape image store.state.bytes) → IsKept base store work → KeepsPrefix Opens base store store work work
+  keeps_none store work only kept = record { since = time_none Opens base store work work; now = now_kept Opens base store work only kept }
