@@ -7,3 +7,4 @@ pub mod StoreLemmas
 pub mod Stepping
 pub mod PrefixLemmas
 pub mod Calling
+pub mod DamageLemmas

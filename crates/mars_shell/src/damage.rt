@@ -1,5 +1,5 @@
 // Whether the record pages are sound.
-ghost use Rattle.std.specs.Prelude.{◌↔◌, ◌+◌, ◌*◌, ◌^◌, ◌≤◌, ◌<◌, ℕ, IsTrue, IfOk, IfSome, IfNone};
+ghost use Rattle.std.specs.Prelude.{◌+◌, ◌*◌, ◌^◌, ◌≤◌, ◌<◌, ℕ, IsTrue, IfOk, IfSome, IfNone, MatchBool};
 ghost use Rattle.pcm_media.specs.Images.{range};
 ghost use Rattle.eaw_face.specs.Command.{read};
 ghost use Rattle.eaw_face.specs.Does.{Does};
@@ -40,7 +40,8 @@ pub fn first_damage<S: EawStore>(store: &mut S) -> Result<Option<u64>, EawFault>
 // Whether each slot of a page is sound, where the first of them is that of this key.
 fn is_sound_page(bytes: &[u8; 512], first: u64) -> bool
     requires { first < 2 ^ 32 }
-    ensures { IsTrue result ↔ ((i : ℕ) → i < 8 → IsSoundIn (first + i) (slot_said (range bytes.now (64 * i) 64))) }
+    ensures { MatchBool result ((i : ℕ) → i < 8 → IsSoundIn (first + i) (slot_said (range bytes.now (64 * i) 64)))
+        ((i : ℕ) × (i < 8) × (IsSoundIn (first + i) (slot_said (range bytes.now (64 * i) 64)) → ⊥)) }
 {
     for i in 0..SLOTS_IN_PAGE {
         if !is_sound_slot(bytes, SLOT_LEN * i as usize, first + i) {
@@ -53,7 +54,7 @@ fn is_sound_page(bytes: &[u8; 512], first: u64) -> bool
 // Whether the slot at a place of a page says something, and carries this key where it is present.
 fn is_sound_slot(bytes: &[u8; 512], at: usize, key: u64) -> bool
     requires { at + 64 ≤ 512 }
-    ensures { IsTrue result ↔ IsSoundIn key (slot_said (range bytes.now at 64)) }
+    ensures { MatchBool result (IsSoundIn key (slot_said (range bytes.now at 64))) (IsSoundIn key (slot_said (range bytes.now at 64)) → ⊥) }
 {
     let mut slot = [0; SLOT_LEN];
     slot.copy_from_slice(&bytes[at..at + SLOT_LEN]);

@@ -1,5 +1,5 @@
 // The records of a store: the record of key k stands in slot k.
-ghost use Rattle.std.specs.Prelude.{◌≡◌, ◌≢◌, ◌<◌, Some, IsTrue, IfOk, IfErr, length};
+ghost use Rattle.std.specs.Prelude.{◌≡◌, ◌≢◌, ◌<◌, ◌≤◌, Some, IsTrue, IfOk, IfErr, length};
 ghost use Rattle.eaw_face.specs.Command.{log_write, read};
 ghost use Rattle.eaw_face.specs.Does.{Does};
 ghost use Rattle.record_slots.specs.Slots.{slot_said, slot_bytes};
@@ -16,7 +16,8 @@ pub const CALLER: u8 = 0;
 
 /// How many slots the record pages of an array have: half of the pages, with eight slots each.
 pub fn slot_count(shape: &Shape) -> u64
-    ensures { result ≡ slots_of shape.now }
+    ensures slots { result ≡ slots_of shape.now }
+    ensures bound { result ≤ 131072 }
 {
     4 * shape.page_count()
 }

@@ -8,7 +8,7 @@ use Rattle.mars_shell.proofs.answer.prepare.Goals as goal
 pub returns-in-Err-write_reply-clause-err : goal.returns-in-Err-write_reply-clause-err
 returns-in-Err-write_reply-clause-err g c = λ told base kept.
     let line = Told c.in-Told.caller c.in-Told.call in
-    let keys : c.slot_count-keys.result ≡ slots_of (g.S.EawStore.view c.args.session.now.store).shape = c.slot_count-keys.ensures ∙ ap slots_of c.shape.ensures in
+    let keys : c.slot_count-keys.result ≡ slots_of (g.S.EawStore.view c.args.session.now.store).shape = c.slot_count-keys.ensures.slots ∙ ap slots_of c.shape.ensures in
     let says = subst (λ (n : ℕ). Says 1 n c.args.bytes.now line) keys c.in-Told.ensures in
     inr (_, (line, says, (c.in-Ok-step.reply, (c.in-Ok-step.ensures.called.keeps told base kept).step, refl)))
 
