@@ -8,3 +8,4 @@ pub mod Stepping
 pub mod PrefixLemmas
 pub mod Calling
 pub mod DamageLemmas
+pub mod FaultLemmas
