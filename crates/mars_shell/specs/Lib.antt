@@ -7,6 +7,7 @@ pub mod Outcome
 pub mod Prefix
 pub mod Prepared
 pub mod Records
+pub mod Served
 pub mod Session
 pub mod Transcript
 pub mod Written

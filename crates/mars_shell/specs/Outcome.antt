@@ -62,3 +62,31 @@ IsEnding (Damaged page) = ⊥
 IsEnding (BadRow logger tid) = ⊥
 IsEnding NotMars = ⊥
 IsEnding (BadShape which given) = ⊥
+
+-- statuses with which the opening of an array is refused
+abbrev pub IsRefusal : Status → Type 0
+IsRefusal (Damaged page) = Unit {0}
+IsRefusal (BadRow logger tid) = Unit {0}
+IsRefusal NotMars = Unit {0}
+IsRefusal (BadShape which given) = Unit {0}
+IsRefusal Good = ⊥
+IsRefusal Usage = ⊥
+IsRefusal TooLong = ⊥
+IsRefusal ReadFault = ⊥
+IsRefusal WriteFault = ⊥
+IsRefusal MediaFault = ⊥
+IsRefusal NoMemory = ⊥
+
+-- statuses that come once an array is opened
+abbrev pub IsOfRecords : Status → Type 0
+IsOfRecords Good = Unit {0}
+IsOfRecords WriteFault = Unit {0}
+IsOfRecords MediaFault = Unit {0}
+IsOfRecords NoMemory = Unit {0}
+IsOfRecords (Damaged page) = Unit {0}
+IsOfRecords Usage = ⊥
+IsOfRecords TooLong = ⊥
+IsOfRecords ReadFault = ⊥
+IsOfRecords (BadRow logger tid) = ⊥
+IsOfRecords NotMars = ⊥
+IsOfRecords (BadShape which given) = ⊥

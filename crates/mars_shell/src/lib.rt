@@ -10,6 +10,7 @@ mod lines;
 mod live;
 mod output;
 mod records;
+mod serve;
 mod session;
 mod status;
 
