@@ -9,3 +9,4 @@ pub mod PrefixLemmas
 pub mod Calling
 pub mod DamageLemmas
 pub mod FaultLemmas
+pub mod Serving
