@@ -1,4 +1,5 @@
 pub mod Called
+pub mod Exchange
 pub mod Fault
 pub mod Kept
 pub mod Lines
@@ -7,6 +8,7 @@ pub mod Outcome
 pub mod Prefix
 pub mod Prepared
 pub mod Records
+pub mod Run
 pub mod Served
 pub mod Session
 pub mod Transcript

@@ -1,5 +1,7 @@
 -- Which statuses a whole run ends with, and when.
 use Rattle.std.specs.Prelude.{ℕ, ◌≡◌, List, [], ◌∷◌, codes}
+use Rattle.eaw_device.specs.declared.fault.AttachFault.{AttachFault}
+use Rattle.eaw_device.specs.declared.fault.AttachFault.TheVariants as opening
 use Rattle.mars_shell.specs.declared.status.Status.{Status}
 use Rattle.mars_shell.specs.declared.status.Status.TheVariants.{Good, Usage, TooLong, ReadFault, WriteFault, MediaFault, NoMemory, Damaged, BadRow, NotMars, BadShape}
 
@@ -90,3 +92,11 @@ IsOfRecords ReadFault = ⊥
 IsOfRecords (BadRow logger tid) = ⊥
 IsOfRecords NotMars = ⊥
 IsOfRecords (BadShape which given) = ⊥
+
+-- the status of an array that is not opened
+abbrev pub status_of : AttachFault → Status
+status_of opening.NotMars = NotMars
+status_of (opening.BadShape bad) = BadShape bad.which bad.given
+status_of (opening.BadRow logger tid) = BadRow logger tid
+status_of opening.Media = MediaFault
+status_of opening.NoMemory = NoMemory

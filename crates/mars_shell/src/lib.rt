@@ -13,7 +13,9 @@ mod records;
 mod serve;
 mod session;
 mod status;
+mod whole;
 
 pub use fault::fault_text;
 pub use gate::{Gate, OpenGate, Place};
 pub use status::Status;
+pub use whole::run;

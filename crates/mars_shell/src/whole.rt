@@ -1,0 +1,114 @@
+// The whole run.
+ghost use Rattle.std.specs.Prelude.{◌≡◌, [], ◌∷◌, map, MatchBool, IsTrue, string_bytes, codes};
+ghost use Rattle.counted.specs.Causes.{Rose};
+ghost use Rattle.mars_shell.specs.Exchange.{Exchange};
+ghost use Rattle.mars_shell.specs.Outcome.{AreRun, WordsSay, IsEarly, IsRefusal, status_of};
+ghost use Rattle.mars_shell.specs.Run.{Outcome};
+
+use crate::gate::Gate;
+use crate::input::{InputFault, read_input};
+use crate::serve::serve;
+use crate::status::Status;
+use eaw_device::{AttachFault, Eaw};
+use outside::{Sink, Source};
+use pcm_media::Media;
+use std::alloc::Global;
+
+/// Does all that the program does over the words behind the image's, and gives the media back.
+///
+/// The input is read first, then the array is opened and recovered, then its records are looked at, and then the lines are
+/// answered. The gate is for runs of several threads; these words ask for none.
+pub fn run<R: AllocGlobal, S: Source, K: Sink, M: Media, G: Gate>(
+    rt: &R,
+    words: &[String],
+    source: &mut S,
+    sink: &mut K,
+    media: M,
+    _gate: &G,
+) -> (Status, M)
+    // Usage comes exactly where the words are not those of a run.
+    ensures words { WordsSay (map string_bytes words.now) result.0 }
+    // Other words touch nothing, what ends the run before the media is opened leaves that and the sink alone, and of an
+    // array that is not opened nothing is told.
+    ensures usage { result.0 ≡ Status.Usage → (source.new ≡ source.old) × (sink.new ≡ sink.old) × (result.1 ≡ media) }
+    ensures early { IsEarly result.0 → (sink.new ≡ sink.old) × (result.1 ≡ media) }
+    ensures refused { IsRefusal result.0 → sink.new ≡ sink.old }
+    // A fault of the source, the sink or the media comes only where its count rose.
+    ensures read_fault { result.0 ≡ Status.ReadFault → Rose (S.faults source.old) (S.faults source.new) }
+    ensures steady { IsTrue (S.steady source.old) → result.0 ≡ Status.ReadFault → ⊥ }
+    ensures write_fault { result.0 ≡ Status.WriteFault → Rose (K.faults sink.old) (K.faults sink.new) }
+    ensures media_fault { result.0 ≡ Status.MediaFault → Rose (M.view media).faults (M.view result.1).faults }
+    // Each other status has its cause, the text answers the lines of the input one by one, the history is legal, and the
+    // prefix law holds of it.
+    ensures ran { IsTrue M.tells → Exchange S.tells (S.left source.old) K.tells (K.written sink.old) (K.written sink.new) (Rose (K.faults sink.old) (K.faults sink.new))
+        (Outcome (M.view media) result.0 (M.view result.1)) }
+{
+    if is_run(words) {
+        run_lines(rt.alloc(), source, sink, media)
+    } else {
+        (Status::Usage, media)
+    }
+}
+
+// Answers the lines of the source over the array that the media holds.
+fn run_lines<S: Source, K: Sink, M: Media>(
+    alloc: Global,
+    source: &mut S,
+    sink: &mut K,
+    media: M,
+) -> (Status, M)
+    ensures no_usage { result.0 ≡ Status.Usage → ⊥ }
+    ensures early { IsEarly result.0 → (sink.new ≡ sink.old) × (result.1 ≡ media) }
+    ensures refused { IsRefusal result.0 → sink.new ≡ sink.old }
+    ensures read_fault { result.0 ≡ Status.ReadFault → Rose (S.faults source.old) (S.faults source.new) }
+    ensures steady { IsTrue (S.steady source.old) → result.0 ≡ Status.ReadFault → ⊥ }
+    ensures write_fault { result.0 ≡ Status.WriteFault → Rose (K.faults sink.old) (K.faults sink.new) }
+    ensures media_fault { result.0 ≡ Status.MediaFault → Rose (M.view media).faults (M.view result.1).faults }
+    ensures ran { IsTrue M.tells → Exchange S.tells (S.left source.old) K.tells (K.written sink.old) (K.written sink.new) (Rose (K.faults sink.old) (K.faults sink.new))
+        (Outcome (M.view media) result.0 (M.view result.1)) }
+{
+    let input = match read_input(alloc, source) {
+        Ok(input) => input,
+        Err(InputFault::TooLong) => return (Status::TooLong, media),
+        Err(InputFault::Failed) => return (Status::ReadFault, media),
+        Err(InputFault::NoMemory) => return (Status::NoMemory, media),
+    };
+    match Eaw::attach(alloc, media) {
+        Ok(store) => {
+            let (status, store) = serve(alloc, &input, sink, store);
+            (status, store.into_media())
+        }
+        Err((fault, media)) => (status_of(fault), media),
+    }
+}
+
+// The status of an array that was not opened.
+fn status_of(fault: AttachFault) -> Status
+    ensures { result ≡ status_of fault }
+{
+    match fault {
+        AttachFault::NotMars => Status::NotMars,
+        AttachFault::BadShape(bad) => Status::BadShape {
+            which: bad.which,
+            given: bad.given,
+        },
+        AttachFault::BadRow { logger, tid } => Status::BadRow { logger, tid },
+        AttachFault::Media => Status::MediaFault,
+        AttachFault::NoMemory => Status::NoMemory,
+    }
+}
+
+fn is_run(words: &[String]) -> bool
+    ensures { MatchBool result (AreRun (map string_bytes words.now)) (AreRun (map string_bytes words.now) → ⊥) }
+{
+    match words {
+        [word] => is_the_word(word.as_str()),
+        _ => false,
+    }
+}
+
+fn is_the_word(word: &str) -> bool
+    ensures { MatchBool result (word.now ≡ codes "run") (word.now ≡ codes "run" → ⊥) }
+{
+    word == "run"
+}
