@@ -3,11 +3,11 @@ use Rattle.std.proofs.Common.{◌≡◌, ℕ, ◌+◌, ◌<◌, ◌≤◌, Bool,
 use Rattle.std.proofs.lemmas.Bool.{false≢true}
 use Rattle.counted.specs.Causes.{Rose}
 use Rattle.array_shape.specs.declared.shape.Shape.{Shape}
-use Rattle.array_shape.specs.Places.{IsShape, logger_of}
+use Rattle.array_shape.specs.Places.{IsShape}
 use Rattle.array_image.specs.Parts.{applied}
 use Rattle.eaw_face.specs.State.{listed}
 use Rattle.eaw_face.specs.StoreView.{StoreView, LeavesOnly}
-use Rattle.eaw_face.specs.Command.{Command, read, log_write}
+use Rattle.eaw_face.specs.Command.{read, log_write}
 use Rattle.eaw_face.specs.Causes.{Cause}
 use Rattle.eaw_face.specs.Does.{Does, IsEither}
 use Rattle.eaw_face.specs.declared.fault.EawFault.{EawFault}
@@ -27,7 +27,7 @@ use Rattle.mars_shell.specs.Records.{slot_at, record_at, Holds}
 use Rattle.mars_shell.specs.Session.{State, BreaksAt, puts_of}
 use Rattle.mars_shell.specs.Prefix.{with_doubt}
 use Rattle.mars_shell.specs.Kept.{Work, work_of, state_over, slots_of, IsReady, IsKept, Stays, Empties}
-use Rattle.mars_shell.specs.Called.{Steps, Called, LeavesAll, KeepsPrefix}
+use Rattle.mars_shell.specs.Called.{Called, LeavesAll, KeepsPrefix}
 use Rattle.mars_shell.specs.declared.session.Fault.{Fault}
 use Rattle.mars_shell.specs.declared.session.Fault.TheVariants.{Media, NoMemory}
 use Rattle.mars_shell.proofs.Stepping.{get_ready, get_steps, put_ready, put_steps, put_refused, commit_steps, commit_ready}

@@ -1,10 +1,9 @@
 -- Pages of records, read one after another.
-use Rattle.std.proofs.Common.{◌≡◌, ℕ, zero, suc, ◌+◌, ◌-◌, ◌*◌, ◌/◌, ◌%◌, ◌<◌, ◌≤◌, ◌⊎◌, inl, inr, Bool, false, true, List, Option, Some, None, Result, Ok, Err, length, take, drop, refl, sym, ap, subst, ◌∙◌, arith, IsTrue}
+use Rattle.std.proofs.Common.{◌≡◌, ℕ, ◌+◌, ◌-◌, ◌*◌, ◌/◌, ◌<◌, ◌≤◌, inl, inr, Bool, List, Result, Ok, Err, take, drop, sym, ap, subst, ◌∙◌, arith, IsTrue}
 use Rattle.std.specs.Prelude.{OnOk}
 use Rattle.std.proofs.lemmas.Bool.{false≢true, cases_lt}
 use Rattle.std.proofs.lemmas.List.{drop-drop, drop-take, take-take}
 use Rattle.std.proofs.Math.Nat.{mul_left_comm}
-use Rattle.counted.specs.Causes.{Rose}
 use Rattle.counted.proofs.Going as going
 use Rattle.pcm_media.specs.Images.{range}
 use Rattle.array_shape.specs.declared.shape.Shape.{Shape}
@@ -18,7 +17,7 @@ use Rattle.eaw_face.specs.declared.fault.EawFault.{EawFault}
 use Rattle.eaw_face.specs.declared.fault.EawFault.TheVariants.{UnknownTid, LogFull, Media, Dead}
 use Rattle.record_slots.specs.Slots.{slot_said}
 use Rattle.mars_shell.specs.Kept.{slots_of}
-use Rattle.mars_shell.specs.Records.{slot_at, page_of, slot_of, IsSoundIn, IsSoundSlot, IsSoundData, IsFirstDamaged}
+use Rattle.mars_shell.specs.Records.{slot_at, page_of, slot_of, IsSoundIn, IsSoundSlot, IsFirstDamaged}
 
 -- eight slots a page
 pub slots_whole : (shape : Shape) → IsShape shape → slots_of shape ≡ 8 * (slots_of shape / 8)

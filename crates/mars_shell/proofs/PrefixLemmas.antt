@@ -1,7 +1,6 @@
 -- What a loss of power leaves of a session.
-use Rattle.std.proofs.Common.{◌≡◌, ℕ, ◌+◌, ◌≤◌, ◌⊎◌, inl, inr, ⊎_elim, Bool, false, List, [], ◌∷◌, ◌++◌, length, take, Option, Some, None, refl, sym, ap, subst, ◌∙◌, arith, IsTrue}
+use Rattle.std.proofs.Common.{◌≡◌, ℕ, ◌+◌, ◌≤◌, ⊎_elim, List, [], ◌∷◌, ◌++◌, length, take, Option, Some, None, refl, sym, ap, subst, ◌∙◌, arith}
 use Rattle.std.proofs.lemmas.List.{length-append, take_all, take_at, take-append-le, append_assoc, append-nil}
-use Rattle.counted.specs.Moments.{Elapses}
 use Rattle.counted.proofs.Going as going
 use Rattle.array_shape.specs.declared.shape.Shape.{Shape}
 use Rattle.eaw_face.specs.StoreView.{StoreView, LeavesOnly}
@@ -11,7 +10,7 @@ use Rattle.history.specs.Legal.{records}
 use Rattle.history.specs.declared.transaction.Done.{Done}
 use Rattle.mars_shell.specs.Records.{Holds}
 use Rattle.mars_shell.specs.Prefix.{HasPrefix, with_doubt}
-use Rattle.mars_shell.specs.Kept.{Work, work_of, slots_of, IsReady, IsKept}
+use Rattle.mars_shell.specs.Kept.{Work, work_of, slots_of, IsKept}
 use Rattle.mars_shell.specs.Called.{HasPrefixOf, LeavesAll, KeepsPrefix}
 
 -- the committed ones come before the one in doubt
@@ -130,7 +129,7 @@ module _ (Opens : Shape → List ℕ → List ℕ → Type 0) (base : Table) whe
         since = going.then
             (going.weaker (λ image has. longer old.shape (with_doubt middle.history middle.doubt) (with_doubt after.history after.doubt) (length before.history) (length before.history) image grows (omega arith) has) a.since)
             (going.weaker (λ image has. longer old.shape (with_doubt after.history after.doubt) (with_doubt after.history after.doubt) (length middle.history) (length before.history) image
-                (grows_none (with_doubt after.history after.doubt)) (grows_longer before.history middle.history first) has) at_shape);
+            (grows_none (with_doubt after.history after.doubt)) (grows_longer before.history middle.history first) has) at_shape);
         now = b.now;
       }
 

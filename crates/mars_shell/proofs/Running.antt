@@ -1,5 +1,5 @@
 -- A whole run: one that ends before its lines, and one that answers them.
-use Rattle.std.proofs.Common.{◌≡◌, ℕ, ◌≤◌, ◌⊎◌, inl, inr, ⊎_elim, List, [], length, Bool, false, refl, sym, ap, subst, ◌∙◌, arith}
+use Rattle.std.proofs.Common.{◌≡◌, ℕ, ◌≤◌, inl, inr, ⊎_elim, List, [], length, Bool, false, refl, sym, ap, subst, ◌∙◌, arith}
 use Rattle.std.specs.Prelude.{IsTrue}
 use Rattle.std.proofs.Props.{props}
 use Rattle.std.proofs.lemmas.Bool.{false≢true}
@@ -20,14 +20,13 @@ use Rattle.eaw_device.specs.Opens.{header_of, Opens, AllOpen, OpensLike, KeepsDa
 use Rattle.eaw_device.specs.declared.fault.AttachFault.{AttachFault}
 use Rattle.eaw_device.specs.declared.fault.AttachFault.TheVariants as opening
 use Rattle.history.specs.Table.{Table}
-use Rattle.history.specs.Legal.{records}
 use Rattle.mars_shell.specs.Called.{HasPrefixOf, KeepsPrefix}
 use Rattle.mars_shell.specs.Exchange.{Exchange}
 use Rattle.mars_shell.specs.Kept.{IsKept, Stays, limits_of, slots_of, state_over}
 use Rattle.mars_shell.specs.Lines.{lines_of}
-use Rattle.mars_shell.specs.Outcome.{status_of}
+use Rattle.mars_shell.specs.Outcome.{IsEarly, IsOfRecords, status_of}
 use Rattle.mars_shell.specs.Records.{records_of, IsSoundData, IsFirstDamaged}
-use Rattle.mars_shell.specs.Run.{IsArray, IsDamaged, data_in, records_in, Idle, Answers, Outcome}
+use Rattle.mars_shell.specs.Run.{IsArray, IsDamaged, records_in, Idle, Answers, Outcome}
 use Rattle.mars_shell.specs.Served.{records_held, no_work, Looked, Served, Serves}
 use Rattle.mars_shell.specs.Session.{opened}
 use Rattle.mars_shell.specs.Transcript.{Answered}
@@ -182,3 +181,17 @@ exchange_idle given input before Does read does = record {
   failed = λ cut. absurd (false≢true cut);
   does = does;
 }
+
+-- a status that comes once an array is opened is none that comes before
+pub not_early : (status : Status) → IsOfRecords status → IsEarly status → ⊥
+not_early Good of early = early
+not_early WriteFault of early = early
+not_early MediaFault of early = early
+not_early NoMemory of early = early
+not_early (Damaged page) of early = early
+not_early Usage of early = of
+not_early TooLong of early = of
+not_early ReadFault of early = of
+not_early (BadRow logger tid) of early = of
+not_early NotMars of early = of
+not_early (BadShape which given) of early = of

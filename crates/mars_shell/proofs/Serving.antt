@@ -1,5 +1,5 @@
 -- The work over a store that was just opened.
-use Rattle.std.proofs.Common.{◌≡◌, ℕ, ◌+◌, ◌*◌, ◌⊎◌, inl, inr, ⊎_elim, Bool, false, List, [], length, Option, Some, None, Result, Ok, refl, sym, ap, subst, ◌∙◌, arith, IsTrue}
+use Rattle.std.proofs.Common.{◌≡◌, ℕ, inr, ⊎_elim, Bool, false, List, [], length, Option, None, refl, sym, ap, subst, ◌∙◌, arith}
 use Rattle.std.specs.Option.{option_map}
 use Rattle.counted.proofs.Going as going
 use Rattle.array_shape.specs.declared.shape.Shape.{Shape}
@@ -7,18 +7,11 @@ use Rattle.array_shape.specs.Places.{data_len}
 use Rattle.array_image.specs.Parts.{Part, applied, ranges_of}
 use Rattle.eaw_face.specs.State.{State as Data, listed}
 use Rattle.eaw_face.specs.StoreView.{StoreView, LeavesOnly}
-use Rattle.eaw_face.specs.Command.{read}
-use Rattle.eaw_face.specs.Does.{Does, IsEither}
-use Rattle.eaw_face.specs.declared.fault.EawFault.{EawFault}
-use Rattle.history.specs.Table.{Table}
-use Rattle.history.specs.declared.call.Call.{Call}
-use Rattle.history.specs.declared.call.Reply.{Reply}
-use Rattle.history.specs.declared.transaction.Done.{Done}
+use Rattle.eaw_face.specs.Does.{IsEither}
 use Rattle.mars_shell.specs.Called.{HasPrefixOf, KeepsPrefix}
-use Rattle.mars_shell.specs.Kept.{Work, IsKept, work_of, state_over, slots_of, limits_of}
+use Rattle.mars_shell.specs.Kept.{Work, IsKept, state_over, slots_of, limits_of}
 use Rattle.mars_shell.specs.Lines.{lines_of}
 use Rattle.mars_shell.specs.Outcome.{IsOfLines}
-use Rattle.mars_shell.specs.Prefix.{HasPrefix, with_doubt}
 use Rattle.mars_shell.specs.Records.{Holds, IsSoundData}
 use Rattle.mars_shell.specs.Served.{records_held, no_work, Looked, Served, Serves}
 use Rattle.mars_shell.specs.Session.{opened}

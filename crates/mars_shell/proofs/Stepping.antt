@@ -1,19 +1,16 @@
 -- Calls that a store answers.
-use Rattle.std.proofs.Common.{◌≡◌, ℕ, ◌+◌, ◌*◌, ◌/◌, ◌%◌, ◌<◌, ◌≤◌, ◌⊎◌, inl, inr, Bool, false, true, nat_eq, cond, List, [], ◌∷◌, ◌++◌, length, take, Option, Some, None, Result, Ok, Err, refl, sym, ap, subst, ◌∙◌, arith, IsTrue}
+use Rattle.std.proofs.Common.{◌≡◌, ℕ, ◌+◌, ◌<◌, inl, inr, Bool, false, nat_eq, cond, List, [], ◌∷◌, ◌++◌, length, Option, Some, None, refl, sym, ap, subst, ◌∙◌, arith, IsTrue}
 use Rattle.std.specs.FinMap.{get, insert}
 use Rattle.std.proofs.lemmas.Bool.{eq-eqb, ne_eqb, cases_eq}
-use Rattle.std.proofs.lemmas.List.{length-append, take_all, take_at}
-use Rattle.counted.specs.Causes.{Rose}
-use Rattle.counted.proofs.Going as going
 use Rattle.array_shape.specs.declared.shape.Shape.{Shape}
 use Rattle.array_shape.specs.Places.{IsShape, logger_of}
 use Rattle.array_shape.specs.Parts.{pieces_of}
 use Rattle.array_image.specs.Parts.{Part, applied, ranges_of}
 use Rattle.eaw_face.specs.State.{State as Data, listed, count_on}
-use Rattle.eaw_face.specs.StoreView.{StoreView, LeavesOnly}
+use Rattle.eaw_face.specs.StoreView.{StoreView}
 use Rattle.eaw_face.specs.Command.{read, log_write}
 use Rattle.eaw_face.specs.Causes.{HasRoom, IsFull}
-use Rattle.eaw_face.specs.Does.{Does, Becomes, IsEither}
+use Rattle.eaw_face.specs.Does.{Becomes}
 use Rattle.record_slots.specs.Slots.{slot_said}
 use Rattle.record_slots.specs.declared.slot.Slot.TheVariants.{Present}
 use Rattle.history.specs.Table.{Table, after, left_by, found}
@@ -25,11 +22,10 @@ use Rattle.history.specs.declared.call.Reply.{Reply}
 use Rattle.history.specs.declared.call.Reply.TheVariants.{Fine, LogFull, Committed}
 use Rattle.history.specs.declared.transaction.Done.{Done}
 use Rattle.mars_shell.specs.Live.{either, last_put}
-use Rattle.mars_shell.specs.Records.{slot_at, record_at, records_of, Holds}
-use Rattle.mars_shell.specs.Session.{put_by, puts_of, taken_on, logger_of_key, PutsAt, done_with}
-use Rattle.mars_shell.specs.Prefix.{HasPrefix, with_doubt}
+use Rattle.mars_shell.specs.Records.{slot_at, record_at, Holds}
+use Rattle.mars_shell.specs.Session.{put_by, puts_of, taken_on, PutsAt, done_with}
 use Rattle.mars_shell.specs.Kept.{Work, work_of, state_over, slots_of, limits_of, slots_put, calls_of, IsReady, IsKept, Empties}
-use Rattle.mars_shell.specs.Called.{Steps, HasPrefixOf, LeavesAll}
+use Rattle.mars_shell.specs.Called.{Steps}
 use Rattle.mars_shell.proofs.PutLemmas.{puts_of-get, puts_of-put}
 use Rattle.mars_shell.proofs.RecordLemmas.{get-records_of, get-insert_same, get-insert_other, holds-put}
 use Rattle.mars_shell.proofs.StoreLemmas.{slot_piece, slot_range, slots_put-push, count_puts, count_one, count_none, count_both, applied-push}

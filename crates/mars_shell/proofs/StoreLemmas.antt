@@ -1,26 +1,18 @@
 -- Commands of a store, as a session gives them.
-use Rattle.std.proofs.Common.{◌≡◌, ℕ, ◌+◌, ◌*◌, ◌/◌, ◌%◌, ◌<◌, ◌≤◌, inl, inr, Bool, true, false, IsTrue, nat_eq, cond, List, [], ◌∷◌, ◌++◌, length, Option, Some, None, Result, Ok, Err, refl, sym, ap, subst, ◌∙◌, arith}
-use Rattle.std.proofs.lemmas.Bool.{eq-eqb, ne_eqb, cases_eq, cases_Bool}
+use Rattle.std.proofs.Common.{◌≡◌, ℕ, ◌+◌, ◌*◌, ◌%◌, ◌<◌, ◌≤◌, Bool, true, false, nat_eq, cond, List, [], ◌∷◌, ◌++◌, length, Option, Some, None, refl, sym, ap, ◌∙◌, arith}
+use Rattle.std.proofs.lemmas.Bool.{eq-eqb, ne_eqb}
 use Rattle.std.proofs.lemmas.List.{length-append, take_all, drop_all}
 use Rattle.std.proofs.lemmas.List.Elements.{filter-append}
 use Rattle.std.specs.Prelude.{filter}
 use Rattle.std.specs.Option.{option_map}
-use Rattle.counted.specs.Moments.{Elapses}
-use Rattle.counted.proofs.Going as going
 use Rattle.array_shape.specs.declared.shape.Shape.{Shape}
 use Rattle.array_shape.specs.Places.{logger_of}
 use Rattle.array_shape.specs.Parts.{page_left, pieces_of}
 use Rattle.array_shape.proofs.Cutting.{pieces_of-none, pieces_of-some}
 use Rattle.array_image.specs.Parts.{Part, applied, ranges_of}
 use Rattle.eaw_face.specs.State.{listed, is_range_on, count_on}
-use Rattle.eaw_face.specs.StoreView.{StoreView}
-use Rattle.eaw_face.specs.Command.{read}
-use Rattle.eaw_face.specs.Causes.{Cause}
-use Rattle.eaw_face.specs.Does.{Does, Becomes, IsEither}
-use Rattle.eaw_face.specs.declared.fault.EawFault.{EawFault}
-use Rattle.eaw_face.specs.declared.fault.EawFault.TheVariants.{UnknownTid, LogFull, Media, Dead}
 use Rattle.mars_shell.specs.Records.{slot_at}
-use Rattle.mars_shell.specs.Session.{Limits, logger_of_key, is_put_on}
+use Rattle.mars_shell.specs.Session.{is_put_on}
 use Rattle.mars_shell.specs.Kept.{slots_of, limits_of, slots_put}
 
 -- a slot lies in one page

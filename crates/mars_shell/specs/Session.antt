@@ -1,5 +1,5 @@
 -- What one caller's calls do, one after another.
-use Rattle.std.specs.Prelude.{ℕ, ◌≡◌, ◌+◌, ◌%◌, ◌<◌, ◌≤◌, ◌⊎◌, Bool, nat_eq, List, [], ◌∷◌, ◌++◌, length, filter, Option, Some, None, unwrap_or}
+use Rattle.std.specs.Prelude.{ℕ, ◌≡◌, ◌+◌, ◌%◌, ◌<◌, ◌⊎◌, Bool, nat_eq, List, [], ◌∷◌, ◌++◌, length, filter, Option, Some, None, unwrap_or}
 use Rattle.history.specs.Table.{Table, Answers, left_by, IsRight}
 use Rattle.history.specs.Legal.{records, IsLegal}
 use Rattle.history.specs.declared.call.Call.{Call}

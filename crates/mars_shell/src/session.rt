@@ -49,7 +49,7 @@ impl<S: EawStore> Session<S> {
             (work_of self.old.history self.old.live self.old.doubt) (work_of self.new.history self.new.live self.new.doubt) result }
         ensures prefix { IsTrue S.tells → (base : Table) → IsKept base (S.view self.old.store) (work_of self.old.history self.old.live self.old.doubt)
             → KeepsPrefix S.opens base (S.view self.old.store) (S.view self.new.store)
-                (work_of self.old.history self.old.live self.old.doubt) (work_of self.new.history self.new.live self.new.doubt) }
+            (work_of self.old.history self.old.live self.old.doubt) (work_of self.new.history self.new.live self.new.doubt) }
     {
         match call {
             Call::Begin => Ok(self.begin()),

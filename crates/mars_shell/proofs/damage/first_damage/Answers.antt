@@ -1,8 +1,8 @@
-use Rattle.std.proofs.Common.{◌≡◌, ℕ, ◌+◌, ◌*◌, ◌/◌, ◌<◌, List, ap, sym, subst, ◌∙◌, arith}
+use Rattle.std.proofs.Common.{◌≡◌, ℕ, ◌+◌, ◌*◌, ◌/◌, ap, sym, subst, ◌∙◌, arith}
 use Rattle.pcm_media.specs.Images.{range}
 use Rattle.mars_shell.specs.Kept.{slots_of}
 use Rattle.mars_shell.specs.Records.{IsFirstDamaged}
-use Rattle.mars_shell.proofs.DamageLemmas.{slots_whole, sound_more, first_damaged, read_on, read_as}
+use Rattle.mars_shell.proofs.DamageLemmas.{slots_whole, sound_more, first_damaged, read_on}
 use Rattle.mars_shell.proofs.damage.first_damage.Goals as goal
 
 pub returns-then-not-is_sound_page-clause-damaged : goal.returns-then-not-is_sound_page-clause-damaged

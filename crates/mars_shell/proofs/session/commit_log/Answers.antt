@@ -1,9 +1,8 @@
-use Rattle.std.proofs.Common.{◌≡◌, ℕ, List, [], length, Option, refl, sym, ap, ◌∙◌, arith}
+use Rattle.std.proofs.Common.{◌≡◌, List, [], length, sym, ap, ◌∙◌}
 use Rattle.std.proofs.lemmas.Bool.{false≢true}
 use Rattle.std.proofs.lemmas.List.{nil_from_length}
 use Rattle.array_image.specs.Parts.{Part, applied}
 use Rattle.eaw_face.specs.State.{listed}
-use Rattle.mars_shell.specs.Kept.{Empties}
 use Rattle.mars_shell.proofs.StoreLemmas.{logs_nothing, not_some}
 use Rattle.mars_shell.proofs.session.commit_log.Goals as goal
 

@@ -1,5 +1,4 @@
-use Rattle.std.proofs.Common.{Some, None, Option, List, ℕ, [], ◌∷◌, ◌++◌, ◌+◌, ◌≡◌, length, Ok, refl, ap, subst, sym, ◌∙◌, arith}
-use Rattle.array_shape.specs.declared.shape.Shape.{Shape}
+use Rattle.std.proofs.Common.{Option, List, ℕ, ◌+◌, ◌≡◌, length, Ok, ap, subst, sym, ◌∙◌, arith}
 use Rattle.std.specs.Prelude.{vec_len}
 use Rattle.eaw_face.specs.StoreView.{log_len}
 use Rattle.history.specs.declared.transaction.Done.{Done}
@@ -8,7 +7,7 @@ use Rattle.history.specs.declared.call.Call.TheVariants.{Commit}
 use Rattle.history.specs.declared.call.Reply.{Reply}
 use Rattle.history.specs.declared.call.Reply.TheVariants.{Committed}
 use Rattle.mars_shell.specs.Called.{Called}
-use Rattle.mars_shell.specs.Kept.{IsReady, work_of, slots_of, slots_put}
+use Rattle.mars_shell.specs.Kept.{IsReady, work_of, slots_of}
 use Rattle.mars_shell.specs.Session.{puts_of}
 use Rattle.mars_shell.proofs.PutLemmas.{popped, popped_last, filled}
 use Rattle.mars_shell.proofs.StoreLemmas.{length-slots_put}
@@ -38,7 +37,7 @@ returns-in-Ok-commit_log g c =
       called = subst (λ (n : ℕ). Called s.tells s.opens Commit old new (work_of work.history work.live work.doubt) (work_of c.push.new.self c.take.new.self work.doubt) (Ok (Committed n))) (sym count)
           (called_at s.tells s.opens work.history work.doubt _ _ _ _ is (ap (λ (l : Option (List (Call × Reply))). work_of c.push.new.self l work.doubt) c.in-Some.ensures.after)
           (commit_done s.tells s.opens old new c.in-Some.live work.history c.push.new.self last work.doubt (subst at is c.requires.ready) c.in-Ok-commit_log.ensures.stays
-          (λ i. record { caller = 0; calls = c.split-calls.ensures.calls i; at = count i }) c.in-Ok.ensures.ok c.in-Ok-commit_log.ensures.time c.in-Ok-commit_log.ensures.empties))
+          (λ i. record { caller = 0; calls = c.split-calls.ensures.calls i; at = count i }) c.in-Ok.ensures.ok c.in-Ok-commit_log.ensures.time c.in-Ok-commit_log.ensures.empties));
     }
 
 pub returns : goal.returns
@@ -56,5 +55,5 @@ returns g c =
     record {
       called = called_at s.tells s.opens work.history work.doubt _ _ _ _ is (λ i. work_of (rest i) (c.in-Some.ensures.after i) (taken i))
           (commit_failed s.tells s.opens old new c.in-Some.live work.history c.push.new.self last work.doubt (subst at is c.requires.ready) c.in-Err-commit_log.ensures.stays
-          (λ i. record { caller = 0; calls = c.split-calls.ensures.calls i; at = count i }) c.in-Ok.ensures.ok c.in-Err-commit_log.ensures.time c.in-Err-commit_log.ensures.media)
+          (λ i. record { caller = 0; calls = c.split-calls.ensures.calls i; at = count i }) c.in-Ok.ensures.ok c.in-Err-commit_log.ensures.time c.in-Err-commit_log.ensures.media);
     }

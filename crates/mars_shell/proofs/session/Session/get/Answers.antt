@@ -1,4 +1,4 @@
-use Rattle.std.proofs.Common.{Some, Option, List, ℕ, [], ◌∷◌, ◌++◌, ◌≡◌, refl, ap, subst, sym, ◌∙◌}
+use Rattle.std.proofs.Common.{Some, Option, List, [], ◌∷◌, ◌++◌, ◌≡◌, refl, ap, subst, sym, ◌∙◌}
 use Rattle.history.specs.declared.call.Call.{Call}
 use Rattle.history.specs.declared.call.Call.TheVariants.{Get}
 use Rattle.history.specs.declared.call.Reply.{Reply}
@@ -14,7 +14,7 @@ returns-in-Err g c =
     let at = λ (l : Option (List (Call × Reply))). IsReady old (work_of work.history l work.doubt) in
     record {
       called = called_at s.tells s.opens work.history work.doubt _ _ _ _ c.in-Some.is refl
-          (get_failed s.tells s.opens old _ c.in-Some.live c.args.key work.history work.doubt (subst at c.in-Some.is c.requires.ready) _ _ c.in-Err.ensures.does)
+          (get_failed s.tells s.opens old _ c.in-Some.live c.args.key work.history work.doubt (subst at c.in-Some.is c.requires.ready) _ _ c.in-Err.ensures.does);
     }
 
 pub returns-in-Ok-grant_get : goal.returns-in-Ok-grant_get
@@ -29,7 +29,7 @@ returns-in-Ok-grant_get g c =
     record {
       called = called_at s.tells s.opens work.history work.doubt _ _ _ _ c.in-Some.is (ap (λ (l : List (Call × Reply)). work_of work.history (Some l) work.doubt) granted)
           (get_done s.tells s.opens old _ c.in-Some.live c.args.key work.history work.doubt (subst at c.in-Some.is c.requires.ready) _ c.in-Ok.value reply c.in-Ok.ensures.does c.in-Ok.ensures.value
-          c.found-in-Ok-grant_get.ensures c.requires.fits)
+          c.found-in-Ok-grant_get.ensures c.requires.fits);
     }
 
 pub returns-in-Err-grant_get : goal.returns-in-Err-grant_get
@@ -40,5 +40,5 @@ returns-in-Err-grant_get g c =
     let at = λ (l : Option (List (Call × Reply))). IsReady old (work_of work.history l work.doubt) in
     record {
       called = called_at s.tells s.opens work.history work.doubt _ _ _ _ c.in-Some.is (ap (λ (l : List (Call × Reply)). work_of work.history (Some l) work.doubt) c.in-Err-grant_get.ensures.err)
-          (get_no_memory s.tells s.opens old _ c.in-Some.live c.args.key work.history work.doubt (subst at c.in-Some.is c.requires.ready) _ c.in-Ok.ensures.does)
+          (get_no_memory s.tells s.opens old _ c.in-Some.live c.args.key work.history work.doubt (subst at c.in-Some.is c.requires.ready) _ c.in-Ok.ensures.does);
     }

@@ -1,4 +1,4 @@
-use Rattle.std.proofs.Common.{Some, Option, List, [], ◌∷◌, ◌++◌, ◌≡◌, Result, Err, refl, ap, subst, sym, ◌∙◌}
+use Rattle.std.proofs.Common.{Some, Option, List, ◌≡◌, Result, Err, ap, subst, sym, ◌∙◌}
 use Rattle.eaw_face.specs.Command.{log_write}
 use Rattle.eaw_face.specs.Does.{Does}
 use Rattle.eaw_face.specs.declared.fault.EawFault.{EawFault}
@@ -23,7 +23,7 @@ returns-in-Ok-put_record g c =
     record {
       called = called_at s.tells s.opens work.history work.doubt _ _ _ _ c.in-Some.is (ap (λ (l : List (Call × Reply)). work_of work.history (Some l) work.doubt) c.in-Ok.ensures.ok)
           (put_done s.tells s.opens old _ c.in-Some.live c.args.key c.args.value _ work.history work.doubt (g.met.S.EawStore.shaped work.store) c.in-Ok-put_record.ensures.size c.requires.fits
-          (subst at c.in-Some.is c.requires.ready) _ c.in-Ok-put_record.ensures.said c.in-Ok-put_record.ensures.does)
+          (subst at c.in-Some.is c.requires.ready) _ c.in-Ok-put_record.ensures.said c.in-Ok-put_record.ensures.does);
     }
 
 pub returns-in-Err-LogFull : goal.returns-in-Err-LogFull
@@ -41,7 +41,7 @@ returns-in-Err-LogFull g c =
       called = called_at s.tells s.opens work.history work.doubt _ _ _ _ c.in-Some.is (ap (λ (l : List (Call × Reply)). work_of work.history (Some l) work.doubt) back)
           (put_full s.tells s.opens old new c.in-Some.live c.args.key c.args.value _ work.history work.doubt (g.met.S.EawStore.shaped work.store) c.in-Err-LogFull.ensures.size c.requires.fits
           (subst at c.in-Some.is c.requires.ready) _ _ _ (ap s.view same)
-          (subst (λ (f : EawFault). let r : Result (Unit {0}) EawFault = Err f in Does s.tells (s.opens old.shape) write old new r) c.in-Err-LogFull.field-0-is c.in-Err-LogFull.ensures.does))
+          (subst (λ (f : EawFault). let r : Result (Unit {0}) EawFault = Err f in Does s.tells (s.opens old.shape) write old new r) c.in-Err-LogFull.field-0-is c.in-Err-LogFull.ensures.does));
     }
 
 pub returns-in-Err-Media : goal.returns-in-Err-Media
@@ -57,5 +57,5 @@ returns-in-Err-Media g c =
       called = called_at s.tells s.opens work.history work.doubt _ _ _ _ c.in-Some.is (ap (λ (l : List (Call × Reply)). work_of work.history (Some l) work.doubt) back)
           (put_failed s.tells s.opens old new c.in-Some.live c.args.key c.args.value _ work.history work.doubt (g.met.S.EawStore.shaped work.store) c.in-Err-Media.ensures.size c.requires.fits
           (subst at c.in-Some.is c.requires.ready)
-          (subst (λ (f : EawFault). let r : Result (Unit {0}) EawFault = Err f in Does s.tells (s.opens old.shape) write old new r) c.in-Err-Media.field-0-is c.in-Err-Media.ensures.does))
+          (subst (λ (f : EawFault). let r : Result (Unit {0}) EawFault = Err f in Does s.tells (s.opens old.shape) write old new r) c.in-Err-Media.field-0-is c.in-Err-Media.ensures.does));
     }
