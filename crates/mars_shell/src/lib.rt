@@ -2,6 +2,7 @@
 #![tactic(auto)]
 
 mod answer;
+mod damage;
 mod fault;
 mod gate;
 mod input;
@@ -9,6 +10,7 @@ mod lines;
 mod live;
 mod output;
 mod records;
+mod serve;
 mod session;
 mod status;
 mod whole;
