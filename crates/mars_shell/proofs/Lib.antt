@@ -1,5 +1,4 @@
 pub mod AnsweredLemmas
-pub mod LineLemmas
 pub mod PutLemmas
 pub mod RecordLemmas
 pub mod Sound

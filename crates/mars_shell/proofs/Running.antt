@@ -23,14 +23,14 @@ use Rattle.history.specs.Table.{Table}
 use Rattle.mars_shell.specs.Called.{HasPrefixOf, KeepsPrefix}
 use Rattle.mars_shell.specs.Exchange.{Exchange}
 use Rattle.mars_shell.specs.Kept.{IsKept, Stays, limits_of, slots_of, state_over}
-use Rattle.mars_shell.specs.Lines.{lines_of}
+use Rattle.script_io.specs.Lines.{lines_of}
 use Rattle.mars_shell.specs.Outcome.{IsEarly, IsOfRecords, status_of}
 use Rattle.mars_shell.specs.Records.{records_of, IsSoundData, IsFirstDamaged}
 use Rattle.mars_shell.specs.Run.{IsArray, IsDamaged, records_in, Idle, Answers, Outcome}
 use Rattle.mars_shell.specs.Served.{records_held, no_work, Looked, Served, Serves}
 use Rattle.mars_shell.specs.Session.{opened}
 use Rattle.mars_shell.specs.Transcript.{Answered}
-use Rattle.mars_shell.specs.declared.input.TheConstants.{MOST}
+use Rattle.script_io.specs.declared.input.TheConstants.{MOST}
 use Rattle.mars_shell.specs.declared.status.Status.{Status}
 use Rattle.mars_shell.specs.declared.status.Status.TheVariants.{Good, Usage, TooLong, ReadFault, WriteFault, MediaFault, NoMemory, Damaged, BadRow, NotMars, BadShape}
 use Rattle.mars_shell.proofs.AnsweredLemmas.{Answered-keeps}

@@ -10,7 +10,7 @@ use Rattle.eaw_face.specs.StoreView.{StoreView, LeavesOnly}
 use Rattle.eaw_face.specs.Does.{IsEither}
 use Rattle.mars_shell.specs.Called.{HasPrefixOf, KeepsPrefix}
 use Rattle.mars_shell.specs.Kept.{Work, IsKept, state_over, slots_of, limits_of}
-use Rattle.mars_shell.specs.Lines.{lines_of}
+use Rattle.script_io.specs.Lines.{lines_of}
 use Rattle.mars_shell.specs.Outcome.{IsOfLines}
 use Rattle.mars_shell.specs.Records.{Holds, IsSoundData}
 use Rattle.mars_shell.specs.Served.{records_held, no_work, Looked, Served, Serves}

@@ -2,7 +2,6 @@ pub mod Called
 pub mod Exchange
 pub mod Fault
 pub mod Kept
-pub mod Lines
 pub mod Live
 pub mod Outcome
 pub mod Prefix
@@ -12,4 +11,3 @@ pub mod Run
 pub mod Served
 pub mod Session
 pub mod Transcript
-pub mod Written

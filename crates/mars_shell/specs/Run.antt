@@ -12,12 +12,12 @@ use Rattle.eaw_device.specs.Opens.{header_of, Opens, AllOpen, OpensLike, HasBadR
 use Rattle.history.specs.Table.{Table}
 use Rattle.history.specs.Legal.{records, IsLegal}
 use Rattle.mars_shell.specs.Kept.{limits_of, slots_of}
-use Rattle.mars_shell.specs.Lines.{lines_of}
+use Rattle.script_io.specs.Lines.{lines_of}
 use Rattle.mars_shell.specs.Prefix.{HasPrefix, with_doubt}
 use Rattle.mars_shell.specs.Records.{records_of, IsSoundData, IsFirstDamaged}
 use Rattle.mars_shell.specs.Session.{State, opened}
 use Rattle.mars_shell.specs.Transcript.{Answered}
-use Rattle.mars_shell.specs.declared.input.TheConstants.{MOST}
+use Rattle.script_io.specs.declared.input.TheConstants.{MOST}
 use Rattle.mars_shell.specs.declared.status.Status.{Status}
 use Rattle.mars_shell.specs.declared.status.Status.TheVariants.{Good, Usage, TooLong, ReadFault, WriteFault, MediaFault, NoMemory, Damaged, BadRow, NotMars, BadShape}
 

@@ -5,7 +5,7 @@ use Rattle.eaw_face.specs.StoreView.{StoreView, LeavesOnly}
 use Rattle.history.specs.Table.{Table}
 use Rattle.mars_shell.specs.Called.{KeepsPrefix}
 use Rattle.mars_shell.specs.Kept.{Work, IsKept, work_of, state_over, slots_of, limits_of}
-use Rattle.mars_shell.specs.Lines.{lines_of}
+use Rattle.script_io.specs.Lines.{lines_of}
 use Rattle.mars_shell.specs.Records.{records_of, IsSoundData, IsFirstDamaged}
 use Rattle.mars_shell.specs.Session.{opened}
 use Rattle.mars_shell.specs.Transcript.{Answered}

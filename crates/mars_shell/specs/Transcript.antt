@@ -8,7 +8,7 @@ use Rattle.script_text.specs.Replies.{reply_line, bad_line}
 use Rattle.script_text.specs.declared.line.Line.{Line}
 use Rattle.script_text.specs.declared.line.Line.TheVariants.{Nothing, Told, Bad}
 use Rattle.mars_shell.specs.Session.{Limits, State, Step, Breaks}
-use Rattle.mars_shell.specs.Written.{IsCut, IsWritten}
+use Rattle.script_io.specs.Written.{IsCut, IsWritten}
 use Rattle.mars_shell.specs.declared.status.Status.{Status}
 use Rattle.mars_shell.specs.declared.status.Status.TheVariants.{Good, Usage, TooLong, ReadFault, WriteFault, MediaFault, NoMemory, Damaged, BadRow, NotMars, BadShape}
 

@@ -4,18 +4,17 @@ ghost use Rattle.counted.specs.Causes.{Rose};
 ghost use Rattle.history.specs.Table.{Table};
 ghost use Rattle.mars_shell.specs.Called.{KeepsPrefix};
 ghost use Rattle.mars_shell.specs.Kept.{IsReady, IsKept, Stays, limits_of, state_over, work_of};
-ghost use Rattle.mars_shell.specs.Lines.{lines_of};
+ghost use Rattle.script_io.specs.Lines.{lines_of};
 ghost use Rattle.mars_shell.specs.Outcome.{IsEnding, IsOfLines};
 ghost use Rattle.mars_shell.specs.Transcript.{LineGives, Ends, Answered};
 ghost use Rattle.mars_shell.specs.Prepared.{Stops, WhereMedia};
 
-use crate::lines::next_line;
-use crate::output::{write_front, write_whole};
 use crate::records::slot_count;
 use crate::session::{Fault, Session};
 use crate::status::Status;
 use eaw_face::EawStore;
 use outside::Sink;
+use script_io::{next_line, write_front, write_whole};
 use script_text::{Line, media_fault_line, read_line, write_bad_line, write_reply};
 use std::alloc::Global;
 

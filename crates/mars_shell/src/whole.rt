@@ -6,12 +6,12 @@ ghost use Rattle.mars_shell.specs.Outcome.{AreRun, WordsSay, IsEarly, IsRefusal,
 ghost use Rattle.mars_shell.specs.Run.{Outcome};
 
 use crate::gate::Gate;
-use crate::input::{InputFault, read_input};
 use crate::serve::serve;
 use crate::status::Status;
 use eaw_device::{AttachFault, Eaw};
 use outside::{Sink, Source};
 use pcm_media::Media;
+use script_io::{InputFault, read_input};
 use std::alloc::Global;
 
 /// Does all that the program does over the words behind the image's, and gives the media back.

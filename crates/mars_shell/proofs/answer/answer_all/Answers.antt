@@ -2,7 +2,7 @@ use Rattle.std.proofs.Common.{false, [], ◌++◌, refl, ap, sym, subst, ◌∙�
 use Rattle.std.proofs.lemmas.Bool.{false≢true}
 use Rattle.std.proofs.lemmas.List.{append_assoc, append-nil}
 use Rattle.array_shape.specs.declared.shape.Shape.{Shape}
-use Rattle.mars_shell.specs.Lines.{lines_of}
+use Rattle.script_io.specs.Lines.{lines_of}
 use Rattle.mars_shell.specs.Kept.{limits_of, state_over, work_of}
 use Rattle.mars_shell.specs.Transcript.{LineGives, Ends}
 use Rattle.mars_shell.specs.declared.status.Status.TheVariants.{Good}

@@ -3,7 +3,7 @@ use Rattle.history.specs.Table.{Table}
 use Rattle.mars_shell.specs.Session.{State}
 use Rattle.mars_shell.specs.Called.{KeepsPrefix}
 use Rattle.mars_shell.specs.Kept.{IsReady, IsKept, Stays, limits_of, state_over, work_of}
-use Rattle.mars_shell.specs.Lines.{lines_of}
+use Rattle.script_io.specs.Lines.{lines_of}
 use Rattle.mars_shell.specs.Transcript.{Answered}
 use Rattle.mars_shell.specs.declared.status.Status.{Status}
 use Rattle.mars_shell.proofs.PrefixLemmas.{Grows}

@@ -5,7 +5,7 @@ use Rattle.std.proofs.lemmas.List.{append-nil}
 use Rattle.history.specs.declared.transaction.Done.{Done}
 use Rattle.mars_shell.specs.Called.{KeepsPrefix}
 use Rattle.mars_shell.specs.Kept.{IsKept, work_of, slots_of, limits_of, state_over}
-use Rattle.mars_shell.specs.Lines.{lines_of}
+use Rattle.script_io.specs.Lines.{lines_of}
 use Rattle.mars_shell.specs.Records.{IsSoundData, IsFirstDamaged}
 use Rattle.mars_shell.specs.Served.{records_held}
 use Rattle.mars_shell.specs.Transcript.{Answered}
