@@ -1,6 +1,2 @@
-pub mod DeviceLemmas
-pub mod FreshLemmas
-pub mod Logging
-pub mod Reading
-pub mod Staged
-mod Steps
+pub mod Entries
+pub mod Keeping

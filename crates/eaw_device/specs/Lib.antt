@@ -1,3 +1,3 @@
-pub mod Fresh
 pub mod Opens
+pub mod Logs
 pub mod Sound

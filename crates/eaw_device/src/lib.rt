@@ -1,14 +1,7 @@
 //! The array of editable atomic writes over a media.
 #![tactic(auto)]
 
-mod attach;
-mod device;
 mod fault;
-mod fresh;
-mod shapes;
+mod log;
 
-pub use attach::check_array;
-pub use device::Eaw;
 pub use fault::AttachFault;
-pub use fresh::{FormatFault, format};
-pub use shapes::first_shape;
