@@ -1,2 +1,5 @@
 pub mod Entries
 pub mod Keeping
+pub mod LogParts
+pub mod Staged
+pub mod StagedCalls

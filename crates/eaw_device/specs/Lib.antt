@@ -1,3 +1,4 @@
 pub mod Opens
 pub mod Logs
+pub mod Steps
 pub mod Sound
