@@ -3,3 +3,4 @@ pub mod Keeping
 pub mod LogParts
 pub mod Staged
 pub mod StagedCalls
+pub mod ReadParts
