@@ -12,7 +12,6 @@ use Rattle.array_image.specs.Image.{cell_of, cell_part, parts_from, IsGoodCell}
 use Rattle.array_image.specs.Marked.{named_at, named_parts, AreGood}
 use Rattle.array_image.proofs.Orders.{applied_named}
 use Rattle.eaw_face.specs.State.{is_range_on, count_on}
-use Rattle.eaw_face.specs.StoreView.{ArePlaced}
 use Rattle.eaw_device.specs.declared.log.Entry.{Entry}
 use Rattle.eaw_device.specs.declared.log.Log.{Log}
 use Rattle.eaw_device.specs.Logs.{ranges_in, parts_in, cells_on, IsKept, IsHeld}
@@ -48,10 +47,6 @@ ranges_of-append (p ∷ ps) qs = ap (λ (l : List (ℕ × ℕ)). (p.0, length p.
 pub all_placed : (shape : Shape) (ps : List Part) → All (HasPlace shape) (ranges_of ps) → AllPlaced shape ps
 all_placed shape [] placed = tt
 all_placed shape (p ∷ ps) placed = (All-head (HasPlace shape) (p.0, length p.1) (ranges_of ps) placed, all_placed shape ps (All-tail (HasPlace shape) (p.0, length p.1) (ranges_of ps) placed))
-
-pub are_placed : (shape : Shape) (rs : List (ℕ × ℕ)) → All (HasPlace shape) rs → ArePlaced shape rs
-are_placed shape [] placed = tt
-are_placed shape (r ∷ rs) placed = (All-head (HasPlace shape) r rs placed, are_placed shape rs (All-tail (HasPlace shape) r rs placed))
 
 all_placed-drop : (shape : Shape) (n : ℕ) (ps : List Part) → AllPlaced shape ps → AllPlaced shape (drop n ps)
 all_placed-drop shape zero ps placed = placed

@@ -2,3 +2,4 @@ pub mod Opens
 pub mod Logs
 pub mod Steps
 pub mod Sound
+pub mod Laws

@@ -1,5 +1,5 @@
 -- What a device keeps true, and what it shows.
-use Rattle.std.specs.Prelude.{ℕ, ◌≡◌, Bool, false, IsTrue, List, length, slice_get}
+use Rattle.std.specs.Prelude.{ℕ, ◌≡◌, Bool, true, false, IsTrue, List, length, slice_get}
 use Rattle.std.specs.Option.{option_map, ForSome}
 use Rattle.pcm_media.specs.Images.{Content, MayLeave}
 use Rattle.pcm_media.specs.View.{View}
@@ -8,7 +8,9 @@ use Rattle.array_shape.specs.Places.{media_len, IsShape}
 use Rattle.row_bytes.specs.Header.{SaysShape}
 use Rattle.array_image.specs.Image.{data_of}
 use Rattle.array_image.specs.Standing.{IsClean}
-use Rattle.eaw_face.specs.StoreView.{StoreView}
+use Rattle.eaw_face.specs.StoreView.{StoreView, IsLive}
+use Rattle.eaw_face.specs.declared.fault.EawFault.{EawFault}
+use Rattle.eaw_face.specs.declared.fault.EawFault.TheVariants.{UnknownTid, LogFull, Media, Dead}
 use Rattle.eaw_device.specs.declared.log.Log.{Log}
 use Rattle.eaw_device.specs.Opens.{header_of}
 use Rattle.eaw_device.specs.Logs.{ranges_in, parts_in, IsKept, IsHeld, entries_at}
@@ -43,3 +45,10 @@ view_of media shape logs is_dead = record {
   moment = media.moment;
   left_since = media.left_since;
 }
+
+-- why a number has no log to work on
+abbrev pub LacksLog : StoreView → ℕ → EawFault → Type 0
+LacksLog store t (UnknownTid u) = (store.is_dead ≡ false) × (u ≡ t) × (IsLive store t → ⊥)
+LacksLog store t (LogFull g h n) = ⊥
+LacksLog store t Media = ⊥
+LacksLog store t Dead = store.is_dead ≡ true
