@@ -4,3 +4,8 @@ pub mod LogParts
 pub mod Staged
 pub mod StagedCalls
 pub mod ReadParts
+pub mod Tables
+pub mod Sure
+pub mod Doing
+pub mod Cutting
+pub mod Commits

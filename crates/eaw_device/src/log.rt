@@ -106,6 +106,7 @@ impl Log {
         requires { IsKept shape.now self.old }
         ensures kept { IsKept shape.now self.new }
         ensures free { self.new.is_live ≡ false }
+        ensures entries { self.new.entries.items ≡ [] }
     {
         self.truncate(shape, 0);
         self.is_live = false;
