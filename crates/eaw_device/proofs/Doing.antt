@@ -70,3 +70,10 @@ found tells media shape logs is_dead sound alive t at log is live got =
       told = λ told. sound.told told alive;
       held = λ told. (sound.told told alive).held t log there;
     }
+
+-- two looks at a log give the same
+pub one_log : (logs : List Log) (t : ℕ) (a b : Log) → slice_get logs t ≡ Some a → slice_get logs t ≡ Some b → a ≡ b
+one_log logs t a b one two = by (sym one ∙ two)
+  where
+    by : Some a ≡ Some b → a ≡ b
+    by is = cc
