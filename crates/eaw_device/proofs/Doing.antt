@@ -1,15 +1,16 @@
 -- What a command does, from what its calls do.
 use Rattle.std.proofs.Common.{◌≡◌, ℕ, ◌<◌, ◌≤◌, Bool, true, false, List, length, get_or, Result, Ok, Err, refl, sym, ◌∙◌, ap, subst, arith}
-use Rattle.std.specs.Prelude.{IsTrue, OnErr, IfErr, is_err, slice_get, Option, Some}
+use Rattle.std.specs.Prelude.{IsTrue, OnErr, IsErrAnd, is_err, slice_get, Option, Some}
 use Rattle.std.proofs.lemmas.Bool.{false≢true}
 use Rattle.counted.specs.Causes.{Rose}
+use Rattle.counted.proofs.Going.{stays}
 use Rattle.pcm_media.specs.View.{View}
 use Rattle.array_shape.specs.declared.shape.Shape.{Shape}
 use Rattle.array_image.specs.Parts.{Part}
 use Rattle.eaw_face.specs.State.{State, Logs}
 use Rattle.eaw_face.specs.StoreView.{StoreView, IsLive, LeavesOnly}
 use Rattle.eaw_face.specs.Command.{Command, after}
-use Rattle.eaw_face.specs.Causes.{IsAlive, Knows, HasRoom}
+use Rattle.eaw_face.specs.Causes.{IsAlive, Knows, HasRoom, Cause}
 use Rattle.eaw_face.specs.Does.{Becomes, IsEither, Does}
 use Rattle.eaw_face.specs.declared.fault.EawFault.{EawFault}
 use Rattle.eaw_face.specs.declared.fault.EawFault.TheVariants.{Media}
@@ -41,6 +42,22 @@ module _ (tells : Bool) (Opens : List ℕ → List ℕ → Type 0) (command : Co
     dies = λ is. dead;
     time = time;
   }
+
+-- a command that is refused, by a fault that is none of the media
+pub refused : {T : Type 0} (tells : Bool) (Opens : List ℕ → List ℕ → Type 0) (command : Command) (store : StoreView) (fault : EawFault) → (let r : Result T EawFault = Err fault in Cause store command store.faults r) → (fault ≡ Media → ⊥)
+    → (r : Result T EawFault) → IsErrAnd r (λ e. e ≡ fault) → Does tells Opens command store store r
+refused {T} tells Opens command store fault cause other (Ok x) is = absurd is
+refused {T} tells Opens command store fault cause other (Err e) is = record {
+  shape = refl;
+  later = omega arith;
+  cause = subst (λ (f : EawFault). let r : Result T EawFault = Err f in Cause store command store.faults r) (sym is) cause;
+  done = tt;
+  dies = λ dead. absurd (other (sym is ∙ same dead));
+  time = λ told fine. stays store.moment store.left_since (IsEither Opens store.state.bytes (after command store.state).bytes);
+}
+  where
+    same : (let r : Result T EawFault = Err e in let s : Result T EawFault = Err Media in r ≡ s) → e ≡ Media
+    same dead = cc
 
 pub when_err : {T E P : Type 0} (r : Result T E) → is_err r ≡ true → OnErr r P → P
 when_err (Ok x) broke p = absurd (false≢true broke)

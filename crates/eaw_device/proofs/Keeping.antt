@@ -6,6 +6,7 @@ use Rattle.std.proofs.lemmas.Bool.{cases_eq, false≢true}
 use Rattle.std.proofs.lemmas.List.{length-append, take-append-drop, take_more, get_or-take, length-take, get_or-set_same, get_or-set_other, length-set}
 use Rattle.std.proofs.lemmas.List.FromFn.{length-range_with_len}
 use Rattle.std.proofs.lemmas.List.Elements.{All-nil, All-cons, All-head, All-tail, All-append}
+use Rattle.std.proofs.lemmas.Nat.{mul-le}
 use Rattle.array_shape.specs.declared.shape.Shape.{Shape}
 use Rattle.array_shape.specs.declared.part.Part.{Part}
 use Rattle.array_shape.specs.Places.{IsPlaced, IsShape, logger_of}
@@ -221,3 +222,10 @@ kept_first shape n old now kept long counts items capacity free = record {
           let below : k < n = omega arith in
           subst (HasPlace shape) (sym (get_or-take n (ranges_in old.entries.items) k d below)) (kept.placed k d (omega arith))));
 }
+
+-- a log is never long
+pub log_short : (shape : Shape) (shaped : IsShape shape) (log : Log) → IsKept shape log → length log.entries.items ≤ 512
+log_short shape shaped log kept =
+    let few = few_entries shape log.entries.items shaped (λ g lt. omega (arith, length-cells_on_kept shape log g kept lt, kept.fits g lt)) in
+    let most : shape.loggers * shape.entries ≤ 8 * 64 = mul-le shape.loggers shape.entries 8 64 shaped.most_loggers shaped.most_entries in
+    omega (arith, few, most)

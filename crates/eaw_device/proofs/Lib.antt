@@ -9,3 +9,4 @@ pub mod Sure
 pub mod Doing
 pub mod Cutting
 pub mod Commits
+pub mod Writes

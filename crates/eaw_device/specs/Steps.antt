@@ -1,5 +1,6 @@
 -- What the steps of a command do to the media, and why a write is refused.
-use Rattle.std.specs.Prelude.{ℕ, ◌≡◌, ◌+◌, ◌<◌, ◌≤◌, Bool, List, length, slice_index, Result}
+use Rattle.std.specs.Prelude.{ℕ, ◌≡◌, ◌+◌, ◌<◌, ◌≤◌, Bool, true, false, List, length, Some, slice_get, slice_index, Result}
+use Rattle.std.specs.Option.{ForSome}
 use Rattle.pcm_media.specs.Images.{IsOutside}
 use Rattle.pcm_media.specs.View.{View, Writes}
 use Rattle.array_shape.specs.declared.shape.Shape.{Shape}
@@ -8,6 +9,7 @@ use Rattle.array_image.specs.Joined.{joined}
 use Rattle.logger.specs.Cells.{cell_ranges}
 use Rattle.eaw_face.specs.declared.fault.EawFault.{EawFault}
 use Rattle.eaw_face.specs.declared.fault.EawFault.TheVariants.{UnknownTid, LogFull, Media, Dead}
+use Rattle.eaw_device.specs.declared.log.Log.{Log}
 
 -- behind the held cells each logger has room for its share of the parts of a range
 abbrev pub HasCells : Shape → List ℕ → ℕ → ℕ → ℕ → Type 0
@@ -27,6 +29,23 @@ SaysFull shape held addr len (UnknownTid t) = ⊥
 SaysFull shape held addr len (LogFull g h n) = LacksCells shape held addr len g h n
 SaysFull shape held addr len Media = ⊥
 SaysFull shape held addr len Dead = ⊥
+
+-- so has the log of number t, of all loggers
+abbrev pub LogHasCells : Shape → List Log → ℕ → ℕ → ℕ → Type 0
+LogHasCells shape logs t addr len = ForSome (slice_get logs t) (λ log. (g : ℕ) → g < shape.loggers → HasCells shape log.held addr len g)
+
+-- a log lacks them
+pub record LogLacksCells (shape : Shape) (logs : List Log) (t addr len : ℕ) (fault : EawFault) : Type 0 where
+  pub log : Log
+  pub there : slice_get logs t ≡ Some log
+  pub says : SaysFull shape log.held addr len fault
+
+-- why a write into number t is refused
+abbrev pub RefusesWrite : Shape → List Log → Bool → ℕ → ℕ → ℕ → EawFault → Type 0
+RefusesWrite shape logs is_dead t addr len (UnknownTid u) = (is_dead ≡ false) × (u ≡ t) × (t < shape.numbers → ⊥)
+RefusesWrite shape logs is_dead t addr len (LogFull g h n) = (is_dead ≡ false) × (t < shape.numbers) × LogLacksCells shape logs t addr len (LogFull g h n)
+RefusesWrite shape logs is_dead t addr len Media = ⊥
+RefusesWrite shape logs is_dead t addr len Dead = is_dead ≡ true
 
 -- the cells of number t, behind the held ones, that a write takes at all loggers
 abbrev pub staged_places : Shape → ℕ → List ℕ → ℕ → List ℕ → List (ℕ × ℕ)

@@ -1,7 +1,9 @@
 // The commands, over all loggers.
-ghost use Rattle.std.specs.Prelude.{◌≡◌, false, IsTrue, IfOk, IfErr, OnOk};
+ghost use Rattle.std.specs.Prelude.{◌≡◌, ◌+◌, ◌≤◌, ◌<◌, false, IsTrue, IfOk, IfErr, OnOk};
+ghost use Rattle.array_shape.specs.Places.{data_len};
 ghost use Rattle.eaw_face.specs.StoreView.{IsLive};
 ghost use Rattle.eaw_device.specs.Opens.{IsBehind};
+ghost use Rattle.eaw_device.specs.Steps.{LogHasCells, RefusesWrite};
 ghost use Rattle.eaw_device.specs.Sound.{IsSound, LacksLog, view_of};
 
 use crate::committing::commit_log;
@@ -53,6 +55,26 @@ impl<M: Media> Eaw<M> {
         }
         Ok(at)
     }
+
+    // Where the log of a number is that has room for a write.
+    fn find_room(&self, tid: u8, addr: u64, len: u64) -> Result<usize, EawFault>
+        requires { addr + len ≤ data_len self.now.shape }
+        ensures at { IfOk result (λ at. at ≡ tid) }
+        ensures alive { OnOk result (self.now.is_dead ≡ false) }
+        ensures small { OnOk result (tid < self.now.shape.numbers) }
+        ensures room { OnOk result (LogHasCells self.now.shape self.now.logs.items tid addr len) }
+        ensures cause { IfErr result (RefusesWrite self.now.shape self.now.logs.items self.now.is_dead tid addr len) }
+    {
+        if self.is_dead {
+            return Err(EawFault::Dead);
+        }
+        if tid >= self.shape.numbers {
+            return Err(EawFault::UnknownTid { tid });
+        }
+        let at = usize::from(tid);
+        check_room(&self.shape, &self.logs[at], addr, len)?;
+        Ok(at)
+    }
 }
 
 impl<M: Media> EawStore for Eaw<M> {
@@ -88,17 +110,10 @@ impl<M: Media> EawStore for Eaw<M> {
     }
 
     fn log_write(&mut self, tid: u8, addr: u64, bytes: &[u8]) -> Result<u32, EawFault> {
-        if self.is_dead {
-            return Err(EawFault::Dead);
-        }
-        if tid >= self.shape.numbers {
-            return Err(EawFault::UnknownTid { tid });
-        }
-        let at = usize::from(tid);
         let len = bytes.len() as u64;
-        let held = self.logs[at].held;
-        check_room(&self.shape, &held, addr, len)?;
-        if stage_all(&mut self.media, &self.shape, tid, &held, addr, bytes).is_err() {
+        let at = self.find_room(tid, addr, len)?;
+        let log = &self.logs[at];
+        if stage_all(&mut self.media, &self.shape, tid, log, addr, bytes).is_err() {
             self.is_dead = true;
             return Err(EawFault::Media);
         }

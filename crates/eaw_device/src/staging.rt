@@ -4,8 +4,10 @@ ghost use Rattle.pcm_media.specs.View.{Writes};
 ghost use Rattle.array_shape.specs.Places.{media_len, data_len};
 ghost use Rattle.array_shape.specs.Parts.{pieces_on};
 ghost use Rattle.logger.specs.Cells.{HoldsParts};
+ghost use Rattle.eaw_device.specs.Logs.{IsKept};
 ghost use Rattle.eaw_device.specs.Steps.{HasCells, SaysFull, staged_places};
 
+use crate::log::Log;
 use array_shape::Shape;
 use counted::Failed;
 use eaw_face::EawFault;
@@ -13,20 +15,15 @@ use logger::Logger;
 use pcm_media::Media;
 
 /// Refuses a write for which a logger has too few cells left, and names the first one.
-pub(crate) fn check_room(
-    shape: &Shape,
-    held: &[u16],
-    addr: u64,
-    len: u64,
-) -> Result<(), EawFault>
-    requires held { length held.now ≡ 8 }
+pub(crate) fn check_room(shape: &Shape, log: &Log, addr: u64, len: u64) -> Result<(), EawFault>
+    requires kept { IsKept shape.now log.now }
     requires range { addr + len ≤ data_len shape.now }
-    ensures room { OnOk result ((g : ℕ) → g < shape.now.loggers → HasCells shape.now held.now addr len g) }
-    ensures full { IfErr result (SaysFull shape.now held.now addr len) }
+    ensures room { OnOk result ((g : ℕ) → g < shape.now.loggers → HasCells shape.now log.now.held addr len g) }
+    ensures full { IfErr result (SaysFull shape.now log.now.held addr len) }
 {
     for number in 0..shape.loggers {
         let needed = Logger::new(*shape, number).cells_needed(addr, len);
-        let held = held[usize::from(number)];
+        let held = log.held[usize::from(number)];
         if u32::from(held) + u32::from(needed) > u32::from(shape.entries) {
             return Err(EawFault::LogFull {
                 logger: number,
@@ -43,23 +40,23 @@ pub(crate) fn stage_all<M: Media>(
     media: &mut M,
     shape: &Shape,
     tid: u8,
-    held: &[u16],
+    log: &Log,
     addr: u64,
     bytes: &[u8],
 ) -> Result<(), Failed>
     requires tid { tid < shape.now.numbers }
-    requires held { length held.now ≡ 8 }
+    requires kept { IsKept shape.now log.now }
     requires range { addr + length bytes.now ≤ data_len shape.now }
-    requires room { (g : ℕ) → g < shape.now.loggers → slice_index held.now g + length (pieces_on shape.now g addr bytes.now) ≤ shape.now.entries }
+    requires room { (g : ℕ) → g < shape.now.loggers → slice_index log.now.held g + length (pieces_on shape.now g addr bytes.now) ≤ shape.now.entries }
     requires size { (M.view media.old).size ≡ media_len shape.now }
     ensures holds { IsTrue M.tells → OnOk result ((g : ℕ) → g < shape.now.loggers →
-        HoldsParts shape.now (M.view media.new).content.bytes g tid (slice_index held.now g) (pieces_on shape.now g addr bytes.now)) }
-    ensures does { Writes M.tells (staged_places shape.now tid held.now addr bytes.now) (M.view media.old) (M.view media.new) result }
+        HoldsParts shape.now (M.view media.new).content.bytes g tid (slice_index log.now.held g) (pieces_on shape.now g addr bytes.now)) }
+    ensures does { Writes M.tells (staged_places shape.now tid log.now.held addr bytes.now) (M.view media.old) (M.view media.new) result }
 {
     for number in 0..shape.loggers {
         let logger = Logger::new(*shape, number);
         if logger
-            .stage(media, tid, held[usize::from(number)], addr, bytes)
+            .stage(media, tid, log.held[usize::from(number)], addr, bytes)
             .is_err()
         {
             return Err(Failed);

@@ -10,6 +10,6 @@ abbrev pub invariant-loop-number : goal.invariant-loop-number
 invariant-loop-number g l =
     let m = g.M.Media in
     record {
-      does : SoFar m.tells (staged_places l.shape l.tid l.held l.addr l.bytes) (m.view l.fn.media) (m.view l.media);
-      holds : IsTrue m.tells → (h : ℕ) → h < l.number → HoldsParts l.shape (m.view l.media).content.bytes h l.tid (slice_index l.held h) (pieces_on l.shape h l.addr l.bytes);
+      does : SoFar m.tells (staged_places l.shape l.tid l.log.held l.addr l.bytes) (m.view l.fn.media) (m.view l.media);
+      holds : IsTrue m.tells → (h : ℕ) → h < l.number → HoldsParts l.shape (m.view l.media).content.bytes h l.tid (slice_index l.log.held h) (pieces_on l.shape h l.addr l.bytes);
     }
