@@ -10,3 +10,4 @@ pub mod Doing
 pub mod Cutting
 pub mod Commits
 pub mod Writes
+pub mod Atomic
