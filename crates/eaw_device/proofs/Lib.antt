@@ -3,3 +3,16 @@ pub mod Formatting
 pub mod FreshLemmas
 pub mod Opening
 pub mod Reading
+pub mod Entries
+pub mod Keeping
+pub mod LogParts
+pub mod Staged
+pub mod StagedCalls
+pub mod ReadParts
+pub mod Tables
+pub mod Sure
+pub mod Doing
+pub mod Cutting
+pub mod Commits
+pub mod Writes
+pub mod Atomic

@@ -1,0 +1,75 @@
+-- A log that is cut at a position, and what it had behind that in the data.
+use Rattle.std.proofs.Common.{◌≡◌, ◌≢◌, ℕ, ◌<◌, ◌≤◌, Bool, true, false, List, [], length, take, drop, Result, refl, sym, ◌∙◌, ap, subst, arith}
+use Rattle.std.specs.Prelude.{IsTrue, OnErr, slice_get, slice_set, slice_index, Option, Some, None}
+use Rattle.std.specs.Option.{option_map, ForSome}
+use Rattle.std.proofs.lemmas.Option.{slice_get_within}
+use Rattle.pcm_media.specs.View.{View}
+use Rattle.array_shape.specs.declared.shape.Shape.{Shape}
+use Rattle.array_shape.specs.Places.{media_len}
+use Rattle.array_image.specs.Parts.{Part, applied, ranges_of}
+use Rattle.array_image.specs.Image.{cell_of, data_of, IsGoodCell}
+use Rattle.array_image.specs.Standing.{SameCells}
+use Rattle.eaw_face.specs.State.{listed, with_log}
+use Rattle.eaw_device.specs.declared.log.Entry.{Entry}
+use Rattle.eaw_device.specs.declared.log.Log.{Log}
+use Rattle.eaw_device.specs.Logs.{ranges_in, parts_in, cells_on, IsKept, IsHeld, entries_of, entries_at}
+use Rattle.eaw_device.specs.Sound.{IsSure, IsSound, view_of}
+use Rattle.eaw_device.proofs.Entries.{ranges_in-take}
+use Rattle.eaw_device.proofs.Keeping.{length-cells_on_kept, first_few}
+use Rattle.eaw_device.proofs.LogParts.{parts_in-take, ranges_of-take}
+use Rattle.eaw_device.proofs.Tables.{entries_live, entries_free, ranges_there, parts_there, ranges_set, parts_set, parts_kept, held_kept, others_kept, sound_set}
+use Rattle.eaw_device.proofs.Doing.{Found}
+
+-- the first entries of a log stand in its cells
+pub held_first : (shape : Shape) (image : List ℕ) (t n : ℕ) (log now : Log) → IsKept shape log → IsKept shape now → now.entries.items ≡ take n log.entries.items → IsHeld shape image t log → IsHeld shape image t now
+held_first shape image t n log now kept kept' items held = record {
+  good = λ g e lt below.
+      let count = length-cells_on_kept shape now g kept' lt in
+      let same = ap (λ (es : List Entry). length (cells_on shape g es)) items in
+      held.good g e lt (omega (arith, first_few shape n log.entries.items log.held kept.cells g lt));
+  heads = ap (λ (es : List Entry). ranges_of (parts_in shape image t es)) items ∙ ap ranges_of (parts_in-take shape image t n log.entries.items) ∙ ranges_of-take n (parts_in shape image t log.entries.items)
+      ∙ ap (take n) held.heads ∙ sym (ranges_in-take n log.entries.items) ∙ ap ranges_in (sym items);
+}
+
+module _ (tells : Bool) (old new : View) (shape : Shape) (logs : List Log) (is_dead : Bool) (sound : IsSound tells old shape logs is_dead) (t : ℕ) (log : Log) (found : Found tells old shape logs is_dead t log)
+    (size : new.size ≡ old.size) (cells : IsTrue tells → SameCells shape old.content.bytes new.content.bytes) (now : Log) (kept : IsKept shape now) (n : ℕ) (items : now.entries.items ≡ take n log.entries.items) where
+  same : IsTrue tells → (u : ℕ) (l : Log) → slice_get logs u ≡ Some l → (g e : ℕ) → g < shape.loggers → e < slice_index l.held g → cell_of shape new.content.bytes g u e ≡ cell_of shape old.content.bytes g u e
+  same told u l is g e lt below =
+      let fits = (sound.kept u l is).fits g lt in
+      let small = slice_get_within logs u l is in
+      cells told g u e lt (omega (arith, sound.many)) (omega arith)
+
+  pub cut_sound : (IsTrue tells → is_dead ≡ false → IsSure shape new.content) → IsSound tells new shape (slice_set logs t now) is_dead
+  cut_sound sure = sound_set tells old new shape logs is_dead sound size t now found.below kept sure
+      (λ told alive. held_first shape new.content.bytes t n log now found.kept kept items (held_kept shape old.content.bytes new.content.bytes t log found.kept (same told t log found.there) (found.held told)))
+      (λ told alive u ne l is. held_kept shape old.content.bytes new.content.bytes u l (sound.kept u l is) (same told u l is) ((found.told told).held u l is))
+
+  old_ranges : listed (option_map ranges_in (entries_at logs t)) ≡ ranges_in log.entries.items
+  old_ranges = ranges_there shape logs t log found.there found.kept
+
+  old_parts : listed (option_map (parts_in shape old.content.bytes t) (entries_at logs t)) ≡ parts_in shape old.content.bytes t log.entries.items
+  old_parts = parts_there shape logs t log found.there found.kept old.content.bytes
+
+  now_parts : IsTrue tells → parts_in shape new.content.bytes t now.entries.items ≡ take n (listed (option_map (parts_in shape old.content.bytes t) (entries_at logs t)))
+  now_parts told = ap (parts_in shape new.content.bytes t) items ∙ parts_in-take shape new.content.bytes t n log.entries.items
+      ∙ ap (take n) (parts_kept shape old.content.bytes new.content.bytes t log found.kept (same told t log found.there) ∙ sym old_parts)
+
+  others : IsTrue tells → (u : ℕ) → u ≢ t → option_map (parts_in shape new.content.bytes u) (entries_at logs u) ≡ option_map (parts_in shape old.content.bytes u) (entries_at logs u)
+  others told u ne = others_kept shape logs old.content.bytes new.content.bytes u (sound.kept u) (same told u)
+
+  -- a number that is free now
+  pub freed_ranges : now.is_live ≡ false → (λ (u : ℕ). option_map ranges_in (entries_at (slice_set logs t now) u)) ≡ with_log (λ (u : ℕ). option_map ranges_in (entries_at logs u)) t None
+  freed_ranges free = ranges_set logs t now found.below None (ap (option_map ranges_in) (entries_free now free))
+
+  pub freed_logs : now.is_live ≡ false → IsTrue tells → (λ (u : ℕ). option_map (parts_in shape new.content.bytes u) (entries_at (slice_set logs t now) u)) ≡ with_log (λ (u : ℕ). option_map (parts_in shape old.content.bytes u) (entries_at logs u)) t None
+  freed_logs free told = parts_set logs t now found.below shape old.content.bytes new.content.bytes None (ap (option_map (parts_in shape new.content.bytes t)) (entries_free now free)) (others told)
+
+  -- one that stays live
+  pub cut_ranges : now.is_live ≡ true → (λ (u : ℕ). option_map ranges_in (entries_at (slice_set logs t now) u)) ≡ with_log (λ (u : ℕ). option_map ranges_in (entries_at logs u)) t (Some (take n (listed (option_map ranges_in (entries_at logs t)))))
+  cut_ranges live = ranges_set logs t now found.below (Some (take n (listed (option_map ranges_in (entries_at logs t)))))
+      (ap (option_map ranges_in) (entries_live now live) ∙ ap (λ (rs : List (ℕ × ℕ)). Some rs) (ap ranges_in items ∙ ranges_in-take n log.entries.items ∙ ap (take n) (sym old_ranges)))
+
+  pub cut_logs : now.is_live ≡ true → IsTrue tells → (λ (u : ℕ). option_map (parts_in shape new.content.bytes u) (entries_at (slice_set logs t now) u))
+      ≡ with_log (λ (u : ℕ). option_map (parts_in shape old.content.bytes u) (entries_at logs u)) t (Some (take n (listed (option_map (parts_in shape old.content.bytes t) (entries_at logs t)))))
+  cut_logs live told = parts_set logs t now found.below shape old.content.bytes new.content.bytes (Some (take n (listed (option_map (parts_in shape old.content.bytes t) (entries_at logs t)))))
+      (ap (option_map (parts_in shape new.content.bytes t)) (entries_live now live) ∙ ap (λ (ps : List Part). Some ps) (now_parts told)) (others told)

@@ -1,0 +1,96 @@
+-- What a command does, from what its calls do.
+use Rattle.std.proofs.Common.{◌≡◌, ℕ, ◌<◌, ◌≤◌, Bool, true, false, List, length, get_or, Result, Ok, Err, refl, sym, ◌∙◌, ap, subst, arith}
+use Rattle.std.specs.Prelude.{IsTrue, OnErr, IsErrAnd, is_err, slice_get, Option, Some}
+use Rattle.std.proofs.lemmas.Bool.{false≢true}
+use Rattle.counted.specs.Causes.{Rose}
+use Rattle.counted.proofs.Going.{stays}
+use Rattle.pcm_media.specs.View.{View}
+use Rattle.array_shape.specs.declared.shape.Shape.{Shape}
+use Rattle.array_image.specs.Parts.{Part}
+use Rattle.eaw_face.specs.State.{State, Logs}
+use Rattle.eaw_face.specs.StoreView.{StoreView, IsLive, LeavesOnly}
+use Rattle.eaw_face.specs.Command.{Command, after}
+use Rattle.eaw_face.specs.Causes.{IsAlive, Knows, HasRoom, Cause}
+use Rattle.eaw_face.specs.Does.{Becomes, IsEither, Does}
+use Rattle.eaw_face.specs.declared.fault.EawFault.{EawFault}
+use Rattle.eaw_face.specs.declared.fault.EawFault.TheVariants.{Media}
+use Rattle.eaw_device.specs.declared.log.Log.{Log}
+use Rattle.eaw_device.specs.Logs.{IsKept, IsHeld}
+use Rattle.eaw_device.specs.Sound.{IsSound, IsTold, view_of}
+use Rattle.eaw_device.proofs.Tables.{found_log, live_there}
+
+module _ (tells : Bool) (Opens : List ℕ → List ℕ → Type 0) (command : Command) (old new : StoreView) (shape : new.shape ≡ old.shape) (later : old.faults ≤ new.faults)
+    (time : IsTrue tells → old.is_dead ≡ false → LeavesOnly (IsEither Opens old.state.bytes (after command old.state).bytes) old new) where
+  -- a command that is done
+  pub done : {T : Type 0} (x : T) → IsAlive old → Knows old command → HasRoom old command → Becomes tells command old new → (let r : Result T EawFault = Ok x in Does tells Opens command old new r)
+  done x alive knows room becomes = record {
+    shape = shape;
+    later = later;
+    cause = (alive, knows, room);
+    done = becomes;
+    dies = λ is. cc;
+    time = time;
+  }
+
+  -- one in which the media failed
+  pub failed : {T : Type 0} → IsAlive old → Knows old command → HasRoom old command → Rose old.faults new.faults → new.is_dead ≡ true → (let r : Result T EawFault = Err Media in Does tells Opens command old new r)
+  failed alive knows room rose dead = record {
+    shape = shape;
+    later = later;
+    cause = (alive, knows, room, rose);
+    done = tt;
+    dies = λ is. dead;
+    time = time;
+  }
+
+-- a command that is refused, by a fault that is none of the media
+pub refused : {T : Type 0} (tells : Bool) (Opens : List ℕ → List ℕ → Type 0) (command : Command) (store : StoreView) (fault : EawFault) → (let r : Result T EawFault = Err fault in Cause store command store.faults r) → (fault ≡ Media → ⊥)
+    → (r : Result T EawFault) → IsErrAnd r (λ e. e ≡ fault) → Does tells Opens command store store r
+refused {T} tells Opens command store fault cause other (Ok x) is = absurd is
+refused {T} tells Opens command store fault cause other (Err e) is = record {
+  shape = refl;
+  later = omega arith;
+  cause = subst (λ (f : EawFault). let r : Result T EawFault = Err f in Cause store command store.faults r) (sym is) cause;
+  done = tt;
+  dies = λ dead. absurd (other (sym is ∙ same dead));
+  time = λ told fine. stays store.moment store.left_since (IsEither Opens store.state.bytes (after command store.state).bytes);
+}
+  where
+    same : (let r : Result T EawFault = Err e in let s : Result T EawFault = Err Media in r ≡ s) → e ≡ Media
+    same dead = cc
+
+pub when_err : {T E P : Type 0} (r : Result T E) → is_err r ≡ true → OnErr r P → P
+when_err (Ok x) broke p = absurd (false≢true broke)
+when_err (Err e) broke p = p
+
+-- the log of a live number, as it was found
+pub record Found (tells : Bool) (media : View) (shape : Shape) (logs : List Log) (is_dead : Bool) (t : ℕ) (log : Log) : Type 0 where
+  pub small : t < shape.numbers
+  pub below : t < length logs
+  pub there : slice_get logs t ≡ Some log
+  pub kept : IsKept shape log
+  pub live : log.is_live ≡ true
+  pub told : IsTrue tells → IsTold shape media.content logs
+  pub held : IsTrue tells → IsHeld shape media.content.bytes t log
+
+pub found : (tells : Bool) (media : View) (shape : Shape) (logs : List Log) (is_dead : Bool) → IsSound tells media shape logs is_dead → is_dead ≡ false → (t at : ℕ) (log : Log) → at ≡ t → IsLive (view_of media shape logs is_dead) t
+    → log ≡ get_or logs at log → Found tells media shape logs is_dead t log
+found tells media shape logs is_dead sound alive t at log is live got =
+    let below : t < length logs = omega (arith, live.small, sound.many) in
+    let there = found_log logs at t log is below got in
+    record {
+      small = live.small;
+      below = below;
+      there = there;
+      kept = sound.kept t log there;
+      live = live_there logs t log there live.live;
+      told = λ told. sound.told told alive;
+      held = λ told. (sound.told told alive).held t log there;
+    }
+
+-- two looks at a log give the same
+pub one_log : (logs : List Log) (t : ℕ) (a b : Log) → slice_get logs t ≡ Some a → slice_get logs t ≡ Some b → a ≡ b
+one_log logs t a b one two = by (sym one ∙ two)
+  where
+    by : Some a ≡ Some b → a ≡ b
+    by is = cc

@@ -1,0 +1,127 @@
+-- The entries of a log: their ranges, and their cells at each logger.
+use Rattle.std.proofs.Common.{◌≡◌, ◌≢◌, ℕ, zero, suc, ◌+◌, ◌-◌, ◌*◌, ◌<◌, ◌≤◌, Bool, true, false, cond, nat_eq, inl, inr, ⊎_elim, List, [], ◌∷◌, ◌++◌, length, take, drop, refl, sym, ◌∙◌, ap, subst, append-nil, arith}
+use Rattle.std.specs.Prelude.{filter, slice_index, slice_set, nat_lt}
+use Rattle.std.specs.List.{range_with_len}
+use Rattle.std.proofs.lemmas.Bool.{cases_Bool, cases_eq, cases_lt, eq-eqb, ne_eqb, lt-ltb, le-ltb}
+use Rattle.std.proofs.lemmas.List.{length-append, take-append-drop}
+use Rattle.std.proofs.lemmas.List.FromFn.{length-range_with_len}
+use Rattle.std.proofs.lemmas.Nat.{mod_below}
+use Rattle.array_shape.specs.declared.shape.Shape.{Shape}
+use Rattle.array_shape.specs.Places.{logger_of, IsShape}
+use Rattle.eaw_face.specs.State.{is_range_on, count_on}
+use Rattle.eaw_device.specs.declared.log.Entry.{Entry}
+use Rattle.eaw_device.specs.Logs.{ranges_in, cells_on}
+
+-- numbers one after another
+pub numbers_split : (xs ys : List ℕ) (a n : ℕ) → xs ++ ys ≡ range_with_len a n
+    → (xs ≡ range_with_len a (length xs)) × (ys ≡ range_with_len (a + length xs) (n - length xs)) × (length xs ≤ n)
+numbers_split [] ys a n is = (refl, is ∙ (λ i. range_with_len (from i) (many i)), omega arith)
+  where
+    from : a ≡ a + 0
+    from = omega arith
+
+    many : n ≡ n - 0
+    many = omega arith
+numbers_split (x ∷ xs) ys a zero is = absurd (let long = ap length is in omega (arith, long))
+numbers_split (x ∷ xs) ys a (suc n) is =
+    let first : x ≡ a = cc in
+    let later : xs ++ ys ≡ range_with_len (a + 1) n = cc in
+    let rest = numbers_split xs ys (a + 1) n later in
+    let from : a + 1 + length xs ≡ a + suc (length xs) = omega arith in
+    let many : n - length xs ≡ suc n - suc (length xs) = omega arith in
+    ((λ i. first i ∷ rest.0 i), rest.1 ∙ (λ i. range_with_len (from i) (many i)), omega (arith, rest.2))
+
+pub numbers_more : (a n : ℕ) → range_with_len a n ++ (a + n) ∷ [] ≡ range_with_len a (n + 1)
+numbers_more a zero = let here : a + zero ≡ a = omega arith in let one : suc zero ≡ zero + 1 = omega arith in ap (λ (k : ℕ). k ∷ []) here ∙ ap (range_with_len a) one
+numbers_more a (suc n) =
+    let on : a + suc n ≡ a + 1 + n = omega arith in
+    let many : suc (n + 1) ≡ suc n + 1 = omega arith in
+    ap (λ (k : ℕ). a ∷ (range_with_len (a + 1) n ++ k ∷ [])) on ∙ ap (λ (l : List ℕ). a ∷ l) (numbers_more (a + 1) n) ∙ ap (range_with_len a) many
+
+pub ranges_in-append : (xs ys : List Entry) → ranges_in (xs ++ ys) ≡ ranges_in xs ++ ranges_in ys
+ranges_in-append [] ys = refl
+ranges_in-append (e ∷ es) ys = ap (λ (l : List (ℕ × ℕ)). (e.addr, e.len) ∷ l) (ranges_in-append es ys)
+
+pub length-ranges_in : (es : List Entry) → length (ranges_in es) ≡ length es
+length-ranges_in [] = refl
+length-ranges_in (e ∷ es) = ap suc (length-ranges_in es)
+
+pub ranges_in-take : (n : ℕ) (es : List Entry) → ranges_in (take n es) ≡ take n (ranges_in es)
+ranges_in-take zero es = refl
+ranges_in-take (suc n) [] = refl
+ranges_in-take (suc n) (e ∷ es) = ap (λ (l : List (ℕ × ℕ)). (e.addr, e.len) ∷ l) (ranges_in-take n es)
+
+pub logger_small : (shape : Shape) (addr : ℕ) → IsShape shape → logger_of shape addr < shape.loggers
+logger_small shape addr shaped = mod_below _ shape.loggers (omega (arith, shaped.some_loggers))
+
+module _ (shape : Shape) where
+  pub cells_on-append : (g : ℕ) (xs ys : List Entry) → cells_on shape g (xs ++ ys) ≡ cells_on shape g xs ++ cells_on shape g ys
+  cells_on-append g [] ys = refl
+  cells_on-append g (e ∷ es) ys = one (nat_eq (logger_of shape e.addr) g) (cells_on-append g es ys)
+    where
+      one : (on : Bool) → cells_on shape g (es ++ ys) ≡ cells_on shape g es ++ cells_on shape g ys
+          → cond on (e.cell ∷ cells_on shape g (es ++ ys)) (cells_on shape g (es ++ ys)) ≡ cond on (e.cell ∷ cells_on shape g es) (cells_on shape g es) ++ cells_on shape g ys
+      one true same = ap (λ (l : List ℕ). e.cell ∷ l) same
+      one false same = same
+
+  -- an entry of this logger, and one of another
+  pub cells_on_here : (g : ℕ) (e : Entry) (es : List Entry) → logger_of shape e.addr ≡ g → cells_on shape g (e ∷ es) ≡ e.cell ∷ cells_on shape g es
+  cells_on_here g e es is = ap (λ (on : Bool). cond on (e.cell ∷ cells_on shape g es) (cells_on shape g es)) (eq-eqb (logger_of shape e.addr) g is)
+
+  pub cells_on_past : (g : ℕ) (e : Entry) (es : List Entry) → (logger_of shape e.addr ≡ g → ⊥) → cells_on shape g (e ∷ es) ≡ cells_on shape g es
+  cells_on_past g e es ne = ap (λ (on : Bool). cond on (e.cell ∷ cells_on shape g es) (cells_on shape g es)) (ne_eqb (logger_of shape e.addr) g ne)
+
+  pub count_on-ranges_in : (g : ℕ) (es : List Entry) → count_on shape g (ranges_in es) ≡ length (cells_on shape g es)
+  count_on-ranges_in g [] = refl
+  count_on-ranges_in g (e ∷ es) = one (nat_eq (logger_of shape e.addr) g) (count_on-ranges_in g es)
+    where
+      one : (on : Bool) → length (filter (is_range_on shape g) (ranges_in es)) ≡ length (cells_on shape g es)
+          → length (cond on ((e.addr, e.len) ∷ filter (is_range_on shape g) (ranges_in es)) (filter (is_range_on shape g) (ranges_in es))) ≡ length (cond on (e.cell ∷ cells_on shape g es) (cells_on shape g es))
+      one true same = ap suc same
+      one false same = same
+
+  -- how many entries are at the loggers below k
+  below : ℕ → List Entry → ℕ
+  below k [] = 0
+  below k (e ∷ es) = cond (nat_lt (logger_of shape e.addr) k) 1 0 + below k es
+
+  below_one : (k : ℕ) (l : ℕ) → cond (nat_lt l (k + 1)) 1 0 ≡ cond (nat_lt l k) 1 0 + cond (nat_eq l k) 1 0
+  below_one k l = elim (cases_eq l k) [
+    | inl is ↦ (λ i. cond (lt-ltb l (k + 1) (omega arith) i) 1 0) ∙ sym (λ i. cond (le-ltb l k (omega arith) i) 1 0 + cond (eq-eqb l k is i) 1 0)
+    | inr ne ↦ elim (cases_lt l k) [
+      | inl lt ↦ (λ i. cond (lt-ltb l (k + 1) (omega arith) i) 1 0) ∙ sym (λ i. cond (lt-ltb l k lt i) 1 0 + cond (ne_eqb l k ne i) 1 0)
+      | inr le ↦ (λ i. cond (le-ltb l (k + 1) (omega arith) i) 1 0) ∙ sym (λ i. cond (le-ltb l k le i) 1 0 + cond (ne_eqb l k ne i) 1 0)
+    ]
+  ]
+
+  length-cells_on : (k : ℕ) (e : Entry) (es : List Entry) → length (cells_on shape k (e ∷ es)) ≡ cond (nat_eq (logger_of shape e.addr) k) 1 0 + length (cells_on shape k es)
+  length-cells_on k e es = one (nat_eq (logger_of shape e.addr) k)
+    where
+      one : (on : Bool) → length (cond on (e.cell ∷ cells_on shape k es) (cells_on shape k es)) ≡ cond on 1 0 + length (cells_on shape k es)
+      one true = omega arith
+      one false = omega arith
+
+  below_more : (k : ℕ) (es : List Entry) → below (k + 1) es ≡ below k es + length (cells_on shape k es)
+  unfolding below
+  below_more k [] = omega arith
+  below_more k (e ∷ es) = omega (arith, below_one k (logger_of shape e.addr), length-cells_on k e es, below_more k es)
+
+  below_none : (es : List Entry) → below 0 es ≡ 0
+  unfolding below
+  below_none [] = refl
+  below_none (e ∷ es) = (λ i. cond (le-ltb (logger_of shape e.addr) 0 (omega arith) i) 1 0 + below_none es i) ∙ omega arith
+
+  below_few : (es : List Entry) (most k : ℕ) → ((g : ℕ) → g < k → length (cells_on shape g es) ≤ most) → below k es ≤ k * most
+  below_few es most zero few = omega (arith, below_none es)
+  below_few es most (suc k) few =
+      let one : suc k ≡ k + 1 = omega arith in
+      omega (arith, ap (λ (n : ℕ). below n es) one, below_more k es, below_few es most k (λ g lt. few g (omega arith)), few k (omega arith))
+
+  below_all : (es : List Entry) → IsShape shape → below shape.loggers es ≡ length es
+  unfolding below
+  below_all [] shaped = refl
+  below_all (e ∷ es) shaped = (λ i. cond (lt-ltb (logger_of shape e.addr) shape.loggers (logger_small shape e.addr shaped) i) 1 0 + below_all es shaped i) ∙ omega arith
+
+  -- where no logger has more than so many, all have so many times the loggers at most
+  pub few_entries : (es : List Entry) → IsShape shape → ((g : ℕ) → g < shape.loggers → length (cells_on shape g es) ≤ shape.entries) → length es ≤ shape.loggers * shape.entries
+  few_entries es shaped few = omega (arith, below_all es shaped, below_few es shape.entries shape.loggers few)

@@ -1,0 +1,77 @@
+use Rattle.std.proofs.Common.{◌≡◌, ◌∙◌, ℕ, sym, subst, refl, arith}
+use Rattle.eaw_device.proofs.StagedCalls.{when_ok}
+use Rattle.eaw_device.proofs.Doing.{Found, found, when_err}
+use Rattle.eaw_device.proofs.Commits.{its_len, commit_failed, commit_sound, commit_done}
+use Rattle.eaw_device.proofs.device.EawEawStore.commit.Given.{Over}
+use Rattle.eaw_device.proofs.device.EawEawStore.commit.Goals as goal
+
+-- the log that is found
+log_found : (g : Over) (c : goal.After-index g) → Found g.M.Media.tells (g.M.Media.view c.args.self.now.media) c.args.self.now.shape c.args.self.now.logs.items c.args.self.now.is_dead c.args.tid c.index.result.now
+log_found g c =
+    let s = c.args.self.now in
+    found g.M.Media.tells (g.M.Media.view s.media) s.shape s.logs.items s.is_dead s.sound c.in_ok-at.ensures.alive c.args.tid c.in_ok-at.at c.index.result.now c.in_ok-at.ensures.at c.in_ok-at.ensures.live c.index.ensures
+
+pub commit_log-requires-clause-kept : goal.commit_log-requires-clause-kept
+commit_log-requires-clause-kept g c = (log_found g c).kept
+
+pub commit_log-requires-clause-held : goal.commit_log-requires-clause-held
+commit_log-requires-clause-held g c = (log_found g c).held
+
+pub returns-then-is_err-clause-does : goal.returns-then-is_err-clause-does
+returns-then-is_err-clause-does g c =
+    let m = g.M.Media in
+    let s = c.args.self.now in
+    let there = found m.tells (m.view s.media) s.shape s.logs.items s.is_dead s.sound c.in_ok-at.ensures.alive c.args.tid c.in_ok-at.at c.index.result.now c.in_ok-at.ensures.at c.in_ok-at.ensures.live c.index.ensures in
+    let said = c.commit_log.ensures in
+    commit_failed m.tells (m.view s.media) (m.view c.commit_log.new.media) s.shape s.logs.items s.is_dead s.sound c.in_ok-at.ensures.alive c.args.tid c.in_ok-at.ensures.live c.index.result.now there
+    0 c.commit_log.result said.does (λ told. g.met.M.Media.long s.media told ∙ s.sound.sized) said.any_moment
+    (when_err c.commit_log.result (sym c.is_err.ensures.value ∙ c.if-is_err.true) said.does.does.cause.failed) refl
+
+pub returns-then-is_err-clause-idle : goal.returns-then-is_err-clause-idle
+returns-then-is_err-clause-idle g c = λ none.
+    let m = g.M.Media in
+    let s = c.args.self.now in
+    let there = found m.tells (m.view s.media) s.shape s.logs.items s.is_dead s.sound c.in_ok-at.ensures.alive c.args.tid c.in_ok-at.at c.index.result.now c.in_ok-at.ensures.at c.in_ok-at.ensures.live c.index.ensures in
+    let len = its_len m.tells (m.view s.media) (m.view c.commit_log.new.media) s.shape s.logs.items s.is_dead s.sound c.in_ok-at.ensures.alive c.args.tid c.in_ok-at.ensures.live c.index.result.now there in
+    let same = c.commit_log.ensures.idle (sym len ∙ none) in
+    cc
+
+pub clear-requires : goal.clear-requires
+clear-requires g c =
+    let m = g.M.Media in
+    let s = c.args.self.now in
+    (found m.tells (m.view s.media) s.shape s.logs.items s.is_dead s.sound c.in_ok-at.ensures.alive c.args.tid c.in_ok-at.at c.index_mut.result.now c.in_ok-at.ensures.at c.in_ok-at.ensures.live c.index_mut.ensures.value).kept
+
+pub invariant_of-self-2 : goal.invariant_of-self-2
+invariant_of-self-2 g c =
+    let m = g.M.Media in
+    let s = c.args.self.now in
+    let there = found m.tells (m.view s.media) s.shape s.logs.items s.is_dead s.sound c.in_ok-at.ensures.alive c.args.tid c.in_ok-at.at c.index.result.now c.in_ok-at.ensures.at c.in_ok-at.ensures.live c.index.ensures in
+    let said = c.commit_log.ensures in
+    let fine = sym c.is_err.ensures.value ∙ c.if-is_err.false in
+    record {
+      sound = commit_sound m.tells (m.view s.media) (m.view c.commit_log.new.media) s.shape s.logs.items s.is_dead s.sound c.in_ok-at.ensures.alive c.args.tid c.in_ok-at.ensures.live c.index.result.now there
+          0 c.commit_log.result said.does (λ told. g.met.M.Media.long s.media told ∙ s.sound.sized) said.any_moment
+          (λ told. when_ok c.commit_log.result fine (said.clean told)) (λ told. when_ok c.commit_log.result fine (said.committed told)) said.cells c.clear.new.self c.clear.ensures.kept c.clear.ensures.entries c.in_ok-at.at c.in_ok-at.ensures.at;
+    }
+
+pub returns-clause-does : goal.returns-clause-does
+returns-clause-does g c =
+    let m = g.M.Media in
+    let s = c.args.self.now in
+    let there = found m.tells (m.view s.media) s.shape s.logs.items s.is_dead s.sound c.in_ok-at.ensures.alive c.args.tid c.in_ok-at.at c.index.result.now c.in_ok-at.ensures.at c.in_ok-at.ensures.live c.index.ensures in
+    let said = c.commit_log.ensures in
+    let fine = sym c.is_err.ensures.value ∙ c.if-is_err.false in
+    commit_done m.tells (m.view s.media) (m.view c.commit_log.new.media) s.shape s.logs.items s.is_dead s.sound c.in_ok-at.ensures.alive c.args.tid c.in_ok-at.ensures.live c.index.result.now there
+    0 c.commit_log.result said.does (λ told. g.met.M.Media.long s.media told ∙ s.sound.sized) said.any_moment
+    (λ told. when_ok c.commit_log.result fine (said.clean told)) (λ told. when_ok c.commit_log.result fine (said.committed told)) said.cells c.clear.new.self c.clear.ensures.kept c.clear.ensures.entries c.in_ok-at.at c.in_ok-at.ensures.at
+    refl c.clear.ensures.free
+
+pub returns-clause-idle : goal.returns-clause-idle
+returns-clause-idle g c = λ none.
+    let m = g.M.Media in
+    let s = c.args.self.now in
+    let there = found m.tells (m.view s.media) s.shape s.logs.items s.is_dead s.sound c.in_ok-at.ensures.alive c.args.tid c.in_ok-at.at c.index.result.now c.in_ok-at.ensures.at c.in_ok-at.ensures.live c.index.ensures in
+    let len = its_len m.tells (m.view s.media) (m.view c.commit_log.new.media) s.shape s.logs.items s.is_dead s.sound c.in_ok-at.ensures.alive c.args.tid c.in_ok-at.ensures.live c.index.result.now there in
+    let same = c.commit_log.ensures.idle (sym len ∙ none) in
+    cc

@@ -1,0 +1,96 @@
+use Rattle.std.proofs.Common.{◌≡◌, ◌∙◌, ℕ, take, sym, ap, subst, refl, arith}
+use Rattle.eaw_device.specs.declared.log.Log.{Log}
+use Rattle.eaw_device.proofs.StagedCalls.{when_ok}
+use Rattle.eaw_device.proofs.Doing.{Found, found, one_log, when_err}
+use Rattle.eaw_device.proofs.Commits.{its_len, nested_failed, commit_sound, nested_done}
+use Rattle.eaw_device.proofs.device.EawEawStore.nested_top.Given.{Over}
+use Rattle.eaw_device.proofs.device.EawEawStore.nested_top.Goals as goal
+
+-- the log that is found
+log_found : (g : Over) (c : goal.After-index g) → Found g.M.Media.tells (g.M.Media.view c.args.self.now.media) c.args.self.now.shape c.args.self.now.logs.items c.args.self.now.is_dead c.args.tid c.index.result.now
+log_found g c =
+    let s = c.args.self.now in
+    found g.M.Media.tells (g.M.Media.view s.media) s.shape s.logs.items s.is_dead s.sound c.in_ok-at.ensures.alive c.args.tid c.in_ok-at.at c.index.result.now c.in_ok-at.ensures.at c.in_ok-at.ensures.live c.index.ensures
+
+pub commit_log-requires-clause-kept : goal.commit_log-requires-clause-kept
+commit_log-requires-clause-kept g c = (log_found g c).kept
+
+pub commit_log-requires-clause-held : goal.commit_log-requires-clause-held
+commit_log-requires-clause-held g c = (log_found g c).held
+
+pub returns-then-is_err-clause-does : goal.returns-then-is_err-clause-does
+returns-then-is_err-clause-does g c =
+    let m = g.M.Media in
+    let s = c.args.self.now in
+    let there = found m.tells (m.view s.media) s.shape s.logs.items s.is_dead s.sound c.in_ok-at.ensures.alive c.args.tid c.in_ok-at.at c.index.result.now c.in_ok-at.ensures.at c.in_ok-at.ensures.live c.index.ensures in
+    let said = c.commit_log.ensures in
+    nested_failed m.tells (m.view s.media) (m.view c.commit_log.new.media) s.shape s.logs.items s.is_dead s.sound c.in_ok-at.ensures.alive c.args.tid c.in_ok-at.ensures.live c.index.result.now there
+    c.args.offset c.commit_log.result said.does (λ told. g.met.M.Media.long s.media told ∙ s.sound.sized) said.any_moment
+    (when_err c.commit_log.result (sym c.is_err.ensures.value ∙ c.if-is_err.true) said.does.does.cause.failed) c.args.offset refl
+
+pub returns-then-is_err-clause-idle : goal.returns-then-is_err-clause-idle
+returns-then-is_err-clause-idle g c = λ none.
+    let m = g.M.Media in
+    let s = c.args.self.now in
+    let there = found m.tells (m.view s.media) s.shape s.logs.items s.is_dead s.sound c.in_ok-at.ensures.alive c.args.tid c.in_ok-at.at c.index.result.now c.in_ok-at.ensures.at c.in_ok-at.ensures.live c.index.ensures in
+    let len = its_len m.tells (m.view s.media) (m.view c.commit_log.new.media) s.shape s.logs.items s.is_dead s.sound c.in_ok-at.ensures.alive c.args.tid c.in_ok-at.ensures.live c.index.result.now there in
+    let same = c.commit_log.ensures.idle (sym len ∙ none) in
+    cc
+
+pub truncate-requires-clause-kept : goal.truncate-requires-clause-kept
+truncate-requires-clause-kept g c =
+    let m = g.M.Media in
+    let s = c.args.self.now in
+    (found m.tells (m.view s.media) s.shape s.logs.items s.is_dead s.sound c.in_ok-at.ensures.alive c.args.tid c.in_ok-at.at c.index_mut.result.now c.in_ok-at.ensures.at c.in_ok-at.ensures.live c.index_mut.ensures.value).kept
+
+pub invariant_of-self-2 : goal.invariant_of-self-2
+invariant_of-self-2 g c =
+    let m = g.M.Media in
+    let s = c.args.self.now in
+    let there = found m.tells (m.view s.media) s.shape s.logs.items s.is_dead s.sound c.in_ok-at.ensures.alive c.args.tid c.in_ok-at.at c.index.result.now c.in_ok-at.ensures.at c.in_ok-at.ensures.live c.index.ensures in
+    let again = found m.tells (m.view s.media) s.shape s.logs.items s.is_dead s.sound c.in_ok-at.ensures.alive c.args.tid c.in_ok-at.at c.index_mut.result.now c.in_ok-at.ensures.at c.in_ok-at.ensures.live c.index_mut.ensures.value in
+    let same = one_log s.logs.items c.args.tid c.index_mut.result.now c.index.result.now again.there there.there in
+    let said = c.commit_log.ensures in
+    let fine = sym c.is_err.ensures.value ∙ c.if-is_err.false in
+    record {
+      sound = commit_sound m.tells (m.view s.media) (m.view c.commit_log.new.media) s.shape s.logs.items s.is_dead s.sound c.in_ok-at.ensures.alive c.args.tid c.in_ok-at.ensures.live c.index.result.now there
+          c.args.offset c.commit_log.result said.does (λ told. g.met.M.Media.long s.media told ∙ s.sound.sized) said.any_moment
+          (λ told. when_ok c.commit_log.result fine (said.clean told)) (λ told. when_ok c.commit_log.result fine (said.committed told)) said.cells c.truncate.new.self c.truncate.ensures.kept (c.truncate.ensures.entries ∙ ap (λ (l : Log). take c.args.offset l.entries.items) same) c.in_ok-at.at c.in_ok-at.ensures.at;
+    }
+
+pub returns-clause-does : goal.returns-clause-does
+returns-clause-does g c =
+    let m = g.M.Media in
+    let s = c.args.self.now in
+    let there = found m.tells (m.view s.media) s.shape s.logs.items s.is_dead s.sound c.in_ok-at.ensures.alive c.args.tid c.in_ok-at.at c.index.result.now c.in_ok-at.ensures.at c.in_ok-at.ensures.live c.index.ensures in
+    let again = found m.tells (m.view s.media) s.shape s.logs.items s.is_dead s.sound c.in_ok-at.ensures.alive c.args.tid c.in_ok-at.at c.index_mut.result.now c.in_ok-at.ensures.at c.in_ok-at.ensures.live c.index_mut.ensures.value in
+    let same = one_log s.logs.items c.args.tid c.index_mut.result.now c.index.result.now again.there there.there in
+    let said = c.commit_log.ensures in
+    let fine = sym c.is_err.ensures.value ∙ c.if-is_err.false in
+    nested_done m.tells (m.view s.media) (m.view c.commit_log.new.media) s.shape s.logs.items s.is_dead s.sound c.in_ok-at.ensures.alive c.args.tid c.in_ok-at.ensures.live c.index.result.now there
+    c.args.offset c.commit_log.result said.does (λ told. g.met.M.Media.long s.media told ∙ s.sound.sized) said.any_moment
+    (λ told. when_ok c.commit_log.result fine (said.clean told)) (λ told. when_ok c.commit_log.result fine (said.committed told)) said.cells c.truncate.new.self c.truncate.ensures.kept (c.truncate.ensures.entries ∙ ap (λ (l : Log). take c.args.offset l.entries.items) same) c.in_ok-at.at c.in_ok-at.ensures.at
+    c.args.offset refl (c.truncate.ensures.live ∙ again.live)
+
+pub returns-clause-idle : goal.returns-clause-idle
+returns-clause-idle g c = λ none.
+    let m = g.M.Media in
+    let s = c.args.self.now in
+    let there = found m.tells (m.view s.media) s.shape s.logs.items s.is_dead s.sound c.in_ok-at.ensures.alive c.args.tid c.in_ok-at.at c.index.result.now c.in_ok-at.ensures.at c.in_ok-at.ensures.live c.index.ensures in
+    let len = its_len m.tells (m.view s.media) (m.view c.commit_log.new.media) s.shape s.logs.items s.is_dead s.sound c.in_ok-at.ensures.alive c.args.tid c.in_ok-at.ensures.live c.index.result.now there in
+    let same = c.commit_log.ensures.idle (sym len ∙ none) in
+    cc
+
+pub commit_log-requires-clause-offset : goal.commit_log-requires-clause-offset
+commit_log-requires-clause-offset g c =
+    let m = g.M.Media in
+    let s = c.args.self.now in
+    let there = found m.tells (m.view s.media) s.shape s.logs.items s.is_dead s.sound c.in_ok-at.ensures.alive c.args.tid c.in_ok-at.at c.index.result.now c.in_ok-at.ensures.at c.in_ok-at.ensures.live c.index.ensures in
+    omega (arith, c.requires, its_len m.tells (m.view s.media) (m.view s.media) s.shape s.logs.items s.is_dead s.sound c.in_ok-at.ensures.alive c.args.tid c.in_ok-at.ensures.live c.index.result.now there)
+
+pub truncate-requires-clause-len : goal.truncate-requires-clause-len
+truncate-requires-clause-len g c =
+    let m = g.M.Media in
+    let s = c.args.self.now in
+    let again = found m.tells (m.view s.media) s.shape s.logs.items s.is_dead s.sound c.in_ok-at.ensures.alive c.args.tid c.in_ok-at.at c.index_mut.result.now c.in_ok-at.ensures.at c.in_ok-at.ensures.live c.index_mut.ensures.value in
+    omega (arith, c.requires, its_len m.tells (m.view s.media) (m.view s.media) s.shape s.logs.items s.is_dead s.sound c.in_ok-at.ensures.alive c.args.tid c.in_ok-at.ensures.live c.index_mut.result.now again)

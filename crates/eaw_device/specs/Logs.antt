@@ -1,0 +1,54 @@
+-- The log of a number as the device keeps it: its entries, in the order in which they were logged.
+use Rattle.std.specs.Prelude.{ℕ, ◌≡◌, ◌+◌, ◌*◌, ◌<◌, ◌≤◌, nat_eq, if◌then◌else◌, false, List, [], ◌∷◌, ◌++◌, length, All, Option, Some, None, slice_get, slice_index, vec_capacity}
+use Rattle.std.specs.List.{range_with_len}
+use Rattle.std.specs.Option.{option_and_then}
+use Rattle.array_shape.specs.declared.shape.Shape.{Shape}
+use Rattle.array_shape.specs.Places.{IsPlaced, logger_of}
+use Rattle.array_image.specs.Parts.{Part, ranges_of}
+use Rattle.array_image.specs.Image.{cell_of, cell_part, IsGoodCell}
+use Rattle.eaw_face.specs.State.{Logs}
+use Rattle.eaw_device.specs.declared.log.Entry.{Entry}
+use Rattle.eaw_device.specs.declared.log.Log.{Log}
+
+-- where the parts of entries go, each one's address and length
+abbrev pub ranges_in : List Entry → List (ℕ × ℕ)
+ranges_in [] = []
+ranges_in (e ∷ es) = (e.addr, e.len) ∷ ranges_in es
+
+-- the parts that number t has in the cells of its entries
+abbrev pub parts_in : Shape → List ℕ → ℕ → List Entry → List Part
+parts_in shape image t [] = []
+parts_in shape image t (e ∷ es) = cell_part (cell_of shape image (logger_of shape e.addr) t e.cell) ∷ parts_in shape image t es
+
+-- the cells that entries have at logger g
+abbrev pub cells_on : Shape → ℕ → List Entry → List ℕ
+cells_on shape g [] = []
+cells_on shape g (e ∷ es) = if nat_eq (logger_of shape e.addr) g then e.cell ∷ cells_on shape g es else cells_on shape g es
+
+-- A log with room for all that it may have: none while its number is free; at each logger the first cells, in order, as many as are
+-- held; each part within one page of the data.
+pub record IsKept (shape : Shape) (log : Log) : Type 0 where
+  pub loggers : length log.held ≡ 8
+  pub room : shape.loggers * shape.entries ≤ vec_capacity log.entries
+  pub free : log.is_live ≡ false → length log.entries.items ≡ 0
+  pub cells : (g : ℕ) → g < shape.loggers → cells_on shape g log.entries.items ≡ range_with_len 0 (slice_index log.held g)
+  pub fits : (g : ℕ) → g < shape.loggers → slice_index log.held g ≤ shape.entries
+  pub placed : All (λ r. IsPlaced shape r.0 r.1) (ranges_in log.entries.items)
+
+-- the held cells of number t hold parts of their loggers, with the addresses and lengths that the entries say
+pub record IsHeld (shape : Shape) (image : List ℕ) (t : ℕ) (log : Log) : Type 0 where
+  pub good : (g e : ℕ) → g < shape.loggers → e < slice_index log.held g → IsGoodCell shape g (cell_of shape image g t e)
+  pub heads : ranges_of (parts_in shape image t log.entries.items) ≡ ranges_in log.entries.items
+
+-- more entries behind the old ones, with parts that go there
+pub record Adds (old new : List Entry) (ranges : List (ℕ × ℕ)) : Type 0 where
+  pub added : List Entry
+  pub items : new ≡ old ++ added
+  pub ranges_are : ranges_in added ≡ ranges
+
+-- the entries of each live number
+abbrev pub entries_of : Log → Option (List Entry)
+entries_of log = if log.is_live then Some log.entries.items else None
+
+abbrev pub entries_at : List Log → Logs Entry
+entries_at logs t = option_and_then entries_of (slice_get logs t)

@@ -1,0 +1,54 @@
+-- What a device keeps true, and what it shows.
+use Rattle.std.specs.Prelude.{ℕ, ◌≡◌, Bool, true, false, IsTrue, List, length, slice_get}
+use Rattle.std.specs.Option.{option_map, ForSome}
+use Rattle.pcm_media.specs.Images.{Content, MayLeave}
+use Rattle.pcm_media.specs.View.{View}
+use Rattle.array_shape.specs.declared.shape.Shape.{Shape}
+use Rattle.array_shape.specs.Places.{media_len, IsShape}
+use Rattle.row_bytes.specs.Header.{SaysShape}
+use Rattle.array_image.specs.Image.{data_of}
+use Rattle.array_image.specs.Standing.{IsClean}
+use Rattle.eaw_face.specs.StoreView.{StoreView, IsLive}
+use Rattle.eaw_face.specs.declared.fault.EawFault.{EawFault}
+use Rattle.eaw_face.specs.declared.fault.EawFault.TheVariants.{UnknownTid, LogFull, Media, Dead}
+use Rattle.eaw_device.specs.declared.log.Log.{Log}
+use Rattle.eaw_device.specs.Opens.{header_of}
+use Rattle.eaw_device.specs.Logs.{ranges_in, parts_in, IsKept, IsHeld, entries_at}
+
+-- Each image that a loss of power may leave has the header of the array, no voted row, and the data that is read.
+pub record IsSure (shape : Shape) (content : Content) : Type 0 where
+  pub clean : IsClean shape content
+  pub header : (image : List ℕ) → MayLeave content image → SaysShape (header_of image) shape
+
+-- so it is, and each number's log stands in its cells
+pub record IsTold (shape : Shape) (content : Content) (logs : List Log) : Type 0 where
+  pub sure : IsSure shape content
+  pub held : (t : ℕ) → ForSome (slice_get logs t) (IsHeld shape content.bytes t)
+
+-- The media is as long as the array, which has a log for each number; and while the device is not dead, what is told of the media
+-- is that array with these logs.
+pub record IsSound (tells : Bool) (media : View) (shape : Shape) (logs : List Log) (is_dead : Bool) : Type 0 where
+  pub shaped : IsShape shape
+  pub sized : media.size ≡ media_len shape
+  pub many : length logs ≡ shape.numbers
+  pub kept : (t : ℕ) → ForSome (slice_get logs t) (IsKept shape)
+  pub told : IsTrue tells → is_dead ≡ false → IsTold shape media.content logs
+
+-- what it shows
+abbrev pub view_of : View → Shape → List Log → Bool → StoreView
+view_of media shape logs is_dead = record {
+  shape = shape;
+  state = record { bytes = data_of shape media.content.bytes; logs = λ t. option_map (parts_in shape media.content.bytes t) (entries_at logs t) };
+  ranges = λ t. option_map ranges_in (entries_at logs t);
+  is_dead = is_dead;
+  faults = media.faults;
+  moment = media.moment;
+  left_since = media.left_since;
+}
+
+-- why a number has no log to work on
+abbrev pub LacksLog : StoreView → ℕ → EawFault → Type 0
+LacksLog store t (UnknownTid u) = (store.is_dead ≡ false) × (u ≡ t) × (IsLive store t → ⊥)
+LacksLog store t (LogFull g h n) = ⊥
+LacksLog store t Media = ⊥
+LacksLog store t Dead = store.is_dead ≡ true

@@ -1,0 +1,58 @@
+-- What the steps of a command do to the media, and why a write is refused.
+use Rattle.std.specs.Prelude.{ℕ, ◌≡◌, ◌+◌, ◌<◌, ◌≤◌, Bool, true, false, List, length, Some, slice_get, slice_index, Result}
+use Rattle.std.specs.Option.{ForSome}
+use Rattle.pcm_media.specs.Images.{IsOutside}
+use Rattle.pcm_media.specs.View.{View, Writes}
+use Rattle.array_shape.specs.declared.shape.Shape.{Shape}
+use Rattle.array_shape.specs.Parts.{parts_on, pieces_on}
+use Rattle.array_image.specs.Joined.{joined}
+use Rattle.logger.specs.Cells.{cell_ranges}
+use Rattle.eaw_face.specs.declared.fault.EawFault.{EawFault}
+use Rattle.eaw_face.specs.declared.fault.EawFault.TheVariants.{UnknownTid, LogFull, Media, Dead}
+use Rattle.eaw_device.specs.declared.log.Log.{Log}
+
+-- behind the held cells each logger has room for its share of the parts of a range
+abbrev pub HasCells : Shape → List ℕ → ℕ → ℕ → ℕ → Type 0
+HasCells shape held addr len g = slice_index held g + length (parts_on shape g addr len) ≤ shape.entries
+
+-- logger g is the first that has none: it holds so many cells, and as many more are needed
+pub record LacksCells (shape : Shape) (held : List ℕ) (addr len g h n : ℕ) : Type 0 where
+  pub logger : g < shape.loggers
+  pub held_is : h ≡ slice_index held g
+  pub needed_is : n ≡ length (parts_on shape g addr len)
+  pub full : shape.entries < h + n
+  pub before : (k : ℕ) → k < g → HasCells shape held addr len k
+
+-- that is what the refusal of a write says
+abbrev pub SaysFull : Shape → List ℕ → ℕ → ℕ → EawFault → Type 0
+SaysFull shape held addr len (UnknownTid t) = ⊥
+SaysFull shape held addr len (LogFull g h n) = LacksCells shape held addr len g h n
+SaysFull shape held addr len Media = ⊥
+SaysFull shape held addr len Dead = ⊥
+
+-- so has the log of number t, of all loggers
+abbrev pub LogHasCells : Shape → List Log → ℕ → ℕ → ℕ → Type 0
+LogHasCells shape logs t addr len = ForSome (slice_get logs t) (λ log. (g : ℕ) → g < shape.loggers → HasCells shape log.held addr len g)
+
+-- a log lacks them
+pub record LogLacksCells (shape : Shape) (logs : List Log) (t addr len : ℕ) (fault : EawFault) : Type 0 where
+  pub log : Log
+  pub there : slice_get logs t ≡ Some log
+  pub says : SaysFull shape log.held addr len fault
+
+-- why a write into number t is refused
+abbrev pub RefusesWrite : Shape → List Log → Bool → ℕ → ℕ → ℕ → EawFault → Type 0
+RefusesWrite shape logs is_dead t addr len (UnknownTid u) = (is_dead ≡ false) × (u ≡ t) × (t < shape.numbers → ⊥)
+RefusesWrite shape logs is_dead t addr len (LogFull g h n) = (is_dead ≡ false) × (t < shape.numbers) × LogLacksCells shape logs t addr len (LogFull g h n)
+RefusesWrite shape logs is_dead t addr len Media = ⊥
+RefusesWrite shape logs is_dead t addr len Dead = is_dead ≡ true
+
+-- the cells of number t, behind the held ones, that a write takes at all loggers
+abbrev pub staged_places : Shape → ℕ → List ℕ → ℕ → List ℕ → List (ℕ × ℕ)
+staged_places shape t held addr bytes = joined (λ g. cell_ranges shape g t (slice_index held g) (length (pieces_on shape g addr bytes))) 0 shape.loggers
+
+-- calls that write behind the header alone
+pub record WritesBehind {T E : Type 0} (tells : Bool) (old new : View) (result : Result T E) : Type 0 where
+  pub places : List (ℕ × ℕ)
+  pub behind : (i : ℕ) → i < 512 → IsOutside places i
+  pub does : Writes tells places old new result

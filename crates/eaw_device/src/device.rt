@@ -1,0 +1,246 @@
+// The commands, over all loggers.
+ghost use Rattle.std.specs.Prelude.{◌≡◌, ◌+◌, ◌≤◌, ◌<◌, false, IsTrue, IfOk, IfErr, OnOk};
+ghost use Rattle.array_shape.specs.Places.{data_len};
+ghost use Rattle.eaw_face.specs.StoreView.{IsLive};
+ghost use Rattle.eaw_device.specs.Opens.{Attached, AttachCause, AttachLeaves, KeepsData, IsBehind};
+ghost use Rattle.eaw_device.specs.Steps.{LogHasCells, RefusesWrite};
+ghost use Rattle.eaw_device.specs.Sound.{IsSound, LacksLog, view_of};
+
+use crate::committing::commit_log;
+use crate::fault::AttachFault;
+use crate::log::Log;
+use crate::opening::open_array;
+use crate::reading::read_data;
+use crate::staging::{check_room, stage_all};
+use array_shape::Shape;
+use eaw_face::{EawFault, EawStore};
+use logger::Logger;
+use pcm_media::Media;
+use std::alloc::Global;
+
+/// The array over a media.
+#[derive(Drop)]
+pub struct Eaw<M: Media> {
+    media: M,
+    shape: Shape,
+    logs: Vec<Log>,
+    is_dead: bool,
+    ghost sound: { IsSound M.tells (M.view media) shape logs.items is_dead },
+}
+
+impl<M: Media> Eaw<M> {
+    /// Opens the array that the media holds: looks at its header, takes memory for its tables, and recovers. No number is live.
+    /// At an error the media is given back.
+    pub fn attach(alloc: Global, mut media: M) -> Result<Eaw<M>, (AttachFault, M)>
+        ensures opens { IfOk result (λ eaw. Attached M.tells (M.view media) (view_of (M.view eaw.media) eaw.shape eaw.logs.items eaw.is_dead)) }
+        ensures cause { IfErr result (λ e. AttachCause M.tells (M.view media) (M.view e.1).faults e.0) }
+        ensures unwritten { IfErr result (λ e. AttachLeaves M.tells (M.view media) (M.view e.1) e.0) }
+        ensures keeps { IfOk result (λ eaw. KeepsData M.tells (M.view media) (M.view eaw.media).moment (M.view eaw.media).left_since) }
+        ensures keeps_on_err { IfErr result (λ e. KeepsData M.tells (M.view media) (M.view e.1).moment (M.view e.1).left_since) }
+        ensures later { IfErr result (λ e. (M.view media).faults ≤ (M.view e.1).faults) }
+    {
+        match open_array(alloc, &mut media) {
+            Ok((shape, logs)) => Ok(Eaw {
+                media,
+                shape,
+                logs,
+                is_dead: false,
+            }),
+            Err(fault) => Err((fault, media)),
+        }
+    }
+
+    /// The media. What live numbers have logged is given up.
+    pub fn into_media(self) -> M
+        ensures { IsBehind M.tells (view_of (M.view self.media) self.shape self.logs.items self.is_dead) (M.view result) }
+    {
+        let Eaw {
+            media,
+            shape: _,
+            logs: _,
+            is_dead: _,
+        } = self;
+        media
+    }
+
+    // Where the log of a live number is.
+    fn find_live(&self, tid: u8) -> Result<usize, EawFault>
+        ensures at { IfOk result (λ at. at ≡ tid) }
+        ensures alive { OnOk result (self.now.is_dead ≡ false) }
+        ensures live { OnOk result (IsLive (view_of (M.view self.now.media) self.now.shape self.now.logs.items self.now.is_dead) tid) }
+        ensures cause { IfErr result (LacksLog (view_of (M.view self.now.media) self.now.shape self.now.logs.items self.now.is_dead) tid) }
+    {
+        if self.is_dead {
+            return Err(EawFault::Dead);
+        }
+        let at = usize::from(tid);
+        if tid >= self.shape.numbers || !self.logs[at].is_live {
+            return Err(EawFault::UnknownTid { tid });
+        }
+        Ok(at)
+    }
+
+    // Where the log of a number is that has room for a write.
+    fn find_room(&self, tid: u8, addr: u64, len: u64) -> Result<usize, EawFault>
+        requires { addr + len ≤ data_len self.now.shape }
+        ensures at { IfOk result (λ at. at ≡ tid) }
+        ensures alive { OnOk result (self.now.is_dead ≡ false) }
+        ensures small { OnOk result (tid < self.now.shape.numbers) }
+        ensures room { OnOk result (LogHasCells self.now.shape self.now.logs.items tid addr len) }
+        ensures cause { IfErr result (RefusesWrite self.now.shape self.now.logs.items self.now.is_dead tid addr len) }
+    {
+        if self.is_dead {
+            return Err(EawFault::Dead);
+        }
+        if tid >= self.shape.numbers {
+            return Err(EawFault::UnknownTid { tid });
+        }
+        let at = usize::from(tid);
+        check_room(&self.shape, &self.logs[at], addr, len)?;
+        Ok(at)
+    }
+}
+
+impl<M: Media> EawStore for Eaw<M> {
+    ghost use Rattle.eaw_device.specs.Sound.{view_of};
+    ghost use Rattle.eaw_device.specs.Opens.{Opens};
+    ghost use Rattle.eaw_device.specs.Laws.{outlines, placed, beyond, only_now, one_data};
+    ghost use Rattle.array_image.proofs.Data.{length-data_of};
+
+    ghost tells = { M.tells };
+
+    ghost view = { λ s. view_of (M.view s.media) s.shape s.logs.items s.is_dead };
+
+    ghost opens = { Opens };
+
+    ghost shaped = { λ s. s.sound.shaped };
+
+    ghost long = { λ s told. length-data_of s.shape (M.view s.media).content.bytes };
+
+    ghost outlines = { λ s t told alive. outlines s.shape (M.view s.media).content s.logs.items t (s.sound.told told alive) };
+
+    ghost placed = { λ s t. placed s.shape s.logs.items t (s.sound.kept t) };
+
+    ghost beyond = { λ s t past. beyond s.logs.items s.shape t s.sound.many past };
+
+    ghost counts_now = { λ s t image told le left. M.counts_now s.media t image told le (M.only_now s.media image told left) };
+
+    ghost only_now = { λ s image told alive left. only_now s.shape (M.view s.media).content image (s.sound.told told alive).sure (M.only_now s.media image told left) };
+
+    ghost one_data = { one_data };
+
+    fn shape(&self) -> Shape {
+        self.shape
+    }
+
+    fn log_write(&mut self, tid: u8, addr: u64, bytes: &[u8]) -> Result<u32, EawFault> {
+        let len = bytes.len() as u64;
+        let at = self.find_room(tid, addr, len)?;
+        let log = &self.logs[at];
+        if stage_all(&mut self.media, &self.shape, tid, log, addr, bytes).is_err() {
+            self.is_dead = true;
+            return Err(EawFault::Media);
+        }
+        self.logs[at].add_range(&self.shape, addr, len);
+        Ok(self.logs[at].entries.len() as u32)
+    }
+
+    fn commit(&mut self, tid: u8) -> Result<(), EawFault> {
+        let at = self.find_live(tid)?;
+        if commit_log(&mut self.media, &self.shape, tid, &self.logs[at], 0).is_err() {
+            self.is_dead = true;
+            return Err(EawFault::Media);
+        }
+        self.logs[at].clear(&self.shape);
+        Ok(())
+    }
+
+    fn abort(&mut self, tid: u8) -> Result<(), EawFault> {
+        let at = self.find_live(tid)?;
+        self.logs[at].clear(&self.shape);
+        Ok(())
+    }
+
+    fn nested_top(&mut self, tid: u8, offset: u32) -> Result<(), EawFault> {
+        let at = self.find_live(tid)?;
+        let from = offset as usize;
+        if commit_log(&mut self.media, &self.shape, tid, &self.logs[at], from).is_err() {
+            self.is_dead = true;
+            return Err(EawFault::Media);
+        }
+        self.logs[at].truncate(&self.shape, from);
+        Ok(())
+    }
+
+    fn partial_abort(&mut self, tid: u8, offset: u32) -> Result<(), EawFault> {
+        let at = self.find_live(tid)?;
+        self.logs[at].truncate(&self.shape, offset as usize);
+        Ok(())
+    }
+
+    fn atomic_write(&mut self, tid: u8, addr: u64, bytes: &[u8]) -> Result<(), EawFault> {
+        self.log_write(tid, addr, bytes)?;
+        self.commit(tid)
+    }
+
+    fn log_read(
+        &mut self,
+        tid: u8,
+        pos: u32,
+        buf: &mut [u8; 512],
+    ) -> Result<(u64, u16), EawFault> {
+        let at = self.find_live(tid)?;
+        let entry = self.logs[at].entries[pos as usize];
+        let logger = Logger::new(self.shape, self.shape.place(entry.addr).logger);
+        match logger.read_entry(&mut self.media, tid, entry.cell, buf) {
+            Ok(_) => Ok((entry.addr, entry.len)),
+            Err(_) => {
+                self.is_dead = true;
+                Err(EawFault::Media)
+            }
+        }
+    }
+
+    fn log_edit(&mut self, tid: u8, pos: u32, at: u32, bytes: &[u8]) -> Result<(), EawFault> {
+        let number = self.find_live(tid)?;
+        let entry = self.logs[number].entries[pos as usize];
+        let logger = Logger::new(self.shape, self.shape.place(entry.addr).logger);
+        match logger.edit(&mut self.media, tid, entry.cell, at as u16, bytes) {
+            Ok(()) => Ok(()),
+            Err(_) => {
+                self.is_dead = true;
+                Err(EawFault::Media)
+            }
+        }
+    }
+
+    fn read(&mut self, addr: u64, buf: &mut [u8]) -> Result<(), EawFault> {
+        if self.is_dead {
+            return Err(EawFault::Dead);
+        }
+        match read_data(&mut self.media, &self.shape, addr, buf) {
+            Ok(()) => Ok(()),
+            Err(_) => {
+                self.is_dead = true;
+                Err(EawFault::Media)
+            }
+        }
+    }
+
+    fn log_len(&self, tid: u8) -> u32 {
+        self.logs[usize::from(tid)].entries.len() as u32
+    }
+
+    fn held(&self, tid: u8, logger: u8) -> u16 {
+        self.logs[usize::from(tid)].held[usize::from(logger)]
+    }
+
+    fn is_live(&self, tid: u8) -> bool {
+        self.logs[usize::from(tid)].is_live
+    }
+
+    fn part_range(&self, tid: u8, pos: u32) -> (u64, u16) {
+        let entry = self.logs[usize::from(tid)].entries[pos as usize];
+        (entry.addr, entry.len)
+    }
+}
