@@ -11,3 +11,4 @@ pub mod Cutting
 pub mod Commits
 pub mod Writes
 pub mod Atomic
+pub mod Looks
