@@ -12,3 +12,4 @@ pub mod Commits
 pub mod Writes
 pub mod Atomic
 pub mod Looks
+pub mod Edits
