@@ -31,7 +31,7 @@ use Rattle.eaw_device.specs.Opens.{Opens}
 use Rattle.eaw_device.specs.Logs.{ranges_in, parts_in, cells_on, IsKept, IsHeld, entries_at}
 use Rattle.eaw_device.specs.Sound.{IsSound, view_of}
 use Rattle.eaw_device.proofs.Entries.{logger_small, cells_on_here, cells_on_past}
-use Rattle.eaw_device.proofs.LogParts.{firsts_same, rests_same, part_in, EachCell, EachIn, each_number, each_cell, parts_in_same}
+use Rattle.eaw_device.proofs.LogParts.{firsts_same, rests_same, part_in, EachCell, EachIn, each_number, each_cell, each_held, parts_in_same}
 use Rattle.eaw_device.proofs.Staged.{cells_apart}
 use Rattle.eaw_device.proofs.Tables.{entries_there, entries_live, parts_there, held_kept, others_kept, sound_media}
 use Rattle.eaw_device.proofs.Sure.{cells_sure, cells_time}
@@ -155,3 +155,132 @@ module _ (shape : Shape) (shaped : IsShape shape) (old new : List ℕ) (t : ℕ)
       let first = same.0 (λ meets. let low = apart (sym meets.0) in omega (arith, low, meets.1)) in
       let rest = edited_parts xs pos (omega arith) is (numbered_rest shape shaped x xs numbered) same.1 in
       λ i. cell_part (first i) ∷ rest i
+
+module _ (tells : Bool) (old new : View) (shape : Shape) (logs : List Log) (is_dead : Bool) (sound : IsSound tells old shape logs is_dead) (alive : is_dead ≡ false) (t : ℕ) (live : IsLive (view_of old shape logs is_dead) t)
+    (log : Log) (found : Found tells old shape logs is_dead t log) (pos : ℕ) (e : Entry) (lt : pos < length log.entries.items) (is : e ≡ get_or log.entries.items pos e) (at : ℕ) (bytes : List ℕ) (inner : at + length bytes ≤ e.len)
+    (short : e.len ≤ 512) (its : Shape) (shape_is : its ≡ shape) (n : ℕ) (n_is : n ≡ logger_of shape e.addr) {T E : Type 0} (r : Result T E)
+    (call : Writes tells ((cell_at its n t e.cell + 16 + at, length bytes) ∷ []) old new r) (long : IsTrue tells → length old.content.bytes ≡ media_len shape) where
+  abbrev g : ℕ
+  g = logger_of shape e.addr
+
+  abbrev ranges : List (ℕ × ℕ)
+  ranges = (cell_at shape g t e.cell + 16 + at, length bytes) ∷ []
+
+  there : g < shape.loggers
+  there = entry_logger shape sound.shaped log found.kept pos e lt is
+
+  inside : e.cell < shape.entries
+  inside = entry_inside shape sound.shaped log found.kept pos e lt is
+
+  does : Writes tells ranges old new r
+  does = subst (λ (p : Shape × ℕ). Writes tells ((cell_at p.0 p.1 t e.cell + 16 + at, length bytes) ∷ []) old new r) (λ i. (shape_is i, n_is i)) call
+
+  in_cells : AreInCells shape ranges
+  in_cells x none = ((λ from to. none g t e.cell there found.small inside (omega arith) (omega arith)), tt)
+
+  within : AllWithin (media_len shape) ranges
+  within = (omega (arith, cell_fits_in shape g t e.cell there found.small inside), tt)
+
+  time : IsTrue tells → is_dead ≡ false → LeavesOnly (face.IsEither (Opens shape) (data_of shape old.content.bytes) (data_of shape old.content.bytes)) old new
+  time told fine = cells_time tells shape ranges in_cells within old new r does told (long told) (found.told told).sure (data_of shape old.content.bytes)
+
+  pub edit_failed : {U : Type 0} → Rose old.faults new.faults → (let failed : Result U EawFault = Err Media in face.Does tells (Opens shape) (log_edit t pos at bytes) (view_of old shape logs is_dead) (view_of new shape logs true) failed)
+  edit_failed rose = failed tells (Opens shape) (log_edit t pos at bytes) (view_of old shape logs is_dead) (view_of new shape logs true) refl does.cause.later time alive live tt rose refl
+
+  -- every other cell
+  cell_same : IsTrue tells → (h u f : ℕ) → h < shape.loggers → u < shape.numbers → f < shape.entries → ((h ≡ g) × (u ≡ t) × (f ≡ e.cell) → ⊥) → cell_of shape new.content.bytes h u f ≡ cell_of shape old.content.bytes h u f
+  cell_same told h u f lt' below low ne = cell_away shape ranges old.content.bytes new.content.bytes h u f (does.touched told).bytes (λ x from to. (
+    (λ from' to'. cells_apart shape h u f g t e.cell lt' below low there found.small inside ne x from to (omega arith) (omega arith)),
+    tt,
+  ))
+
+  module _ (edited_cell : IsTrue tells → cell_of its new.content.bytes n t e.cell ≡ put (cell_of its old.content.bytes n t e.cell) (16 + at) bytes) where
+    abbrev cell : List ℕ
+    cell = cell_of shape old.content.bytes g t e.cell
+
+    new_cell : IsTrue tells → cell_of shape new.content.bytes g t e.cell ≡ put cell (16 + at) bytes
+    new_cell told = subst (λ (p : Shape × ℕ). cell_of p.0 new.content.bytes p.1 t e.cell ≡ put (cell_of p.0 old.content.bytes p.1 t e.cell) (16 + at) bytes) (λ i. (shape_is i, n_is i)) (edited_cell told)
+
+    cell_long : IsTrue tells → length cell ≡ 528
+    cell_long told = length-cell shape old.content.bytes g t e.cell (long told) there found.small inside
+
+    good : IsTrue tells → IsGoodCell shape g cell
+    good told = (found.held told).good g e.cell there (entry_cell shape sound.shaped log found.kept pos e lt is)
+
+    part_len : IsTrue tells → e.len ≡ length (cell_part cell).1
+    part_len told =
+        ap (λ (r : ℕ × ℕ). r.1) (entry_range log.entries.items pos e lt is ∙ ap (λ (rs : List (ℕ × ℕ)). range_at rs pos) (sym (found.held told).heads) ∙ range_at-ranges_of (parts_in shape old.content.bytes t log.entries.items) pos)
+        ∙ ap (λ (p : Part). length p.1) (entry_part shape old.content.bytes t log.entries.items pos e lt is)
+
+    new_part : IsTrue tells → cell_part (cell_of shape new.content.bytes g t e.cell) ≡ ((cell_part cell).0, put (cell_part cell).1 at bytes)
+    new_part told = ap cell_part (new_cell told) ∙ edited_part cell (cell_long told) at bytes (omega arith) (omega (arith, (good told).placed.page)) (omega (arith, part_len told))
+
+    new_parts : IsTrue tells → parts_in shape new.content.bytes t log.entries.items ≡ edited pos at bytes (parts_in shape old.content.bytes t log.entries.items)
+    new_parts told = edited_parts shape sound.shaped old.content.bytes new.content.bytes t e at bytes (new_part told) log.entries.items pos lt is
+        (λ h below. (0, slice_index log.held h, found.kept.cells h below))
+        (each_held shape sound.shaped log (λ h c. ((h ≡ g) × (c ≡ e.cell) → ⊥) → cell_of shape new.content.bytes h t c ≡ cell_of shape old.content.bytes h t c) found.kept (λ h c below few ne.
+        let fits = found.kept.fits h below in
+        cell_same told h t c below found.small (omega arith) (λ meets. ne (meets.0, meets.2))))
+
+    held_now : IsTrue tells → IsHeld shape new.content.bytes t log
+    held_now told = record {
+      good = λ h c below few. elim (cases_eq h g) [
+        | inl same ↦ elim (cases_eq c e.cell) [
+          | inl this ↦
+              let head = ap cell_head (new_cell told) ∙ edited_head cell (cell_long told) at bytes (omega arith) in
+              subst (λ (p : ℕ × ℕ). IsGoodCell shape p.0 (cell_of shape new.content.bytes p.0 t p.1)) (λ i. (sym same i, sym this i))
+              (subst (λ head. IsOwned shape g head.addr head.len) (sym head) (good told))
+          | inr ne ↦ kept_good told h c below few (λ meets. ne meets.2)
+        ]
+        | inr ne ↦ kept_good told h c below few (λ meets. ne meets.0)
+      ];
+      heads = ap ranges_of (new_parts told) ∙ ranges_of-edited (parts_in shape old.content.bytes t log.entries.items) pos at bytes (omega (arith, many told)) ∙ (found.held told).heads;
+    }
+      where
+        kept_good : IsTrue tells → (h c : ℕ) → h < shape.loggers → c < slice_index log.held h → ((h ≡ g) × (t ≡ t) × (c ≡ e.cell) → ⊥) → IsGoodCell shape h (cell_of shape new.content.bytes h t c)
+        kept_good told h c below few ne =
+            let fits = found.kept.fits h below in
+            subst (IsGoodCell shape h) (sym (cell_same told h t c below found.small (omega arith) ne)) ((found.held told).good h c below few)
+
+        many : IsTrue tells → e.len ≡ (range_at (ranges_of (parts_in shape old.content.bytes t log.entries.items)) pos).1
+        many told = ap (λ (r : ℕ × ℕ). r.1) (entry_range log.entries.items pos e lt is ∙ ap (λ (rs : List (ℕ × ℕ)). range_at rs pos) (sym (found.held told).heads))
+
+    other : IsTrue tells → (u : ℕ) → u ≢ t → (l : Log) → slice_get logs u ≡ Some l → (h c : ℕ) → h < shape.loggers → c < slice_index l.held h → cell_of shape new.content.bytes h u c ≡ cell_of shape old.content.bytes h u c
+    other told u ne l lies h c below few =
+        let fits = (sound.kept u l lies).fits h below in
+        let known = slice_get_within logs u l lies in
+        cell_same told h u c below (omega (arith, sound.many)) (omega arith) (λ meets. ne meets.1)
+
+    pub edit_sound : IsSound tells new shape logs is_dead
+    edit_sound = sound_media tells old new shape logs is_dead sound does.size
+        (λ told fine. cells_sure shape ranges in_cells old.content (long told) within (found.told told).sure new.content (does.touched told))
+        (λ told fine u l lies. elim (cases_eq u t) [
+          | inl same ↦
+              let one = one_log logs t log l found.there (ap (slice_get logs) (sym same) ∙ lies) in
+              subst (λ (p : ℕ × Log). IsHeld shape new.content.bytes p.0 p.1) (λ i. (sym same i, one i)) (held_now told)
+          | inr ne ↦ held_kept shape old.content.bytes new.content.bytes u l (sound.kept u l lies) (other told u ne l lies) ((found.told told).held u l lies)
+        ])
+
+    its_entries : entries_at logs t ≡ Some log.entries.items
+    its_entries = entries_there logs t log found.there ∙ entries_live log found.live
+
+    logs_now : IsTrue tells → (u : ℕ) → option_map (parts_in shape new.content.bytes u) (entries_at logs u)
+        ≡ with_log (λ (v : ℕ). option_map (parts_in shape old.content.bytes v) (entries_at logs v)) t (Some (edited pos at bytes (listed (option_map (parts_in shape old.content.bytes t) (entries_at logs t))))) u
+    logs_now told u = elim (cases_eq u t) [
+      | inl same ↦
+          ap (λ (v : ℕ). option_map (parts_in shape new.content.bytes v) (entries_at logs v)) same ∙ ap (option_map (parts_in shape new.content.bytes t)) its_entries
+          ∙ ap (λ (ps : List Part). Some ps) (new_parts told ∙ ap (edited pos at bytes) (sym (parts_there shape logs t log found.there found.kept old.content.bytes)))
+          ∙ sym (ap (λ (b : Bool). cond b (Some (edited pos at bytes (listed (option_map (parts_in shape old.content.bytes t) (entries_at logs t))))) (option_map (parts_in shape old.content.bytes u) (entries_at logs u))) (eq-eqb u t same))
+      | inr ne ↦
+          others_kept shape logs old.content.bytes new.content.bytes u (sound.kept u) (other told u ne)
+          ∙ sym (ap (λ (b : Bool). cond b (Some (edited pos at bytes (listed (option_map (parts_in shape old.content.bytes t) (entries_at logs t))))) (option_map (parts_in shape old.content.bytes u) (entries_at logs u))) (ne_eqb u t ne))
+    ]
+
+    pub edit_done : {U : Type 0} (x : U) → (let done : Result U EawFault = Ok x in face.Does tells (Opens shape) (log_edit t pos at bytes) (view_of old shape logs is_dead) (view_of new shape logs is_dead) done)
+    edit_done x = done tells (Opens shape) (log_edit t pos at bytes) (view_of old shape logs is_dead) (view_of new shape logs is_dead) refl does.cause.later time x alive live tt (record {
+      alive = alive;
+      ranges = refl;
+      state = λ told.
+          let bytes' = staged_data shape ranges in_cells old.content.bytes new.content.bytes (does.touched told).bytes in
+          λ i. record { bytes = bytes' i; logs = λ u. logs_now told u i };
+    })
