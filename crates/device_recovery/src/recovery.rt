@@ -31,6 +31,7 @@ pub fn recover<M: Media>(media: &mut M, shape: &Shape) -> Result<Report, Recover
     ensures clean { IsTrue M.tells → OnOk result (IsClean shape.now (M.view media.new).content) }
     ensures settled { IsTrue M.tells → OnOk result (data_of shape.now (M.view media.new).content.bytes ≡ settled_data shape.now (M.view media.old).content.bytes) }
     ensures counts { IsTrue M.tells → IfOk result (Counts shape.now (M.view media.old).content.bytes) }
+    ensures sure { IsTrue M.tells → OnOk result ((i : ℕ) → IsOutside (M.view media.new).content.unsettled i) }
     // It refuses just where a decided row is not good, and names the first one.
     ensures good { IsTrue M.tells → OnOk result (AllGood shape.now (M.view media.old).content.bytes shape.now.numbers) }
     ensures bad { IsTrue M.tells → IfErr result (λ fault. (g t : ℕ) → fault ≡ BadRow g t → IsFirstBad shape.now (M.view media.old).content.bytes g t) }
@@ -74,6 +75,7 @@ fn settle<M: Media>(media: &mut M, shape: &Shape, rows: &[Row; MOST]) -> Result<
     requires good { IsTrue M.tells → AllGood shape.now (M.view media.old).content.bytes shape.now.numbers }
     ensures clean { IsTrue M.tells → OnOk result (IsClean shape.now (M.view media.new).content) }
     ensures settled { IsTrue M.tells → OnOk result (data_of shape.now (M.view media.new).content.bytes ≡ settled_data shape.now (M.view media.old).content.bytes) }
+    ensures sure { IsTrue M.tells → OnOk result ((i : ℕ) → IsOutside (M.view media.new).content.unsettled i) }
     ensures any_moment { IsTrue M.tells → IsLawful shape.now (M.view media.old).content.bytes → LeavesOnly (SettlesLike shape.now (M.view media.old).content.bytes) (M.view media.old) (M.view media.new) }
     ensures does { Writes M.tells (recovered_places shape.now (M.view media.old).content.bytes) (M.view media.old) (M.view media.new) result }
 {

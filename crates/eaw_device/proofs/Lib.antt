@@ -1,3 +1,8 @@
+pub mod Attaching
+pub mod Formatting
+pub mod FreshLemmas
+pub mod Opening
+pub mod Reading
 pub mod Entries
 pub mod Keeping
 pub mod LogParts

@@ -1,5 +1,5 @@
 -- What an image of an array opens with, and what an opening finds.
-use Rattle.std.specs.Prelude.{ℕ, ◌≡◌, ◌≤◌, Bool, false, IsTrue, List, [], Option, None}
+use Rattle.std.specs.Prelude.{ℕ, ◌≡◌, ◌≤◌, Bool, false, IsTrue, List, [], None}
 use Rattle.counted.specs.Causes.{Rose}
 use Rattle.counted.specs.Moments.{Elapses}
 use Rattle.pcm_media.specs.Images.{Content, MayLeave, Touched, range}

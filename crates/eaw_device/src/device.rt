@@ -2,18 +2,21 @@
 ghost use Rattle.std.specs.Prelude.{◌≡◌, ◌+◌, ◌≤◌, ◌<◌, false, IsTrue, IfOk, IfErr, OnOk};
 ghost use Rattle.array_shape.specs.Places.{data_len};
 ghost use Rattle.eaw_face.specs.StoreView.{IsLive};
-ghost use Rattle.eaw_device.specs.Opens.{IsBehind};
+ghost use Rattle.eaw_device.specs.Opens.{Attached, AttachCause, AttachLeaves, KeepsData, IsBehind};
 ghost use Rattle.eaw_device.specs.Steps.{LogHasCells, RefusesWrite};
 ghost use Rattle.eaw_device.specs.Sound.{IsSound, LacksLog, view_of};
 
 use crate::committing::commit_log;
+use crate::fault::AttachFault;
 use crate::log::Log;
+use crate::opening::open_array;
 use crate::reading::read_data;
 use crate::staging::{check_room, stage_all};
 use array_shape::Shape;
 use eaw_face::{EawFault, EawStore};
 use logger::Logger;
 use pcm_media::Media;
+use std::alloc::Global;
 
 /// The array over a media.
 #[derive(Drop)]
@@ -26,6 +29,27 @@ pub struct Eaw<M: Media> {
 }
 
 impl<M: Media> Eaw<M> {
+    /// Opens the array that the media holds: looks at its header, takes memory for its tables, and recovers. No number is live.
+    /// At an error the media is given back.
+    pub fn attach(alloc: Global, mut media: M) -> Result<Eaw<M>, (AttachFault, M)>
+        ensures opens { IfOk result (λ eaw. Attached M.tells (M.view media) (view_of (M.view eaw.media) eaw.shape eaw.logs.items eaw.is_dead)) }
+        ensures cause { IfErr result (λ e. AttachCause M.tells (M.view media) (M.view e.1).faults e.0) }
+        ensures unwritten { IfErr result (λ e. AttachLeaves M.tells (M.view media) (M.view e.1) e.0) }
+        ensures keeps { IfOk result (λ eaw. KeepsData M.tells (M.view media) (M.view eaw.media).moment (M.view eaw.media).left_since) }
+        ensures keeps_on_err { IfErr result (λ e. KeepsData M.tells (M.view media) (M.view e.1).moment (M.view e.1).left_since) }
+        ensures later { IfErr result (λ e. (M.view media).faults ≤ (M.view e.1).faults) }
+    {
+        match open_array(alloc, &mut media) {
+            Ok((shape, logs)) => Ok(Eaw {
+                media,
+                shape,
+                logs,
+                is_dead: false,
+            }),
+            Err(fault) => Err((fault, media)),
+        }
+    }
+
     /// The media. What live numbers have logged is given up.
     pub fn into_media(self) -> M
         ensures { IsBehind M.tells (view_of (M.view self.media) self.shape self.logs.items self.is_dead) (M.view result) }

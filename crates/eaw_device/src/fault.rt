@@ -1,4 +1,7 @@
 use array_shape::BadShape;
+use counted::Failed;
+use device_recovery::RecoverFault;
+use row_bytes::HeaderFault;
 use thiserror::Error;
 
 /// Why a media was not opened. But for `Media`, nothing was written.
@@ -18,4 +21,43 @@ pub enum AttachFault {
     Media,
     #[error("no memory")]
     NoMemory,
+}
+
+impl From<Failed> for AttachFault {
+    ghost use Rattle.std.specs.Prelude.{◌≡◌};
+    ghost use Rattle.eaw_device.specs.declared.fault.AttachFault.TheVariants.{Media};
+
+    ghost from_gives = { λ _ fault. fault ≡ Media };
+
+    fn from(_: Failed) -> Self {
+        AttachFault::Media
+    }
+}
+
+impl From<HeaderFault> for AttachFault {
+    ghost use Rattle.std.specs.Prelude.{◌≡◌};
+    ghost use Rattle.eaw_device.specs.Attaching.{header_fault};
+
+    ghost from_gives = { λ wrong fault. fault ≡ header_fault wrong };
+
+    fn from(wrong: HeaderFault) -> Self {
+        match wrong {
+            HeaderFault::NotMars => AttachFault::NotMars,
+            HeaderFault::BadShape(bad) => AttachFault::BadShape(bad),
+        }
+    }
+}
+
+impl From<RecoverFault> for AttachFault {
+    ghost use Rattle.std.specs.Prelude.{◌≡◌};
+    ghost use Rattle.eaw_device.specs.Attaching.{recovery_fault};
+
+    ghost from_gives = { λ refused fault. fault ≡ recovery_fault refused };
+
+    fn from(refused: RecoverFault) -> Self {
+        match refused {
+            RecoverFault::BadRow { logger, tid } => AttachFault::BadRow { logger, tid },
+            RecoverFault::Media => AttachFault::Media,
+        }
+    }
 }

@@ -1,12 +1,18 @@
 //! The array of editable atomic writes over a media.
 #![tactic(auto)]
 
+mod attach;
 mod committing;
 mod device;
 mod fault;
+mod fresh;
 mod log;
+mod opening;
 mod reading;
+mod shapes;
 mod staging;
 
 pub use device::Eaw;
 pub use fault::AttachFault;
+pub use fresh::{FormatFault, format};
+pub use shapes::first_shape;

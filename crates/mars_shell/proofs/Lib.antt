@@ -1,7 +1,12 @@
 pub mod AnsweredLemmas
-pub mod LineLemmas
 pub mod PutLemmas
 pub mod RecordLemmas
 pub mod Sound
+pub mod StoreLemmas
 pub mod Stepping
+pub mod PrefixLemmas
+pub mod Calling
+pub mod DamageLemmas
+pub mod FaultLemmas
+pub mod Serving
 pub mod Running

@@ -1,7 +1,8 @@
 -- What calls put, one more call, and what was put last.
-use Rattle.std.proofs.Common.{◌≡◌, ℕ, Bool, true, false, nat_eq, cond, List, [], ◌∷◌, ◌++◌, Option, Some, None, length, take, refl, sym, ap, ◌∙◌, arith}
+use Rattle.std.proofs.Common.{◌≡◌, ℕ, ◌<◌, inl, inr, Bool, true, false, not, IsTrue, ◌==◌, nat_eq, cond, List, [], ◌∷◌, ◌++◌, Option, Some, None, length, take, drop, refl, sym, ap, ◌∙◌, arith}
 use Rattle.std.specs.Option.{IsNone, option_to_list}
-use Rattle.std.proofs.lemmas.List.{append_assoc, append-nil, take_at, length-append}
+use Rattle.std.proofs.lemmas.Bool.{eq-eqb, ne_eqb, cases_eq, false≢true}
+use Rattle.std.proofs.lemmas.List.{append_assoc, append-nil, take_at, drop_at, length-append}
 use Rattle.history.specs.declared.call.Call.{Call}
 use Rattle.history.specs.declared.call.Call.TheVariants.{Get, Put}
 use Rattle.history.specs.declared.call.Reply.{Reply}
@@ -45,6 +46,22 @@ popped all front rest x (Some y) is taken none =
     let long : length rest ≡ length front = omega (arith, ap length is, ap length taken, length-append front (x ∷ []), length-append rest (y ∷ [])) in
     let e : rest ++ y ∷ [] ≡ front ++ x ∷ [] = sym taken ∙ is in
     sym (take_at rest (y ∷ []) (length rest) refl) ∙ ap (take (length rest)) e ∙ take_at front (x ∷ []) (length rest) (sym long)
+
+-- and it is the one that was taken
+pub popped_last : {X : Type 0} (all front rest : List X) (x : X) (taken : Option X) → all ≡ front ++ x ∷ [] → all ≡ rest ++ option_to_list taken → (IsNone taken → all ≡ []) → taken ≡ Some x
+popped_last all front rest x None is taken none = absurd (omega (arith, ap length is, ap length (none refl), length-append front (x ∷ [])))
+popped_last all front rest x (Some y) is taken none =
+    let long : length rest ≡ length front = omega (arith, ap length is, ap length taken, length-append front (x ∷ []), length-append rest (y ∷ [])) in
+    let e : rest ++ y ∷ [] ≡ front ++ x ∷ [] = sym taken ∙ is in
+    let ends : y ∷ [] ≡ x ∷ [] = sym (drop_at rest (y ∷ []) (length rest) refl) ∙ ap (drop (length rest)) e ∙ drop_at front (x ∷ []) (length rest) (sym long) in
+    cc
+
+-- a test of emptiness, and the length of something as long
+pub filled : (empty : Bool) (n m : ℕ) → empty ≡ (n == 0) → m ≡ n → (IsTrue (not empty) → 0 < m) × (0 < m → IsTrue (not empty))
+filled empty n m is same = elim (cases_eq n 0) [
+  | inl none ↦ ((λ filled. absurd (false≢true (sym (ap not (is ∙ eq-eqb n 0 none)) ∙ filled))), (λ some. absurd (omega (arith, some, same, none))))
+  | inr some ↦ ((λ _. omega (arith, some, same)), (λ _. ap not (is ∙ ne_eqb n 0 some)))
+]
 
 pub puts_of-get : (calls : List (Call × Reply)) (key : ℕ) (reply : Reply) → puts_of (calls ++ (Get key, reply) ∷ []) ≡ puts_of calls
 puts_of-get calls key reply = puts_of-push calls (Get key, reply) ∙ append-nil (puts_of calls)

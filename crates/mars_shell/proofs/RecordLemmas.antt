@@ -1,16 +1,17 @@
 -- The records of data, and of data in which one slot is written.
-use Rattle.std.proofs.Common.{◌≡◌, ◌≢◌, ℕ, zero, suc, ◌*◌, ◌<◌, ◌≤◌, inl, inr, Bool, cond, List, length, Option, Some, None, refl, sym, ap, ◌∙◌, arith}
+use Rattle.std.proofs.Common.{◌≡◌, ◌≢◌, ℕ, zero, suc, ◌*◌, ◌<◌, ◌≤◌, inl, inr, Bool, cond, List, length, Option, Some, None, refl, sym, ap, subst, ◌∙◌, arith}
 use Rattle.std.specs.Ordering.{nat_cmp}
 use Rattle.std.specs.Cmp.{nat_cmp_total, unsigned_tied}
 use Rattle.std.specs.FinMap.{get, insert, get-empty, get-insert, same_map, nat_cmp-IsAntisymmetric}
 use Rattle.std.proofs.lemmas.Bool.{cases_eq, cases_lt, eq-eqb, ne_eqb}
 use Rattle.pcm_media.specs.Images.{put}
 use Rattle.pcm_media.proofs.Left.{same_outside-put}
+use Rattle.pcm_media.proofs.Puts.{length-put}
 use Rattle.pcm_media.proofs.Ranges.{range-put, range_away}
 use Rattle.history.specs.Table.{Table}
 use Rattle.record_slots.specs.Slots.{slot_said}
 use Rattle.record_slots.specs.declared.slot.Slot.TheVariants.{Present}
-use Rattle.mars_shell.specs.Records.{slot_at, value_in, record_at, with_record, records_below, records_of}
+use Rattle.mars_shell.specs.Records.{slot_at, slot_of, value_in, record_at, with_record, records_below, records_of, IsSoundIn, IsSoundSlot, IsSoundData, Holds}
 
 pub get-insert_same : (table : Table) (k : ℕ) (v : List ℕ) → get (insert table k v) k ≡ Some v
 get-insert_same table k v =
@@ -52,29 +53,43 @@ module _ (slots : ℕ) (bytes : List ℕ) where
   get_past k le = none_from slots k le
 
 module _ (slots k : ℕ) (value bytes data_bytes : List ℕ) (lt : k < slots) (long : length data_bytes ≡ 128 * slots) (size : length bytes ≡ 64) (says : slot_said bytes ≡ Some (Present k value)) where
-  after_bytes : List ℕ
-  after_bytes = put data_bytes (slot_at slots k) bytes
+  -- the slot that is written says what was written, and another what it said
+  own_slot : slot_of slots (put data_bytes (slot_at slots k) bytes) k ≡ Some (Present k value)
+  own_slot = ap slot_said (range-put data_bytes bytes (slot_at slots k) 64 (sym size) (omega arith)) ∙ says
 
-  own : record_at slots (put data_bytes (slot_at slots k) bytes) k ≡ Some value
-  own =
-      ap (λ (b : List ℕ). value_in k (slot_said b)) (range-put data_bytes bytes (slot_at slots k) 64 (sym size) (omega arith))
-      ∙ ap (value_in k) says ∙ ap (λ (b : Bool). cond b (Some value) None) (eq-eqb k k refl)
-
-  other : (q : ℕ) → q < slots → q ≢ k → record_at slots (put data_bytes (slot_at slots k) bytes) q ≡ record_at slots data_bytes q
-  other q below ne =
-      ap (λ (b : List ℕ). value_in q (slot_said b))
+  other_slot : (q : ℕ) → q < slots → q ≢ k → slot_of slots (put data_bytes (slot_at slots k) bytes) q ≡ slot_of slots data_bytes q
+  other_slot q below ne =
+      ap slot_said
       (range_away _ data_bytes (put data_bytes (slot_at slots k) bytes) (slot_at slots q) 64 (same_outside-put data_bytes (slot_at slots k) bytes (omega arith))
       (λ i le past. ((λ le' past'. ne (omega arith)), tt)))
 
+  own : record_at slots (put data_bytes (slot_at slots k) bytes) k ≡ Some value
+  own = ap (value_in k) own_slot ∙ ap (λ (b : Bool). cond b (Some value) None) (eq-eqb k k refl)
+
   -- a record that is written is put into the table
-  pub records_of-put : records_of slots (put data_bytes (slot_at slots k) bytes) ≡ insert (records_of slots data_bytes) k value
+  records_of-put : records_of slots (put data_bytes (slot_at slots k) bytes) ≡ insert (records_of slots data_bytes) k value
   records_of-put = same_map nat_cmp_total nat_cmp-IsAntisymmetric _ _ (λ q. elim (cases_eq q k) [
     | inl same ↦ ap (get (records_of slots (put data_bytes (slot_at slots k) bytes))) same
         ∙ get-records_of slots (put data_bytes (slot_at slots k) bytes) k lt ∙ own
         ∙ sym (ap (get (insert (records_of slots data_bytes) k value)) same ∙ get-insert_same (records_of slots data_bytes) k value)
     | inr ne ↦ elim (cases_lt q slots) [
-      | inl below ↦ get-records_of slots (put data_bytes (slot_at slots k) bytes) q below ∙ other q below ne ∙ sym (get-records_of slots data_bytes q below)
+      | inl below ↦ get-records_of slots (put data_bytes (slot_at slots k) bytes) q below ∙ ap (value_in q) (other_slot q below ne) ∙ sym (get-records_of slots data_bytes q below)
           ∙ sym (get-insert_other (records_of slots data_bytes) k q value ne)
       | inr past ↦ get_past slots (put data_bytes (slot_at slots k) bytes) q past ∙ sym (get-insert_other (records_of slots data_bytes) k q value ne ∙ get_past slots data_bytes q past)
     ]
   ])
+
+  sound-put : IsSoundData slots data_bytes → IsSoundData slots (put data_bytes (slot_at slots k) bytes)
+  sound-put sound q below = elim (cases_eq q k) [
+    | inl same ↦ subst (λ (n : ℕ). IsSoundSlot slots (put data_bytes (slot_at slots k) bytes) n) (sym same) (subst (IsSoundIn k) (sym own_slot) refl)
+    | inr ne ↦ subst (IsSoundIn q) (sym (other_slot q below ne)) (sound q below)
+  ]
+
+-- data in which a record is written
+pub holds-put : (slots k : ℕ) (value bytes data_bytes : List ℕ) (table : Table) → k < slots → length bytes ≡ 64 → slot_said bytes ≡ Some (Present k value)
+    → Holds slots table data_bytes → Holds slots (insert table k value) (put data_bytes (slot_at slots k) bytes)
+holds-put slots k value bytes data_bytes table lt size says holds = record {
+  long = length-put data_bytes (slot_at slots k) bytes (omega (arith, holds.long, size, lt)) ∙ holds.long;
+  sound = sound-put slots k value bytes data_bytes lt holds.long size says holds.sound;
+  exact = records_of-put slots k value bytes data_bytes lt holds.long size says ∙ ap (λ (t : Table). insert t k value) holds.exact;
+}

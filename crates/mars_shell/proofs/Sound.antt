@@ -3,7 +3,7 @@ use Rattle.std.proofs.Common.{◌≡◌, List, Option, Some, None, refl, sym, su
 use Rattle.history.specs.declared.call.Call.{Call}
 use Rattle.history.specs.declared.call.Call.TheVariants.{Begin, Get, Put, Commit}
 use Rattle.history.specs.declared.call.Reply.{Reply}
-use Rattle.mars_shell.specs.Session.{Limits, State, StepAt, Step, IsSound, done_with}
+use Rattle.mars_shell.specs.Session.{Limits, State, StepAt, Step, BreaksAt, Breaks, IsSound, done_with}
 use Rattle.history.proofs.OneMore.{IsRight-push, IsLegal-push}
 
 keeps : (limits : Limits) (live : Option (List (Call × Reply))) (old : State) (call : Call) (reply : Reply) (new : State)
@@ -23,3 +23,14 @@ keeps limits (Some calls) old Commit reply new is step sound =
 
 pub Step-keeps : (limits : Limits) (old : State) (call : Call) (reply : Reply) (new : State) → Step limits old call reply new → IsSound old → IsSound new
 Step-keeps limits old call reply new step sound = keeps limits old.live old call reply new refl step sound
+
+-- a transaction in doubt is none of the history
+breaks : (live : Option (List (Call × Reply))) (old : State) (call : Call) (new : State) → BreaksAt live old call new → IsSound old → IsSound new
+breaks None old call new broken sound = subst IsSound (sym broken) sound
+breaks (Some calls) old Begin new broken sound = subst IsSound (sym broken) sound
+breaks (Some calls) old (Get key) new broken sound = subst IsSound (sym broken) sound
+breaks (Some calls) old (Put key value) new broken sound = subst IsSound (sym broken) sound
+breaks (Some calls) old Commit new broken sound = subst IsSound (sym broken) (record { legal = sound.legal; right = tt })
+
+pub Breaks-keeps : (old : State) (call : Call) (new : State) → Breaks old call new → IsSound old → IsSound new
+Breaks-keeps old call new broken sound = breaks old.live old call new broken sound

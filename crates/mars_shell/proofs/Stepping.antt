@@ -1,18 +1,16 @@
--- Calls that are answered by a store.
-use Rattle.std.proofs.Common.{◌≡◌, ℕ, ◌+◌, ◌*◌, ◌/◌, ◌%◌, ◌<◌, ◌≤◌, inl, inr, Bool, nat_eq, cond, List, [], ◌∷◌, ◌++◌, length, Option, Some, None, refl, sym, ap, subst, ◌∙◌, arith}
-use Rattle.std.specs.Prelude.{IsTrue}
+-- Calls that a store answers.
+use Rattle.std.proofs.Common.{◌≡◌, ℕ, ◌+◌, ◌<◌, inl, inr, Bool, false, nat_eq, cond, List, [], ◌∷◌, ◌++◌, length, Option, Some, None, refl, sym, ap, subst, ◌∙◌, arith, IsTrue}
 use Rattle.std.specs.FinMap.{get, insert}
 use Rattle.std.proofs.lemmas.Bool.{eq-eqb, ne_eqb, cases_eq}
-use Rattle.std.proofs.lemmas.List.{length-append, take_all, drop_all, nil_from_length}
-use Rattle.pcm_media.specs.Images.{put}
-use Rattle.pcm_media.proofs.Puts.{length-put}
 use Rattle.array_shape.specs.declared.shape.Shape.{Shape}
-use Rattle.array_shape.specs.Places.{data_len}
-use Rattle.array_shape.specs.Parts.{page_left, pieces_of}
-use Rattle.array_shape.proofs.Cutting.{pieces_of-none, pieces_of-some}
-use Rattle.array_image.specs.Parts.{Part, applied}
-use Rattle.eaw_face.specs.StoreView.{StoreView, parts_at, IsSame, Logs}
+use Rattle.array_shape.specs.Places.{IsShape, logger_of}
+use Rattle.array_shape.specs.Parts.{pieces_of}
+use Rattle.array_image.specs.Parts.{Part, applied, ranges_of}
+use Rattle.eaw_face.specs.State.{State as Data, listed, count_on}
+use Rattle.eaw_face.specs.StoreView.{StoreView}
+use Rattle.eaw_face.specs.Command.{read, log_write}
 use Rattle.eaw_face.specs.Causes.{HasRoom, IsFull}
+use Rattle.eaw_face.specs.Does.{Becomes}
 use Rattle.record_slots.specs.Slots.{slot_said}
 use Rattle.record_slots.specs.declared.slot.Slot.TheVariants.{Present}
 use Rattle.history.specs.Table.{Table, after, left_by, found}
@@ -24,37 +22,13 @@ use Rattle.history.specs.declared.call.Reply.{Reply}
 use Rattle.history.specs.declared.call.Reply.TheVariants.{Fine, LogFull, Committed}
 use Rattle.history.specs.declared.transaction.Done.{Done}
 use Rattle.mars_shell.specs.Live.{either, last_put}
-use Rattle.mars_shell.specs.Records.{slot_at, record_at, records_of}
-use Rattle.mars_shell.specs.Session.{put_by, puts_of, entries_taken, done_with}
-use Rattle.mars_shell.specs.Kept.{slots_of, state_over, IsReady, IsKept, Empties, Steps}
+use Rattle.mars_shell.specs.Records.{slot_at, record_at, Holds}
+use Rattle.mars_shell.specs.Session.{put_by, puts_of, taken_on, PutsAt, done_with}
+use Rattle.mars_shell.specs.Kept.{Work, work_of, state_over, slots_of, limits_of, slots_put, calls_of, IsReady, IsKept, Empties}
+use Rattle.mars_shell.specs.Called.{Steps}
 use Rattle.mars_shell.proofs.PutLemmas.{puts_of-get, puts_of-put}
-use Rattle.mars_shell.proofs.RecordLemmas.{get-records_of, get-insert_same, get-insert_other, records_of-put}
-
--- a slot lies in one page
-slot_placed : (n : ℕ) → (64 * n) % 512 + 64 ≤ 512
-slot_placed n = omega arith
-
--- and so a write of one is one part
-pub one_piece : (addr : ℕ) (bytes : List ℕ) → 0 < length bytes → addr % 512 + length bytes ≤ 512 → pieces_of addr bytes ≡ (addr, bytes) ∷ []
-one_piece addr bytes some fits =
-    let all : length bytes ≤ page_left addr = omega arith in
-    pieces_of-some addr bytes some
-    ∙ (λ i. (addr, take_all (page_left addr) bytes all i) ∷ pieces_of (addr + page_left addr) (drop_all (page_left addr) bytes all i))
-    ∙ ap (λ (l : List (ℕ × List ℕ)). (addr, bytes) ∷ l) (pieces_of-none (addr + page_left addr))
-
-pub slot_piece : (slots k : ℕ) (bytes : List ℕ) → length bytes ≡ 64 → pieces_of (slot_at slots k) bytes ≡ (slot_at slots k, bytes) ∷ []
-slot_piece slots k bytes size = one_piece (slot_at slots k) bytes (omega arith) (omega (arith, slot_placed (slots + k)))
-
--- on the one logger
-only_logger : (n addr : ℕ) → n ≡ 1 → addr / 512 % n ≡ 0
-only_logger n addr is = ap (λ (m : ℕ). addr / 512 % m) is ∙ omega arith
-
-pub parts_at_one : (shape : Shape) (p : Part) → shape.loggers ≡ 1 → parts_at shape 0 (p ∷ []) ≡ 1
-parts_at_one shape p one = ap (λ (b : Bool). length (cond b (p ∷ []) [])) (eq-eqb _ 0 (only_logger shape.loggers p.0 one))
-
-pub applied-push : (ps : List Part) (p : Part) (d : List ℕ) → applied (ps ++ p ∷ []) d ≡ put (applied ps d) p.0 p.1
-applied-push [] p d = refl
-applied-push (q ∷ ps) p d = applied-push ps p (put d q.0 q.1)
+use Rattle.mars_shell.proofs.RecordLemmas.{get-records_of, get-insert_same, get-insert_other, holds-put}
+use Rattle.mars_shell.proofs.StoreLemmas.{slot_piece, slot_range, slots_put-push, count_puts, count_one, count_none, count_both, applied-push}
 
 -- what was put last is what is seen
 get_after : (table : Table) (call : Call) (key : ℕ) → get (after table call) key ≡ either (last_put (put_by call) key) (get table key)
@@ -90,122 +64,153 @@ seen table (first ∷ calls) key =
     ∙ sym (either_assoc (last_put (puts_of calls) key) (last_put (put_by first.0) key) (get table key))
     ∙ sym (ap (λ (o : Option (List ℕ)). either o (get table key)) (last_put-append (put_by first.0) (puts_of calls) key))
 
--- where the store shows the same, all is kept
-pub kept_same : (tells : Bool) (base : Table) (old new : StoreView) (history : List Done) (live : Option (List (Call × Reply)))
-    → IsTrue tells → new.shape ≡ old.shape → IsSame tells old new → IsKept base old history live → IsKept base new history live
-kept_same tells base old new history live told shape same kept =
-    let bytes = same.bytes told in
-    let log = (same.numbers 0).log told in
-    record {
-      long = (λ i. length (applied (log i) (bytes i))) ∙ kept.long ∙ ap data_len (sym shape);
-      records_kept = (λ i. records_of (slots_of (shape i)) (bytes i)) ∙ kept.records_kept;
-      view_kept = (λ i. records_of (slots_of (shape i)) (applied (log i) (bytes i))) ∙ kept.view_kept;
-    }
+-- a store that shows the same of data, logs and shape
+kept_same : (base : Table) (old new : StoreView) (work : Work) → new.shape ≡ old.shape → new.state ≡ old.state → IsKept base old work → IsKept base new work
+kept_same base old new work shape state kept = record {
+  stored =
+      subst (λ (s : Shape). Holds (slots_of s) (records base work.history) new.state.bytes) (sym shape)
+      (subst (λ (d : Data). Holds (slots_of old.shape) (records base work.history) d.bytes) (sym state) kept.stored);
+  seen =
+      subst (λ (s : Shape). Holds (slots_of s) (left_by (records base work.history) (calls_of work.live)) (applied (listed (new.state.logs 0)) new.state.bytes)) (sym shape)
+      (subst (λ (d : Data). Holds (slots_of old.shape) (left_by (records base work.history) (calls_of work.live)) (applied (listed (d.logs 0)) d.bytes)) (sym state) kept.seen);
+}
 
--- a get of the running transaction
-pub get_steps : (tells : Bool) (base : Table) (old new : StoreView) (history : List Done) (calls : List (Call × Reply)) (key : ℕ) (value : Option (List ℕ)) (reply : Reply)
-    → IsTrue tells → new.shape ≡ old.shape → IsSame tells old new → key < slots_of old.shape
-    → value ≡ either (last_put (puts_of calls) key) (record_at (slots_of old.shape) old.bytes key) → reply ≡ found value
-    → IsKept base old history (Some calls) → Steps base old new history history (Some calls) (Some (calls ++ (Get key, reply) ∷ [])) (Get key) reply
-get_steps tells base old new history calls key value reply told shape same lt is replied kept =
-    let next = kept_same tells base old new history (Some calls) told shape same kept in
-    let stored : get (records base history) key ≡ record_at (slots_of old.shape) old.bytes key =
-    ap (λ (t : Table). get t key) (sym kept.records_kept) ∙ get-records_of (slots_of old.shape) old.bytes key lt in
-    record {
-      step = (replied ∙ ap found (is ∙ sym (seen (records base history) calls key ∙ ap (either (last_put (puts_of calls) key)) stored)), refl);
-      kept = record {
-        long = next.long;
-        records_kept = next.records_kept;
-        view_kept = next.view_kept ∙ sym (left_by-push (records base history) calls (Get key) reply);
-      };
-    }
+-- the same readiness at other ranges that are equal
+ready_as : (old new : StoreView) (work next : Work) → new.shape ≡ old.shape → new.is_dead ≡ false → listed (new.ranges 0) ≡ listed (old.ranges 0)
+    → puts_of (calls_of next.live) ≡ puts_of (calls_of work.live) → next.doubt ≡ work.doubt → IsReady old work → IsReady new next
+ready_as old new work next shape alive ranges puts doubt ready = record {
+  alive = alive;
+  logged = ranges ∙ ready.logged ∙ (λ i. slots_put (slots_of (sym shape i)) (sym puts i));
+  room = λ g small.
+      let fewer : count_on new.shape g (listed (new.ranges 0)) ≡ count_on old.shape g (listed (old.ranges 0)) = λ i. count_on (shape i) g (ranges i) in
+      omega (arith, fewer, ready.room g (omega (arith, ap (λ (s : Shape). s.loggers) shape)), ap (λ (s : Shape). s.entries) shape);
+  certain = doubt ∙ ready.certain;
+}
 
-pub get_ready : (old new : StoreView) (calls : List (Call × Reply)) (key : ℕ) (reply : Reply) (tells : Bool)
-    → new.shape ≡ old.shape → IsSame tells old new → IsReady old (Some calls) → IsReady new (Some (calls ++ (Get key, reply) ∷ []))
-get_ready old new calls key reply tells shape same ready =
-    let taken : entries_taken (calls ++ (Get key, reply) ∷ []) ≡ entries_taken calls = ap length (puts_of-get calls key reply) in
-    record {
-      alive = same.dead ∙ ready.alive;
-      one = ap (λ (s : Shape). s.loggers) shape ∙ ready.one;
-      taken = (same.numbers 0).len ∙ ready.taken ∙ sym taken;
-      held = (same.numbers 0).held 0 ∙ ready.held ∙ sym taken;
-    }
+module _ (tells : Bool) (old new : StoreView) (calls : List (Call × Reply)) (key : ℕ) (history : List Done) (doubt : Option Done) (shape : new.shape ≡ old.shape) (became : Becomes tells read old new) where
+  -- a get of the running transaction
+  pub get_ready : (reply : Reply) → IsReady old (work_of history (Some calls) doubt) → IsReady new (work_of history (Some (calls ++ (Get key, reply) ∷ [])) doubt)
+  get_ready reply ready =
+      ready_as old new (work_of history (Some calls) doubt) (work_of history (Some (calls ++ (Get key, reply) ∷ [])) doubt) shape became.alive (ap (λ (r : ℕ → Option (List (ℕ × ℕ))). listed (r 0)) became.ranges)
+      (puts_of-get calls key reply) refl ready
 
-module _ (tells : Bool) (old new : StoreView) (calls : List (Call × Reply)) (key : ℕ) (value bytes : List ℕ)
-    (size : length bytes ≡ 64) (shape : new.shape ≡ old.shape) (ready : IsReady old (Some calls)) where
+  pub get_steps : (base : Table) (value : Option (List ℕ)) (reply : Reply) → IsTrue tells → key < slots_of old.shape
+      → value ≡ either (last_put (puts_of calls) key) (record_at (slots_of old.shape) old.state.bytes key) → reply ≡ found value
+      → IsKept base old (work_of history (Some calls) doubt) → Steps base old new (work_of history (Some calls) doubt) (work_of history (Some (calls ++ (Get key, reply) ∷ [])) doubt) (Get key) reply
+  get_steps base value reply told lt is replied kept =
+      let next = kept_same base old new (work_of history (Some calls) doubt) shape (became.state told) kept in
+      let stored : get (records base history) key ≡ record_at (slots_of old.shape) old.state.bytes key =
+      ap (λ (t : Table). get t key) (sym kept.stored.exact) ∙ get-records_of (slots_of old.shape) old.state.bytes key lt in
+      record {
+        step = (replied ∙ ap found (is ∙ sym (seen (records base history) calls key ∙ ap (either (last_put (puts_of calls) key)) stored)), refl);
+        kept = record {
+          stored = next.stored;
+          seen = subst (λ (t : Table). Holds (slots_of new.shape) t (applied (listed (new.state.logs 0)) new.state.bytes)) (sym (left_by-push (records base history) calls (Get key) reply)) next.seen;
+        };
+      }
+
+module _ (tells : Bool) (old new : StoreView) (calls : List (Call × Reply)) (key : ℕ) (value bytes : List ℕ) (history : List Done) (doubt : Option Done)
+    (is_shape : IsShape old.shape) (size : length bytes ≡ 64) (shape : new.shape ≡ old.shape) (ready : IsReady old (work_of history (Some calls) doubt)) where
   abbrev at : ℕ
   at = slot_at (slots_of old.shape) key
 
-  one_more : entries_taken (calls ++ (Put key value, Fine) ∷ []) ≡ entries_taken calls + 1
-  one_more = ap length (puts_of-put calls key value Fine) ∙ length-append (puts_of calls) ((key, value) ∷ [])
+  abbrev own : ℕ
+  own = logger_of old.shape at
 
-  on_it : (g : ℕ) → g ≡ 0 → parts_at old.shape g (pieces_of at bytes) ≡ 1
-  on_it g is = (λ i. parts_at old.shape (is i) (slot_piece (slots_of old.shape) key bytes size i)) ∙ parts_at_one old.shape (at, bytes) ready.one
+  abbrev needed : List (ℕ × ℕ)
+  needed = ranges_of (pieces_of at bytes)
+
+  has_logger : own < old.shape.loggers
+  has_logger = let some = is_shape.some_loggers in omega arith
+
+  -- the put needs one entry of its own logger, and none of another
+  needs_one : count_on old.shape own needed ≡ 1
+  needs_one = ap (count_on old.shape own) (slot_range (slots_of old.shape) key bytes size) ∙ count_one old.shape own at 64 refl
+
+  needs_none : (g : ℕ) → (own ≡ g → ⊥) → count_on old.shape g needed ≡ 0
+  needs_none g other = ap (count_on old.shape g) (slot_range (slots_of old.shape) key bytes size) ∙ count_none old.shape g at 64 other
+
+  -- the entries that are taken
+  taken_is : (g : ℕ) → count_on old.shape g (listed (old.ranges 0)) ≡ taken_on (limits_of old.shape) g calls
+  taken_is g = ap (count_on old.shape g) ready.logged ∙ count_puts old.shape g (puts_of calls)
 
   -- a put that was logged
-  pub put_ready : Logs tells 0 at bytes old new → IsReady new (Some (calls ++ (Put key value, Fine) ∷ []))
-  put_ready logs = record {
-    alive = logs.alive;
-    one = ap (λ (s : Shape). s.loggers) shape ∙ ready.one;
-    taken = omega (arith, logs.len, ap length (slot_piece (slots_of old.shape) key bytes size), ready.taken, one_more);
-    held = omega (arith, logs.held 0, on_it 0 refl, ready.held, one_more);
-  }
+  pub put_ready : HasRoom old (log_write 0 at bytes) → Becomes tells (log_write 0 at bytes) old new → IsReady new (work_of history (Some (calls ++ (Put key value, Fine) ∷ [])) doubt)
+  put_ready has_room became =
+      let ranges : listed (new.ranges 0) ≡ listed (old.ranges 0) ++ needed = ap (λ (r : ℕ → Option (List (ℕ × ℕ))). listed (r 0)) became.ranges in
+      record {
+        alive = became.alive;
+        logged =
+            ranges ∙ (λ i. ready.logged i ++ slot_range (slots_of old.shape) key bytes size i)
+            ∙ sym (slots_put-push (slots_of old.shape) (puts_of calls) (key, value))
+            ∙ (λ i. slots_put (slots_of (sym shape i)) (sym (puts_of-put calls key value Fine) i));
+        room = λ g small.
+            let both : count_on new.shape g (listed (new.ranges 0)) ≡ count_on old.shape g (listed (old.ranges 0)) + count_on old.shape g needed =
+            (λ i. count_on (shape i) g (ranges i)) ∙ count_both old.shape g (listed (old.ranges 0)) needed in
+            omega (arith, both, has_room g (omega (arith, ap (λ (s : Shape). s.loggers) shape)), ap (λ (s : Shape). s.entries) shape);
+        certain = ready.certain;
+      }
 
-  pub put_steps : (base : Table) (history : List Done) → IsTrue tells → slot_said bytes ≡ Some (Present key value) → key < slots_of old.shape
-      → HasRoom old 0 (pieces_of at bytes) → Logs tells 0 at bytes old new → IsKept base old history (Some calls)
-      → Steps base old new history history (Some calls) (Some (calls ++ (Put key value, Fine) ∷ [])) (Put key value) Fine
-  put_steps base history told says lt room logs kept =
-      let before = applied (old.logs 0) old.bytes in
-      let long : length before ≡ 128 * slots_of old.shape = omega (arith, kept.long) in
-      let now : applied (new.logs 0) new.bytes ≡ put before at bytes =
-      (λ i. applied (logs.log told i) (logs.data_same told i)) ∙ ap (λ (ps : List Part). applied (old.logs 0 ++ ps) old.bytes) (slot_piece (slots_of old.shape) key bytes size)
-      ∙ applied-push (old.logs 0) (at, bytes) old.bytes in
-      let fits : entries_taken calls < old.shape.entries = omega (arith, room 0 (omega (arith, ready.one)), on_it 0 refl, ready.held) in
+  pub put_steps : (base : Table) → IsTrue tells → slot_said bytes ≡ Some (Present key value) → key < slots_of old.shape
+      → HasRoom old (log_write 0 at bytes) → Becomes tells (log_write 0 at bytes) old new → IsKept base old (work_of history (Some calls) doubt)
+      → Steps base old new (work_of history (Some calls) doubt) (work_of history (Some (calls ++ (Put key value, Fine) ∷ [])) doubt) (Put key value) Fine
+  put_steps base told says lt has_room became kept =
+      let log = listed (old.state.logs 0) in
+      let logs : listed (new.state.logs 0) ≡ log ++ pieces_of at bytes = ap (λ (d : Data). listed (d.logs 0)) (became.state told) in
+      let same : new.state.bytes ≡ old.state.bytes = ap (λ (d : Data). d.bytes) (became.state told) in
+      let now : applied (listed (new.state.logs 0)) new.state.bytes ≡ applied ((at, bytes) ∷ []) (applied log old.state.bytes) =
+      (λ i. applied (logs i) (same i)) ∙ ap (λ (ps : List Part). applied (log ++ ps) old.state.bytes) (slot_piece (slots_of old.shape) key bytes size)
+      ∙ applied-push log (at, bytes) old.state.bytes in
+      let fits : taken_on (limits_of old.shape) own calls < old.shape.entries = omega (arith, has_room own has_logger, needs_one, taken_is own) in
       record {
         step = inl (fits, (refl, refl));
         kept = record {
-          long = ap length now ∙ length-put before at bytes (omega (arith, long, size, lt)) ∙ kept.long ∙ ap data_len (sym shape);
-          records_kept = (λ i. records_of (slots_of (shape i)) (logs.data_same told i)) ∙ kept.records_kept;
-          view_kept = (λ i. records_of (slots_of (shape i)) (now i)) ∙ records_of-put (slots_of old.shape) key value bytes before lt long size says
-              ∙ ap (λ (t : Table). insert t key value) kept.view_kept ∙ sym (left_by-push (records base history) calls (Put key value) Fine);
+          stored =
+              subst (λ (s : Shape). Holds (slots_of s) (records base history) new.state.bytes) (sym shape)
+              (subst (λ (b : List ℕ). Holds (slots_of old.shape) (records base history) b) (sym same) kept.stored);
+          seen =
+              subst (λ (s : Shape). Holds (slots_of s) (left_by (records base history) (calls ++ (Put key value, Fine) ∷ [])) (applied (listed (new.state.logs 0)) new.state.bytes)) (sym shape)
+              (subst (λ (b : List ℕ). Holds (slots_of old.shape) (left_by (records base history) (calls ++ (Put key value, Fine) ∷ [])) b) (sym now)
+              (subst (λ (t : Table). Holds (slots_of old.shape) t (applied ((at, bytes) ∷ []) (applied log old.state.bytes))) (sym (left_by-push (records base history) calls (Put key value) Fine))
+              (holds-put (slots_of old.shape) key value bytes (applied log old.state.bytes) (left_by (records base history) calls) lt size says kept.seen)));
         };
       }
 
   -- one that found no room
-  pub put_refused : (base : Table) (history : List Done) (g held needed : ℕ) → IsTrue tells → IsSame tells old new → IsFull old 0 (pieces_of at bytes) g held needed
-      → IsKept base old history (Some calls) → Steps base old new history history (Some calls) (Some calls) (Put key value) (LogFull g held needed)
-  put_refused base history g held needed told same full kept =
-      let first : g ≡ 0 = omega (arith, full.logger, ready.one) in
-      let held_is : held ≡ entries_taken calls = full.held_is ∙ ap (old.held 0) first ∙ ready.held in
-      let needed_is : needed ≡ 1 = full.needed_is ∙ on_it g first in
-      record {
-        step = inr (omega (arith, full.full, held_is, needed_is), (λ i. LogFull (first i) (held_is i) (needed_is i)), refl);
-        kept = kept_same tells base old new history (Some calls) told shape same kept;
-      }
+  pub put_refused : (base : Table) (g held more : ℕ) → IsFull old (log_write 0 at bytes) g held more
+      → PutsAt (limits_of old.shape) own calls (state_over base (work_of history (Some calls) doubt)) key value (LogFull g held more) (state_over base (work_of history (Some calls) doubt))
+  put_refused base g held more full =
+      let first : own ≡ g = elim (cases_eq own g) [
+        | inl same ↦ same
+        | inr other ↦ absurd (omega (arith, full.full, full.held_is, full.needed_is, needs_none g other, ready.room g full.logger))
+      ] in
+      let needed_is : more ≡ 1 = full.needed_is ∙ ap (λ (h : ℕ). count_on old.shape h needed) (sym first) ∙ needs_one in
+      let held_is : held ≡ old.shape.entries = omega (arith, full.full, full.held_is, needed_is, ready.room g full.logger) in
+      let taken : taken_on (limits_of old.shape) own calls ≡ old.shape.entries = sym (taken_is own) ∙ ap (λ (h : ℕ). count_on old.shape h (listed (old.ranges 0))) first ∙ sym full.held_is ∙ held_is in
+      inr (taken, (λ i. LogFull (sym first i) (held_is i) (needed_is i)), refl)
 
 -- a commit
-pub commit_steps : (tells : Bool) (base : Table) (old new : StoreView) (history after : List Done) (calls : List (Call × Reply))
-    → IsTrue tells → new.shape ≡ old.shape → Empties tells old new → length new.bytes ≡ data_len new.shape
-    → after ≡ history ++ done_with (state_over base history (Some calls)) calls ∷ []
-    → IsKept base old history (Some calls) → Steps base old new history after (Some calls) None Commit (Committed (length history + 1))
-commit_steps tells base old new history after calls told shape empties long is kept =
-    let none : new.logs 0 ≡ [] = nil_from_length (new.logs 0) empties.log in
-    let stored : records_of (slots_of new.shape) new.bytes ≡ records base after =
-    (λ i. records_of (slots_of (shape i)) (empties.bytes told i)) ∙ kept.view_kept
-    ∙ sym (ap (records base) is ∙ records-push base history (done_with (state_over base history (Some calls)) calls)) in
-    let same : applied (new.logs 0) new.bytes ≡ new.bytes = ap (λ (ps : List Part). applied ps new.bytes) none in
+pub commit_steps : (tells : Bool) (base : Table) (old new : StoreView) (history pushed : List Done) (calls : List (Call × Reply)) (doubt : Option Done)
+    → IsTrue tells → new.shape ≡ old.shape → Empties tells old new → pushed ≡ history ++ done_with (state_over base (work_of history (Some calls) doubt)) calls ∷ []
+    → IsKept base old (work_of history (Some calls) doubt) → Steps base old new (work_of history (Some calls) doubt) (work_of pushed None doubt) Commit (Committed (length history + 1))
+commit_steps tells base old new history pushed calls doubt told shape empties is kept =
+    let last = done_with (state_over base (work_of history (Some calls) doubt)) calls in
+    let exact : left_by (records base history) calls ≡ records base pushed = sym (ap (records base) is ∙ records-push base history last) in
+    let stored : Holds (slots_of new.shape) (records base pushed) new.state.bytes =
+    subst (λ (s : Shape). Holds (slots_of s) (records base pushed) new.state.bytes) (sym shape)
+    (subst (λ (b : List ℕ). Holds (slots_of old.shape) (records base pushed) b) (sym (empties.bytes told))
+    (subst (λ (t : Table). Holds (slots_of old.shape) t (applied (listed (old.state.logs 0)) old.state.bytes)) exact kept.seen)) in
+    let same : applied (listed (new.state.logs 0)) new.state.bytes ≡ new.state.bytes = ap (λ (ps : List Part). applied ps new.state.bytes) (empties.log told) in
     record {
-      step = (refl, ap (λ (h : List Done). state_over base h None) is);
-      kept = record {
-        long = ap length same ∙ long;
-        records_kept = stored;
-        view_kept = ap (records_of (slots_of new.shape)) same ∙ stored;
-      };
+      step = (refl, ap (λ (h : List Done). state_over base (work_of h None doubt)) is);
+      kept = record { stored = stored; seen = subst (λ (b : List ℕ). Holds (slots_of new.shape) (records base pushed) b) (sym same) stored };
     }
 
--- the same of the transactions that these are
-pub steps_at : (base : Table) (old new : StoreView) (history after : List Done) (live live' calls calls' : Option (List (Call × Reply))) (call : Call) (reply : Reply)
-    → live ≡ calls → live' ≡ calls' → Steps base old new history after calls calls' call reply → Steps base old new history after live live' call reply
-steps_at base old new history after live live' calls calls' call reply is is' steps =
-    subst (λ (l : Option (List (Call × Reply))). Steps base old new history after l live' call reply) (sym is)
-    (subst (λ (l : Option (List (Call × Reply))). Steps base old new history after calls l call reply) (sym is') steps)
+pub commit_ready : (tells : Bool) (old new : StoreView) (history pushed : List Done) (calls : List (Call × Reply)) (doubt : Option Done)
+    → Empties tells old new → IsReady old (work_of history (Some calls) doubt) → IsReady new (work_of pushed None doubt)
+commit_ready tells old new history pushed calls doubt empties ready = record {
+  alive = empties.alive;
+  logged = empties.ranges;
+  room = λ g small. omega (arith, ap (count_on new.shape g) empties.ranges);
+  certain = ready.certain;
+}

@@ -1,7 +1,9 @@
 -- How a status is told.
-use Rattle.std.specs.Prelude.{ℕ, List, [], codes}
+use Rattle.std.specs.Prelude.{ℕ, List, [], ◌∷◌, ◌++◌, codes}
+use Rattle.std.specs.Fmt.{decimal}
+use Rattle.array_shape.specs.Numbers.{number_of}
 use Rattle.mars_shell.specs.declared.status.Status.{Status}
-use Rattle.mars_shell.specs.declared.status.Status.TheVariants.{Good, Usage, TooLong, ReadFault, WriteFault, MediaFault, NoMemory, NotMars}
+use Rattle.mars_shell.specs.declared.status.Status.TheVariants.{Good, Usage, TooLong, ReadFault, WriteFault, MediaFault, NoMemory, Damaged, BadRow, NotMars, BadShape}
 
 -- the text behind `mars: ` on standard error
 abbrev pub status_text : Status → List ℕ
@@ -12,7 +14,10 @@ status_text ReadFault = codes "read fault"
 status_text WriteFault = codes "write fault"
 status_text MediaFault = codes "media fault"
 status_text NoMemory = codes "no memory"
+status_text (Damaged page) = codes "damaged " ++ decimal page
+status_text (BadRow logger tid) = codes "bad row " ++ (decimal logger ++ 32 ∷ decimal tid)
 status_text NotMars = codes "not mars"
+status_text (BadShape which given) = codes "bad shape " ++ (decimal (number_of which) ++ 32 ∷ decimal given)
 
 -- the status of the process
 abbrev pub status_number : Status → ℕ
@@ -23,4 +28,7 @@ status_number ReadFault = 4
 status_number WriteFault = 5
 status_number MediaFault = 6
 status_number NoMemory = 7
+status_number (Damaged page) = 8
+status_number (BadRow logger tid) = 8
 status_number NotMars = 9
+status_number (BadShape which given) = 9

@@ -1,12 +1,13 @@
+pub mod Called
 pub mod Exchange
 pub mod Fault
 pub mod Kept
-pub mod Lines
 pub mod Live
 pub mod Outcome
+pub mod Prefix
 pub mod Prepared
 pub mod Records
+pub mod Run
+pub mod Served
 pub mod Session
 pub mod Transcript
-pub mod Written
-pub mod Run

@@ -1,11 +1,9 @@
--- What a whole run does, by its status.
-use Rattle.std.specs.Prelude.{ℕ, ◌≡◌, ◌<◌, ◌≤◌, ◌⊎◌, List, [], ◌∷◌, length, codes, Bool, false}
-use Rattle.mars_shell.specs.Session.{Limits, State}
-use Rattle.mars_shell.specs.Lines.{lines_of}
-use Rattle.mars_shell.specs.Transcript.{Answered}
+-- Which statuses a whole run ends with, and when.
+use Rattle.std.specs.Prelude.{ℕ, ◌≡◌, List, [], ◌∷◌, codes}
+use Rattle.eaw_device.specs.declared.fault.AttachFault.{AttachFault}
+use Rattle.eaw_device.specs.declared.fault.AttachFault.TheVariants as opening
 use Rattle.mars_shell.specs.declared.status.Status.{Status}
-use Rattle.mars_shell.specs.declared.status.Status.TheVariants.{Good, Usage, TooLong, ReadFault, WriteFault, MediaFault, NoMemory, NotMars}
-use Rattle.mars_shell.specs.declared.input.TheConstants.{MOST}
+use Rattle.mars_shell.specs.declared.status.Status.TheVariants.{Good, Usage, TooLong, ReadFault, WriteFault, MediaFault, NoMemory, Damaged, BadRow, NotMars, BadShape}
 
 -- the words of a run
 abbrev pub AreRun : List (List ℕ) → Type 0
@@ -20,40 +18,10 @@ WordsSay words ReadFault = AreRun words
 WordsSay words WriteFault = AreRun words
 WordsSay words MediaFault = AreRun words
 WordsSay words NoMemory = AreRun words
+WordsSay words (Damaged page) = AreRun words
+WordsSay words (BadRow logger tid) = AreRun words
 WordsSay words NotMars = AreRun words
-
--- NotMars comes only where the media holds no array that is at rest, and no line is answered there.
-abbrev pub ArraySays : Type 0 → Status → Type 0
-ArraySays is_array NotMars = is_array → ⊥
-ArraySays is_array Good = is_array
-ArraySays is_array WriteFault = is_array
-ArraySays is_array Usage = Unit {0}
-ArraySays is_array TooLong = Unit {0}
-ArraySays is_array ReadFault = Unit {0}
-ArraySays is_array MediaFault = Unit {0}
-ArraySays is_array NoMemory = Unit {0}
-
--- The lines of an input that is short enough were answered.
-pub record Ran (limits : Limits) (old : State) (input : List ℕ) (status : Status) (cut : Bool) (text : List ℕ) (new : State) : Type 0 where
-  pub short : length input ≤ MOST
-  pub answered : Answered limits old 1 (lines_of input) status cut text new
-
--- nothing was written or done
-pub record Idle (old : State) (cut : Bool) (text : List ℕ) (new : State) : Type 0 where
-  pub uncut : cut ≡ false
-  pub silent : text ≡ []
-  pub same : new ≡ old
-
--- what was written and done
-abbrev pub Outcome : Limits → State → List ℕ → Status → Bool → List ℕ → State → Type 0
-Outcome limits old input Good cut text new = Ran limits old input Good cut text new
-Outcome limits old input WriteFault cut text new = Ran limits old input WriteFault cut text new
-Outcome limits old input MediaFault cut text new = (length input ≤ MOST) × (Idle old cut text new ⊎ Ran limits old input MediaFault cut text new)
-Outcome limits old input NoMemory cut text new = Idle old cut text new ⊎ Ran limits old input NoMemory cut text new
-Outcome limits old input TooLong cut text new = (MOST < length input) × Idle old cut text new
-Outcome limits old input NotMars cut text new = (length input ≤ MOST) × Idle old cut text new
-Outcome limits old input ReadFault cut text new = Idle old cut text new
-Outcome limits old input Usage cut text new = Idle old cut text new
+WordsSay words (BadShape which given) = AreRun words
 
 -- statuses that come before the media is opened, and only then
 abbrev pub IsEarly : Status → Type 0
@@ -64,7 +32,10 @@ IsEarly Good = ⊥
 IsEarly WriteFault = ⊥
 IsEarly MediaFault = ⊥
 IsEarly NoMemory = ⊥
+IsEarly (Damaged page) = ⊥
+IsEarly (BadRow logger tid) = ⊥
 IsEarly NotMars = ⊥
+IsEarly (BadShape which given) = ⊥
 
 -- statuses that come while lines are answered
 abbrev pub IsOfLines : Status → Type 0
@@ -75,7 +46,10 @@ IsOfLines NoMemory = Unit {0}
 IsOfLines Usage = ⊥
 IsOfLines TooLong = ⊥
 IsOfLines ReadFault = ⊥
+IsOfLines (Damaged page) = ⊥
+IsOfLines (BadRow logger tid) = ⊥
 IsOfLines NotMars = ⊥
+IsOfLines (BadShape which given) = ⊥
 
 -- statuses that one line ends the run with
 abbrev pub IsEnding : Status → Type 0
@@ -86,4 +60,43 @@ IsEnding NoMemory = Unit {0}
 IsEnding Usage = ⊥
 IsEnding TooLong = ⊥
 IsEnding ReadFault = ⊥
+IsEnding (Damaged page) = ⊥
+IsEnding (BadRow logger tid) = ⊥
 IsEnding NotMars = ⊥
+IsEnding (BadShape which given) = ⊥
+
+-- statuses with which the opening of an array is refused
+abbrev pub IsRefusal : Status → Type 0
+IsRefusal (Damaged page) = Unit {0}
+IsRefusal (BadRow logger tid) = Unit {0}
+IsRefusal NotMars = Unit {0}
+IsRefusal (BadShape which given) = Unit {0}
+IsRefusal Good = ⊥
+IsRefusal Usage = ⊥
+IsRefusal TooLong = ⊥
+IsRefusal ReadFault = ⊥
+IsRefusal WriteFault = ⊥
+IsRefusal MediaFault = ⊥
+IsRefusal NoMemory = ⊥
+
+-- statuses that come once an array is opened
+abbrev pub IsOfRecords : Status → Type 0
+IsOfRecords Good = Unit {0}
+IsOfRecords WriteFault = Unit {0}
+IsOfRecords MediaFault = Unit {0}
+IsOfRecords NoMemory = Unit {0}
+IsOfRecords (Damaged page) = Unit {0}
+IsOfRecords Usage = ⊥
+IsOfRecords TooLong = ⊥
+IsOfRecords ReadFault = ⊥
+IsOfRecords (BadRow logger tid) = ⊥
+IsOfRecords NotMars = ⊥
+IsOfRecords (BadShape which given) = ⊥
+
+-- the status of an array that is not opened
+abbrev pub status_of : AttachFault → Status
+status_of opening.NotMars = NotMars
+status_of (opening.BadShape bad) = BadShape bad.which bad.given
+status_of (opening.BadRow logger tid) = BadRow logger tid
+status_of opening.Media = MediaFault
+status_of opening.NoMemory = NoMemory

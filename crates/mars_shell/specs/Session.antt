@@ -1,5 +1,5 @@
 -- What one caller's calls do, one after another.
-use Rattle.std.specs.Prelude.{ℕ, ◌≡◌, ◌+◌, ◌<◌, ◌≤◌, ◌⊎◌, List, [], ◌∷◌, ◌++◌, length, Option, Some, None, unwrap_or}
+use Rattle.std.specs.Prelude.{ℕ, ◌≡◌, ◌+◌, ◌%◌, ◌<◌, ◌⊎◌, Bool, nat_eq, List, [], ◌∷◌, ◌++◌, length, filter, Option, Some, None, unwrap_or}
 use Rattle.history.specs.Table.{Table, Answers, left_by, IsRight}
 use Rattle.history.specs.Legal.{records, IsLegal}
 use Rattle.history.specs.declared.call.Call.{Call}
@@ -7,21 +7,26 @@ use Rattle.history.specs.declared.call.Call.TheVariants.{Begin, Get, Put, Commit
 use Rattle.history.specs.declared.call.Reply.{Reply}
 use Rattle.history.specs.declared.call.Reply.TheVariants.{Fine, Committed, NoTransaction, Already, LogFull}
 use Rattle.history.specs.declared.transaction.Done.{Done}
+use Rattle.mars_shell.specs.Records.{page_of}
 
--- the numbers of an array that a script can feel: its callers, its keys, and the entries of a log
+-- the numbers of an array that a script can feel: its callers, its keys, its loggers, and the entries that each of these has
+-- for one caller
 pub record Limits : Type 0 where
   pub callers : ℕ
   pub keys : ℕ
+  pub loggers : ℕ
   pub entries : ℕ
 
--- the records at the opening, the transactions committed since, and the granted calls of the one that runs
+-- The records at the opening, the transactions committed since, the granted calls of the one that runs, and the one whose
+-- commit met a fault of the media.
 pub record State : Type 0 where
   pub base : Table
   pub history : List Done
   pub live : Option (List (Call × Reply))
+  pub doubt : Option Done
 
 abbrev pub opened : Table → State
-opened base = record { base = base; history = []; live = None }
+opened base = record { base = base; history = []; live = None; doubt = None }
 
 -- what the caller sees
 abbrev pub view_of : State → Table
@@ -42,13 +47,25 @@ abbrev pub puts_of : List (Call × Reply) → List (ℕ × List ℕ)
 puts_of [] = []
 puts_of (entry ∷ entries) = put_by entry.0 ++ puts_of entries
 
--- each put takes an entry of the log
-abbrev pub entries_taken : List (Call × Reply) → ℕ
-entries_taken calls = length (puts_of calls)
+-- the logger that has the page of a key's slot: the pages go to the loggers by turns
+abbrev pub logger_of_key : Limits → ℕ → ℕ
+logger_of_key limits key = page_of limits.keys key % limits.loggers
+
+abbrev pub is_put_on : Limits → ℕ → ℕ × List ℕ → Bool
+is_put_on limits g put = nat_eq (logger_of_key limits put.0) g
+
+-- each put takes an entry of its logger
+abbrev pub taken_on : Limits → ℕ → List (Call × Reply) → ℕ
+taken_on limits g calls = length (filter (is_put_on limits g) (puts_of calls))
 
 -- the call was granted with this reply
 abbrev pub Grants : List (Call × Reply) → State → Call → Reply → State → Type 0
 Grants calls old call reply new = Answers (view_of old) call reply × (new ≡ record old { live = Some (calls ++ (call, reply) ∷ []) })
+
+-- a put is granted where its logger has an entry left, and else answered how many are taken there
+abbrev pub PutsAt : Limits → ℕ → List (Call × Reply) → State → ℕ → List ℕ → Reply → State → Type 0
+PutsAt limits g calls old key value reply new = ((taken_on limits g calls < limits.entries) × Grants calls old (Put key value) reply new)
+    ⊎ ((taken_on limits g calls ≡ limits.entries) × (reply ≡ LogFull g limits.entries 1) × (new ≡ old))
 
 -- with the live transaction as it is before it, a call gets this reply and leaves this state
 abbrev pub StepAt : Limits → Option (List (Call × Reply)) → State → Call → Reply → State → Type 0
@@ -58,13 +75,22 @@ StepAt limits None old (Put key value) reply new = (reply ≡ NoTransaction) × 
 StepAt limits None old Commit reply new = (reply ≡ NoTransaction) × (new ≡ old)
 StepAt limits (Some calls) old Begin reply new = (reply ≡ Already) × (new ≡ old)
 StepAt limits (Some calls) old (Get key) reply new = Grants calls old (Get key) reply new
--- it is refused exactly where the log has no entry left
-StepAt limits (Some calls) old (Put key value) reply new = ((entries_taken calls < limits.entries) × Grants calls old (Put key value) reply new)
-    ⊎ ((limits.entries ≤ entries_taken calls) × (reply ≡ LogFull 0 (entries_taken calls) 1) × (new ≡ old))
+StepAt limits (Some calls) old (Put key value) reply new = PutsAt limits (logger_of_key limits key) calls old key value reply new
 StepAt limits (Some calls) old Commit reply new = (reply ≡ Committed (length old.history + 1)) × (new ≡ record old { history = old.history ++ done_with old calls ∷ []; live = None })
 
 abbrev pub Step : Limits → State → Call → Reply → State → Type 0
 Step limits old call reply new = StepAt limits old.live old call reply new
+
+-- The media failed in a call, and that is not answered: a transaction that was to be committed is in doubt.
+abbrev pub BreaksAt : Option (List (Call × Reply)) → State → Call → State → Type 0
+BreaksAt None old call new = new ≡ old
+BreaksAt (Some calls) old Begin new = new ≡ old
+BreaksAt (Some calls) old (Get key) new = new ≡ old
+BreaksAt (Some calls) old (Put key value) new = new ≡ old
+BreaksAt (Some calls) old Commit new = new ≡ record old { live = None; doubt = Some (done_with old calls) }
+
+abbrev pub Breaks : State → Call → State → Type 0
+Breaks old call new = BreaksAt old.live old call new
 
 -- the history is legal on the base, and the calls granted so far are right on its records
 pub record IsSound (state : State) : Type 0 where

@@ -7,10 +7,10 @@ use Rattle.script_text.specs.Line.{Says}
 use Rattle.script_text.specs.Replies.{reply_line, bad_line}
 use Rattle.script_text.specs.declared.line.Line.{Line}
 use Rattle.script_text.specs.declared.line.Line.TheVariants.{Nothing, Told, Bad}
-use Rattle.mars_shell.specs.Session.{Limits, State, Step}
-use Rattle.mars_shell.specs.Written.{IsCut, IsWritten}
+use Rattle.mars_shell.specs.Session.{Limits, State, Step, Breaks}
+use Rattle.script_io.specs.Written.{IsCut, IsWritten}
 use Rattle.mars_shell.specs.declared.status.Status.{Status}
-use Rattle.mars_shell.specs.declared.status.Status.TheVariants.{Good, Usage, TooLong, ReadFault, WriteFault, MediaFault, NoMemory, NotMars}
+use Rattle.mars_shell.specs.declared.status.Status.TheVariants.{Good, Usage, TooLong, ReadFault, WriteFault, MediaFault, NoMemory, Damaged, BadRow, NotMars, BadShape}
 
 -- the n-th line, which says this, is answered by this text, and leaves this state
 abbrev pub Gives : Limits → State → ℕ → Line → List ℕ → State → Type 0
@@ -27,14 +27,17 @@ abbrev pub Ends : Limits → State → ℕ → List ℕ → Status → Bool → 
 -- the answer is cut short; its call has been done
 Ends limits old n bytes WriteFault cut text new = (cut ≡ true) × (answer : List ℕ) × LineGives limits old n bytes answer new × IsCut text answer
 -- the media failed in the call, and the answer says so; it too may be cut short
-Ends limits old n bytes MediaFault cut text new = (caller : ℕ) × (call : Call) × Says limits.callers limits.keys bytes (Told caller call) × IsWritten cut text (reply_line caller Media) × (new ≡ old)
+Ends limits old n bytes MediaFault cut text new = (caller : ℕ) × (call : Call) × Says limits.callers limits.keys bytes (Told caller call) × IsWritten cut text (reply_line caller Media) × Breaks old call new
 -- nothing of an answer is written; the call may have been done
 Ends limits old n bytes NoMemory cut text new = (cut ≡ false) × (text ≡ []) × ((new ≡ old) ⊎ ((answer : List ℕ) × LineGives limits old n bytes answer new))
 Ends limits old n bytes Good cut text new = ⊥
 Ends limits old n bytes Usage cut text new = ⊥
 Ends limits old n bytes TooLong cut text new = ⊥
 Ends limits old n bytes ReadFault cut text new = ⊥
+Ends limits old n bytes (Damaged page) cut text new = ⊥
+Ends limits old n bytes (BadRow logger tid) cut text new = ⊥
 Ends limits old n bytes NotMars cut text new = ⊥
+Ends limits old n bytes (BadShape which given) cut text new = ⊥
 
 -- The lines, numbered from n, are answered one after another, until all are, or the run ends at one.
 abbrev pub Answered : Limits → State → ℕ → List (List ℕ) → Status → Bool → List ℕ → State → Type 0

@@ -1,43 +1,82 @@
-// One line of the input: what it says is done, and its answer is written.
+// The lines of an input: what each says is done, and its answer is written.
 ghost use Rattle.std.specs.Prelude.{Bool, ◌≡◌, ◌≤◌, List, ℕ, ◌++◌, OnOk, OnErr, IfErr, IsErrOf, IsTrue};
 ghost use Rattle.counted.specs.Causes.{Rose};
-ghost use Rattle.eaw_face.specs.StoreView.{Stays};
 ghost use Rattle.history.specs.Table.{Table};
-ghost use Rattle.mars_shell.specs.Kept.{IsReady, IsKept, limits_of, state_over};
-ghost use Rattle.mars_shell.specs.Outcome.{IsEnding};
-ghost use Rattle.mars_shell.specs.Transcript.{LineGives, Ends};
+ghost use Rattle.mars_shell.specs.Called.{KeepsPrefix};
+ghost use Rattle.mars_shell.specs.Kept.{IsReady, IsKept, Stays, limits_of, state_over, work_of};
+ghost use Rattle.script_io.specs.Lines.{lines_of};
+ghost use Rattle.mars_shell.specs.Outcome.{IsEnding, IsOfLines};
+ghost use Rattle.mars_shell.specs.Transcript.{LineGives, Ends, Answered};
 ghost use Rattle.mars_shell.specs.Prepared.{Stops, WhereMedia};
-ghost use Rattle.mars_shell.specs.declared.status.Status.{Status};
 
-use crate::output::{write_front, write_whole};
 use crate::records::slot_count;
 use crate::session::{Fault, Session};
 use crate::status::Status;
 use eaw_face::EawStore;
 use outside::Sink;
+use script_io::{next_line, write_front, write_whole};
 use script_text::{Line, media_fault_line, read_line, write_bad_line, write_reply};
+use std::alloc::Global;
 
 // How many callers there are.
 const CALLERS: u8 = 1;
 
-/// Answers the `n`-th line. An error is the status that the run ends with.
-pub fn answer_line<K: Sink, S: EawStore>(
+/// Answers the lines of the input, until all are answered or one ends the run.
+pub fn answer_all<K: Sink, S: EawStore>(
+    alloc: Global,
+    input: &[u8],
+    sink: &mut K,
+    session: &mut Session<S>,
+) -> Status
+    requires ready { IsReady (S.view session.old.store) (work_of session.old.history session.old.live session.old.doubt) }
+    ensures answered { (cut : Bool) × (text : List ℕ) × (IsTrue K.tells → K.written sink.new ≡ K.written sink.old ++ text)
+        × (IsTrue cut → Rose (K.faults sink.old) (K.faults sink.new))
+        × (IsTrue S.tells → (base : Table) → IsKept base (S.view session.old.store) (work_of session.old.history session.old.live session.old.doubt)
+        → Answered (limits_of (S.view session.old.store).shape) (state_over base (work_of session.old.history session.old.live session.old.doubt)) 1 (lines_of input.now) result cut text (state_over base (work_of session.new.history session.new.live session.new.doubt))) }
+    ensures kept { result ≡ Status.Good → IsTrue S.tells → (base : Table) → IsKept base (S.view session.old.store) (work_of session.old.history session.old.live session.old.doubt)
+        → IsKept base (S.view session.new.store) (work_of session.new.history session.new.live session.new.doubt) }
+    ensures ready { result ≡ Status.Good → IsReady (S.view session.new.store) (work_of session.new.history session.new.live session.new.doubt) }
+    ensures prefix { IsTrue S.tells → (base : Table) → IsKept base (S.view session.old.store) (work_of session.old.history session.old.live session.old.doubt)
+        → KeepsPrefix S.opens base (S.view session.old.store) (S.view session.new.store) (work_of session.old.history session.old.live session.old.doubt) (work_of session.new.history session.new.live session.new.doubt) }
+    ensures kind { IsOfLines result }
+    ensures write_fault { result ≡ Status.WriteFault → Rose (K.faults sink.old) (K.faults sink.new) }
+    ensures media_fault { result ≡ Status.MediaFault → Rose (S.view session.old.store).faults (S.view session.new.store).faults }
+    ensures stays { Stays (S.view session.old.store) (S.view session.new.store) }
+{
+    let mut out = Vec::new(alloc);
+    let mut rest = input;
+    let mut n: u64 = 1;
+    while let Some((line, after)) = next_line(rest) {
+        match answer_line(line, n, sink, session, &mut out) {
+            Ok(()) => {}
+            Err(status) => return status,
+        }
+        n += 1;
+        rest = after;
+    }
+    Status::Good
+}
+
+// Answers the `n`-th line. An error is the status that the run ends with.
+fn answer_line<K: Sink, S: EawStore>(
     bytes: &[u8],
     n: u64,
     sink: &mut K,
     session: &mut Session<S>,
     out: &mut Vec<u8>,
 ) -> Result<(), Status>
-    requires ready { IsReady (S.view session.old.store) session.old.live }
-    ensures ready { OnOk result (IsReady (S.view session.new.store) session.new.live) }
+    requires ready { IsReady (S.view session.old.store) (work_of session.old.history session.old.live session.old.doubt) }
+    ensures ready { OnOk result (IsReady (S.view session.new.store) (work_of session.new.history session.new.live session.new.doubt)) }
     ensures ok { OnOk result ((text : List ℕ) × (IsTrue K.tells → K.written sink.new ≡ K.written sink.old ++ text)
-        × (IsTrue S.tells → (base : Table) → IsKept base (S.view session.old.store) session.old.history session.old.live
-        → LineGives (limits_of (S.view session.old.store).shape) (state_over base session.old.history session.old.live) n bytes.now text (state_over base session.new.history session.new.live)
-        × IsKept base (S.view session.new.store) session.new.history session.new.live)) }
+        × (IsTrue S.tells → (base : Table) → IsKept base (S.view session.old.store) (work_of session.old.history session.old.live session.old.doubt)
+        → LineGives (limits_of (S.view session.old.store).shape) (state_over base (work_of session.old.history session.old.live session.old.doubt)) n bytes.now text (state_over base (work_of session.new.history session.new.live session.new.doubt))
+        × IsKept base (S.view session.new.store) (work_of session.new.history session.new.live session.new.doubt))) }
     ensures err { IfErr result (λ status. (cut : Bool) × (text : List ℕ) × (IsTrue K.tells → K.written sink.new ≡ K.written sink.old ++ text)
         × (IsTrue cut → Rose (K.faults sink.old) (K.faults sink.new))
-        × (IsTrue S.tells → (base : Table) → IsKept base (S.view session.old.store) session.old.history session.old.live
-        → Ends (limits_of (S.view session.old.store).shape) (state_over base session.old.history session.old.live) n bytes.now status cut text (state_over base session.new.history session.new.live))) }
+        × (IsTrue S.tells → (base : Table) → IsKept base (S.view session.old.store) (work_of session.old.history session.old.live session.old.doubt)
+        → Ends (limits_of (S.view session.old.store).shape) (state_over base (work_of session.old.history session.old.live session.old.doubt)) n bytes.now status cut text (state_over base (work_of session.new.history session.new.live session.new.doubt)))) }
+    ensures prefix { IsTrue S.tells → (base : Table) → IsKept base (S.view session.old.store) (work_of session.old.history session.old.live session.old.doubt)
+        → KeepsPrefix S.opens base (S.view session.old.store) (S.view session.new.store) (work_of session.old.history session.old.live session.old.doubt) (work_of session.new.history session.new.live session.new.doubt) }
     ensures write_fault { IsErrOf result Status.WriteFault → Rose (K.faults sink.old) (K.faults sink.new) }
     ensures media_fault { IsErrOf result Status.MediaFault → Rose (S.view session.old.store).faults (S.view session.new.store).faults }
     ensures kind { IfErr result IsEnding }
@@ -74,13 +113,15 @@ fn prepare<S: EawStore>(
     session: &mut Session<S>,
     out: &mut Vec<u8>,
 ) -> Result<(), Stop>
-    requires ready { IsReady (S.view session.old.store) session.old.live }
-    ensures ready { OnOk result (IsReady (S.view session.new.store) session.new.live) }
-    ensures ok { OnOk result (IsTrue S.tells → (base : Table) → IsKept base (S.view session.old.store) session.old.history session.old.live
-        → LineGives (limits_of (S.view session.old.store).shape) (state_over base session.old.history session.old.live) n bytes.now out.new.items (state_over base session.new.history session.new.live)
-        × IsKept base (S.view session.new.store) session.new.history session.new.live) }
-    ensures err { IfErr result (λ stop. IsTrue S.tells → (base : Table) → IsKept base (S.view session.old.store) session.old.history session.old.live
-        → Stops (limits_of (S.view session.old.store).shape) (state_over base session.old.history session.old.live) n bytes.now stop (state_over base session.new.history session.new.live)) }
+    requires ready { IsReady (S.view session.old.store) (work_of session.old.history session.old.live session.old.doubt) }
+    ensures ready { OnOk result (IsReady (S.view session.new.store) (work_of session.new.history session.new.live session.new.doubt)) }
+    ensures ok { OnOk result (IsTrue S.tells → (base : Table) → IsKept base (S.view session.old.store) (work_of session.old.history session.old.live session.old.doubt)
+        → LineGives (limits_of (S.view session.old.store).shape) (state_over base (work_of session.old.history session.old.live session.old.doubt)) n bytes.now out.new.items (state_over base (work_of session.new.history session.new.live session.new.doubt))
+        × IsKept base (S.view session.new.store) (work_of session.new.history session.new.live session.new.doubt)) }
+    ensures err { IfErr result (λ stop. IsTrue S.tells → (base : Table) → IsKept base (S.view session.old.store) (work_of session.old.history session.old.live session.old.doubt)
+        → Stops (limits_of (S.view session.old.store).shape) (state_over base (work_of session.old.history session.old.live session.old.doubt)) n bytes.now stop (state_over base (work_of session.new.history session.new.live session.new.doubt))) }
+    ensures prefix { IsTrue S.tells → (base : Table) → IsKept base (S.view session.old.store) (work_of session.old.history session.old.live session.old.doubt)
+        → KeepsPrefix S.opens base (S.view session.old.store) (S.view session.new.store) (work_of session.old.history session.old.live session.old.doubt) (work_of session.new.history session.new.live session.new.doubt) }
     ensures media { IfErr result (λ stop. WhereMedia stop (Rose (S.view session.old.store).faults (S.view session.new.store).faults)) }
     ensures stays { Stays (S.view session.old.store) (S.view session.new.store) }
 {

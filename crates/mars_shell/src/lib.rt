@@ -2,13 +2,12 @@
 #![tactic(auto)]
 
 mod answer;
+mod damage;
 mod fault;
 mod gate;
-mod input;
-mod lines;
 mod live;
-mod output;
 mod records;
+mod serve;
 mod session;
 mod status;
 mod whole;

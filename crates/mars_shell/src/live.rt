@@ -1,10 +1,10 @@
 // The granted calls of a transaction that runs, and what they have put.
-ghost use Rattle.std.specs.Prelude.{◌≡◌, ◌<◌, ◌↔◌, [], ◌∷◌, ◌++◌, List, ℕ, IsTrue, OnOk, OnErr};
+ghost use Rattle.std.specs.Prelude.{◌≡◌, [], ◌∷◌, ◌++◌, List, ℕ, OnOk, OnErr};
 ghost use Rattle.history.specs.declared.call.Call.{Call};
 ghost use Rattle.history.specs.declared.call.Call.TheVariants.{Get, Put};
 ghost use Rattle.history.specs.declared.call.Reply.{Reply};
 ghost use Rattle.history.specs.declared.call.Reply.TheVariants.{Fine};
-ghost use Rattle.mars_shell.specs.Session.{puts_of, entries_taken};
+ghost use Rattle.mars_shell.specs.Session.{puts_of};
 ghost use Rattle.mars_shell.specs.Live.{last_put};
 
 use counted::NoMemory;
@@ -87,13 +87,6 @@ impl Live {
         ensures { result ≡ last_put (puts_of self.now) key }
     {
         last_of(&self.puts, key)
-    }
-
-    /// Whether a call has put something.
-    pub fn has_puts(&self) -> bool
-        ensures { IsTrue result ↔ (0 < entries_taken self.now) }
-    {
-        !self.puts.is_empty()
     }
 
     /// The calls, and what they have put.

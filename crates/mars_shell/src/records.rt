@@ -1,8 +1,7 @@
 // The records of a store: the record of key k stands in slot k.
-ghost use Rattle.std.specs.Prelude.{◌≡◌, ◌≢◌, ◌<◌, Some, IsTrue, IfOk, IfErr, OnOk, IsErrOf, length};
-ghost use Rattle.array_shape.specs.Parts.{pieces_of};
-ghost use Rattle.eaw_face.specs.StoreView.{Stays, IsSame, Logs};
-ghost use Rattle.eaw_face.specs.Causes.{LogWriteCause, ReadCause};
+ghost use Rattle.std.specs.Prelude.{◌≡◌, ◌≢◌, ◌<◌, ◌≤◌, Some, IsTrue, IfOk, IfErr, length};
+ghost use Rattle.eaw_face.specs.Command.{log_write, read};
+ghost use Rattle.eaw_face.specs.Does.{Does};
 ghost use Rattle.record_slots.specs.Slots.{slot_said, slot_bytes};
 ghost use Rattle.record_slots.specs.declared.slot.Slot.TheVariants.{Present};
 ghost use Rattle.mars_shell.specs.Records.{slot_at, record_at, value_in};
@@ -17,7 +16,8 @@ pub const CALLER: u8 = 0;
 
 /// How many slots the record pages of an array have: half of the pages, with eight slots each.
 pub fn slot_count(shape: &Shape) -> u64
-    ensures { result ≡ slots_of shape.now }
+    ensures slots { result ≡ slots_of shape.now }
+    ensures bound { result ≤ 131072 }
 {
     4 * shape.page_count()
 }
@@ -33,32 +33,33 @@ fn slot_at(shape: &Shape, key: u64) -> u64
 /// Logs that this key has this value.
 pub fn put_record<S: EawStore>(store: &mut S, key: u64, value: Value) -> Result<(), EawFault>
     requires key { key < slots_of (S.view store.old).shape }
-    ensures cause { let at = slot_at (slots_of (S.view store.old).shape) key in LogWriteCause (S.view store.old) CALLER (pieces_of at (slot_bytes (Present key value))) (S.view store.new).faults result }
+    ensures does { let at = slot_at (slots_of (S.view store.old).shape) key in
+        Does S.tells (S.opens (S.view store.old).shape) (log_write CALLER at (slot_bytes (Present key value))) (S.view store.old) (S.view store.new) result }
     ensures said { slot_said (slot_bytes (Present key value)) ≡ Some (Present key value) }
     ensures size { length (slot_bytes (Present key value)) ≡ 64 }
-    ensures logs { OnOk result (Logs S.tells CALLER (slot_at (slots_of (S.view store.old).shape) key) (slot_bytes (Present key value)) (S.view store.old) (S.view store.new)) }
-    ensures refused { IfErr result (λ fault. fault ≢ EawFault.Media → IsSame S.tells (S.view store.old) (S.view store.new)) }
-    ensures stays { Stays (S.view store.old) (S.view store.new) }
+    ensures refused { IfErr result (λ fault. fault ≢ EawFault.Media → store.new ≡ store.old) }
 {
     let mut bytes = [0; SLOT_LEN];
     write_slot(&Slot::Present { key, value }, &mut bytes);
     let at = slot_at(&store.shape(), key);
-    store.log_write(CALLER, at, &bytes)?;
-    Ok(())
+    match store.log_write(CALLER, at, &bytes) {
+        Ok(_) => Ok(()),
+        Err(fault) => Err(fault),
+    }
 }
 
 /// The committed value of this key, read from its slot.
 pub fn read_record<S: EawStore>(store: &mut S, key: u64) -> Result<Option<Value>, EawFault>
     requires key { key < slots_of (S.view store.old).shape }
-    ensures cause { ReadCause (S.view store.old) (S.view store.new).faults result }
-    ensures value { IsTrue S.tells → IfOk result (λ found. found ≡ record_at (slots_of (S.view store.old).shape) (S.view store.old).bytes key) }
-    ensures same { (IfErr result (λ fault. fault ≢ EawFault.Media)) → IsSame S.tells (S.view store.old) (S.view store.new) }
-    ensures stays { Stays (S.view store.old) (S.view store.new) }
+    ensures does { Does S.tells (S.opens (S.view store.old).shape) read (S.view store.old) (S.view store.new) result }
+    ensures value { IsTrue S.tells → IfOk result (λ found. found ≡ record_at (slots_of (S.view store.old).shape) (S.view store.old).state.bytes key) }
 {
     let mut bytes = [0; SLOT_LEN];
     let at = slot_at(&store.shape(), key);
-    store.read(at, &mut bytes)?;
-    Ok(value_of(&bytes, key))
+    match store.read(at, &mut bytes) {
+        Ok(()) => Ok(value_of(&bytes, key)),
+        Err(fault) => Err(fault),
+    }
 }
 
 // The value of this key in what its slot says.

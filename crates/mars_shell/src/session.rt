@@ -1,11 +1,16 @@
 // One caller's session over a store: the history, and the transaction that runs.
-ghost use Rattle.std.specs.Prelude.{◌≡◌, ◌≢◌, ◌<◌, ◌↔◌, Err, IsTrue, IfOk, OnOk, OnErr, IsErrOf, length};
+ghost use Rattle.std.specs.Prelude.{◌≡◌, ◌<◌, ◌↔◌, Ok, IsTrue, IfOk, OnOk, OnErr, length};
 ghost use Rattle.counted.specs.Causes.{Rose};
-ghost use Rattle.eaw_face.specs.StoreView.{Stays, IsSame};
+ghost use Rattle.array_image.specs.Parts.{applied};
 ghost use Rattle.eaw_face.specs.Causes.{IsAlive};
+ghost use Rattle.eaw_face.specs.Command.{read};
+ghost use Rattle.eaw_face.specs.Does.{Does, IsEither};
+ghost use Rattle.eaw_face.specs.State.{listed};
+ghost use Rattle.eaw_face.specs.StoreView.{LeavesOnly, log_len};
 ghost use Rattle.history.specs.Table.{Table, found};
 ghost use Rattle.history.specs.declared.call.Call.TheVariants.{Begin, Get, Put, Commit};
-ghost use Rattle.mars_shell.specs.Kept.{IsReady, IsKept, Steps, Empties, FitsCall, slots_of};
+ghost use Rattle.mars_shell.specs.Called.{Called, KeepsPrefix};
+ghost use Rattle.mars_shell.specs.Kept.{IsReady, IsKept, Stays, Empties, FitsCall, slots_of, work_of};
 ghost use Rattle.mars_shell.specs.Live.{either, last_put};
 ghost use Rattle.mars_shell.specs.Records.{record_at};
 ghost use Rattle.mars_shell.specs.Session.{puts_of};
@@ -31,22 +36,20 @@ pub struct Session<S> {
     pub store: S,
     pub history: History,
     pub live: Option<Live>,
+    /// The transaction whose commit met a fault of the media: it may be there or not.
+    pub doubt: Option<Done>,
 }
 
 impl<S: EawStore> Session<S> {
-    /// Answers a call. At an error the history and the running transaction are as before.
+    /// Answers a call. Want of memory leaves all as it was; after a fault of the media no further call is answered.
     pub fn step(&mut self, call: &Call) -> Result<Reply, Fault>
-        requires ready { IsReady (S.view self.old.store) self.old.live }
+        requires ready { IsReady (S.view self.old.store) (work_of self.old.history self.old.live self.old.doubt) }
         requires fits { FitsCall (slots_of (S.view self.old.store).shape) call.now }
-        ensures steps { IsTrue S.tells → IfOk result (λ reply. (base : Table) → IsKept base (S.view self.old.store) self.old.history self.old.live
-            → Steps base (S.view self.old.store) (S.view self.new.store) self.old.history self.new.history self.old.live self.new.live call.now reply) }
-        ensures ready { result ≢ Err Fault.Media → IsReady (S.view self.new.store) self.new.live }
-        ensures kept { IsTrue S.tells → IsErrOf result Fault.NoMemory → (base : Table) → IsKept base (S.view self.old.store) self.old.history self.old.live
-            → IsKept base (S.view self.new.store) self.new.history self.new.live }
-        ensures history { OnErr result (self.new.history ≡ self.old.history) }
-        ensures live { OnErr result (self.new.live ≡ self.old.live) }
-        ensures media { IsErrOf result Fault.Media → Rose (S.view self.old.store).faults (S.view self.new.store).faults }
-        ensures stays { Stays (S.view self.old.store) (S.view self.new.store) }
+        ensures called { Called S.tells S.opens call.now (S.view self.old.store) (S.view self.new.store)
+            (work_of self.old.history self.old.live self.old.doubt) (work_of self.new.history self.new.live self.new.doubt) result }
+        ensures prefix { IsTrue S.tells → (base : Table) → IsKept base (S.view self.old.store) (work_of self.old.history self.old.live self.old.doubt)
+            → KeepsPrefix S.opens base (S.view self.old.store) (S.view self.new.store)
+            (work_of self.old.history self.old.live self.old.doubt) (work_of self.new.history self.new.live self.new.doubt) }
     {
         match call {
             Call::Begin => Ok(self.begin()),
@@ -57,11 +60,9 @@ impl<S: EawStore> Session<S> {
     }
 
     fn begin(&mut self) -> Reply
-        requires ready { IsReady (S.view self.old.store) self.old.live }
-        ensures steps { IsTrue S.tells → (base : Table) → IsKept base (S.view self.old.store) self.old.history self.old.live
-            → Steps base (S.view self.old.store) (S.view self.new.store) self.old.history self.new.history self.old.live self.new.live Begin result }
-        ensures ready { IsReady (S.view self.new.store) self.new.live }
-        ensures store { self.new.store ≡ self.old.store }
+        requires ready { IsReady (S.view self.old.store) (work_of self.old.history self.old.live self.old.doubt) }
+        ensures called { Called S.tells S.opens Begin (S.view self.old.store) (S.view self.new.store)
+            (work_of self.old.history self.old.live self.old.doubt) (work_of self.new.history self.new.live self.new.doubt) (Ok result) }
     {
         if self.live.is_some() {
             return Reply::Already;
@@ -71,17 +72,10 @@ impl<S: EawStore> Session<S> {
     }
 
     fn get(&mut self, key: u64) -> Result<Reply, Fault>
-        requires ready { IsReady (S.view self.old.store) self.old.live }
+        requires ready { IsReady (S.view self.old.store) (work_of self.old.history self.old.live self.old.doubt) }
         requires fits { key < slots_of (S.view self.old.store).shape }
-        ensures steps { IsTrue S.tells → IfOk result (λ reply. (base : Table) → IsKept base (S.view self.old.store) self.old.history self.old.live
-            → Steps base (S.view self.old.store) (S.view self.new.store) self.old.history self.new.history self.old.live self.new.live (Get key) reply) }
-        ensures ready { result ≢ Err Fault.Media → IsReady (S.view self.new.store) self.new.live }
-        ensures kept { IsTrue S.tells → IsErrOf result Fault.NoMemory → (base : Table) → IsKept base (S.view self.old.store) self.old.history self.old.live
-            → IsKept base (S.view self.new.store) self.new.history self.new.live }
-        ensures history { OnErr result (self.new.history ≡ self.old.history) }
-        ensures live { OnErr result (self.new.live ≡ self.old.live) }
-        ensures media { IsErrOf result Fault.Media → Rose (S.view self.old.store).faults (S.view self.new.store).faults }
-        ensures stays { Stays (S.view self.old.store) (S.view self.new.store) }
+        ensures called { Called S.tells S.opens (Get key) (S.view self.old.store) (S.view self.new.store)
+            (work_of self.old.history self.old.live self.old.doubt) (work_of self.new.history self.new.live self.new.doubt) result }
     {
         let Some(live) = &mut self.live else {
             return Ok(Reply::NoTransaction);
@@ -97,17 +91,10 @@ impl<S: EawStore> Session<S> {
     }
 
     fn put(&mut self, key: u64, value: Value) -> Result<Reply, Fault>
-        requires ready { IsReady (S.view self.old.store) self.old.live }
+        requires ready { IsReady (S.view self.old.store) (work_of self.old.history self.old.live self.old.doubt) }
         requires fits { key < slots_of (S.view self.old.store).shape }
-        ensures steps { IsTrue S.tells → IfOk result (λ reply. (base : Table) → IsKept base (S.view self.old.store) self.old.history self.old.live
-            → Steps base (S.view self.old.store) (S.view self.new.store) self.old.history self.new.history self.old.live self.new.live (Put key value) reply) }
-        ensures ready { result ≢ Err Fault.Media → IsReady (S.view self.new.store) self.new.live }
-        ensures kept { IsTrue S.tells → IsErrOf result Fault.NoMemory → (base : Table) → IsKept base (S.view self.old.store) self.old.history self.old.live
-            → IsKept base (S.view self.new.store) self.new.history self.new.live }
-        ensures history { OnErr result (self.new.history ≡ self.old.history) }
-        ensures live { OnErr result (self.new.live ≡ self.old.live) }
-        ensures media { IsErrOf result Fault.Media → Rose (S.view self.old.store).faults (S.view self.new.store).faults }
-        ensures stays { Stays (S.view self.old.store) (S.view self.new.store) }
+        ensures called { Called S.tells S.opens (Put key value) (S.view self.old.store) (S.view self.new.store)
+            (work_of self.old.history self.old.live self.old.doubt) (work_of self.new.history self.new.live self.new.doubt) result }
     {
         let Some(live) = &mut self.live else {
             return Ok(Reply::NoTransaction);
@@ -142,16 +129,9 @@ impl<S: EawStore> Session<S> {
     }
 
     fn commit(&mut self) -> Result<Reply, Fault>
-        requires ready { IsReady (S.view self.old.store) self.old.live }
-        ensures steps { IsTrue S.tells → IfOk result (λ reply. (base : Table) → IsKept base (S.view self.old.store) self.old.history self.old.live
-            → Steps base (S.view self.old.store) (S.view self.new.store) self.old.history self.new.history self.old.live self.new.live Commit reply) }
-        ensures ready { result ≢ Err Fault.Media → IsReady (S.view self.new.store) self.new.live }
-        ensures kept { IsTrue S.tells → IsErrOf result Fault.NoMemory → (base : Table) → IsKept base (S.view self.old.store) self.old.history self.old.live
-            → IsKept base (S.view self.new.store) self.new.history self.new.live }
-        ensures history { OnErr result (self.new.history ≡ self.old.history) }
-        ensures live { OnErr result (self.new.live ≡ self.old.live) }
-        ensures media { IsErrOf result Fault.Media → Rose (S.view self.old.store).faults (S.view self.new.store).faults }
-        ensures stays { Stays (S.view self.old.store) (S.view self.new.store) }
+        requires ready { IsReady (S.view self.old.store) (work_of self.old.history self.old.live self.old.doubt) }
+        ensures called { Called S.tells S.opens Commit (S.view self.old.store) (S.view self.new.store)
+            (work_of self.old.history self.old.live self.old.doubt) (work_of self.new.history self.new.live self.new.doubt) result }
     {
         let at = self.history.items().len() as u64 + 1;
         let Some(live) = self.live.take() else {
@@ -159,6 +139,7 @@ impl<S: EawStore> Session<S> {
         };
         let (calls, puts) = live.split();
         let has_puts = !puts.is_empty();
+        // The history takes the transaction first, so that nothing is committed for which it has no memory.
         match self.history.push(Done {
             caller: CALLER,
             calls,
@@ -173,9 +154,7 @@ impl<S: EawStore> Session<S> {
         match commit_log(&mut self.store, has_puts) {
             Ok(()) => Ok(Reply::Committed(at)),
             Err(_) => {
-                if let Some(done) = self.history.pop() {
-                    self.live = Some(Live::of(done.calls, puts));
-                }
+                self.doubt = self.history.pop();
                 Err(Fault::Media)
             }
         }
@@ -186,10 +165,8 @@ impl<S: EawStore> Session<S> {
 fn look<S: EawStore>(store: &mut S, live: &Live, key: u64) -> Result<Option<Value>, EawFault>
     requires alive { IsAlive (S.view store.old) }
     requires fits { key < slots_of (S.view store.old).shape }
-    ensures value { IsTrue S.tells → IfOk result (λ value. value ≡ either (last_put (puts_of live.now) key) (record_at (slots_of (S.view store.old).shape) (S.view store.old).bytes key)) }
-    ensures same { OnOk result (IsSame S.tells (S.view store.old) (S.view store.new)) }
-    ensures media { OnErr result (Rose (S.view store.old).faults (S.view store.new).faults) }
-    ensures stays { Stays (S.view store.old) (S.view store.new) }
+    ensures does { Does S.tells (S.opens (S.view store.old).shape) read (S.view store.old) (S.view store.new) result }
+    ensures value { IsTrue S.tells → IfOk result (λ value. value ≡ either (last_put (puts_of live.now) key) (record_at (slots_of (S.view store.old).shape) (S.view store.old).state.bytes key)) }
 {
     match live.last_put(key) {
         Some(value) => Ok(Some(value)),
@@ -200,11 +177,12 @@ fn look<S: EawStore>(store: &mut S, live: &Live, key: u64) -> Result<Option<Valu
 // Commits what the caller has logged, where it has logged something.
 fn commit_log<S: EawStore>(store: &mut S, has_parts: bool) -> Result<(), EawFault>
     requires alive { IsAlive (S.view store.old) }
-    requires parts { IsTrue has_parts ↔ (0 < length ((S.view store.old).logs CALLER)) }
-    requires held { length ((S.view store.old).logs CALLER) ≡ 0 → (S.view store.old).held CALLER 0 ≡ 0 }
+    requires parts { IsTrue has_parts ↔ (0 < log_len (S.view store.old) CALLER) }
+    ensures stays { Stays (S.view store.old) (S.view store.new) }
     ensures empties { OnOk result (Empties S.tells (S.view store.old) (S.view store.new)) }
     ensures media { OnErr result (Rose (S.view store.old).faults (S.view store.new).faults) }
-    ensures stays { Stays (S.view store.old) (S.view store.new) }
+    ensures time { IsTrue S.tells → LeavesOnly (IsEither (S.opens (S.view store.old).shape) (S.view store.old).state.bytes
+        (applied (listed ((S.view store.old).state.logs CALLER)) (S.view store.old).state.bytes)) (S.view store.old) (S.view store.new) }
 {
     if !has_parts {
         return Ok(());

@@ -1,6 +1,8 @@
 ghost use Rattle.std.specs.Prelude.{◌≡◌};
 ghost use Rattle.mars_shell.specs.Fault.{status_number};
 
+use array_shape::ShapeNumber;
+
 /// How a run ended.
 #[derive(Clone, Copy, Debug, PartialEq, Eq)]
 pub enum Status {
@@ -14,8 +16,15 @@ pub enum Status {
     WriteFault,
     MediaFault,
     NoMemory,
-    /// The media holds no array that can be opened.
+    /// A slot in this page of the data does not read, or carries a key that is not its own. It is the first such page.
+    Damaged { page: u32 },
+    /// This logger's row of this transaction number is decided, and names a cell that is not there or holds no part of
+    /// that logger.
+    BadRow { logger: u8, tid: u8 },
+    /// The media does not begin as an array does.
     NotMars,
+    /// A number in the header is out of its range, or the media has not the length that they give.
+    BadShape { which: ShapeNumber, given: u64 },
 }
 
 impl Status {
@@ -31,7 +40,10 @@ impl Status {
             Status::WriteFault => 5,
             Status::MediaFault => 6,
             Status::NoMemory => 7,
+            Status::Damaged { .. } => 8,
+            Status::BadRow { .. } => 8,
             Status::NotMars => 9,
+            Status::BadShape { .. } => 9,
         }
     }
 }

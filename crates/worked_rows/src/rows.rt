@@ -1,5 +1,5 @@
 // Scripts and their answers.
-use crate::runs::{FIRST, fresh, media_of, run_lines};
+use crate::runs::{FIRST, fresh, media_of, overwrite, run_lines};
 use mars_shell::Status;
 use pcm_media::MemoryMedia;
 use std::process::Abort;
@@ -66,16 +66,6 @@ fn scripts_are_answered(rt: HostRuntime) -> Result<(), Fail> {
         answers(&rt, fresh(alloc)?, script, text)?;
     }
     Ok(())
-}
-
-// Puts bytes at a place of an image.
-fn overwrite(image: &mut [u8], at: usize, bytes: &[u8]) {
-    for (i, byte) in bytes.iter().enumerate() {
-        let place = at.saturating_add(i);
-        if place < image.len() {
-            image[place] = *byte;
-        }
-    }
 }
 
 #[test]

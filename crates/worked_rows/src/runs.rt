@@ -1,4 +1,5 @@
 // How the tests make an image and run over it.
+use array_shape::Shape;
 use eaw_device::{first_shape, format};
 use mars_shell::{OpenGate, Status, run};
 use outside::{MemorySink, MemorySource};
@@ -38,13 +39,27 @@ pub fn media_of(alloc: Global, bytes: &[u8]) -> Result<MemoryMedia, Fail> {
     Ok(MemoryMedia::new(alloc, bytes, CALLS, WRITTEN)?)
 }
 
-/// A fresh array of the one shape there is.
-pub fn fresh(alloc: Global) -> Result<MemoryMedia, Fail> {
-    let shape = first_shape();
+/// A fresh array of this shape.
+pub fn fresh_of(alloc: Global, shape: &Shape) -> Result<MemoryMedia, Fail> {
     let zeros = vec![in alloc; 0; shape.media_len() as usize]?;
     let mut media = media_of(alloc, &zeros)?;
-    format(&mut media, &shape)?;
+    format(&mut media, shape)?;
     media_of(alloc, media.bytes())
+}
+
+/// A fresh array of one logger, 8 numbers, 16 entries and 256 pages.
+pub fn fresh(alloc: Global) -> Result<MemoryMedia, Fail> {
+    fresh_of(alloc, &first_shape())
+}
+
+/// Puts bytes at a place of an image.
+pub fn overwrite(image: &mut [u8], at: usize, bytes: &[u8]) {
+    for (i, byte) in bytes.iter().enumerate() {
+        let place = at.saturating_add(i);
+        if place < image.len() {
+            image[place] = *byte;
+        }
+    }
 }
 
 /// Runs these words over this input.

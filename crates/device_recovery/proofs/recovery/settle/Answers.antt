@@ -58,3 +58,6 @@ returns-clause-does g c =
     let long : length old.content.bytes ≡ media_len c.args.shape.now = g.met.M.Media.long c.args.media.now told ∙ c.requires.size in
     both_within c.args.shape.now old long (c.requires.sure told) (c.requires.good told) (m.view c.settle_data.new.media) (c.in_ok-settle_data.ensures.does.touched told) (c.in_ok-settle_data.ensures.applied told))
     data_done c.settle_votes.result c.settle_votes.ensures.does
+
+pub returns-clause-sure : goal.returns-clause-sure
+returns-clause-sure g c told = on_ok_weaker c.settle_votes.result (λ done. none_unsettled (g.M.Media.view c.settle_votes.new.media).content done.0) (c.settle_votes.ensures.cleared told)

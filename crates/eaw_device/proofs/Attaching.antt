@@ -1,0 +1,85 @@
+-- Why an opening was refused, and the header of what it leaves.
+use Rattle.std.proofs.Common.{◌≡◌, ℕ, ◌≤◌, Bool, List, [], Err, Result, refl, sym, ◌∙◌, subst, arith}
+use Rattle.std.specs.Prelude.{IsTrue, OnErr}
+use Rattle.counted.specs.Causes.{Rose}
+use Rattle.pcm_media.specs.Images.{Content, IsOutside, Touched}
+use Rattle.pcm_media.specs.View.{View}
+use Rattle.pcm_media.proofs.Left.{outside-both, same_bytes, touched_after_nothing}
+use Rattle.array_shape.specs.declared.shape.Shape.{Shape}
+use Rattle.array_shape.specs.Places.{media_len}
+use Rattle.row_bytes.specs.Header.{HasMark, SaysShape, IsBadIn}
+use Rattle.array_image.specs.Parts.{places_of}
+use Rattle.array_image.specs.Decided.{all_decided}
+use Rattle.array_image.proofs.Headers.{AreBehind, places_behind, header_stays}
+use Rattle.device_recovery.specs.declared.report.RecoverFault.{RecoverFault}
+use Rattle.device_recovery.specs.declared.report.RecoverFault.TheVariants as recovery
+use Rattle.device_recovery.specs.Recovered.{IsFirstBad, recovered_places, voted_places}
+use Rattle.device_recovery.specs.Recovered as recovered
+use Rattle.device_recovery.proofs.Clearing.{votes_away}
+use Rattle.eaw_device.specs.declared.fault.AttachFault.{AttachFault}
+use Rattle.eaw_device.specs.declared.fault.AttachFault.TheVariants.{NotMars, BadShape, BadRow, Media, NoMemory}
+use Rattle.eaw_device.specs.Opens.{header_of, AttachCause, AttachLeaves}
+use Rattle.eaw_device.specs.Attaching.{AllSay, recovery_fault}
+
+-- recovery writes behind the header alone
+recovered_behind : (shape : Shape) (image : List ℕ) → AreBehind (recovered_places shape image)
+recovered_behind shape image i lt =
+    outside-both (places_of shape (all_decided shape image)) (voted_places shape image) i (places_behind shape (all_decided shape image) i lt)
+    (votes_away shape image i (λ g t below below' so is. omega arith))
+
+-- so where all is sure behind it, each image left has the header that was read
+pub recovered_says : (shape : Shape) (old new : Content) → ((i : ℕ) → IsOutside new.unsettled i) → SaysShape (header_of old.bytes) shape → Touched (recovered_places shape old.bytes) old new → AllSay shape new
+recovered_says shape old new sure says touched image left =
+    let kept = header_stays (recovered_places shape old.bytes) old.bytes new.bytes (recovered_behind shape old.bytes) touched.bytes in
+    let read = header_stays new.unsettled new.bytes image (λ i lt. sure i) left in
+    subst (λ (h : List ℕ). SaysShape h shape) (sym (read ∙ kept)) says
+
+-- A step that wrote nothing, and a later one that was refused: the cause holds from the first one on.
+pub cause_on : (tells : Bool) (old mid : View) (faults : ℕ) (fault : AttachFault) → mid.size ≡ old.size → (IsTrue tells → Touched [] old.content mid.content) → old.faults ≤ mid.faults
+    → AttachCause tells mid faults fault → AttachCause tells old faults fault
+cause_on tells old mid faults NotMars size touched later cause = λ long told marked.
+    cause (subst (λ n. 512 ≤ n) (sym size) long) told (subst (λ b. HasMark (header_of b)) (sym (same_bytes old.content mid.content (touched told))) marked)
+cause_on tells old mid faults (BadShape bad) size touched later cause = (
+  subst (λ n. 512 ≤ n) size cause.0,
+  λ told.
+      let same = same_bytes old.content mid.content (touched told) in
+      (subst (λ b. HasMark (header_of b)) same (cause.1 told).0, subst (λ b. IsBadIn (header_of b) old.size bad.which bad.given) same (subst (λ n. IsBadIn (header_of mid.content.bytes) n bad.which bad.given) size (cause.1 told).1)),
+)
+cause_on tells old mid faults (BadRow g t) size touched later cause = λ told.
+    let same = same_bytes old.content mid.content (touched told) in
+    let found = cause told in
+    record {
+      shape = found.shape;
+      header = subst (λ b. SaysShape (header_of b) found.shape) same found.header;
+      sized = sym size ∙ found.sized;
+      bad = subst (λ b. IsFirstBad found.shape b g t) same found.bad;
+    }
+cause_on tells old mid faults Media size touched later cause = omega (arith, cause, later)
+cause_on tells old mid faults NoMemory size touched later cause = tt
+
+pub reading_leaves : (tells : Bool) (old new : View) (fault : AttachFault) → (IsTrue tells → Touched [] old.content new.content) → AttachLeaves tells old new fault
+reading_leaves tells old new NotMars touched = touched
+reading_leaves tells old new (BadShape bad) touched = touched
+reading_leaves tells old new (BadRow g t) touched = touched
+reading_leaves tells old new Media touched = tt
+reading_leaves tells old new NoMemory touched = touched
+
+pub leaves_on : (tells : Bool) (old mid new : View) (fault : AttachFault) → (IsTrue tells → Touched [] old.content mid.content) → AttachLeaves tells mid new fault → AttachLeaves tells old new fault
+leaves_on tells old mid new NotMars touched leaves = λ told. touched_after_nothing [] old.content mid.content new.content (touched told) (leaves told)
+leaves_on tells old mid new (BadShape bad) touched leaves = λ told. touched_after_nothing [] old.content mid.content new.content (touched told) (leaves told)
+leaves_on tells old mid new (BadRow g t) touched leaves = λ told. touched_after_nothing [] old.content mid.content new.content (touched told) (leaves told)
+leaves_on tells old mid new Media touched leaves = tt
+leaves_on tells old mid new NoMemory touched leaves = λ told. touched_after_nothing [] old.content mid.content new.content (touched told) (leaves told)
+
+-- what recovery says of its refusal
+module _ (tells : Bool) (shape : Shape) (old new : View) where
+  pub refusal_cause : (T : Type 0) (fault : RecoverFault) → old.size ≡ media_len shape → (IsTrue tells → SaysShape (header_of old.content.bytes) shape)
+      → (IsTrue tells → (g t : ℕ) → fault ≡ recovery.BadRow g t → IsFirstBad shape old.content.bytes g t)
+      → (let r : Result T RecoverFault = Err fault in OnErr (recovered.media_answer r) (Rose old.faults new.faults))
+      → AttachCause tells old new.faults (recovery_fault fault)
+  refusal_cause T (recovery.BadRow g t) size header bad rose = λ told. record { shape = shape; header = header told; sized = size; bad = bad told g t refl }
+  refusal_cause T recovery.Media size header bad rose = rose
+
+  pub refusal_leaves : (fault : RecoverFault) → (IsTrue tells → (g t : ℕ) → fault ≡ recovery.BadRow g t → Touched [] old.content new.content) → AttachLeaves tells old new (recovery_fault fault)
+  refusal_leaves (recovery.BadRow g t) unwritten = λ told. unwritten told g t refl
+  refusal_leaves recovery.Media unwritten = tt

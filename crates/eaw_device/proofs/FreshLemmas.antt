@@ -1,0 +1,110 @@
+-- Fresh pages and rows, one after another.
+use Rattle.std.proofs.Common.{◌≡◌, ℕ, zero, suc, ◌+◌, ◌-◌, ◌*◌, ◌<◌, ◌≤◌, inl, inr, List, [], ◌∷◌, length, get_or, refl, sym, ap, ◌∙◌, arith, replicate, below_more}
+use Rattle.std.proofs.lemmas.Bool.{cases_lt, cases_eq}
+use Rattle.std.proofs.lemmas.List.{ext_get_or, get_or-replicate, length-replicate}
+use Rattle.pcm_media.specs.Images.{put, range, SameOutside, IsOutside}
+use Rattle.pcm_media.proofs.Puts.{length-put, get_or-put_inside}
+use Rattle.pcm_media.proofs.Left.{same_outside-put}
+use Rattle.pcm_media.proofs.Ranges.{length-range, get_or-range, range_away, range-put}
+use Rattle.array_shape.specs.declared.shape.Shape.{Shape}
+use Rattle.array_shape.specs.Places.{media_len, row_at, data_at, page_count, data_len, place_of, logger_of, IsPlaced}
+use Rattle.array_shape.proofs.Apart.{row_end, data_end, region_end, region_fits, place_start, place_end, place_below, place_along}
+use Rattle.array_image.specs.Image.{data_of}
+use Rattle.array_image.proofs.Data.{length-data_of, data_put, data_away}
+use Rattle.eaw_device.specs.Fresh.{fresh_page, super_page, empty_index, behind_header, HasPages, HasRows, HasParts}
+
+-- pages of the same data
+pub same_pages : (shape : Shape) (n : ℕ) (old new : List ℕ) → data_of shape new ≡ data_of shape old → HasPages shape n old → HasPages shape n new
+same_pages shape n old new same have p lt = ap (λ (d : List ℕ). range d (512 * p) 512) same ∙ have p lt
+
+-- a write behind the header
+pub within : (shape : Shape) (at n i : ℕ) → 512 ≤ at → at + n ≤ media_len shape → IsOutside (behind_header shape) i → IsOutside ((at, n) ∷ []) i
+within shape at n i behind fits out = ((λ le lt. out.0 (omega arith) (omega arith)), tt)
+
+-- all of it and the header lie in the array
+pub whole : (shape : Shape) (i : ℕ) → IsOutside ((0, media_len shape) ∷ []) i → IsOutside (behind_header shape) i × IsOutside ((0, 512) ∷ []) i
+whole shape i out = (((λ le lt. out.0 (omega arith) (omega arith)), tt), ((λ le lt. out.0 (omega arith) (omega arith)), tt))
+
+pub other_page : (p : ℕ) → (p ≡ 0 → ⊥) → (p ≡ 1 → ⊥) → fresh_page p ≡ replicate 512 0
+other_page zero not_first not_second = absurd (not_first refl)
+other_page (suc zero) not_first not_second = absurd (not_second refl)
+other_page (suc (suc p)) not_first not_second = refl
+
+pub length-fresh_page : (p : ℕ) → length (fresh_page p) ≡ 512
+unfolding super_page empty_index
+length-fresh_page zero = refl
+length-fresh_page (suc zero) = refl
+length-fresh_page (suc (suc p)) = length-replicate {A = ℕ} 512 0
+
+module _ (shape : Shape) where
+  pub page_fits : (p : ℕ) → p < page_count shape → place_of shape (512 * p) + 512 ≤ media_len shape
+  page_fits p lt =
+      omega (arith, place_below shape (512 * p + 511) (omega arith), place_along shape (512 * p) 511 (omega arith))
+
+  pub rows_fit : (g : ℕ) → g < shape.loggers → row_at shape g 0 + 16 * shape.numbers ≤ media_len shape
+  rows_fit g lt = omega (arith, data_end shape g, region_fits shape g lt)
+
+module _ (shape : Shape) (image : List ℕ) (long : length image ≡ media_len shape) where
+  -- one page more
+  pub page_more : (p : ℕ) (page : List ℕ) → p < page_count shape → page ≡ fresh_page p → length page ≡ 512
+      → HasPages shape p image → HasPages shape (p + 1) (put image (place_of shape (512 * p)) page)
+  page_more p page lt is size have =
+      let placed : IsPlaced shape (512 * p) (length page) = record { some = omega (arith, size); page = omega (arith, size); inside = omega (arith, size) } in
+      let now : data_of shape (put image (place_of shape (512 * p)) page) ≡ put (data_of shape image) (512 * p) page = data_put shape image (512 * p) page long placed in
+      let fits : 512 * p + length page ≤ length (data_of shape image) = omega (arith, length-data_of shape image, size) in
+      below_more _ _
+      (λ q below.
+      ap (λ (d : List ℕ). range d (512 * q) 512) now
+      ∙ range_away _ (data_of shape image) (put (data_of shape image) (512 * p) page) (512 * q) 512 (same_outside-put (data_of shape image) (512 * p) page fits)
+      (λ i le past. ((λ le' past'. omega arith), tt))
+      ∙ have q below)
+      (ap (λ (d : List ℕ). range d (512 * p) 512) now ∙ range-put (data_of shape image) page (512 * p) 512 (sym size) fits ∙ is)
+
+  -- the rows of one logger are written with zeros
+  module _ (g : ℕ) (zeros : List ℕ) (there : g < shape.loggers) (is : zeros ≡ replicate (16 * shape.numbers) 0) where
+    size : length zeros ≡ 16 * shape.numbers
+    size = ap length is ∙ length-replicate {A = ℕ} (16 * shape.numbers) 0
+
+    fits : row_at shape g 0 + length zeros ≤ length image
+    fits = omega (arith, size, rows_fit shape g there, long)
+
+    row_zero : (t : ℕ) → t < shape.numbers → range (put image (row_at shape g 0) zeros) (row_at shape g t) 16 ≡ replicate 16 0
+    row_zero t lt =
+        let after = put image (row_at shape g 0) zeros in
+        let inside : row_at shape g t + 16 ≤ length after = omega (arith, length-put image (row_at shape g 0) zeros fits, size, fits, lt) in
+        ext_get_or 0 (range after (row_at shape g t) 16) (replicate 16 0) (length-range after (row_at shape g t) 16 inside ∙ sym (length-replicate {A = ℕ} 16 0))
+        (λ i below.
+        let small : i < 16 = omega (arith, length-range after (row_at shape g t) 16 inside) in
+        get_or-range after (row_at shape g t) 16 i small
+        ∙ get_or-put_inside image (row_at shape g 0) zeros fits (row_at shape g t + i) (omega arith) (omega (arith, size, lt))
+        ∙ ap (λ (l : List ℕ). get_or l (row_at shape g t + i - row_at shape g 0) 0) is
+        ∙ get_or-replicate (16 * shape.numbers) (row_at shape g t + i - row_at shape g 0) 0 0 (omega (arith, lt))
+        ∙ sym (get_or-replicate 16 i 0 0 small))
+
+    pub rows_more : HasRows shape g image → HasRows shape (g + 1) (put image (row_at shape g 0) zeros)
+    rows_more have h t below lt = elim (cases_eq h g) [
+      | inl same ↦ ap (λ (k : ℕ). range (put image (row_at shape g 0) zeros) (row_at shape k t) 16) same ∙ row_zero t lt
+      | inr other ↦
+          range_away _ image (put image (row_at shape g 0) zeros) (row_at shape h t) 16 (same_outside-put image (row_at shape g 0) zeros fits)
+          (λ i le past. ((λ le' past'. omega (arith, row_end shape h t lt, data_end shape h, region_end shape h g (omega arith))), tt))
+          ∙ have h t (omega arith) lt
+    ]
+
+    pub rows_apart : data_of shape (put image (row_at shape g 0) zeros) ≡ data_of shape image
+    rows_apart = data_away shape _ image (put image (row_at shape g 0) zeros) (same_outside-put image (row_at shape g 0) zeros fits) (λ addr lt. (away addr lt, tt))
+      where
+        away : (addr : ℕ) → addr < data_len shape → row_at shape g 0 ≤ place_of shape addr → place_of shape addr < row_at shape g 0 + length zeros → ⊥
+        away addr lt le past = elim (cases_lt (logger_of shape addr) g) [
+          | inl below ↦ omega (arith, place_end shape addr lt, region_end shape (logger_of shape addr) g below)
+          | inr from ↦ elim (cases_eq (logger_of shape addr) g) [
+            | inl same ↦ omega (arith, place_start shape addr, ap (data_at shape) same, size)
+            | inr other ↦ omega (arith, place_start shape addr, region_end shape g (logger_of shape addr) (omega arith), data_end shape g, size)
+          ]
+        ]
+
+-- the header lies before all rows and pages
+pub header_parts : (shape : Shape) (old new : List ℕ) → SameOutside ((0, 512) ∷ []) old new → HasParts shape old → HasParts shape new
+header_parts shape old new same have = record {
+  rows = λ g t lt small. range_away _ old new (row_at shape g t) 16 same (λ i le past. ((λ le' past'. omega arith), tt)) ∙ have.rows g t lt small;
+  pages = same_pages shape (page_count shape) old new (data_away shape _ old new same (λ addr lt. ((λ le past. omega (arith, place_start shape addr)), tt))) have.pages;
+}

@@ -1,0 +1,36 @@
+use Rattle.std.proofs.Common.{◌≡◌, ◌+◌, ◌*◌, ◌≤◌, ℕ, length, sym, ap, subst, ◌∙◌, arith}
+use Rattle.pcm_media.specs.Images.{put}
+use Rattle.pcm_media.proofs.Writing.{writes_on}
+use Rattle.array_shape.specs.Places.{media_len, place_of}
+use Rattle.eaw_device.specs.Fresh.{HasPages}
+use Rattle.eaw_device.proofs.Reading.{writes_failed}
+use Rattle.eaw_device.proofs.FreshLemmas.{within, length-fresh_page, page_fits, page_more}
+use Rattle.eaw_device.proofs.fresh.write_pages.Goals as goal
+
+fits : (at p n size : ℕ) → at ≡ p → n ≡ 512 → p + 512 ≤ size → at + n ≤ size
+fits at p n size is long le = omega arith
+
+pub returns-in_err-write-clause-does : goal.returns-in_err-write-clause-does
+returns-in_err-write-clause-does g c =
+    let shape = c.args.shape.now in
+    let long = ap length c.fresh_page.ensures ∙ length-fresh_page c.loop-page.page in
+    let inside = fits _ _ (length c.fresh_page.result) (media_len shape) c.byte_at.ensures long (page_fits shape c.loop-page.page (omega arith)) in
+    writes_failed _ _ _ _ _ _ c.from_residual.result c.in_err-write.was
+    (writes_on _ _ _ _ _ _ _ c.write.result (λ i out. within shape _ _ i (omega (arith, c.byte_at.ensures)) inside out) c.loop-page.invariant.does c.write.ensures.does)
+
+pub loop-page-preserved : goal.loop-page-preserved
+loop-page-preserved g c =
+    let shape = c.args.shape.now in
+    let m = g.M.Media in
+    let long = ap length c.fresh_page.ensures ∙ length-fresh_page c.loop-page.page in
+    let inside = fits _ _ (length c.fresh_page.result) (media_len shape) c.byte_at.ensures long (page_fits shape c.loop-page.page (omega arith)) in
+    record {
+      pages = λ told.
+          let before = (m.view c.loop-page.media).content.bytes in
+          let sized : length before ≡ media_len shape = g.met.M.Media.long c.loop-page.media told ∙ c.loop-page.invariant.does.size ∙ c.requires.size in
+          let now : (m.view c.write.new.self).content.bytes ≡ put before (place_of shape (512 * c.loop-page.page)) c.fresh_page.result =
+          ap (λ x. x.bytes) (c.in_ok-write.ensures.written told) ∙ ap (λ (at : ℕ). put before at c.fresh_page.result) c.byte_at.ensures in
+          subst (HasPages shape (c.loop-page.page + 1)) (sym now)
+          (page_more shape before sized c.loop-page.page c.fresh_page.result (omega arith) c.fresh_page.ensures long (c.loop-page.invariant.pages told));
+      does = writes_on _ _ _ _ _ _ _ _ (λ i out. within shape _ _ i (omega (arith, c.byte_at.ensures)) inside out) c.loop-page.invariant.does c.in_ok-write.ensures.does;
+    }

@@ -1,0 +1,69 @@
+-- What a fresh array holds.
+use Rattle.std.specs.Prelude.{ℕ, zero, suc, ◌*◌, ◌≡◌, ◌<◌, ◌⊎◌, List, [], ◌∷◌, ◌++◌, replicate, codes}
+use Rattle.byteorder.specs.Endian.{little_bytes}
+use Rattle.pcm_media.specs.Images.{Content, MayLeave, range}
+use Rattle.array_shape.specs.declared.shape.Shape.{Shape}
+use Rattle.array_shape.specs.Places.{row_at, page_count, region_len, media_len}
+use Rattle.array_shape.specs.declared.bad_shape.ShapeNumber.TheVariants.{MediaLength}
+use Rattle.row_bytes.specs.Header.{header_bytes}
+use Rattle.array_image.specs.Image.{data_of}
+use Rattle.eaw_device.specs.declared.fresh.FormatFault.{FormatFault}
+use Rattle.eaw_device.specs.declared.fresh.FormatFault.TheVariants.{BadShape, Media}
+use Rattle.eaw_device.specs.Opens.{header_of}
+
+-- the super page: its mark, the version 1, the form 0, no slot given and 2 the next page to give
+unfoldable pub super_page : List ℕ
+super_page = codes "MREC" ++ 1 ∷ 0 ∷ 0 ∷ 0 ∷ (little_bytes 4 0 ++ little_bytes 4 2 ++ replicate 496 0)
+
+-- an index page without pairs
+unfoldable pub empty_index : List ℕ
+empty_index = 1 ∷ replicate 511 0
+
+-- page 0 is the super page, page 1 the first index page, and all others are zero
+abbrev pub fresh_page : ℕ → List ℕ
+fresh_page zero = super_page
+fresh_page (suc zero) = empty_index
+fresh_page (suc (suc p)) = replicate 512 0
+
+-- the first n pages are as at first
+abbrev pub HasPages : Shape → ℕ → List ℕ → Type 0
+HasPages shape n bytes = (p : ℕ) → p < n → range (data_of shape bytes) (512 * p) 512 ≡ fresh_page p
+
+-- the rows of the first n loggers are zero
+abbrev pub HasRows : Shape → ℕ → List ℕ → Type 0
+HasRows shape n bytes = (g t : ℕ) → g < n → t < shape.numbers → range bytes (row_at shape g t) 16 ≡ replicate 16 0
+
+-- The header says the shape, each row is zero, each page is as at first, and all that is sure.
+pub record IsFresh (shape : Shape) (content : Content) : Type 0 where
+  pub settled : content.unsettled ≡ []
+  pub header : range content.bytes 0 512 ≡ header_bytes shape
+  pub rows : HasRows shape shape.loggers content.bytes
+  pub pages : HasPages shape (page_count shape) content.bytes
+
+-- a loss of power leaves what a read gives
+abbrev pub LeavesAsRead : Content → Type 0
+LeavesAsRead content = (image : List ℕ) → MayLeave content image → image ≡ content.bytes
+
+-- all of an array but its header
+abbrev pub behind_header : Shape → List (ℕ × ℕ)
+behind_header shape = (512, shape.loggers * region_len shape) ∷ []
+
+-- each row is zero, and each page is as at first
+pub record HasParts (shape : Shape) (image : List ℕ) : Type 0 where
+  pub rows : HasRows shape shape.loggers image
+  pub pages : HasPages shape (page_count shape) image
+
+-- the header is that of an image that could be left at first
+pub record HasOldHeader (content : Content) (image : List ℕ) : Type 0 where
+  pub earlier : List ℕ
+  pub left : MayLeave content earlier
+  pub same : header_of image ≡ header_of earlier
+
+-- while an array is formatted: the header is an old one, until all that lies behind it is fresh
+abbrev pub IsHalfFresh : Shape → Content → List ℕ → Type 0
+IsHalfFresh shape content image = HasOldHeader content image ⊎ HasParts shape image
+
+-- the media has another length than the shape, and that is told
+abbrev pub IsWrongLength : Shape → ℕ → FormatFault → Type 0
+IsWrongLength shape size (BadShape bad) = (bad.which ≡ MediaLength) × (bad.given ≡ size) × (size ≡ media_len shape → ⊥)
+IsWrongLength shape size Media = size ≡ media_len shape

@@ -1,0 +1,34 @@
+-- What an opening finds before there is a store.
+use Rattle.std.specs.Prelude.{ℕ, ◌≡◌, ◌≤◌, Bool, false, IsTrue, List, length, slice_get}
+use Rattle.std.specs.Option.{ForSome}
+use Rattle.pcm_media.specs.View.{View}
+use Rattle.array_shape.specs.declared.shape.Shape.{Shape}
+use Rattle.array_shape.specs.Places.{media_len}
+use Rattle.row_bytes.specs.Header.{SaysShape}
+use Rattle.array_image.specs.Image.{data_of}
+use Rattle.array_image.specs.Decided.{settled_data}
+use Rattle.device_recovery.specs.Recovered.{AllGood}
+use Rattle.eaw_device.specs.Opens.{header_of}
+use Rattle.eaw_device.specs.Sound.{IsSure}
+use Rattle.eaw_device.specs.Logs.{IsKept}
+use Rattle.eaw_device.specs.declared.log.Log.{Log}
+
+-- the log of a number that is free
+pub record IsFree (shape : Shape) (log : Log) : Type 0 where
+  pub kept : IsKept shape log
+  pub is_free : log.is_live ≡ false
+
+-- a log for each number, all of them free
+pub record AreFree (shape : Shape) (logs : List Log) : Type 0 where
+  pub many : length logs ≡ shape.numbers
+  pub free : (t : ℕ) → ForSome (slice_get logs t) (IsFree shape)
+
+-- From the media as it was to what it is now: the array of the shape that its header says, settled and sure.
+pub record Settled (tells : Bool) (old : View) (shape : Shape) (new : View) : Type 0 where
+  pub shape_is : IsTrue tells → SaysShape (header_of old.content.bytes) shape
+  pub sized : old.size ≡ media_len shape
+  pub size : new.size ≡ old.size
+  pub good : IsTrue tells → AllGood shape old.content.bytes shape.numbers
+  pub bytes : IsTrue tells → data_of shape new.content.bytes ≡ settled_data shape old.content.bytes
+  pub sure : IsTrue tells → IsSure shape new.content
+  pub later : old.faults ≤ new.faults

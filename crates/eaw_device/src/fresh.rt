@@ -1,0 +1,151 @@
+// What a fresh array is written as.
+ghost use Rattle.std.specs.Prelude.{◌≡◌, ◌≢◌, ◌≤◌, ◌<◌, ◌*◌, ◌↔◌, [], ◌∷◌, ℕ, Ok, IsTrue, IfErr, OnOk, IsErrOf, replicate};
+ghost use Rattle.counted.specs.Causes.{Rose};
+ghost use Rattle.pcm_media.specs.Images.{range};
+ghost use Rattle.pcm_media.specs.View.{Writes, LeavesOnly};
+ghost use Rattle.array_shape.specs.Places.{media_len, row_at, page_count};
+ghost use Rattle.array_image.specs.Image.{data_of};
+ghost use Rattle.eaw_device.specs.Attaching.{AllOpenWith};
+ghost use Rattle.eaw_device.specs.Fresh.{IsFresh, LeavesAsRead, IsHalfFresh, HasParts, HasPages, HasRows, behind_header, fresh_page, super_page, empty_index, IsWrongLength};
+
+use array_shape::{BadShape, Shape, ShapeNumber};
+use counted::Failed;
+use pcm_media::Media;
+use row_bytes::write_array_header;
+use thiserror::Error;
+
+/// Why a media was not formatted.
+#[derive(Clone, Copy, Debug, PartialEq, Eq, Error)]
+pub enum FormatFault {
+    /// Its length is not that of the shape. Nothing was written.
+    #[error("{0}")]
+    BadShape(BadShape),
+    #[error("the media failed")]
+    Media,
+}
+
+/// Writes a fresh array of this shape: rows and pages, and behind a barrier the header. Where it is broken off, the header is
+/// an old one, or all behind it is fresh. The cells are left as they are.
+pub fn format<M: Media>(media: &mut M, shape: &Shape) -> Result<(), FormatFault>
+    // Whatever a loss of power leaves then is the fresh array, and opens.
+    ensures fresh { IsTrue M.tells → OnOk result (IsFresh shape.now (M.view media.new).content) }
+    ensures sure { IsTrue M.tells → OnOk result (LeavesAsRead (M.view media.new).content) }
+    ensures opens { IsTrue M.tells → OnOk result (AllOpenWith shape.now (M.view media.new).content (data_of shape.now (M.view media.new).content.bytes)) }
+    ensures any_moment { IsTrue M.tells → LeavesOnly (IsHalfFresh shape.now (M.view media.old).content) (M.view media.old) (M.view media.new) }
+    ensures sized { OnOk result ((M.view media.old).size ≡ media_len shape.now) }
+    ensures bad_shape { IfErr result (IsWrongLength shape.now (M.view media.old).size) }
+    ensures untouched { IfErr result (λ fault. fault ≢ FormatFault.Media → media.new ≡ media.old) }
+    ensures media { IsErrOf result FormatFault.Media → Rose (M.view media.old).faults (M.view media.new).faults }
+    ensures size { (M.view media.new).size ≡ (M.view media.old).size }
+    ensures later { (M.view media.old).faults ≤ (M.view media.new).faults }
+{
+    let given = media.len();
+    if given != shape.media_len() {
+        return Err(FormatFault::BadShape(BadShape {
+            which: ShapeNumber::MediaLength,
+            given,
+        }));
+    }
+    match write_array(media, shape) {
+        Ok(()) => Ok(()),
+        Err(_) => Err(FormatFault::Media),
+    }
+}
+
+fn write_array<M: Media>(media: &mut M, shape: &Shape) -> Result<(), Failed>
+    requires size { (M.view media.old).size ≡ media_len shape.now }
+    ensures fresh { IsTrue M.tells → OnOk result (IsFresh shape.now (M.view media.new).content) }
+    ensures any_moment { IsTrue M.tells → LeavesOnly (IsHalfFresh shape.now (M.view media.old).content) (M.view media.old) (M.view media.new) }
+    ensures does { Writes M.tells ((0, media_len shape.now) ∷ []) (M.view media.old) (M.view media.new) result }
+{
+    write_parts(media, shape)?;
+    write_header(media, shape)
+}
+
+// All but the header, and makes it sure.
+fn write_parts<M: Media>(media: &mut M, shape: &Shape) -> Result<(), Failed>
+    requires size { (M.view media.old).size ≡ media_len shape.now }
+    ensures parts { IsTrue M.tells → OnOk result (HasParts shape.now (M.view media.new).content.bytes) }
+    ensures sure { IsTrue M.tells → OnOk result ((M.view media.new).content.unsettled ≡ []) }
+    ensures does { Writes M.tells (behind_header shape.now) (M.view media.old) (M.view media.new) result }
+{
+    write_pages(media, shape)?;
+    clear_rows(media, shape)?;
+    media.barrier()
+}
+
+// The header of what is sure to be a fresh array otherwise.
+fn write_header<M: Media>(media: &mut M, shape: &Shape) -> Result<(), Failed>
+    requires size { (M.view media.old).size ≡ media_len shape.now }
+    requires parts { IsTrue M.tells → HasParts shape.now (M.view media.old).content.bytes }
+    requires sure { IsTrue M.tells → (M.view media.old).content.unsettled ≡ [] }
+    ensures fresh { IsTrue M.tells → OnOk result (IsFresh shape.now (M.view media.new).content) }
+    ensures any_moment { IsTrue M.tells → LeavesOnly (HasParts shape.now) (M.view media.old) (M.view media.new) }
+    ensures does { Writes M.tells ((0, 512) ∷ []) (M.view media.old) (M.view media.new) result }
+{
+    let mut header = [0; 512];
+    write_array_header(shape, &mut header);
+    media.write(0, &header)?;
+    media.barrier()
+}
+
+fn write_pages<M: Media>(media: &mut M, shape: &Shape) -> Result<(), Failed>
+    requires size { (M.view media.old).size ≡ media_len shape.now }
+    ensures pages { IsTrue M.tells → OnOk result (HasPages shape.now (page_count shape.now) (M.view media.new).content.bytes) }
+    ensures does { Writes M.tells (behind_header shape.now) (M.view media.old) (M.view media.new) result }
+{
+    for page in 0..shape.page_count() {
+        media.write(shape.byte_at(512 * page), &fresh_page(page))?;
+    }
+    Ok(())
+}
+
+fn clear_rows<M: Media>(media: &mut M, shape: &Shape) -> Result<(), Failed>
+    requires size { (M.view media.old).size ≡ media_len shape.now }
+    ensures rows { IsTrue M.tells → OnOk result (HasRows shape.now shape.now.loggers (M.view media.new).content.bytes) }
+    ensures pages { IsTrue M.tells → OnOk result (data_of shape.now (M.view media.new).content.bytes ≡ data_of shape.now (M.view media.old).content.bytes) }
+    ensures does { Writes M.tells (behind_header shape.now) (M.view media.old) (M.view media.new) result }
+{
+    let zeros = [0; 1024];
+    fill_rows(media, shape, &zeros[..16 * usize::from(shape.numbers)])
+}
+
+// The rows of a logger stand beside each other, and are written at once.
+fn fill_rows<M: Media>(media: &mut M, shape: &Shape, zeros: &[u8]) -> Result<(), Failed>
+    requires size { (M.view media.old).size ≡ media_len shape.now }
+    requires zeros { zeros.now ≡ replicate (16 * shape.now.numbers) 0 }
+    ensures rows { IsTrue M.tells → OnOk result (HasRows shape.now shape.now.loggers (M.view media.new).content.bytes) }
+    ensures pages { IsTrue M.tells → OnOk result (data_of shape.now (M.view media.new).content.bytes ≡ data_of shape.now (M.view media.old).content.bytes) }
+    ensures does { Writes M.tells (behind_header shape.now) (M.view media.old) (M.view media.new) result }
+{
+    for logger in 0..shape.loggers {
+        media.write(shape.row_at(logger, 0), zeros)?;
+    }
+    Ok(())
+}
+
+fn fresh_page(page: u64) -> [u8; 512]
+    ensures { result ≡ fresh_page page }
+{
+    match page {
+        0 => super_page(),
+        1 => empty_index(),
+        _ => [0; 512],
+    }
+}
+
+fn super_page() -> [u8; 512]
+    ensures { result ≡ super_page }
+{
+    let mut bytes = [0; 512];
+    bytes[..16].copy_from_slice(b"MREC\x01\0\0\0\0\0\0\0\x02\0\0\0");
+    bytes
+}
+
+fn empty_index() -> [u8; 512]
+    ensures { result ≡ empty_index }
+{
+    let mut bytes = [0; 512];
+    bytes[0] = 1;
+    bytes
+}

@@ -1,0 +1,45 @@
+// An opening: the header, memory for the tables, recovery.
+ghost use Rattle.std.specs.Prelude.{◌≡◌, ◌≤◌, IsTrue, IfOk, IfErr};
+ghost use Rattle.eaw_device.specs.Opens.{AttachCause, AttachLeaves, KeepsData};
+ghost use Rattle.eaw_device.specs.Opening.{AreFree, Settled};
+
+use crate::attach::{read_header, settle};
+use crate::fault::AttachFault;
+use crate::log::Log;
+use array_shape::Shape;
+use counted::NoMemory;
+use pcm_media::Media;
+use std::alloc::Global;
+
+/// Makes of the media the settled array that it holds, and gives its shape and a free log for each number.
+pub(crate) fn open_array<M: Media>(
+    alloc: Global,
+    media: &mut M,
+) -> Result<(Shape, Vec<Log>), AttachFault>
+    ensures settled { IfOk result (λ opened. Settled M.tells (M.view media.old) opened.0 (M.view media.new)) }
+    ensures free { IfOk result (λ opened. AreFree opened.0 opened.1.items) }
+    ensures cause { IfErr result (AttachCause M.tells (M.view media.old) (M.view media.new).faults) }
+    ensures unwritten { IfErr result (AttachLeaves M.tells (M.view media.old) (M.view media.new)) }
+    ensures keeps { KeepsData M.tells (M.view media.old) (M.view media.new).moment (M.view media.new).left_since }
+    ensures later { (M.view media.old).faults ≤ (M.view media.new).faults }
+{
+    let shape = read_header(media)?;
+    let logs = match free_logs(alloc, &shape) {
+        Ok(logs) => logs,
+        Err(_) => return Err(AttachFault::NoMemory),
+    };
+    match settle(media, &shape) {
+        Ok(()) => Ok((shape, logs)),
+        Err(fault) => Err(fault),
+    }
+}
+
+fn free_logs(alloc: Global, shape: &Shape) -> Result<Vec<Log>, NoMemory>
+    ensures { IfOk result (λ logs. AreFree shape.now logs.items) }
+{
+    let mut logs = Vec::with_capacity(alloc, usize::from(shape.numbers))?;
+    for _ in 0..shape.numbers {
+        logs.push(Log::new(alloc, shape)?)?;
+    }
+    Ok(logs)
+}

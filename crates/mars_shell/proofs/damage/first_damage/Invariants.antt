@@ -1,0 +1,18 @@
+use Rattle.std.proofs.Common.{ℕ, ◌*◌, ◌<◌, Result, Ok, IsTrue}
+use Rattle.eaw_face.specs.Command.{read}
+use Rattle.eaw_face.specs.Does.{Does}
+use Rattle.eaw_face.specs.declared.fault.EawFault.{EawFault}
+use Rattle.mars_shell.specs.Kept.{slots_of}
+use Rattle.mars_shell.specs.Records.{IsSoundSlot}
+use Rattle.mars_shell.proofs.damage.first_damage.Given as goal
+
+-- the store was read alone, and each slot before this page is sound
+abbrev pub invariant-loop-nth : goal.invariant-loop-nth
+invariant-loop-nth g l =
+    let s = g.S.EawStore in
+    let first = s.view l.fn.store in
+    let so_far : Result (Unit {0}) EawFault = Ok tt in
+    record {
+      does : Does s.tells (s.opens first.shape) read first (s.view l.store) so_far;
+      sound : IsTrue s.tells → (k : ℕ) → k < 8 * l.nth → IsSoundSlot (slots_of first.shape) first.state.bytes k;
+    }

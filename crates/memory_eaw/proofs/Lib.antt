@@ -1,0 +1,12 @@
+pub mod Lists
+pub mod Versions
+pub mod Parts
+pub mod Pushing
+pub mod Views
+pub mod Sound
+pub mod Stopping
+pub mod Time
+pub mod Doing
+pub mod Room
+pub mod Counting
+pub mod Commands

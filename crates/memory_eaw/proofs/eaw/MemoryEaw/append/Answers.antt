@@ -1,0 +1,20 @@
+use Rattle.std.proofs.Common.{◌≡◌, ◌<◌, length, sym, ap, subst, arith}
+use Rattle.memory_eaw.specs.Log.{Log, IsSoundLog}
+use Rattle.memory_eaw.specs.Shown.{plain_of}
+use Rattle.memory_eaw.proofs.Sound.{sound_set, sound_read, sound_appended}
+use Rattle.memory_eaw.proofs.Views.{log_is}
+use Rattle.memory_eaw.proofs.eaw.MemoryEaw.append.Goals as goal
+
+pub invariant_of-self : goal.invariant_of-self
+invariant_of-self c =
+    let self = c.args.self.now in
+    let log = c.index_mut-log.result.now in
+    let lt : c.args.tid < length self.logs.items = omega (arith, self.sound.numbers) in
+    let at : c.from.result < length self.logs.items = omega (arith, c.from.ensures) in
+    let is = log_is self.logs.items c.args.tid c.from.result log lt c.from.ensures c.index_mut-log.ensures.value in
+    let sound = sound_read self.shape self.logs.items c.from.result log self.sound.logs at c.index_mut-log.ensures.value in
+    record {
+      sound = sound_set (plain_of self) self.sound c.from.result c.append.new.self
+          (subst (IsSoundLog self.shape) (sym c.append.ensures)
+          (sound_appended self.shape log sound c.args.addr c.args.bytes.now c.requires.inside (rw (← is) at c.requires.room)));
+    }

@@ -1,0 +1,31 @@
+use Rattle.std.proofs.Common.{◌<◌, List, length, sym, ◌∙◌, ap, arith}
+use Rattle.array_image.specs.Parts.{ranges_of}
+use Rattle.eaw_face.specs.State.{range_at, part_at}
+use Rattle.memory_eaw.specs.Log.{Log}
+use Rattle.memory_eaw.specs.Plain.{Plain}
+use Rattle.memory_eaw.specs.Shown.{plain_of}
+use Rattle.memory_eaw.specs.Steps.{log_at}
+use Rattle.memory_eaw.proofs.Doing.{log_len_is, ranges_is, parts_is}
+use Rattle.memory_eaw.proofs.eaw.MemoryEawEawStore.log_read.Goals as goal
+
+pub read_part-requires-clause-pos : goal.read_part-requires-clause-pos
+read_part-requires-clause-pos c =
+    let self = c.args.self.now in
+    let known = c.in_ok-check_live.ensures.live.1 in
+    omega (arith, c.requires known, log_len_is (plain_of self) self.sound c.args.tid known.small, ap (λ (p : Plain). length (log_at p.logs c.args.tid).parts) c.in_ok-call.ensures.done.1)
+
+pub returns-clause-part : goal.returns-clause-part
+returns-clause-part c =
+    let self = c.args.self.now in
+    let known = c.in_ok-check_live.ensures.live.1 in
+    c.read_part.ensures.range
+    ∙ ap (λ (p : Plain). range_at (ranges_of (log_at p.logs c.args.tid).parts) c.args.pos) c.in_ok-call.ensures.done.1
+    ∙ sym (ap (λ rs. range_at rs c.args.pos) (ranges_is (plain_of self) self.sound c.args.tid known.small))
+
+pub returns-clause-bytes : goal.returns-clause-bytes
+returns-clause-bytes c =
+    let self = c.args.self.now in
+    let known = c.in_ok-check_live.ensures.live.1 in
+    c.read_part.ensures.bytes
+    ∙ ap (λ (p : Plain). (part_at (log_at p.logs c.args.tid).parts c.args.pos).1) c.in_ok-call.ensures.done.1
+    ∙ sym (ap (λ ps. (part_at ps c.args.pos).1) (parts_is (plain_of self) self.sound c.args.tid known.small))

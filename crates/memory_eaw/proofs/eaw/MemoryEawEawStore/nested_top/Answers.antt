@@ -1,0 +1,53 @@
+use Rattle.std.proofs.Common.{◌≡◌, refl, ◌∙◌, ap, length, drop, arith}
+use Rattle.std.proofs.lemmas.List.{length-drop}
+use Rattle.std.proofs.lemmas.Result.{err_from_is_err_and}
+use Rattle.eaw_face.specs.Command.{nested_top}
+use Rattle.memory_eaw.specs.Plain.{Plain}
+use Rattle.memory_eaw.specs.Shown.{plain_of}
+use Rattle.memory_eaw.specs.Steps.{log_at}
+use Rattle.memory_eaw.proofs.Stopping.{counts_failed}
+use Rattle.memory_eaw.proofs.Doing.{log_len_is}
+use Rattle.memory_eaw.proofs.Commands.{does_nested, moment_stays, counts_nested}
+use Rattle.memory_eaw.proofs.eaw.MemoryEawEawStore.nested_top.Goals as goal
+
+pub commit_from-requires-clause-offset : goal.commit_from-requires-clause-offset
+commit_from-requires-clause-offset c =
+    let self = c.args.self.now in
+    omega (arith, c.requires, log_len_is (plain_of self) self.sound c.args.tid c.in_ok-check_live.ensures.live.1.small)
+
+pub returns-in_err-commit_from-clause-idle : goal.returns-in_err-commit_from-clause-idle
+returns-in_err-commit_from-clause-idle c =
+    let self = c.args.self.now in
+    λ none. absurd (omega (arith, none, c.in_err-commit_from.ensures.failed.1, log_len_is (plain_of self) self.sound c.args.tid c.in_ok-check_live.ensures.live.1.small))
+
+pub returns-in_err-commit_from-clause-calls : goal.returns-in_err-commit_from-clause-calls
+returns-in_err-commit_from-clause-calls c =
+    let self = c.args.self.now in
+    let known = c.in_ok-check_live.ensures.live.1 in
+    let failed = c.in_err-commit_from.ensures.failed in
+    let p = err_from_is_err_and c.from_residual-in_err-commit_from.result c.from_residual-in_err-commit_from.ensures.1 in
+    rw (p.1, p.2) (counts_failed (Unit {0}) (plain_of self) (nested_top c.args.tid c.args.offset)
+    (record { alive = c.in_ok-check_live.ensures.live.0; knows = known; room = tt; work = omega (arith, failed.1, log_len_is (plain_of self) self.sound c.args.tid known.small) })
+    (plain_of c.commit_from.new.self) _ failed.0 failed.3 failed.2)
+
+pub returns-clause-does : goal.returns-clause-does
+returns-clause-does c =
+    let self = c.args.self.now in
+    let known = c.in_ok-check_live.ensures.live.1 in
+    does_nested (plain_of self) self.sound c.args.tid known.small c.in_ok-check_live.ensures.live.0 (plain_of c.truncate.new.self) known (drop c.args.offset (log_at self.logs.items c.args.tid).parts) (plain_of c.commit_from.new.self) c.in_ok-commit_from.ensures.done.1
+    c.args.offset refl c.truncate.ensures
+
+pub returns-clause-idle : goal.returns-clause-idle
+returns-clause-idle c =
+    let self = c.args.self.now in
+    let known = c.in_ok-check_live.ensures.live.1 in
+    λ none. ap (λ (p : Plain). p.kept.moment) c.truncate.ensures
+    ∙ moment_stays (plain_of self) self.sound c.args.tid known.small c.in_ok-check_live.ensures.live.0 (plain_of c.truncate.new.self) known (drop c.args.offset (log_at self.logs.items c.args.tid).parts) (plain_of c.commit_from.new.self) c.in_ok-commit_from.ensures.done.1
+    (omega (arith, none, length-drop c.args.offset (log_at self.logs.items c.args.tid).parts, log_len_is (plain_of self) self.sound c.args.tid known.small))
+
+pub returns-clause-calls : goal.returns-clause-calls
+returns-clause-calls c =
+    let self = c.args.self.now in
+    let known = c.in_ok-check_live.ensures.live.1 in
+    counts_nested (plain_of self) self.sound c.args.tid known.small c.in_ok-check_live.ensures.live.0 known c.truncate.new.self.journal c.args.offset c.in_ok-commit_from.ensures.done.0
+    (ap (λ (p : Plain). p.kept) c.truncate.ensures ∙ ap (λ (p : Plain). p.kept) c.in_ok-commit_from.ensures.done.1)

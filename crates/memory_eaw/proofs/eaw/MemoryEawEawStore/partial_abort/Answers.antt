@@ -1,0 +1,9 @@
+use Rattle.memory_eaw.specs.Shown.{plain_of}
+use Rattle.memory_eaw.proofs.Commands.{does_cut}
+use Rattle.memory_eaw.proofs.eaw.MemoryEawEawStore.partial_abort.Goals as goal
+
+pub returns-clause-does : goal.returns-clause-does
+returns-clause-does c =
+    let self = c.args.self.now in
+    let known = c.in_ok-check_live.ensures.live.1 in
+    does_cut (plain_of self) self.sound c.args.tid known.small c.in_ok-check_live.ensures.live.0 (plain_of c.truncate.new.self) known c.args.offset c.truncate.ensures

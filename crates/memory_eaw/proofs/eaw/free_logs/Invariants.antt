@@ -1,0 +1,5 @@
+use Rattle.std.proofs.Common.{◌≡◌, false, [], replicate}
+use Rattle.memory_eaw.proofs.eaw.free_logs.Given as goal
+
+abbrev pub invariant-loop-number : goal.invariant-loop-number
+invariant-loop-number l = l.logs.items ≡ replicate l._number (record { is_live = false; parts = []; room = l.room })

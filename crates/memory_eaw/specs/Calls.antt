@@ -1,0 +1,57 @@
+-- Which calls are counted, which of them fail, and what is kept of them.
+use Rattle.std.specs.Prelude.{ℕ, ◌≡◌, ◌<◌, ◌↔◌, Bool, true, false, if◌then◌else◌, List, Result, Ok, Err, IsErrOf}
+use Rattle.eaw_face.specs.StoreView.{StoreView, log_len}
+use Rattle.eaw_face.specs.Command.{Command, log_write, log_edit, commit, abort, nested_top, partial_abort, atomic_write, log_read, read}
+use Rattle.eaw_face.specs.Causes.{IsAlive, Knows, HasRoom}
+use Rattle.eaw_face.specs.declared.fault.EawFault.{EawFault}
+use Rattle.eaw_face.specs.declared.fault.EawFault.TheVariants.{Media}
+use Rattle.memory_eaw.specs.Kept.{Kept, MustFail, MustFailChange, failed, called, changed}
+
+-- a commit has parts to commit; an abort needs no call at all
+abbrev pub HasWork : StoreView → Command → Type 0
+HasWork store (log_write t addr bytes) = Unit {0}
+HasWork store (log_edit t pos at bytes) = Unit {0}
+HasWork store (commit t) = 0 < log_len store t
+HasWork store (abort t) = ⊥
+HasWork store (nested_top t offset) = offset < log_len store t
+HasWork store (partial_abort t offset) = ⊥
+HasWork store (atomic_write t addr bytes) = Unit {0}
+HasWork store (log_read t) = Unit {0}
+HasWork store read = Unit {0}
+
+-- A call of this command is counted: it is not refused, and there is work for it.
+pub record IsCounted (store : StoreView) (command : Command) : Type 0 where
+  pub alive : IsAlive store
+  pub knows : Knows store command
+  pub room : HasRoom store command
+  pub work : HasWork store command
+
+-- the commands that change the data
+abbrev pub is_change : Command → Bool
+is_change (log_write t addr bytes) = false
+is_change (log_edit t pos at bytes) = false
+is_change (commit t) = true
+is_change (abort t) = false
+is_change (nested_top t offset) = true
+is_change (partial_abort t offset) = false
+is_change (atomic_write t addr bytes) = true
+is_change (log_read t) = false
+is_change read = false
+
+-- the next call fails, where it changes data or not
+abbrev pub FailsAs : Bool → Kept → Type 0
+FailsAs true kept = MustFailChange kept
+FailsAs false kept = MustFail kept
+
+-- what is kept behind a counted call that answered this; the data before it was this
+abbrev pub kept_after : {T : Type 0} → Bool → Result T EawFault → List ℕ → Kept → Kept
+kept_after true (Ok answer) bytes kept = changed bytes kept
+kept_after false (Ok answer) bytes kept = called kept
+kept_after true (Err fault) bytes kept = failed kept
+kept_after false (Err fault) bytes kept = failed kept
+
+-- A call of this command fails exactly where it is counted and is to fail. A counted call is kept; another leaves all as it was.
+pub record Counts {T : Type 0} (command : Command) (store : StoreView) (old new : Kept) (result : Result T EawFault) : Type 0 where
+  pub fails : IsErrOf result Media ↔ (IsCounted store command × FailsAs (is_change command) old)
+  pub counted : IsCounted store command → new ≡ kept_after (is_change command) result store.state.bytes old
+  pub uncounted : (IsCounted store command → ⊥) → new ≡ old

@@ -1,0 +1,14 @@
+-- A store in memory that was just made.
+use Rattle.std.specs.Prelude.{ℕ, ◌≡◌, false, List, None}
+use Rattle.array_shape.specs.declared.shape.Shape.{Shape}
+use Rattle.eaw_face.specs.StoreView.{StoreView}
+
+-- It has this shape and data, no number is live, nothing has failed, and a loss of power leaves this data alone.
+pub record IsFresh (shape : Shape) (bytes : List ℕ) (store : StoreView) : Type 0 where
+  pub shape_is : store.shape ≡ shape
+  pub bytes_are : store.state.bytes ≡ bytes
+  pub free : (t : ℕ) → store.ranges t ≡ None
+  pub alive : store.is_dead ≡ false
+  pub no_fault : store.faults ≡ 0
+  pub first : store.moment ≡ 0
+  pub left : (t : ℕ) (image : List ℕ) → store.left_since t image → image ≡ bytes

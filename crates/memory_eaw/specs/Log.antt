@@ -1,0 +1,38 @@
+-- What one number has logged.
+use Rattle.std.specs.Prelude.{ℕ, zero, suc, ◌≡◌, ◌*◌, ◌≤◌, Bool, false, if◌then◌else◌, List, [], ◌∷◌, length, Option, Some, None, All}
+use Rattle.std.specs.Option.{option_map}
+use Rattle.array_shape.specs.declared.shape.Shape.{Shape}
+use Rattle.array_shape.specs.Places.{IsPlaced}
+use Rattle.array_image.specs.Parts.{Part, ranges_of}
+use Rattle.eaw_face.specs.State.{Logs}
+
+-- whether the number is live; its parts, in the order in which they were logged; and for how many there is room
+pub record Log : Type 0 where
+  pub is_live : Bool
+  pub parts : List (ℕ × List ℕ)
+  pub room : ℕ
+
+-- a part lies within one page of the data
+abbrev pub IsPiece : Shape → Part → Type 0
+IsPiece shape part = IsPlaced shape part.0 (length part.1)
+
+-- A number that is not live has nothing logged. There is room for as many parts as the loggers have entries of a number.
+pub record IsSoundLog (shape : Shape) (log : Log) : Type 0 where
+  pub idle : log.is_live ≡ false → log.parts ≡ []
+  pub few : length log.parts ≤ shape.loggers * shape.entries
+  pub room : shape.loggers * shape.entries ≤ log.room
+  pub placed : All (IsPiece shape) log.parts
+
+-- what it has logged, as the model says it
+abbrev pub log_of : Log → Option (List Part)
+log_of log = if log.is_live then Some log.parts else None
+
+-- the same of each number
+abbrev pub logged : List Log → Logs Part
+logged [] t = None
+logged (log ∷ logs) zero = log_of log
+logged (log ∷ logs) (suc t) = logged logs t
+
+-- where the logged parts lie
+abbrev pub outline : Logs Part → Logs (ℕ × ℕ)
+outline logs t = option_map ranges_of (logs t)

@@ -1,0 +1,48 @@
+-- What the steps of a command make of a store in memory, and why they stop.
+use Rattle.std.specs.Prelude.{ℕ, ◌≡◌, ◌⊎◌, Bool, true, false, List, [], ◌∷◌, get_or, slice_set}
+use Rattle.pcm_media.specs.Images.{put}
+use Rattle.array_image.specs.Parts.{Part, applied}
+use Rattle.eaw_face.specs.StoreView.{StoreView}
+use Rattle.eaw_face.specs.Causes.{IsAlive, IsFirstFull}
+use Rattle.eaw_face.specs.declared.fault.EawFault.{EawFault}
+use Rattle.eaw_face.specs.declared.fault.EawFault.TheVariants.{UnknownTid, LogFull, Media, Dead}
+use Rattle.memory_eaw.specs.Kept.{Kept, failed, called, changed}
+use Rattle.memory_eaw.specs.Log.{Log}
+use Rattle.memory_eaw.specs.Plain.{Plain}
+
+-- the log of a number
+abbrev pub log_at : List Log → ℕ → Log
+log_at logs t = get_or logs t (record { is_live = false; parts = []; room = 0 })
+
+-- number t is live now or not, and has logged these parts
+abbrev pub relogged : ℕ → Bool → List Part → Plain → Plain
+relogged t is_live parts plain = record plain { logs = slice_set plain.logs t (record { is_live = is_live; parts = parts; room = (log_at plain.logs t).room }) }
+
+-- a call was made that changes no data
+abbrev pub called_plain : Plain → Plain
+called_plain plain = record plain { kept = called plain.kept }
+
+-- a call changed the data to this
+abbrev pub changed_plain : List ℕ → Plain → Plain
+changed_plain bytes plain = record plain { bytes = bytes; kept = changed plain.bytes plain.kept }
+
+-- a call failed
+abbrev pub failed_plain : Plain → Plain
+failed_plain plain = record plain { kept = failed plain.kept; is_dead = true }
+
+-- these parts were committed; without any no call was made
+abbrev pub committed : List Part → Plain → Plain
+committed [] plain = plain
+committed (p ∷ ps) plain = changed_plain (applied (p ∷ ps) plain.bytes) plain
+
+-- the store is dead, or what is to be known of a number is not so
+abbrev pub IsUnknown : StoreView → Type 0 → ℕ → EawFault → Type 0
+IsUnknown store Known t fault = ((fault ≡ Dead) × (store.is_dead ≡ true)) ⊎ ((fault ≡ UnknownTid t) × IsAlive store × (Known → ⊥))
+
+-- behind these parts a logger has no room for its share of those
+pub record IsFullBy (store : StoreView) (held needed : List (ℕ × ℕ)) (fault : EawFault) : Type 0 where
+  pub g : ℕ
+  pub h : ℕ
+  pub n : ℕ
+  pub fault_is : fault ≡ LogFull g h n
+  pub first : IsFirstFull store held needed g h n

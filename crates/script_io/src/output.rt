@@ -1,0 +1,33 @@
+ghost use Rattle.std.specs.Prelude.{Bool, ◌≡◌, ◌≤◌, List, ℕ, ◌++◌, OnOk, OnErr, IsTrue};
+ghost use Rattle.counted.specs.Causes.{Rose, HasCause};
+ghost use Rattle.script_io.specs.Written.{IsCut, IsWritten};
+
+use counted::Failed;
+use outside::Sink;
+
+/// Writes the whole piece.
+pub fn write_whole<K: Sink>(sink: &mut K, piece: &[u8]) -> Result<(), Failed>
+    ensures whole { OnOk result (IsTrue K.tells → K.written sink.new ≡ K.written sink.old ++ piece.now) }
+    ensures part { OnErr result ((part : List ℕ) × IsCut part piece.now × (IsTrue K.tells → K.written sink.new ≡ K.written sink.old ++ part)) }
+    ensures cause { HasCause (K.faults sink.old) (K.faults sink.new) result }
+{
+    let mut rest = piece;
+    while !rest.is_empty() {
+        let count = sink.write(rest)?;
+        rest = &rest[count..];
+    }
+    Ok(())
+}
+
+/// Writes as much of the piece as the sink takes.
+pub fn write_front<K: Sink>(sink: &mut K, piece: &[u8])
+    ensures front { (cut : Bool) × (part : List ℕ) × IsWritten cut part piece.now
+        × (IsTrue cut → Rose (K.faults sink.old) (K.faults sink.new))
+        × (IsTrue K.tells → K.written sink.new ≡ K.written sink.old ++ part) }
+    ensures later { K.faults sink.old ≤ K.faults sink.new }
+{
+    match write_whole(sink, piece) {
+        Ok(()) => {}
+        Err(_) => {}
+    }
+}
