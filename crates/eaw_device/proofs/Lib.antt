@@ -17,3 +17,5 @@ pub mod Commits
 pub mod Writes
 pub mod Atomic
 pub mod OpenedLemmas
+pub mod Looks
+pub mod Edits

@@ -1,0 +1,84 @@
+use Rattle.std.proofs.Common.{◌≡◌, ◌∙◌, ℕ, List, length, take, drop, sym, ap, arith}
+use Rattle.array_shape.specs.declared.shape.Shape.{Shape}
+use Rattle.array_shape.specs.Places.{logger_of}
+use Rattle.array_image.specs.Parts.{Part}
+use Rattle.array_image.specs.Image.{cell_of, cell_head}
+use Rattle.eaw_face.specs.State.{range_at, part_at}
+use Rattle.eaw_device.specs.Logs.{parts_in}
+use Rattle.eaw_device.proofs.Doing.{found}
+use Rattle.eaw_device.proofs.Tables.{parts_there}
+use Rattle.eaw_device.proofs.Looks.{look_len, look_range, look_kept, entry_range, entry_part, entry_inside, entry_page, read_sound, log_read_done, log_read_failed}
+use Rattle.eaw_device.proofs.Edits.{range_at-ranges_of, take_part}
+use Rattle.eaw_device.proofs.device.EawEawStore.log_read.Goals as goal
+
+pub index-entry-requires : goal.index-entry-requires
+index-entry-requires g c =
+    let m = g.M.Media in
+    let s = c.args.self.now in
+    let len = look_len m.tells (m.view s.media) s.shape s.logs.items s.is_dead s.sound c.args.tid c.in_ok-at.at c.index.result.now c.in_ok-at.ensures.live.small c.in_ok-at.ensures.at c.index.ensures in
+    omega (arith, c.requires c.in_ok-at.ensures.live, c.index.result.now.entries.ok.0, len)
+
+pub place-requires : goal.place-requires
+place-requires g c =
+    let m = g.M.Media in
+    let s = c.args.self.now in
+    let len = look_len m.tells (m.view s.media) s.shape s.logs.items s.is_dead s.sound c.args.tid c.in_ok-at.at c.index.result.now c.in_ok-at.ensures.live.small c.in_ok-at.ensures.at c.index.ensures in
+    let kept = look_kept m.tells (m.view s.media) s.shape s.logs.items s.is_dead s.sound c.args.tid c.in_ok-at.at c.index.result.now c.in_ok-at.ensures.live.small c.in_ok-at.ensures.at c.index.ensures in
+    let page = entry_page s.shape s.sound.shaped c.index.result.now kept c.args.pos c.index-entry.result.now (omega (arith, c.requires c.in_ok-at.ensures.live, len)) c.index-entry.ensures in
+    omega (arith, page.inside, page.some)
+
+pub read_entry-requires-clause-entry : goal.read_entry-requires-clause-entry
+read_entry-requires-clause-entry g c =
+    let m = g.M.Media in
+    let s = c.args.self.now in
+    let len = look_len m.tells (m.view s.media) s.shape s.logs.items s.is_dead s.sound c.args.tid c.in_ok-at.at c.index.result.now c.in_ok-at.ensures.live.small c.in_ok-at.ensures.at c.index.ensures in
+    let kept = look_kept m.tells (m.view s.media) s.shape s.logs.items s.is_dead s.sound c.args.tid c.in_ok-at.at c.index.result.now c.in_ok-at.ensures.live.small c.in_ok-at.ensures.at c.index.ensures in
+    let inside = entry_inside s.shape s.sound.shaped c.index.result.now kept c.args.pos c.index-entry.result.now (omega (arith, c.requires c.in_ok-at.ensures.live, len)) c.index-entry.ensures in
+    omega (arith, inside, ap (λ (shape : Shape). shape.entries) c.new-logger.ensures.shape)
+
+pub invariant_of-self : goal.invariant_of-self
+invariant_of-self g c =
+    let m = g.M.Media in
+    let s = c.args.self.now in
+    record { sound = read_sound m.tells (m.view s.media) (m.view c.read_entry.new.media) s.shape s.logs.items s.is_dead s.sound c.in_ok-at.ensures.alive _ c.in-Ok.ensures.does (λ told. g.met.M.Media.long s.media told ∙ s.sound.sized) }
+
+pub returns-in-Ok-clause-does : goal.returns-in-Ok-clause-does
+returns-in-Ok-clause-does g c =
+    let m = g.M.Media in
+    let s = c.args.self.now in
+    log_read_done m.tells (m.view s.media) (m.view c.read_entry.new.media) s.shape s.logs.items s.is_dead s.sound c.in_ok-at.ensures.alive _ c.in-Ok.ensures.does (λ told. g.met.M.Media.long s.media told ∙ s.sound.sized)
+    c.args.tid c.in_ok-at.ensures.live (c.index-entry.result.now.addr, c.index-entry.result.now.len)
+
+pub returns-in-Ok-clause-part : goal.returns-in-Ok-clause-part
+returns-in-Ok-clause-part g c =
+    let m = g.M.Media in
+    let s = c.args.self.now in
+    let len = look_len m.tells (m.view s.media) s.shape s.logs.items s.is_dead s.sound c.args.tid c.in_ok-at.at c.index.result.now c.in_ok-at.ensures.live.small c.in_ok-at.ensures.at c.index.ensures in
+    look_range m.tells (m.view s.media) s.shape s.logs.items s.is_dead s.sound c.args.tid c.in_ok-at.at c.index.result.now c.in_ok-at.ensures.live.small c.in_ok-at.ensures.at c.index.ensures c.args.pos c.index-entry.result.now
+    (omega (arith, c.requires c.in_ok-at.ensures.live, len)) c.index-entry.ensures
+
+pub returns-in-Ok-clause-bytes : goal.returns-in-Ok-clause-bytes
+returns-in-Ok-clause-bytes g c = λ told.
+    let m = g.M.Media in
+    let s = c.args.self.now in
+    let image = (m.view s.media).content.bytes in
+    let e = c.index-entry.result.now in
+    let there = found m.tells (m.view s.media) s.shape s.logs.items s.is_dead s.sound c.in_ok-at.ensures.alive c.args.tid c.in_ok-at.at c.index.result.now c.in_ok-at.ensures.at c.in_ok-at.ensures.live c.index.ensures in
+    let len = look_len m.tells (m.view s.media) s.shape s.logs.items s.is_dead s.sound c.args.tid c.in_ok-at.at c.index.result.now c.in_ok-at.ensures.live.small c.in_ok-at.ensures.at c.index.ensures in
+    let items = c.index.result.now.entries.items in
+    let number : c.new-logger.result.number ≡ logger_of s.shape e.addr = c.new-logger.ensures.number ∙ c.place.ensures.logger in
+    let cell = cell_of s.shape image (logger_of s.shape e.addr) c.args.tid e.cell in
+    let part = entry_part s.shape image c.args.tid items c.args.pos e (omega (arith, c.requires c.in_ok-at.ensures.live, len)) c.index-entry.ensures in
+    let range = entry_range items c.args.pos e (omega (arith, c.requires c.in_ok-at.ensures.live, len)) c.index-entry.ensures ∙ ap (λ (rs : List (ℕ × ℕ)). range_at rs c.args.pos) (sym (there.held told).heads)
+    ∙ range_at-ranges_of (parts_in s.shape image c.args.tid items) c.args.pos in
+    let many : e.len ≡ length (take (cell_head cell).len (drop 16 cell)) = ap (λ (r : ℕ × ℕ). r.1) range ∙ ap (λ (p : Part). length p.1) part in
+    ap (take e.len) (c.in-Ok.ensures.bytes told ∙ (λ i. drop 16 (cell_of (c.new-logger.ensures.shape i) image (number i) c.args.tid e.cell)))
+    ∙ take_part e.len (cell_head cell).len (drop 16 cell) many
+    ∙ ap (λ (p : Part). p.1) (sym part ∙ ap (λ (ps : List Part). part_at ps c.args.pos) (sym (parts_there s.shape s.logs.items c.args.tid c.index.result.now there.there there.kept image)))
+
+pub returns-in-Err-clause-does : goal.returns-in-Err-clause-does
+returns-in-Err-clause-does g c =
+    let m = g.M.Media in
+    let s = c.args.self.now in
+    log_read_failed m.tells (m.view s.media) (m.view c.read_entry.new.media) s.shape s.logs.items s.is_dead s.sound c.in_ok-at.ensures.alive _ c.in-Err.ensures.does (λ told. g.met.M.Media.long s.media told ∙ s.sound.sized)
+    c.args.tid c.in_ok-at.ensures.live c.in-Err.ensures.does.cause.failed
