@@ -2,6 +2,7 @@
 use Rattle.std.specs.Prelude.{ℕ, ◌≡◌, ◌≤◌, Bool, false, IsTrue, List, take, Result, Ok, Err, IfOk, OnErr}
 use Rattle.counted.specs.Causes.{Rose}
 use Rattle.counted.specs.declared.Failed.{Failed}
+use Rattle.eaw_face.specs.State.{State}
 use Rattle.eaw_face.specs.StoreView.{StoreView, LeavesOnly}
 use Rattle.eaw_face.specs.Does.{IsEither}
 use Rattle.eaw_face.specs.declared.fault.EawFault.{EawFault}
@@ -45,8 +46,14 @@ refusal_of (LogFull g h n) = Ok (outcome.LogFull g h n)
 refusal_of Media = Err (record {})
 refusal_of Dead = Err (record {})
 
+-- the state that a command made: the one that there is now, and where the media failed the one that it was to make
+abbrev pub made_by : State → State → ℕ → Command → Result Outcome Failed → State
+made_by old new t command (Ok out) = new
+made_by old new t command (Err failed) = done_by t command old
+
 -- Number t's command on a store, of which an image that a loss of power leaves is opened so. Its outcome is the model's answer,
--- with what stands in the block; an error comes only where the media failed, in a command that passed each test.
+-- with what stands in the block; an error comes only where the media failed, in a command that passed each test. Whichever it
+-- is, each image that a loss of power might have left anew opens with the data before the command or the data that it made.
 pub record Performed (tells : Bool) (Opens : List ℕ → List ℕ → Type 0) (old new : StoreView) (t : ℕ) (command : Command) (block : List ℕ) (result : Result Outcome Failed) : Type 0 where
   pub shape : new.shape ≡ old.shape
   pub later : old.faults ≤ new.faults
@@ -55,4 +62,4 @@ pub record Performed (tells : Bool) (Opens : List ℕ → List ℕ → Type 0) (
   pub answers : IsTrue tells → IfOk result (λ out. AnswersWith old.shape (old.ranges t) old.state t command (answer_in block out) new.state)
   pub rose : OnErr result (Rose old.faults new.faults)
   pub fails : OnErr result (Passes old.shape (old.ranges t) command × MayFail command)
-  pub time : IsTrue tells → LeavesOnly (IsEither Opens old.state.bytes (done_by t command old.state).bytes) old new
+  pub time : IsTrue tells → LeavesOnly (IsEither Opens old.state.bytes (made_by old.state new.state t command result).bytes) old new
