@@ -7,14 +7,14 @@ use Rattle.array_shape.specs.declared.shape.Shape.{Shape}
 use Rattle.eaw_face.specs.State.{State}
 use Rattle.eaw_face.specs.StoreView.{StoreView, LeavesOnly}
 use Rattle.eaw_face.specs.Does.{IsEither}
-use Rattle.script_text.specs.Eaw.{Command, IsCommand}
+use Rattle.script_text.specs.Eaw.{Command, log_write, commit, abort, nested, partial, atomic, edit_log, read_log, read, log_len, held}
 use Rattle.script_text.specs.EawLines.{Meaning, told, bad, Means, ShowsCall, SaysEaw}
 use Rattle.script_text.specs.EawReplies.{answer_line}
 use Rattle.script_text.specs.Replies.{bad_line}
 use Rattle.script_text.specs.declared.eaw_call.EawCall.{EawCall}
 use Rattle.script_text.specs.declared.eaw_line.EawLine.TheVariants.{Told, Bad}
 use Rattle.eaw_script.specs.Tests.{Log, log_of}
-use Rattle.eaw_script.specs.Answers.{AnswersWith, Answers, Passes, MayFail, done_by}
+use Rattle.eaw_script.specs.Answers.{AnswersWith, Passes, answer_to, done_by}
 use Rattle.eaw_script.specs.Transcript.{Gives, LineGives, LineFails}
 use Rattle.eaw_script.specs.Along.{IsAlong, OpensAlong}
 use Rattle.eaw_script.specs.Performed.{Performed, answer_in}
@@ -38,11 +38,25 @@ left_none P store = record { later = omega arith; keeps = λ t image le was. was
 
 -- what is left anew has another property too
 pub left_as : {P Q : List ℕ → Type 0} (old new : StoreView) → ((image : List ℕ) → P image → Q image) → LeavesOnly P old new → LeavesOnly Q old new
-left_as old new as leaves = record {
+left_as old new turn leaves = record {
   later = leaves.later;
   keeps = leaves.keeps;
-  only = λ t image le left. elim (leaves.only t image le left) [ inl was ↦ inl was | inr p ↦ inr (as image p) ];
+  only = λ t image le left. elim (leaves.only t image le left) [ inl was ↦ inl was | inr p ↦ inr (turn image p) ];
 }
+
+-- a command that passes each test may be done, and is answered so
+passes_answers : (shape : Shape) (log : Log) (old : State) (t : ℕ) (command : Command) → Passes shape log command → AnswersWith shape log old t command (answer_to shape log old t command) (done_by t command old)
+passes_answers shape log old t (log_write addr bytes) passes = record { passes = passes; answer_is = refl; state = refl }
+passes_answers shape log old t commit passes = record { passes = passes; answer_is = refl; state = refl }
+passes_answers shape log old t abort passes = record { passes = passes; answer_is = refl; state = refl }
+passes_answers shape log old t (nested offset) passes = record { passes = passes; answer_is = refl; state = refl }
+passes_answers shape log old t (partial offset) passes = record { passes = passes; answer_is = refl; state = refl }
+passes_answers shape log old t (atomic addr bytes) passes = record { passes = passes; answer_is = refl; state = refl }
+passes_answers shape log old t (edit_log pos at bytes) passes = record { passes = passes; answer_is = refl; state = refl }
+passes_answers shape log old t (read_log pos) passes = record { passes = passes; answer_is = refl; state = refl }
+passes_answers shape log old t (read addr len) passes = record { passes = passes; answer_is = refl; state = refl }
+passes_answers shape log old t log_len passes = record { passes = passes; answer_is = refl; state = refl }
+passes_answers shape log old t (held logger) passes = record { passes = passes; answer_is = refl; state = refl }
 
 module _ (tells : Bool) (Opens : List ℕ → List ℕ → Type 0) (old new : StoreView) (n : ℕ) (bytes : List ℕ) where
   -- the data before a line, or that which it leaves
@@ -57,9 +71,7 @@ module _ (tells : Bool) (Opens : List ℕ → List ℕ → Type 0) (old new : St
     line_gives out did tell = (
       told t command,
       means,
-      answer_in block out,
-      subst (λ (log : Log). AnswersWith old.shape log old.state t command (answer_in block out) new.state) (outline tell) (did.answers tell),
-      refl,
+      (answer_in block out, subst (λ (log : Log). AnswersWith old.shape log old.state t command (answer_in block out) new.state) (outline tell) (did.answers tell), refl),
     )
 
     line_time : (out : Outcome) → Performed tells Opens old new t command block (Ok out) → IsTrue tells → LeavesOnly (OpensAlong Opens old.shape old.state n (bytes ∷ [])) old new
@@ -83,7 +95,18 @@ module _ (tells : Bool) (Opens : List ℕ → List ℕ → Type 0) (old new : St
       time = line_time out did;
     }
 
-    -- the media failed
+    -- the media failed; what the command was to make is along the line too
+    line_done : IsTrue tells → Passes old.shape (old.ranges t) command → LineGives old.shape old.state n bytes (answer_line t (answer_to old.shape (log_of old.state t) old.state t command)) (done_by t command old.state)
+    line_done tell passes = (
+      told t command,
+      means,
+      (
+        answer_to old.shape (log_of old.state t) old.state t command,
+        passes_answers old.shape (log_of old.state t) old.state t command (subst (λ (log : Log). Passes old.shape log command) (outline tell) passes),
+        refl,
+      ),
+    )
+
     line_fails : (e : Failed) → Performed tells Opens old new t command block (Err e) → IsTrue tells → LineFails old.shape old.state bytes t (done_by t command old.state).bytes
     line_fails e did tell = (command, means, subst (λ (log : Log). Passes old.shape log command) (outline tell) did.fails.0, did.fails.1, refl)
 
@@ -92,5 +115,5 @@ module _ (tells : Bool) (Opens : List ℕ → List ℕ → Type 0) (old new : St
       shape = did.shape;
       later = did.later;
       comes = (did.rose, λ tell. (_, line_fails e did tell, did.time tell));
-      time = λ tell. ?;
+      time = λ tell. left_as old new (along_line _ (done_by t command old.state) (line_done tell did.fails.0)) (did.time tell);
     }
