@@ -64,6 +64,14 @@ module _ (shape : Shape) where
   along_first old n line lines bytes (inl is) = inl is
   along_first old n line lines bytes (inr first) = inr (first.0, first.1, first.2, subst (λ (b : List ℕ). IsAlong shape first.0 (n + 1) lines b) (sym first.3) (along_none first.0 (n + 1) lines))
 
+  pub along_here : (old : State) (n : ℕ) (all : List (List ℕ)) (line : List ℕ) (lines : List (List ℕ)) (bytes : List ℕ) → all ≡ line ∷ lines → IsAlong shape old n (line ∷ []) bytes → IsAlong shape old n all bytes
+  along_here old n all line lines bytes is along = subst (λ ls. IsAlong shape old n ls bytes) (sym is) (along_first old n line lines bytes along)
+
+  -- and that along the lines behind the first
+  pub along_more : (old : State) (n : ℕ) (all : List (List ℕ)) (line : List ℕ) (lines : List (List ℕ)) (text : List ℕ) (mid : State) (bytes : List ℕ)
+      → all ≡ line ∷ lines → LineGives shape old n line text mid → IsAlong shape mid (n + 1) lines bytes → IsAlong shape old n all bytes
+  along_more old n all line lines text mid bytes is gives along = subst (λ ls. IsAlong shape old n ls bytes) (sym is) (inr (mid, text, gives, along))
+
   pub Answered-end : (old : State) (n : ℕ) (all : List (List ℕ)) (line : List ℕ) (lines : List (List ℕ)) (ended : Ended) (cut : Bool) (text : List ℕ) (final : State) (other : List ℕ)
       → all ≡ line ∷ lines → Ends shape old n line ended cut text final other → Answered shape old n all ended cut text final other
   Answered-end old n all line lines ended cut text final other is ends = subst (λ ls. Answered shape old n ls ended cut text final other) (sym is) (inl ends)
