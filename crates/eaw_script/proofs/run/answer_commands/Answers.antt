@@ -101,6 +101,7 @@ returns-clause-answered g c =
       so_far.0 ++ [],
       (λ tells. so_far.1 tells ∙ ap (λ x. g.K.Sink.written c.args.sink.now ++ x) (sym (append-nil so_far.0))),
       (λ cut. absurd (false≢true cut)),
-      λ told. leaves_alive s.opens first.shape now c.loop-line.invariant.shape (λ image left. g.met.S.EawStore.only_now store image told c.loop-line.invariant.alive left) All _
+      λ told. leaves_alive s.opens first.shape now c.loop-line.invariant.shape (λ image left. g.met.S.EawStore.only_now store image told c.loop-line.invariant.alive left) All
+          (λ final other. Answered first.shape first.state 1 (lines_of c.args.input.now) All false (so_far.0 ++ []) final other)
           (so_far.2 told All false [] now.state now.state.bytes (Answered-all first.shape now.state c.loop-line.n _ (ap lines_of c.in_default.ensures))),
     )

@@ -5,7 +5,7 @@ use Rattle.eaw_face.specs.StoreView.{LeavesOnly}
 use Rattle.eaw_face.specs.Does.{IsEither}
 use Rattle.script_text.specs.EawReplies.{part}
 use Rattle.eaw_script.proofs.Performing.{part_len}
-use Rattle.eaw_script.proofs.perform.read_log.Goals as goal
+use Rattle.eaw_script.proofs.reads.read_log.Goals as goal
 
 pub returns-in-Ok : goal.returns-in-Ok
 returns-in-Ok g c =
