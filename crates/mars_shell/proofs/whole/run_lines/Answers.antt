@@ -1,4 +1,4 @@
-use Rattle.std.proofs.Common.{Err, inl, refl, sym, ap, subst, arith}
+use Rattle.std.proofs.Common.{Err, inl, refl, sym, ap, subst, false, [], arith}
 use Rattle.counted.specs.Causes.{Rose}
 use Rattle.mars_shell.specs.Exchange.{Exchange}
 use Rattle.mars_shell.specs.Outcome.{IsOfRecords, status_of}
