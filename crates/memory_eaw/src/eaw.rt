@@ -26,7 +26,7 @@ use std::alloc::Global;
 
 /// An array of editable atomic writes in plain memory, for tests.
 ///
-/// All its memory is taken when it is made. Below the last value of its moment, and while it has room for changes, a call that
+/// All memory for its commands is taken when it is made. Below the last value of its moment, and while it has room for changes, a call that
 /// is not refused fails exactly where it is listed. A call is counted where it is not refused; a commit of nothing and an abort
 /// are not counted, and do not fail.
 #[derive(Drop)]

@@ -1,4 +1,4 @@
-use Rattle.std.proofs.Common.{◌≡◌, ℕ, ◌<◌, inr, true, false, length, refl, sym, ◌∙◌, ap, arith}
+use Rattle.std.proofs.Common.{◌≡◌, ◌<◌, inr, false, length, refl, sym, ◌∙◌, ap, arith}
 use Rattle.memory_eaw.specs.Log.{Log}
 use Rattle.memory_eaw.specs.Steps.{log_at}
 use Rattle.memory_eaw.proofs.Views.{log_is, is_live_from, some_from}
