@@ -1,14 +1,13 @@
 -- Parts of a command's performance.
-use Rattle.std.proofs.Common.{◌≡◌, ℕ, zero, suc, ◌+◌, ◌*◌, ◌<◌, ◌≤◌, List, [], ◌∷◌, ◌++◌, length, take, drop, refl, sym, ap, subst, ◌∙◌, arith}
+use Rattle.std.proofs.Common.{◌≡◌, ℕ, zero, suc, ◌*◌, ◌<◌, ◌≤◌, List, [], ◌∷◌, ◌++◌, length, take, drop, sym, ap, subst, ◌∙◌, arith}
 use Rattle.std.specs.Prelude.{Bool, Result}
-use Rattle.std.specs.Borrow.{Bor}
 use Rattle.std.proofs.lemmas.List.{take_at}
 use Rattle.counted.specs.declared.Failed.{Failed}
 use Rattle.array_shape.specs.declared.shape.Shape.{Shape}
 use Rattle.eaw_face.specs.State.{range_at}
 use Rattle.eaw_face.specs.StoreView.{StoreView, ArePlaced}
 use Rattle.script_text.specs.HexText.{hex_of, IsBlock}
-use Rattle.script_text.specs.Eaw.{Command, IsCommand}
+use Rattle.script_text.specs.Eaw.{Command}
 use Rattle.script_text.proofs.HexTexts.{length-hex_of}
 use Rattle.eaw_script.specs.Performed.{Performed}
 use Rattle.eaw_script.specs.declared.outcome.Outcome.{Outcome}

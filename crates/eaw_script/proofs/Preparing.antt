@@ -1,22 +1,20 @@
 -- What a line comes to, from what its command comes to.
-use Rattle.std.proofs.Common.{◌≡◌, ℕ, ◌≤◌, List, [], ◌∷◌, ◌++◌, Result, Ok, Err, inl, inr, refl, sym, ap, subst, ◌∙◌, arith}
-use Rattle.std.specs.Prelude.{Bool, false, IsTrue}
+use Rattle.std.proofs.Common.{◌≡◌, ℕ, List, [], ◌∷◌, Result, Ok, Err, inl, inr, refl, sym, subst, arith}
+use Rattle.std.specs.Prelude.{Bool, IsTrue}
 use Rattle.counted.specs.declared.Failed.{Failed}
-use Rattle.counted.specs.Moments.{Elapses}
 use Rattle.array_shape.specs.declared.shape.Shape.{Shape}
 use Rattle.eaw_face.specs.State.{State}
 use Rattle.eaw_face.specs.StoreView.{StoreView, LeavesOnly}
 use Rattle.eaw_face.specs.Does.{IsEither}
 use Rattle.script_text.specs.Eaw.{Command, log_write, commit, abort, nested, partial, atomic, edit_log, read_log, read, log_len, held}
-use Rattle.script_text.specs.EawLines.{Meaning, told, bad, Means, ShowsCall, SaysEaw}
+use Rattle.script_text.specs.EawLines.{told, bad, Means, ShowsCall, SaysEaw}
 use Rattle.script_text.specs.EawReplies.{answer_line}
-use Rattle.script_text.specs.Replies.{bad_line}
 use Rattle.script_text.specs.declared.eaw_call.EawCall.{EawCall}
 use Rattle.script_text.specs.declared.eaw_line.EawLine.TheVariants.{Told, Bad}
 use Rattle.eaw_script.specs.Tests.{Log, log_of}
 use Rattle.eaw_script.specs.Answers.{AnswersWith, Passes, answer_to, done_by}
-use Rattle.eaw_script.specs.Transcript.{Gives, LineGives, LineFails}
-use Rattle.eaw_script.specs.Along.{IsAlong, OpensAlong}
+use Rattle.eaw_script.specs.Transcript.{LineGives, LineFails}
+use Rattle.eaw_script.specs.Along.{OpensAlong}
 use Rattle.eaw_script.specs.Performed.{Performed, answer_in}
 use Rattle.eaw_script.specs.Prepared.{Prepared}
 use Rattle.eaw_script.specs.declared.outcome.Outcome.{Outcome}

@@ -1,11 +1,11 @@
 -- What lines come to, one after another.
-use Rattle.std.proofs.Common.{Bool, false, ◌≡◌, ℕ, ◌+◌, ◌≤◌, List, [], ◌∷◌, ◌++◌, inl, inr, refl, sym, ap, subst, ◌∙◌, arith}
+use Rattle.std.proofs.Common.{Bool, false, ◌≡◌, ℕ, ◌+◌, ◌≤◌, List, [], ◌∷◌, ◌++◌, inl, inr, refl, sym, subst, arith}
 use Rattle.array_shape.specs.declared.shape.Shape.{Shape}
 use Rattle.eaw_face.specs.State.{State}
 use Rattle.eaw_face.specs.StoreView.{StoreView, LeavesOnly}
 use Rattle.eaw_face.specs.Does.{IsEither}
 use Rattle.eaw_script.specs.Transcript.{LineGives, Ends, Answered}
-use Rattle.eaw_script.specs.Along.{IsAlong, OpensAlong, Leaves}
+use Rattle.eaw_script.specs.Along.{IsAlong, Leaves}
 use Rattle.eaw_script.specs.declared.ended.Ended.{Ended}
 use Rattle.eaw_script.specs.declared.ended.Ended.TheVariants.{All, MediaFault}
 

@@ -1,5 +1,5 @@
 -- What a number's raw command answers, and what it leaves.
-use Rattle.std.specs.Prelude.{ℕ, ◌≡◌, List, ◌++◌, length}
+use Rattle.std.specs.Prelude.{ℕ, ◌≡◌, ◌++◌, length}
 use Rattle.pcm_media.specs.Images.{range}
 use Rattle.array_shape.specs.declared.shape.Shape.{Shape}
 use Rattle.eaw_face.specs.State.{State, listed, range_at, part_at, count_on}
@@ -47,6 +47,7 @@ pub record Passes (shape : Shape) (log : Log) (command : Command) : Type 0 where
   pub free : IsFree log command
   pub room : HasRoom shape log command
 
+-- it passes them, gets the model's answer, and leaves the model's state
 pub record IsDone (shape : Shape) (log : Log) (old : State) (t : ℕ) (command : Command) (answer : Answer) (new : State) : Type 0 where
   pub passes : Passes shape log command
   pub answer_is : answer ≡ answer_to shape log old t command
@@ -68,6 +69,7 @@ AnswersWith shape log old t command (long len) new = IsDone shape log old t comm
 AnswersWith shape log old t command (holds count) new = IsDone shape log old t command (holds count) new
 AnswersWith shape log old t command media_fault new = ⊥
 
+-- the same, with the log that the number has
 abbrev pub Answers : Shape → State → ℕ → Command → Answer → State → Type 0
 Answers shape old t command answer new = AnswersWith shape (log_of old t) old t command answer new
 

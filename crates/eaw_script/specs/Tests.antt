@@ -12,6 +12,7 @@ use Rattle.script_text.specs.Eaw.{Command, log_write, commit, abort, nested, par
 abbrev pub Log : Type 0
 Log = Option (List (ℕ × ℕ))
 
+-- what a number has of it in a state
 abbrev pub log_of : State → ℕ → Log
 log_of state t = option_map ranges_of (state.logs t)
 

@@ -18,6 +18,7 @@ Gives shape old n nothing text new = (text ≡ []) × (new ≡ old)
 Gives shape old n bad text new = (text ≡ bad_line n) × (new ≡ old)
 Gives shape old n (told t command) text new = (answer : Answer) × Answers shape old t command answer new × (text ≡ answer_line t answer)
 
+-- the same of what the line's bytes mean, where there are as many numbers as the shape has
 abbrev pub LineGives : Shape → State → ℕ → List ℕ → List ℕ → State → Type 0
 LineGives shape old n bytes text new = (meaning : Meaning) × Means shape.numbers bytes meaning × Gives shape old n meaning text new
 

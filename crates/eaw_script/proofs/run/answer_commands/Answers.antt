@@ -1,8 +1,7 @@
-use Rattle.std.proofs.Common.{false, ◌≡◌, List, ℕ, [], ◌∷◌, ◌++◌, refl, ap, sym, subst, ◌∙◌, IsTrue, arith}
+use Rattle.std.proofs.Common.{false, [], ◌∷◌, ◌++◌, refl, ap, sym, subst, ◌∙◌, IsTrue, arith}
 use Rattle.std.proofs.lemmas.Bool.{false≢true}
 use Rattle.std.proofs.lemmas.List.{append_assoc, append-nil}
 use Rattle.array_shape.specs.declared.shape.Shape.{Shape}
-use Rattle.eaw_face.specs.State.{State}
 use Rattle.eaw_face.specs.StoreView.{LeavesOnly}
 use Rattle.script_io.specs.Lines.{lines_of}
 use Rattle.eaw_script.specs.Transcript.{LineGives, Ends, Answered}

@@ -1,5 +1,4 @@
 use Rattle.std.proofs.Common.{true, ◌∙◌, List, ℕ, refl, subst}
-use Rattle.eaw_face.specs.State.{State}
 use Rattle.script_io.specs.Written.{IsCut, IsWritten}
 use Rattle.script_text.proofs.EawReplyLemmas.{media_line_is}
 use Rattle.eaw_script.specs.Transcript.{Ends}
