@@ -16,7 +16,7 @@ use Rattle.eaw_device.specs.Opens.{header_of}
 use Rattle.eaw_device.specs.Attaching.{AllOpenWith}
 use Rattle.eaw_device.specs.Fresh.{IsFresh, LeavesAsRead, HasParts, IsHalfFresh, behind_header}
 use Rattle.eaw_device.proofs.FreshLemmas.{header_parts}
-use Rattle.eaw_device.proofs.Opening.{clean_opens}
+use Rattle.eaw_device.proofs.OpeningLemmas.{clean_opens}
 
 -- with nothing unsettled, a loss of power leaves what a read gives
 pub settled_as_read : (content : Content) → content.unsettled ≡ [] → LeavesAsRead content

@@ -1,8 +1,8 @@
 pub mod Attaching
 pub mod Formatting
 pub mod FreshLemmas
-pub mod Opening
-pub mod Reading
+pub mod OpeningLemmas
+pub mod ReadingLemmas
 pub mod Entries
 pub mod Keeping
 pub mod LogParts
@@ -18,3 +18,4 @@ pub mod Writes
 pub mod Atomic
 pub mod Looks
 pub mod Edits
+pub mod OpenedLemmas

@@ -38,7 +38,7 @@ fn free_logs(alloc: Global, shape: &Shape) -> Result<Vec<Log>, NoMemory>
     ensures { IfOk result (λ logs. AreFree shape.now logs.items) }
 {
     let mut logs = Vec::with_capacity(alloc, usize::from(shape.numbers))?;
-    for _ in 0..shape.numbers {
+    for _tid in 0..shape.numbers {
         logs.push(Log::new(alloc, shape)?)?;
     }
     Ok(logs)

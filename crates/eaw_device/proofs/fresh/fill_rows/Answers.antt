@@ -5,7 +5,7 @@ use Rattle.pcm_media.proofs.Writing.{writes_on}
 use Rattle.array_shape.specs.Places.{media_len}
 use Rattle.array_image.specs.Image.{data_of}
 use Rattle.eaw_device.specs.Fresh.{HasRows}
-use Rattle.eaw_device.proofs.Reading.{writes_failed}
+use Rattle.eaw_device.proofs.ReadingLemmas.{writes_failed}
 use Rattle.eaw_device.proofs.FreshLemmas.{within, rows_fit, rows_more, rows_apart}
 use Rattle.eaw_device.proofs.fresh.fill_rows.Goals as goal
 

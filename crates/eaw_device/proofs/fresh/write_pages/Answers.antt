@@ -3,7 +3,7 @@ use Rattle.pcm_media.specs.Images.{put}
 use Rattle.pcm_media.proofs.Writing.{writes_on}
 use Rattle.array_shape.specs.Places.{media_len, place_of}
 use Rattle.eaw_device.specs.Fresh.{HasPages}
-use Rattle.eaw_device.proofs.Reading.{writes_failed}
+use Rattle.eaw_device.proofs.ReadingLemmas.{writes_failed}
 use Rattle.eaw_device.proofs.FreshLemmas.{within, length-fresh_page, page_fits, page_more}
 use Rattle.eaw_device.proofs.fresh.write_pages.Goals as goal
 

@@ -4,8 +4,8 @@ use Rattle.std.specs.Option.{ForSome}
 use Rattle.eaw_device.specs.Opening.{IsFree}
 use Rattle.eaw_device.proofs.opening.free_logs.Given as goal
 
-abbrev pub invariant-loop-_ : goal.invariant-loop-_
-invariant-loop-_ l = record {
-  many : length l.logs.items ≡ l._;
+abbrev pub invariant-loop-tid : goal.invariant-loop-tid
+invariant-loop-tid l = record {
+  many : length l.logs.items ≡ l._tid;
   free : (t : ℕ) → ForSome (slice_get l.logs.items t) (IsFree l.shape);
 }

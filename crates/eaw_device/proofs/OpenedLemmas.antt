@@ -1,0 +1,57 @@
+-- A device over an array that was just settled.
+use Rattle.std.proofs.Common.{◌≡◌, ℕ, ◌+◌, ◌<◌, ◌≤◌, Bool, false, List, [], length, refl, sym, ◌∙◌, ap, subst, arith}
+use Rattle.std.specs.Prelude.{IsTrue, Option, Some, None, slice_get, slice_index}
+use Rattle.std.specs.Option.{option_map, ForSome}
+use Rattle.std.proofs.lemmas.List.{nil_from_length}
+use Rattle.pcm_media.specs.View.{View}
+use Rattle.array_shape.specs.declared.shape.Shape.{Shape}
+use Rattle.array_image.specs.Parts.{ranges_of}
+use Rattle.eaw_device.specs.declared.log.Entry.{Entry}
+use Rattle.eaw_device.specs.declared.log.Log.{Log}
+use Rattle.eaw_device.specs.Logs.{ranges_in, parts_in, cells_on, IsKept, IsHeld, entries_of, entries_at}
+use Rattle.eaw_device.specs.Sound.{IsSound, view_of}
+use Rattle.eaw_device.specs.Opens.{Attached}
+use Rattle.eaw_device.specs.Opening.{IsFree, AreFree, Settled}
+use Rattle.eaw_device.proofs.Keeping.{length-cells_on_kept}
+use Rattle.eaw_device.proofs.Tables.{entries_free, entries_there}
+
+module _ (shape : Shape) (log : Log) (is : IsFree shape log) where
+  none_logged : log.entries.items ≡ []
+  none_logged = nil_from_length log.entries.items (is.kept.free is.is_free)
+
+  -- a free log holds no cell
+  free_held : (image : List ℕ) (t : ℕ) → IsHeld shape image t log
+  free_held image t = record {
+    good = λ g e lt below.
+        let none : length (cells_on shape g log.entries.items) ≡ 0 = ap (λ (es : List Entry). length (cells_on shape g es)) none_logged in
+        absurd (omega (arith, length-cells_on_kept shape log g is.kept lt, none, below));
+    heads = ap (λ (es : List Entry). ranges_of (parts_in shape image t es)) none_logged ∙ sym (ap ranges_in none_logged);
+  }
+
+module _ (tells : Bool) (old new : View) (shape : Shape) (logs : List Log) (settled : Settled tells old shape new) (free : AreFree shape logs) where
+  pub opened_sound : IsSound tells new shape logs false
+  opened_sound = record {
+    shaped = shape.in_range;
+    sized = settled.size ∙ settled.sized;
+    many = free.many;
+    kept = λ t log got. (free.free t log got).kept;
+    told = λ told alive. record {
+      sure = settled.sure told;
+      held = λ t log got. free_held shape log (free.free t log got) new.content.bytes t;
+    };
+  }
+
+  none_at : (t : ℕ) (o : Option Log) → slice_get logs t ≡ o → entries_at logs t ≡ None
+  none_at t None is = ap (λ (o : Option Log). elim o [ None ↦ (let none : Option (List Entry) = None in none) | Some log ↦ entries_of log ]) is
+  none_at t (Some log) is = entries_there logs t log is ∙ entries_free log (free.free t log is).is_free
+
+  pub opened : Attached tells old (view_of new shape logs false)
+  opened = record {
+    shape_is = settled.shape_is;
+    sized = settled.sized;
+    good = settled.good;
+    bytes = settled.bytes;
+    free = λ t. ap (option_map ranges_in) (none_at t (slice_get logs t) refl);
+    alive = refl;
+    faults = settled.later;
+  }

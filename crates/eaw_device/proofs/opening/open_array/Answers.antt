@@ -1,0 +1,51 @@
+use Rattle.std.proofs.Common.{◌≡◌, ◌∙◌, sym, ap, subst, ℕ, List, arith}
+use Rattle.pcm_media.proofs.Left.{same_bytes}
+use Rattle.row_bytes.specs.Header.{SaysShape}
+use Rattle.array_image.specs.Decided.{settled_data}
+use Rattle.device_recovery.specs.Recovered.{AllGood}
+use Rattle.eaw_device.specs.Opens.{header_of}
+use Rattle.eaw_device.proofs.OpeningLemmas.{reading_keeps, keeps_then}
+use Rattle.eaw_device.proofs.Attaching.{cause_on, leaves_on}
+use Rattle.eaw_device.proofs.opening.open_array.Goals as goal
+
+pub settle-requires-clause-header : goal.settle-requires-clause-header
+settle-requires-clause-header g c told =
+    subst (λ b. SaysShape (header_of b) c.in_ok-shape.shape) (sym (same_bytes _ _ (c.read_header.ensures.does.touched told))) (c.in_ok-shape.ensures.shape told)
+
+pub returns-in-Ok-settle-clause-settled : goal.returns-in-Ok-settle-clause-settled
+returns-in-Ok-settle-clause-settled g c =
+    let shape = c.in_ok-shape.shape in
+    let read = c.read_header.ensures.does in
+    let done = c.in-Ok-settle.ensures in
+    record {
+      shape_is = c.in_ok-shape.ensures.shape;
+      sized = c.in_ok-shape.ensures.sized;
+      size = done.size ∙ read.size;
+      good = λ told. subst (λ b. AllGood shape b shape.numbers) (same_bytes _ _ (read.touched told)) (done.good told);
+      bytes = λ told. done.settled told ∙ ap (λ (b : List ℕ). settled_data shape b) (same_bytes _ _ (read.touched told));
+      sure = λ told. record { clean = done.clean told; header = done.header told };
+      later = omega (arith, done.later, read.cause.later);
+    }
+
+pub returns-in-Ok-settle-clause-keeps : goal.returns-in-Ok-settle-clause-keeps
+returns-in-Ok-settle-clause-keeps g c =
+    let m = g.M.Media in
+    let read = c.read_header.ensures.does in
+    keeps_then m.tells (m.view c.args.media.now) (m.view c.read_header.new.media) (m.view c.settle.new.media) read.touched (reading_keeps m.tells _ _ _ read) c.settle.ensures.keeps
+
+pub returns-in-Err-settle-clause-keeps : goal.returns-in-Err-settle-clause-keeps
+returns-in-Err-settle-clause-keeps g c =
+    let m = g.M.Media in
+    let read = c.read_header.ensures.does in
+    keeps_then m.tells (m.view c.args.media.now) (m.view c.read_header.new.media) (m.view c.settle.new.media) read.touched (reading_keeps m.tells _ _ _ read) c.settle.ensures.keeps
+
+pub returns-in-Err-settle-clause-cause : goal.returns-in-Err-settle-clause-cause
+returns-in-Err-settle-clause-cause g c =
+    let m = g.M.Media in
+    let read = c.read_header.ensures.does in
+    cause_on m.tells (m.view c.args.media.now) (m.view c.read_header.new.media) _ c.in-Err-settle.fault read.size read.touched read.cause.later c.in-Err-settle.ensures.cause
+
+pub returns-in-Err-settle-clause-unwritten : goal.returns-in-Err-settle-clause-unwritten
+returns-in-Err-settle-clause-unwritten g c =
+    let m = g.M.Media in
+    leaves_on m.tells (m.view c.args.media.now) (m.view c.read_header.new.media) (m.view c.settle.new.media) c.in-Err-settle.fault c.read_header.ensures.does.touched c.in-Err-settle.ensures.unwritten
