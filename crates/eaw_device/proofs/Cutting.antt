@@ -1,19 +1,18 @@
 -- A log that is cut at a position, and what it had behind that in the data.
-use Rattle.std.proofs.Common.{◌≡◌, ◌≢◌, ℕ, ◌<◌, ◌≤◌, Bool, true, false, List, [], length, take, drop, Result, refl, sym, ◌∙◌, ap, subst, arith}
-use Rattle.std.specs.Prelude.{IsTrue, OnErr, slice_get, slice_set, slice_index, Option, Some, None}
-use Rattle.std.specs.Option.{option_map, ForSome}
+use Rattle.std.proofs.Common.{◌≡◌, ◌≢◌, ℕ, ◌<◌, Bool, true, false, List, length, take, sym, ◌∙◌, ap, arith}
+use Rattle.std.specs.Prelude.{IsTrue, slice_get, slice_set, slice_index, Some, None}
+use Rattle.std.specs.Option.{option_map}
 use Rattle.std.proofs.lemmas.Option.{slice_get_within}
 use Rattle.pcm_media.specs.View.{View}
 use Rattle.array_shape.specs.declared.shape.Shape.{Shape}
-use Rattle.array_shape.specs.Places.{media_len}
-use Rattle.array_image.specs.Parts.{Part, applied, ranges_of}
-use Rattle.array_image.specs.Image.{cell_of, data_of, IsGoodCell}
+use Rattle.array_image.specs.Parts.{Part, ranges_of}
+use Rattle.array_image.specs.Image.{cell_of}
 use Rattle.array_image.specs.Standing.{SameCells}
 use Rattle.eaw_face.specs.State.{listed, with_log}
 use Rattle.eaw_device.specs.declared.log.Entry.{Entry}
 use Rattle.eaw_device.specs.declared.log.Log.{Log}
-use Rattle.eaw_device.specs.Logs.{ranges_in, parts_in, cells_on, IsKept, IsHeld, entries_of, entries_at}
-use Rattle.eaw_device.specs.Sound.{IsSure, IsSound, view_of}
+use Rattle.eaw_device.specs.Logs.{ranges_in, parts_in, cells_on, IsKept, IsHeld, entries_at}
+use Rattle.eaw_device.specs.Sound.{IsSure, IsSound}
 use Rattle.eaw_device.proofs.Entries.{ranges_in-take}
 use Rattle.eaw_device.proofs.Keeping.{length-cells_on_kept, first_few}
 use Rattle.eaw_device.proofs.LogParts.{parts_in-take, ranges_of-take}

@@ -1,13 +1,11 @@
 -- What a command does, from what its calls do.
-use Rattle.std.proofs.Common.{◌≡◌, ℕ, ◌<◌, ◌≤◌, Bool, true, false, List, length, get_or, Result, Ok, Err, refl, sym, ◌∙◌, ap, subst, arith}
-use Rattle.std.specs.Prelude.{IsTrue, OnErr, IsErrAnd, is_err, slice_get, Option, Some}
+use Rattle.std.proofs.Common.{◌≡◌, ℕ, ◌<◌, ◌≤◌, Bool, true, false, List, length, get_or, Result, Ok, Err, refl, sym, ◌∙◌, subst, arith}
+use Rattle.std.specs.Prelude.{IsTrue, OnErr, IsErrAnd, is_err, slice_get, Some}
 use Rattle.std.proofs.lemmas.Bool.{false≢true}
 use Rattle.counted.specs.Causes.{Rose}
 use Rattle.counted.proofs.Going.{stays}
 use Rattle.pcm_media.specs.View.{View}
 use Rattle.array_shape.specs.declared.shape.Shape.{Shape}
-use Rattle.array_image.specs.Parts.{Part}
-use Rattle.eaw_face.specs.State.{State, Logs}
 use Rattle.eaw_face.specs.StoreView.{StoreView, IsLive, LeavesOnly}
 use Rattle.eaw_face.specs.Command.{Command, after}
 use Rattle.eaw_face.specs.Causes.{IsAlive, Knows, HasRoom, Cause}

@@ -1,13 +1,13 @@
 -- Bytes replaced within a logged part.
-use Rattle.std.proofs.Common.{◌≡◌, ◌≢◌, ℕ, zero, suc, ◌+◌, ◌-◌, ◌<◌, ◌≤◌, Bool, true, false, cond, nat_eq, min, inl, inr, List, [], ◌∷◌, length, get_or, take, drop, Result, Ok, Err, refl, sym, ◌∙◌, ap, subst, arith}
-use Rattle.std.specs.Prelude.{IsTrue, OnOk, slice_get, slice_index, Option, Some, None}
+use Rattle.std.proofs.Common.{◌≡◌, ◌≢◌, ℕ, zero, suc, ◌+◌, ◌<◌, ◌≤◌, Bool, true, false, cond, inl, inr, List, [], ◌∷◌, length, get_or, take, drop, Result, Ok, Err, refl, sym, ◌∙◌, ap, subst, arith}
+use Rattle.std.specs.Prelude.{IsTrue, slice_get, slice_index, Some}
 use Rattle.std.specs.Option.{option_map}
 use Rattle.std.specs.List.{range_with_len}
 use Rattle.std.proofs.lemmas.Bool.{cases_lt, cases_eq, eq-eqb, ne_eqb}
 use Rattle.std.proofs.lemmas.List.{ext_get_or, get_or-take, get_or-drop, length-take, length-take-le, length-drop, take_min}
 use Rattle.std.proofs.lemmas.Option.{slice_get_within}
 use Rattle.counted.specs.Causes.{Rose}
-use Rattle.pcm_media.specs.Images.{put, SameOutside, IsOutside}
+use Rattle.pcm_media.specs.Images.{put}
 use Rattle.pcm_media.specs.View.{View, Writes, LeavesOnly}
 use Rattle.pcm_media.proofs.Puts.{length-put, get_or-put_before, get_or-put_after, get_or-put_inside}
 use Rattle.array_shape.specs.declared.shape.Shape.{Shape}
@@ -28,9 +28,9 @@ use Rattle.eaw_face.specs.declared.fault.EawFault.TheVariants.{Media}
 use Rattle.eaw_device.specs.declared.log.Entry.{Entry}
 use Rattle.eaw_device.specs.declared.log.Log.{Log}
 use Rattle.eaw_device.specs.Opens.{Opens}
-use Rattle.eaw_device.specs.Logs.{ranges_in, parts_in, cells_on, IsKept, IsHeld, entries_at}
+use Rattle.eaw_device.specs.Logs.{parts_in, cells_on, IsHeld, entries_at}
 use Rattle.eaw_device.specs.Sound.{IsSound, view_of}
-use Rattle.eaw_device.proofs.Entries.{logger_small, cells_on_here, cells_on_past}
+use Rattle.eaw_device.proofs.Entries.{cells_on_here, cells_on_past}
 use Rattle.eaw_device.proofs.LogParts.{firsts_same, rests_same, part_in, EachCell, EachIn, each_number, each_cell, each_held, parts_in_same}
 use Rattle.eaw_device.proofs.Staged.{cells_apart}
 use Rattle.eaw_device.proofs.Tables.{entries_there, entries_live, parts_there, held_kept, others_kept, sound_media}

@@ -1,6 +1,6 @@
 -- A log that stays as the device keeps it.
-use Rattle.std.proofs.Common.{◌≡◌, ℕ, zero, suc, ◌+◌, ◌-◌, ◌*◌, ◌<◌, ◌≤◌, Bool, true, false, nat_eq, inl, inr, List, [], ◌∷◌, ◌++◌, length, get_or, map, take, drop, refl, sym, ◌∙◌, ap, subst, append-nil, append_assoc, arith}
-use Rattle.std.specs.Prelude.{filter, slice_index, slice_set, All, vec_len, vec_capacity}
+use Rattle.std.proofs.Common.{◌≡◌, ℕ, zero, suc, ◌+◌, ◌-◌, ◌*◌, ◌<◌, ◌≤◌, true, false, inl, inr, List, [], ◌∷◌, ◌++◌, length, get_or, map, take, drop, refl, sym, ◌∙◌, ap, subst, append-nil, append_assoc, arith}
+use Rattle.std.specs.Prelude.{filter, slice_index, slice_set, All, vec_capacity}
 use Rattle.std.specs.List.{range_with_len}
 use Rattle.std.proofs.lemmas.Bool.{cases_eq, false≢true}
 use Rattle.std.proofs.lemmas.List.{length-append, take-append-drop, take_more, get_or-take, length-take, get_or-set_same, get_or-set_other, length-set}
@@ -10,7 +10,7 @@ use Rattle.std.proofs.lemmas.Nat.{mul-le}
 use Rattle.array_shape.specs.declared.shape.Shape.{Shape}
 use Rattle.array_shape.specs.declared.part.Part.{Part}
 use Rattle.array_shape.specs.Places.{IsPlaced, IsShape, logger_of}
-use Rattle.array_shape.specs.Parts.{IsPartOf, is_part_on, parts_of}
+use Rattle.array_shape.specs.Parts.{IsPartOf, is_part_on}
 use Rattle.logger.proofs.Staging.{kept_here, left_here}
 use Rattle.eaw_device.specs.declared.log.Entry.{Entry}
 use Rattle.eaw_device.specs.declared.log.Log.{Log}
@@ -219,8 +219,8 @@ kept_first shape n old now kept long counts items capacity free = record {
   fits = λ g lt. omega (arith, counts g lt, first_few shape n old.entries.items old.held kept.cells g lt, kept.fits g lt);
   placed = subst (λ (es : List Entry). All (HasPlace shape) (ranges_in es)) (sym items) (subst (All (HasPlace shape)) (sym (ranges_in-take n old.entries.items))
       (λ k d lt. let small = length-take n (ranges_in old.entries.items) in
-          let below : k < n = omega arith in
-          subst (HasPlace shape) (sym (get_or-take n (ranges_in old.entries.items) k d below)) (kept.placed k d (omega arith))));
+      let below : k < n = omega arith in
+      subst (HasPlace shape) (sym (get_or-take n (ranges_in old.entries.items) k d below)) (kept.placed k d (omega arith))));
 }
 
 -- a log is never long

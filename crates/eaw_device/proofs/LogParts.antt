@@ -1,14 +1,14 @@
 -- The parts of a log, and those in the cells of each logger.
-use Rattle.std.proofs.Common.{◌≡◌, ◌≢◌, ℕ, zero, suc, ◌+◌, ◌-◌, ◌<◌, ◌≤◌, Bool, true, false, cond, nat_eq, inl, inr, List, [], ◌∷◌, ◌++◌, length, map, take, drop, refl, sym, ◌∙◌, ap, subst, arith}
+use Rattle.std.proofs.Common.{◌≡◌, ℕ, zero, suc, ◌+◌, ◌-◌, ◌<◌, ◌≤◌, Bool, true, false, cond, nat_eq, inl, inr, List, [], ◌∷◌, ◌++◌, length, map, take, drop, refl, sym, ◌∙◌, ap, subst, arith}
 use Rattle.std.specs.Prelude.{filter, slice_index, All}
 use Rattle.std.specs.List.{range_with_len}
 use Rattle.std.proofs.lemmas.Bool.{cases_eq, eq-eqb, ne_eqb}
 use Rattle.std.proofs.lemmas.List.Elements.{All-head, All-tail}
 use Rattle.array_shape.specs.declared.shape.Shape.{Shape}
-use Rattle.array_shape.specs.Places.{IsPlaced, IsShape, logger_of, data_len, media_len}
+use Rattle.array_shape.specs.Places.{IsShape, logger_of, data_len, media_len}
 use Rattle.array_shape.specs.Parts.{is_piece_on}
 use Rattle.array_image.specs.Parts.{Part, applied, ranges_of, AllPlaced, parts_at}
-use Rattle.array_image.specs.Image.{cell_of, cell_part, parts_from, IsGoodCell}
+use Rattle.array_image.specs.Image.{cell_of, cell_part, parts_from}
 use Rattle.array_image.specs.Marked.{named_at, named_parts, AreGood}
 use Rattle.array_image.proofs.Orders.{applied_named}
 use Rattle.eaw_face.specs.State.{is_range_on, count_on}
@@ -115,8 +115,8 @@ module _ (shape : Shape) (image : List ℕ) (t : ℕ) where
       let logger : logger_of shape q.0 ≡ logger_of shape e.addr = ap (λ (r : ℕ × ℕ). logger_of shape r.0) (sym first) in
       let on : (g : ℕ) → logger_of shape e.addr ≡ g → g < shape.loggers → part_in g e.cell ∷ map (part_in g) (cells_on shape g es) ≡ q ∷ filter (is_piece_on shape g) qs =
       λ g is lt.
-          sym (ap (map (part_in g)) (cells_on_here shape g e es is)) ∙ same g lt
-          ∙ ap (λ (b : Bool). cond b (q ∷ filter (is_piece_on shape g) qs) (filter (is_piece_on shape g) qs)) (eq-eqb (logger_of shape q.0) g (logger ∙ is)) in
+      sym (ap (map (part_in g)) (cells_on_here shape g e es is)) ∙ same g lt
+      ∙ ap (λ (b : Bool). cond b (q ∷ filter (is_piece_on shape g) qs) (filter (is_piece_on shape g) qs)) (eq-eqb (logger_of shape q.0) g (logger ∙ is)) in
       let here = logger_of shape e.addr in
       let head = firsts_same (part_in here e.cell) q (map (part_in here) (cells_on shape here es)) (filter (is_piece_on shape here) qs) (on here refl (logger_small shape e.addr shaped)) in
       let tail = same_parts shaped es qs rest (λ g lt. elim (cases_eq (logger_of shape e.addr) g) [
@@ -144,11 +144,13 @@ pub each_cell : (shape : Shape) (shaped : IsShape shape) (P : ℕ → ℕ → Ty
 each_cell shape shaped P [] has = tt
 each_cell shape shaped P (e ∷ es) has =
     let here = logger_of shape e.addr in
-    let first = subst (EachIn (P here)) (cells_on_here shape here e es refl) (has here (logger_small shape e.addr shaped)) in
-    (first.0, each_cell shape shaped P es (λ g lt. elim (cases_eq (logger_of shape e.addr) g) [
-      | inl is ↦ (subst (EachIn (P g)) (cells_on_here shape g e es is) (has g lt)).1
-      | inr ne ↦ subst (EachIn (P g)) (cells_on_past shape g e es ne) (has g lt)
-    ]))
+    let first = subst (EachIn (P here)) (cells_on_here shape here e es refl) (has here (logger_small shape e.addr shaped)) in (
+      first.0,
+      each_cell shape shaped P es (λ g lt. elim (cases_eq (logger_of shape e.addr) g) [
+        | inl is ↦ (subst (EachIn (P g)) (cells_on_here shape g e es is) (has g lt)).1
+        | inr ne ↦ subst (EachIn (P g)) (cells_on_past shape g e es ne) (has g lt)
+      ]),
+    )
 
 -- what holds of each held cell holds of each entry's
 pub each_held : (shape : Shape) (shaped : IsShape shape) (log : Log) (P : ℕ → ℕ → Type 0) → IsKept shape log → ((g c : ℕ) → g < shape.loggers → c < slice_index log.held g → P g c) → EachCell shape P log.entries.items

@@ -1,5 +1,5 @@
 -- Looks at a log, and commands that only read.
-use Rattle.std.proofs.Common.{◌≡◌, ℕ, zero, suc, ◌<◌, ◌≤◌, Bool, true, false, List, [], ◌∷◌, length, get_or, Result, Ok, Err, refl, sym, ◌∙◌, ap, subst, arith}
+use Rattle.std.proofs.Common.{◌≡◌, ℕ, zero, suc, ◌<◌, Bool, true, false, List, [], ◌∷◌, length, get_or, Result, Ok, Err, refl, sym, ◌∙◌, ap, subst, arith}
 use Rattle.std.specs.Prelude.{IsTrue, slice_get, slice_index, Some}
 use Rattle.std.specs.Option.{option_map}
 use Rattle.counted.specs.Causes.{Rose}
@@ -7,9 +7,8 @@ use Rattle.pcm_media.specs.View.{View, Writes, LeavesOnly}
 use Rattle.pcm_media.proofs.Left.{same_bytes}
 use Rattle.array_shape.specs.declared.shape.Shape.{Shape}
 use Rattle.array_shape.specs.Places.{media_len, logger_of, IsPlaced, IsShape}
-use Rattle.array_image.specs.Parts.{Part}
 use Rattle.array_image.specs.Image.{cell_of, cell_part, data_of}
-use Rattle.eaw_face.specs.State.{State, listed, range_at, part_at, count_on}
+use Rattle.eaw_face.specs.State.{listed, range_at, part_at, count_on}
 use Rattle.eaw_face.specs.StoreView.{IsLive, log_len}
 use Rattle.eaw_face.specs.Command.{log_read, read}
 use Rattle.eaw_face.specs.Does as face

@@ -1,5 +1,5 @@
 -- Data that is read part by part.
-use Rattle.std.proofs.Common.{◌≡◌, ℕ, ◌+◌, ◌-◌, ◌%◌, ◌<◌, ◌≤◌, List, [], ◌∷◌, ◌++◌, length, get_or, take, drop, IsTrue, refl, sym, ap, subst, ◌∙◌, inl, inr, arith}
+use Rattle.std.proofs.Common.{◌≡◌, ℕ, ◌+◌, ◌-◌, ◌%◌, ◌<◌, ◌≤◌, List, [], ◌∷◌, ◌++◌, length, get_or, take, drop, IsTrue, sym, ap, subst, ◌∙◌, inl, inr, arith}
 use Rattle.std.specs.Prelude.{All, Bool}
 use Rattle.std.proofs.lemmas.Bool.{cases_lt}
 use Rattle.std.proofs.lemmas.List.{ext_get_or, get_or_append_left, get_or-append_right, get_or-take, length-take, length-drop}
@@ -9,10 +9,10 @@ use Rattle.pcm_media.proofs.Ranges.{length-range, get_or-range}
 use Rattle.array_shape.specs.declared.shape.Shape.{Shape}
 use Rattle.array_shape.specs.declared.part.Part.{Part}
 use Rattle.array_shape.specs.Places.{media_len, data_len, place_of}
-use Rattle.array_shape.specs.Parts.{Tile, IsPartOf, parts_of}
+use Rattle.array_shape.specs.Parts.{Tile, IsPartOf}
 use Rattle.array_image.specs.Image.{data_of}
 use Rattle.array_image.proofs.Places.{place_next, place_fits_in}
-use Rattle.array_image.proofs.Data.{length-data_of, get_or-data_of}
+use Rattle.array_image.proofs.Data.{get_or-data_of}
 
 -- where the loop stands: these parts are left, and so many bytes are read
 pub record ReadsAt (shape : Shape) (addr len : ℕ) (whole buf : List ℕ) (tells : Bool) (left : List Part) : Type 0 where

@@ -1,16 +1,15 @@
 -- Writes into cells of one number, at all loggers.
 use Rattle.std.proofs.Common.{◌≡◌, ◌≢◌, ℕ, zero, suc, ◌+◌, ◌<◌, ◌≤◌, ◌⊎◌, inl, inr, List, [], ◌∷◌, ◌++◌, length, sym, ap, subst, ◌∙◌, arith}
 use Rattle.std.specs.Prelude.{slice_index}
-use Rattle.std.proofs.lemmas.Bool.{cases_eq}
-use Rattle.pcm_media.specs.Images.{SameOutside, IsOutside, Touched}
+use Rattle.pcm_media.specs.Images.{SameOutside, IsOutside}
 use Rattle.array_shape.specs.declared.shape.Shape.{Shape}
 use Rattle.array_shape.specs.Places.{media_len, cell_at}
 use Rattle.array_shape.specs.Parts.{pieces_on}
-use Rattle.array_shape.specs.Areas.{cell, HasArea}
+use Rattle.array_shape.specs.Areas.{cell}
 use Rattle.array_shape.proofs.Apart.{areas_apart}
 use Rattle.array_image.specs.Joined.{joined}
 use Rattle.array_image.specs.Parts.{Part}
-use Rattle.array_image.specs.Image.{cell_of, parts_from, IsGoodCell}
+use Rattle.array_image.specs.Image.{cell_of, IsGoodCell}
 use Rattle.array_image.proofs.Joined.{outside_joined, outside_at}
 use Rattle.array_image.proofs.Places.{cell_fits_in}
 use Rattle.array_image.proofs.Rows.{cell_away, parts_same}

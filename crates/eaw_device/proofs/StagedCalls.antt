@@ -1,5 +1,5 @@
 -- A stage at one logger after another.
-use Rattle.std.proofs.Common.{◌≡◌, ◌≢◌, ℕ, ◌+◌, ◌<◌, ◌≤◌, Bool, true, false, inl, inr, List, [], length, Result, Ok, Err, sym, ap, subst, ◌∙◌, arith}
+use Rattle.std.proofs.Common.{◌≡◌, ℕ, ◌+◌, ◌<◌, ◌≤◌, Bool, true, false, inl, inr, List, length, Result, Ok, Err, sym, ap, subst, ◌∙◌, arith}
 use Rattle.std.specs.Prelude.{IsTrue, OnOk, IfErr, is_err, slice_index}
 use Rattle.std.proofs.lemmas.Bool.{cases_eq, false≢true}
 use Rattle.counted.specs.declared.Failed.{Failed}
@@ -60,7 +60,7 @@ module _ (tells : Bool) (shape : Shape) (t : ℕ) (small : t < shape.numbers) (h
         (let below : g < number = omega arith in
         holds_same shape g t (slice_index held g) (pieces_on shape g addr bytes) mid.content.bytes new.content.bytes
         (λ k low high. let fits = room g (omega arith) in
-            other_logger shape number t (slice_index held number) (length (pieces_on shape number addr bytes)) there small (room number there) mid.content.bytes new.content.bytes (said.does.touched told).bytes
-            g t k (omega arith) small (omega arith) ne)
+        other_logger shape number t (slice_index held number) (length (pieces_on shape number addr bytes)) there small (room number there) mid.content.bytes new.content.bytes (said.does.touched told).bytes
+        g t k (omega arith) small (omega arith) ne)
         (before g below))
   ]

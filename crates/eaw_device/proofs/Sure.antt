@@ -1,10 +1,10 @@
 -- What may be left of an array whose cells, or whose places behind the header, are written.
-use Rattle.std.proofs.Common.{◌≡◌, ℕ, ◌+◌, ◌<◌, ◌≤◌, ◌⊎◌, Bool, inl, inr, ⊎_elim, List, [], length, get_or, take, Result, sym, ◌∙◌, ap, subst, arith}
+use Rattle.std.proofs.Common.{◌≡◌, ℕ, ◌+◌, ◌<◌, ◌≤◌, Bool, inl, inr, ⊎_elim, List, length, get_or, take, Result, sym, ◌∙◌, ap, subst, arith}
 use Rattle.std.specs.Prelude.{IsTrue}
 use Rattle.std.proofs.lemmas.Bool.{cases_lt}
 use Rattle.std.proofs.lemmas.List.{ext_get_or, get_or-take, length-take-le}
 use Rattle.counted.proofs.Going.{weaker}
-use Rattle.pcm_media.specs.Images.{Content, MayLeave, IsOutside, Touched, range, put, partly}
+use Rattle.pcm_media.specs.Images.{Content, MayLeave, Touched, range, put, partly}
 use Rattle.pcm_media.specs.View.{View, Writes, LeavesOnly}
 use Rattle.pcm_media.proofs.Left.{left_partly, outside-both}
 use Rattle.pcm_media.proofs.Puts.{length-put, get_or-put_inside, get_or-put_after}
@@ -13,7 +13,7 @@ use Rattle.array_shape.specs.declared.shape.Shape.{Shape}
 use Rattle.array_shape.specs.Places.{media_len}
 use Rattle.row_bytes.specs.Header.{SaysShape}
 use Rattle.array_image.specs.Image.{data_of}
-use Rattle.array_image.specs.Standing.{StandsFor, IsEither, IsClean}
+use Rattle.array_image.specs.Standing.{IsEither, IsClean}
 use Rattle.array_image.proofs.Frames.{AllWithin}
 use Rattle.array_image.proofs.Calls.{both_left}
 use Rattle.array_image.proofs.Headers.{AreBehind}

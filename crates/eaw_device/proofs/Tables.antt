@@ -1,20 +1,19 @@
 -- The logs of all numbers, and one of them that changes.
-use Rattle.std.proofs.Common.{◌≡◌, ◌≢◌, ℕ, zero, suc, ◌<◌, ◌≤◌, Bool, true, false, cond, nat_eq, inl, inr, List, [], ◌∷◌, length, get_or, refl, sym, ◌∙◌, ap, subst, arith}
+use Rattle.std.proofs.Common.{◌≡◌, ◌≢◌, ℕ, zero, suc, ◌<◌, Bool, true, false, cond, inl, inr, List, [], ◌∷◌, length, get_or, refl, sym, ◌∙◌, ap, subst, arith}
 use Rattle.std.specs.Prelude.{slice_get, slice_set, slice_index, Option, Some, None, IsSome, IsTrue}
 use Rattle.std.specs.Option.{option_map, option_and_then, ForSome}
 use Rattle.std.proofs.lemmas.Bool.{cases_Bool, cases_eq, eq-eqb, ne_eqb, false≢true}
 use Rattle.std.proofs.lemmas.List.{nil_from_length, length-set}
-use Rattle.std.proofs.lemmas.Option.{slice_get_read, slice_get_within}
+use Rattle.std.proofs.lemmas.Option.{slice_get_read}
 use Rattle.pcm_media.specs.View.{View}
 use Rattle.array_shape.specs.declared.shape.Shape.{Shape}
 use Rattle.array_image.specs.Parts.{Part, ranges_of}
 use Rattle.array_image.specs.Image.{cell_of, IsGoodCell}
-use Rattle.eaw_face.specs.State.{Logs, listed, with_log}
-use Rattle.eaw_face.specs.StoreView.{IsLive}
+use Rattle.eaw_face.specs.State.{listed, with_log}
 use Rattle.eaw_device.specs.declared.log.Entry.{Entry}
 use Rattle.eaw_device.specs.declared.log.Log.{Log}
 use Rattle.eaw_device.specs.Logs.{ranges_in, parts_in, IsKept, IsHeld, entries_of, entries_at}
-use Rattle.eaw_device.specs.Sound.{IsSure, IsSound, view_of}
+use Rattle.eaw_device.specs.Sound.{IsSure, IsSound}
 use Rattle.eaw_device.proofs.LogParts.{each_held, parts_in_same}
 
 -- the log that was looked up
@@ -141,7 +140,7 @@ sound_set tells old new shape logs is_dead sound size t log lt kept sure held ot
     held = λ u l is. elim (cases_eq u t) [
       | inl same ↦
           subst (λ (p : ℕ × Log). IsHeld shape new.content.bytes p.0 p.1)
-              (λ i. (sym same i, some_same log l (sym (slice_get-set_same logs t log lt) ∙ ap (slice_get (slice_set logs t log)) (sym same) ∙ is) i)) (held told alive)
+          (λ i. (sym same i, some_same log l (sym (slice_get-set_same logs t log lt) ∙ ap (slice_get (slice_set logs t log)) (sym same) ∙ is) i)) (held told alive)
       | inr ne ↦ others told alive u ne l (sym (slice_get-set_other logs t u log ne) ∙ is)
     ];
   };

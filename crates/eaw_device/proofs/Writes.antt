@@ -1,6 +1,6 @@
 -- A write that is staged and logged.
 use Rattle.std.proofs.Common.{◌≡◌, ◌≢◌, ℕ, ◌+◌, ◌-◌, ◌<◌, ◌≤◌, ◌⊎◌, Bool, true, false, inl, inr, List, [], ◌∷◌, ◌++◌, length, map, take, drop, Result, Ok, Err, refl, sym, ◌∙◌, ap, subst, arith}
-use Rattle.std.specs.Prelude.{IsTrue, IsErrAnd, All, filter, slice_get, slice_set, slice_index, Option, Some, None}
+use Rattle.std.specs.Prelude.{IsTrue, IsErrAnd, All, slice_get, slice_set, slice_index, Some}
 use Rattle.std.specs.Option.{option_map}
 use Rattle.std.specs.List.{range_with_len}
 use Rattle.std.proofs.lemmas.Bool.{cases_lt}
@@ -13,26 +13,25 @@ use Rattle.pcm_media.specs.View.{View, Writes, LeavesOnly}
 use Rattle.array_shape.specs.declared.shape.Shape.{Shape}
 use Rattle.array_shape.specs.declared.part.Part.{Part as Place}
 use Rattle.array_shape.specs.Places.{media_len, data_len}
-use Rattle.array_shape.specs.Parts.{parts_of, parts_on, piece_of, pieces_of, pieces_on, is_piece_on}
+use Rattle.array_shape.specs.Parts.{parts_of, parts_on, piece_of, pieces_of, pieces_on}
 use Rattle.array_shape.proofs.Cutting.{pieces_of-parts, pieces_on-parts}
 use Rattle.array_image.specs.Parts.{Part, ranges_of}
-use Rattle.array_image.specs.Image.{cell_of, data_of, parts_from, IsGoodCell}
+use Rattle.array_image.specs.Image.{cell_of, data_of, IsGoodCell}
 use Rattle.array_image.proofs.Staging.{staged_data}
 use Rattle.logger.specs.Cells.{HoldsParts}
 use Rattle.logger.proofs.Staging.{IsWithin, all_within}
-use Rattle.eaw_face.specs.State.{listed, with_log, count_on}
+use Rattle.eaw_face.specs.State.{listed, count_on}
 use Rattle.eaw_face.specs.StoreView.{log_len}
-use Rattle.eaw_face.specs.Causes.{Fit, IsFirstFull, Cause}
+use Rattle.eaw_face.specs.Causes.{Fit, IsFirstFull}
 use Rattle.eaw_face.specs.Command.{log_write}
 use Rattle.eaw_face.specs.Does as face
 use Rattle.eaw_face.specs.declared.fault.EawFault.{EawFault}
 use Rattle.eaw_face.specs.declared.fault.EawFault.TheVariants.{UnknownTid, LogFull, Media, Dead}
-use Rattle.eaw_device.specs.declared.log.Entry.{Entry}
 use Rattle.eaw_device.specs.declared.log.Log.{Log}
 use Rattle.eaw_device.specs.Opens.{Opens}
-use Rattle.eaw_device.specs.Logs.{ranges_in, parts_in, cells_on, IsKept, IsHeld, Adds, entries_of, entries_at}
-use Rattle.eaw_device.specs.Steps.{HasCells, LacksCells, LogLacksCells, RefusesWrite, staged_places}
-use Rattle.eaw_device.specs.Sound.{IsSure, IsTold, IsSound, view_of}
+use Rattle.eaw_device.specs.Logs.{ranges_in, parts_in, cells_on, IsKept, IsHeld, Adds, entries_at}
+use Rattle.eaw_device.specs.Steps.{HasCells, LacksCells, RefusesWrite, staged_places}
+use Rattle.eaw_device.specs.Sound.{IsSound, view_of}
 use Rattle.eaw_device.proofs.Entries.{numbers_split, ranges_in-append, length-ranges_in, cells_on-append, count_on-ranges_in}
 use Rattle.eaw_device.proofs.Keeping.{length-cells_on_kept}
 use Rattle.eaw_device.proofs.LogParts.{ranges_of-append, count_on-ranges_of, part_in, parts_in-append, parts_from-numbers, same_parts}

@@ -1,5 +1,5 @@
 -- The log of a number as the device keeps it: its entries, in the order in which they were logged.
-use Rattle.std.specs.Prelude.{ℕ, ◌≡◌, ◌+◌, ◌*◌, ◌<◌, ◌≤◌, nat_eq, if◌then◌else◌, false, List, [], ◌∷◌, ◌++◌, length, All, Option, Some, None, slice_get, slice_index, vec_capacity}
+use Rattle.std.specs.Prelude.{ℕ, ◌≡◌, ◌*◌, ◌<◌, ◌≤◌, nat_eq, if◌then◌else◌, false, List, [], ◌∷◌, ◌++◌, length, All, Option, Some, None, slice_get, slice_index, vec_capacity}
 use Rattle.std.specs.List.{range_with_len}
 use Rattle.std.specs.Option.{option_and_then}
 use Rattle.array_shape.specs.declared.shape.Shape.{Shape}

@@ -183,12 +183,7 @@ impl<M: Media> EawStore for Eaw<M> {
         self.commit(tid)
     }
 
-    fn log_read(
-        &mut self,
-        tid: u8,
-        pos: u32,
-        buf: &mut [u8; 512],
-    ) -> Result<(u64, u16), EawFault> {
+    fn log_read(&mut self, tid: u8, pos: u32, buf: &mut [u8; 512]) -> Result<(u64, u16), EawFault> {
         let at = self.find_live(tid)?;
         let entry = self.logs[at].entries[pos as usize];
         let logger = Logger::new(self.shape, self.shape.place(entry.addr).logger);

@@ -1,5 +1,5 @@
-use Rattle.std.proofs.Common.{◌≡◌, ◌∙◌, ℕ, zero, suc, ◌+◌, List, [], ◌∷◌, ◌++◌, length, ap, sym, subst, arith, length-append}
-use Rattle.std.specs.Prelude.{Option, Some, None, slice_get}
+use Rattle.std.proofs.Common.{◌≡◌, ◌∙◌, ℕ, zero, suc, ◌+◌, List, [], ◌∷◌, ◌++◌, length, ap, sym, subst, length-append}
+use Rattle.std.specs.Prelude.{Some, slice_get}
 use Rattle.eaw_device.specs.declared.log.Log.{Log}
 use Rattle.eaw_device.specs.Opening.{IsFree}
 use Rattle.eaw_device.proofs.opening.free_logs.Goals as goal

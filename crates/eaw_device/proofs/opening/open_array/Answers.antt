@@ -1,4 +1,4 @@
-use Rattle.std.proofs.Common.{◌≡◌, ◌∙◌, sym, ap, subst, ℕ, List, arith}
+use Rattle.std.proofs.Common.{◌∙◌, sym, ap, subst, ℕ, List, arith}
 use Rattle.pcm_media.proofs.Left.{same_bytes}
 use Rattle.row_bytes.specs.Header.{SaysShape}
 use Rattle.array_image.specs.Decided.{settled_data}

@@ -1,10 +1,9 @@
-use Rattle.std.proofs.Common.{◌≡◌, ◌∙◌, ◌<◌, ℕ, Bool, false, List, length, sym, subst, Result, Ok, Err, refl, arith}
+use Rattle.std.proofs.Common.{◌≡◌, ◌<◌, ℕ, Bool, false, List, length, sym, subst, Result, Ok, Err, arith}
 use Rattle.std.specs.Prelude.{IfErr, IsErrAnd, Some, slice_get}
 use Rattle.array_shape.specs.declared.shape.Shape.{Shape}
 use Rattle.eaw_face.specs.declared.fault.EawFault.{EawFault}
 use Rattle.eaw_face.specs.declared.fault.EawFault.TheVariants.{UnknownTid, LogFull, Media, Dead}
 use Rattle.eaw_device.specs.declared.log.Log.{Log}
-use Rattle.eaw_device.specs.Logs.{IsKept}
 use Rattle.eaw_device.specs.Steps.{HasCells, SaysFull, RefusesWrite}
 use Rattle.eaw_device.proofs.Doing.{one_log}
 use Rattle.eaw_device.proofs.Tables.{found_log}

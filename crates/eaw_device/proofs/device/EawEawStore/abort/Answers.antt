@@ -1,5 +1,4 @@
-use Rattle.std.proofs.Common.{◌≡◌, ◌∙◌, ℕ, sym, subst, refl, arith}
-use Rattle.eaw_device.proofs.Doing.{Found, found}
+use Rattle.eaw_device.proofs.Doing.{found}
 use Rattle.eaw_device.proofs.Commits.{abort_sound, abort_done}
 use Rattle.eaw_device.proofs.device.EawEawStore.abort.Goals as goal
 

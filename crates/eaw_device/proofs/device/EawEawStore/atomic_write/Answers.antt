@@ -1,7 +1,4 @@
-use Rattle.std.proofs.Common.{◌≡◌, ◌∙◌, ℕ, sym, length, arith, Err, subst, Result, Ok}
-use Rattle.std.specs.Prelude.{IfErr, ◌≢◌}
-use Rattle.eaw_face.specs.declared.fault.EawFault.{EawFault}
-use Rattle.eaw_face.specs.declared.fault.EawFault.TheVariants.{Media}
+use Rattle.std.proofs.Common.{arith}
 use Rattle.array_image.proofs.Data.{length-data_of}
 use Rattle.eaw_device.specs.Opens.{Opens}
 use Rattle.eaw_device.specs.Logs.{ranges_in, parts_in, entries_at}

@@ -1,4 +1,4 @@
-use Rattle.std.proofs.Common.{◌∙◌, ℕ, ap}
+use Rattle.std.proofs.Common.{◌∙◌, ap}
 use Rattle.std.specs.Prelude.{slice_index}
 use Rattle.eaw_device.proofs.Looks.{look_held}
 use Rattle.eaw_device.proofs.device.EawEawStore.held.Goals as goal

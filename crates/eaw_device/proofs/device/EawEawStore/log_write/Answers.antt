@@ -1,10 +1,10 @@
-use Rattle.std.proofs.Common.{◌≡◌, ◌∙◌, ◌<◌, ℕ, List, length, get_or, map, sym, subst, ap, refl, arith}
+use Rattle.std.proofs.Common.{◌≡◌, ◌∙◌, ◌<◌, ℕ, List, length, get_or, map, sym, subst, ap, arith}
 use Rattle.std.specs.Prelude.{slice_set}
 use Rattle.std.proofs.lemmas.List.{get_or-set_same}
 use Rattle.array_shape.specs.declared.part.Part.{Part}
 use Rattle.array_shape.specs.Parts.{parts_of}
 use Rattle.eaw_device.specs.declared.log.Log.{Log}
-use Rattle.eaw_device.specs.Logs.{IsKept, Adds}
+use Rattle.eaw_device.specs.Logs.{Adds}
 use Rattle.eaw_device.proofs.StagedCalls.{when_ok}
 use Rattle.eaw_device.proofs.Doing.{when_err, one_log}
 use Rattle.eaw_device.proofs.Tables.{found_log}

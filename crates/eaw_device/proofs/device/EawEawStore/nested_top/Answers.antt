@@ -1,4 +1,4 @@
-use Rattle.std.proofs.Common.{◌≡◌, ◌∙◌, ℕ, take, sym, ap, subst, refl, arith}
+use Rattle.std.proofs.Common.{◌∙◌, take, sym, ap, refl, arith}
 use Rattle.eaw_device.specs.declared.log.Log.{Log}
 use Rattle.eaw_device.proofs.StagedCalls.{when_ok}
 use Rattle.eaw_device.proofs.Doing.{Found, found, one_log, when_err}

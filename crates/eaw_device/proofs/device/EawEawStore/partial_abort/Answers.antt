@@ -1,5 +1,5 @@
-use Rattle.std.proofs.Common.{◌≡◌, ◌∙◌, ℕ, sym, subst, refl, arith}
-use Rattle.eaw_device.proofs.Doing.{Found, found}
+use Rattle.std.proofs.Common.{◌∙◌, arith}
+use Rattle.eaw_device.proofs.Doing.{found}
 use Rattle.eaw_device.proofs.Commits.{its_len, abort_sound, partial_done}
 use Rattle.eaw_device.proofs.device.EawEawStore.partial_abort.Goals as goal
 

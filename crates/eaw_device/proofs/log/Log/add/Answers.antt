@@ -6,8 +6,12 @@ pub push_reserved-requires : goal.push_reserved-requires
 push_reserved-requires c =
     let s = c.args.self.now in
     let kept = c.requires.kept in
-    omega (arith, s.entries.ok.0, kept.room,
-    fewer c.args.shape.now c.args.shape.now.in_range c.args.part c.requires.part s.entries.items s.held kept.loggers kept.cells kept.fits c.requires.room)
+    omega (
+      arith,
+      s.entries.ok.0,
+      kept.room,
+      fewer c.args.shape.now c.args.shape.now.in_range c.args.part c.requires.part s.entries.items s.held kept.loggers kept.cells kept.fits c.requires.room,
+    )
 
 pub returns-clause-kept : goal.returns-clause-kept
 returns-clause-kept c =

@@ -1,4 +1,4 @@
-use Rattle.std.proofs.Common.{◌∙◌, arith}
+use Rattle.std.proofs.Common.{◌∙◌}
 use Rattle.array_shape.specs.Parts.{parts_of}
 use Rattle.eaw_device.proofs.Keeping.{stands_first, stands_next}
 use Rattle.eaw_device.proofs.log.Log.add_range.Goals as goal

@@ -1,9 +1,8 @@
-use Rattle.std.proofs.Common.{◌≡◌, ◌∙◌, ◌<◌, ◌+◌, ℕ, ap, subst, sym, take, length, get_or, List, arith}
+use Rattle.std.proofs.Common.{◌≡◌, ◌∙◌, ◌<◌, ◌+◌, ℕ, ap, take, length, get_or, List, arith}
 use Rattle.std.specs.Prelude.{slice_index}
 use Rattle.std.proofs.lemmas.List.{length-take, get_or-take, length-set}
-use Rattle.array_shape.specs.Places.{data_len, logger_of, IsPlaced}
+use Rattle.array_shape.specs.Places.{logger_of}
 use Rattle.eaw_device.specs.declared.log.Entry.{Entry}
-use Rattle.eaw_device.specs.Logs.{cells_on, IsKept}
 use Rattle.eaw_device.proofs.Keeping.{entry_placed, counts_more, at_below, first_few}
 use Rattle.eaw_device.proofs.log.Log.counts_of_first.Goals as goal
 
@@ -33,8 +32,13 @@ overflow_add-counts c =
     let at : c.from-at.result ≡ logger_of shape (get_or s.entries.items c.loop-entry.entry-index none).addr =
     c.from-at.ensures ∙ c.place.ensures.logger ∙ ap (λ (e : Entry). logger_of shape e.addr) here.2 in
     let below = at_below shape shape.in_range s.entries.items c.loop-entry.entry-index none here.1 c.loop-entry.counts c.loop-entry.invariant.long c.loop-entry.invariant.counts c.from-at.result at in
-    omega (arith, c.loop-entry.invariant.counts c.from-at.result below, first_few shape c.loop-entry.entry-index s.entries.items s.held c.requires.kept.cells c.from-at.result below,
-    c.requires.kept.fits c.from-at.result below, shape.in_range.most_entries)
+    omega (
+      arith,
+      c.loop-entry.invariant.counts c.from-at.result below,
+      first_few shape c.loop-entry.entry-index s.entries.items s.held c.requires.kept.cells c.from-at.result below,
+      c.requires.kept.fits c.from-at.result below,
+      shape.in_range.most_entries,
+    )
 
 pub loop-entry-preserved : goal.loop-entry-preserved
 loop-entry-preserved c =

@@ -1,4 +1,4 @@
-use Rattle.std.proofs.Common.{◌∙◌, ap, length, take, arith}
+use Rattle.std.proofs.Common.{ap, length, arith}
 use Rattle.std.proofs.lemmas.List.{length-take}
 use Rattle.eaw_device.proofs.Keeping.{kept_first}
 use Rattle.eaw_device.proofs.log.Log.truncate.Goals as goal
