@@ -16,6 +16,6 @@ pub mod Cutting
 pub mod Commits
 pub mod Writes
 pub mod Atomic
-pub mod OpenedLemmas
 pub mod Looks
 pub mod Edits
+pub mod OpenedLemmas

@@ -1,7 +1,7 @@
 -- The laws of a device as a store.
 use Rattle.std.specs.Prelude.{ℕ, ◌≡◌, ◌≤◌, Bool, true, false, List, [], ◌∷◌, length, All, Option, Some, None, slice_get, refl}
 use Rattle.std.specs.Option.{option_map, option_and_then, ForSome}
-use Rattle.std.proofs.Common.{sym, ◌∙◌, ap, arith}
+use Rattle.std.proofs.Common.{sym, ◌∙◌, ap, subst}
 use Rattle.std.proofs.lemmas.Option.{slice_get_past}
 use Rattle.std.proofs.lemmas.List.Elements.{All-head, All-tail}
 use Rattle.pcm_media.specs.Images.{Content, MayLeave}
@@ -17,10 +17,12 @@ use Rattle.eaw_device.specs.Opens.{Opens}
 use Rattle.eaw_device.specs.Logs.{ranges_in, parts_in, IsKept, IsHeld, entries_of, entries_at}
 use Rattle.eaw_device.specs.Sound.{IsSure, IsTold}
 
+-- ranges that are all placed
 pub are_placed : (shape : Shape) (rs : List (ℕ × ℕ)) → All (λ (r : ℕ × ℕ). IsPlaced shape r.0 r.1) rs → ArePlaced shape rs
 are_placed shape [] placed = tt
 are_placed shape (r ∷ rs) placed = (All-head (λ (r : ℕ × ℕ). IsPlaced shape r.0 r.1) r rs placed, are_placed shape rs (All-tail (λ (r : ℕ × ℕ). IsPlaced shape r.0 r.1) r rs placed))
 
+-- the ranges of a number are those of its parts
 pub outlines : (shape : Shape) (content : Content) (logs : List Log) (t : ℕ) → IsTold shape content logs
     → option_map ranges_in (entries_at logs t) ≡ option_map ranges_of (option_map (parts_in shape content.bytes t) (entries_at logs t))
 outlines shape content logs t told = by (slice_get logs t) (told.held t)
@@ -34,6 +36,7 @@ outlines shape content logs t told = by (slice_get logs t) (told.held t)
     by None held = refl
     by (Some log) held = one log log.is_live (held log refl)
 
+-- they lie within pages
 pub placed : (shape : Shape) (logs : List Log) (t : ℕ) → ForSome (slice_get logs t) (IsKept shape) → ArePlaced shape (listed (option_map ranges_in (entries_at logs t)))
 placed shape logs t kept = by (slice_get logs t) kept
   where
@@ -45,11 +48,14 @@ placed shape logs t kept = by (slice_get logs t) kept
     by None kept = tt
     by (Some log) kept = one log log.is_live (kept log refl)
 
+-- beyond the numbers there is no log
 pub beyond : (logs : List Log) (shape : Shape) (t : ℕ) → length logs ≡ shape.numbers → shape.numbers ≤ t → option_map ranges_in (entries_at logs t) ≡ None
-beyond logs shape t many past = ap (λ (o : Option Log). option_map ranges_in (option_and_then entries_of o)) (slice_get_past logs t (omega (arith, many)))
+beyond logs shape t many past = ap (λ (o : Option Log). option_map ranges_in (option_and_then entries_of o)) (slice_get_past logs t (subst (λ (n : ℕ). n ≤ t) (sym many) past))
 
+-- what may be left of a sure array opens with its data
 pub only_now : (shape : Shape) (content : Content) (image : List ℕ) → IsSure shape content → MayLeave content image → Opens shape image (data_of shape content.bytes)
 only_now shape content image sure left = record { header = sure.header image left; stands = at_rest_stands shape image (data_of shape content.bytes) (sure.clean image left) }
 
+-- and an image opens with one data alone
 pub one_data : (shape : Shape) (image a b : List ℕ) → Opens shape image a → Opens shape image b → a ≡ b
 one_data shape image a b one other = sym one.stands.gives ∙ other.stands.gives
