@@ -1,10 +1,10 @@
 -- Texts in hexadecimal: how long they are, their digits, and the bytes that they say.
-use Rattle.std.proofs.Common.{◌≡◌, ℕ, zero, suc, ◌+◌, ◌-◌, ◌*◌, ◌/◌, ◌%◌, ◌<◌, ◌≤◌, ◌⊎◌, inl, inr, List, [], ◌∷◌, ◌++◌, length, get_or, take, slice_index, Result, Ok, Err, refl, sym, ap, subst, ◌∙◌, append_assoc, length-take, arith}
+use Rattle.std.proofs.Common.{◌≡◌, ℕ, zero, suc, ◌+◌, ◌-◌, ◌*◌, ◌/◌, ◌%◌, ◌<◌, ◌≤◌, inl, inr, List, [], ◌∷◌, ◌++◌, length, get_or, take, slice_index, Result, Ok, Err, refl, sym, ap, ◌∙◌, append_assoc, length-take, arith}
 use Rattle.std.specs.Prelude.{All, Bool, true, false, ◌↔◌, MatchBool, MatchResult, OnOk, is_ok, is_err, if◌then◌else◌}
 use Rattle.std.proofs.lemmas.Bool.{cases_lt}
 use Rattle.std.proofs.lemmas.List.{take_more}
 use Rattle.std.proofs.lemmas.List.Elements.{All-nil, All-cons, All-head, All-tail, All-same}
-use Rattle.hex.specs.Hex.{IsBytes, lower_digits, encode_with, decode_sized, decode_of}
+use Rattle.hex.specs.Hex.{IsBytes, lower_digits, encode_with, decode_sized}
 use Rattle.hex.specs.declared.error.FromHexError.{FromHexError}
 use Rattle.hex.proofs.HexLemmas.{length-encode_with, decode_sized-encode_lower, decode_of-encode_lower, decode_of-same}
 use Rattle.script_text.specs.HexText.{hex_of, IsBlock, IsHex, IsDigit}

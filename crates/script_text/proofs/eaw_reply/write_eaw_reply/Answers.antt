@@ -1,7 +1,7 @@
 use Rattle.std.proofs.Common.{refl, ap, ◌∙◌, ◌∷◌, [], ◌++◌, List, ℕ}
 use Rattle.std.specs.Prelude.{codes}
 use Rattle.std.specs.Fmt.{decimal}
-use Rattle.script_text.specs.EawReplies.{answer_of, fine}
+use Rattle.script_text.specs.EawReplies.{answer_of}
 use Rattle.script_text.proofs.ReplyLemmas.{log_full_text}
 use Rattle.script_text.proofs.EawReplyLemmas.{answer_appended, part_text, data_appended, media_appended}
 use Rattle.script_text.proofs.eaw_reply.write_eaw_reply.Goals as goal
