@@ -4,6 +4,7 @@
 mod answer;
 mod damage;
 mod fault;
+mod formatting;
 mod gate;
 mod live;
 mod records;
@@ -13,6 +14,7 @@ mod status;
 mod whole;
 
 pub use fault::fault_text;
+pub use formatting::{FormatNumbers, room_of};
 pub use gate::{Gate, OpenGate, Place};
 pub use status::Status;
 pub use whole::run;
