@@ -11,3 +11,4 @@ pub mod FaultLemmas
 pub mod Serving
 pub mod Running
 pub mod Commanding
+pub mod FormatLemmas

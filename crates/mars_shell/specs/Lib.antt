@@ -1,6 +1,7 @@
 pub mod Called
 pub mod Exchange
 pub mod Fault
+pub mod Formats
 pub mod Kept
 pub mod Live
 pub mod Outcome

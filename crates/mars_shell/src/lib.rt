@@ -5,6 +5,7 @@ mod answer;
 mod commands;
 mod damage;
 mod fault;
+mod formatting;
 mod gate;
 mod live;
 mod records;
@@ -14,6 +15,7 @@ mod status;
 mod whole;
 
 pub use fault::fault_text;
+pub use formatting::{FormatNumbers, room_of};
 pub use gate::{Gate, OpenGate, Place};
 pub use status::Status;
 pub use whole::run;

@@ -1,0 +1,134 @@
+// A fresh array is made on the media, and its lengths are told.
+ghost use Rattle.std.specs.Prelude.{◌≡◌, ◌↔◌, ◌+◌, ◌≤◌, ◌++◌, Bool, List, ℕ, length, take, IsOk, IfOk, IfErr, IsTrue};
+ghost use Rattle.counted.specs.Causes.{Rose};
+ghost use Rattle.array_shape.specs.declared.shape.Shape.{Shape};
+ghost use Rattle.array_shape.specs.Places.{media_len};
+ghost use Rattle.mars_shell.specs.Formats.{CanBe, HasAsked, IsFirstWrong, asked_for, formatted_line, FormatOutcome, IsOfFormat};
+ghost use Rattle.mars_shell.specs.Outcome.{IsRefusal};
+
+use crate::status::Status;
+use array_shape::{BadShape, Shape, ShapeNumber};
+use eaw_device::{FormatFault, format};
+use itoa::Buffer;
+use outside::Sink;
+use pcm_media::Media;
+use script_io::write_whole;
+
+/// The numbers of an array as they are asked for, in range or not.
+#[derive(Clone, Copy, Debug, PartialEq, Eq)]
+pub struct FormatNumbers {
+    /// Loggers.
+    pub loggers: u16,
+    /// Transaction numbers.
+    pub numbers: u16,
+    /// Log entries per transaction number and logger.
+    pub entries: u16,
+    /// Pages of 512 bytes per logger.
+    pub pages: u16,
+}
+
+/// How many bytes the media of such an array has, 0 where a number is out of range.
+pub fn room_of(asked: &FormatNumbers) -> u64
+    ensures room { (shape : Shape) → HasAsked asked.now shape → result ≡ media_len shape }
+    ensures no_room { ¬ CanBe asked.now → result ≡ 0 }
+{
+    match shape_of(asked) {
+        Ok(shape) => shape.media_len(),
+        Err(_) => 0,
+    }
+}
+
+/// Makes a fresh array on the media, writes a line of the bytes of the media and of the data, and gives the media back.
+pub(crate) fn run_format<K: Sink, M: Media>(
+    sink: &mut K,
+    mut media: M,
+    asked: &FormatNumbers,
+) -> (Status, M)
+    ensures kind { IsOfFormat result.0 }
+    // Where a number or the media's length is wrong, all is left alone. Of an array that was not made nothing is told.
+    ensures refused { IsRefusal result.0 → (sink.new ≡ sink.old) × (result.1 ≡ media) }
+    ensures untold { result.0 ≡ Status.MediaFault → sink.new ≡ sink.old }
+    // A fault of the sink or the media comes only where its count rose.
+    ensures write_fault { result.0 ≡ Status.WriteFault → Rose (K.faults sink.old) (K.faults sink.new) }
+    ensures media_fault { result.0 ≡ Status.MediaFault → Rose (M.view media).faults (M.view result.1).faults }
+    // Some text was written, cut short only where the sink failed, and each status has its cause.
+    ensures ran { IsTrue M.tells → (cut : Bool) × (text : List ℕ) × (IsTrue K.tells → K.written sink.new ≡ K.written sink.old ++ text)
+        × (IsTrue cut → Rose (K.faults sink.old) (K.faults sink.new))
+        × FormatOutcome asked.now (M.view media) result.0 (M.view result.1) cut text }
+{
+    let shape = match shape_of(asked) {
+        Ok(shape) => shape,
+        Err(bad) => return (bad_shape(bad), media),
+    };
+    match format(&mut media, &shape) {
+        Ok(()) => {}
+        Err(FormatFault::BadShape(bad)) => return (bad_shape(bad), media),
+        Err(FormatFault::Media) => return (Status::MediaFault, media),
+    }
+    let mut buf = [0; 64];
+    match write_whole(sink, formatted_line(shape, &mut buf)) {
+        Ok(()) => (Status::Good, media),
+        Err(_) => (Status::WriteFault, media),
+    }
+}
+
+fn bad_shape(bad: BadShape) -> Status
+    ensures { result ≡ Status.BadShape bad.which bad.given }
+{
+    Status::BadShape {
+        which: bad.which,
+        given: bad.given,
+    }
+}
+
+// The shape of these numbers, or the first that is out of range.
+fn shape_of(asked: &FormatNumbers) -> Result<Shape, BadShape>
+    ensures good { IsOk result ↔ CanBe asked.now }
+    ensures shape { IfOk result (HasAsked asked.now) }
+    ensures bad { IfErr result (λ bad. IsFirstWrong asked.now bad.which bad.given) }
+{
+    // What no byte holds is out of range, as 255 is, but it is told as it was asked for.
+    let loggers = asked.loggers.min(255) as u8;
+    let numbers = asked.numbers.min(255) as u8;
+    match Shape::new(loggers, numbers, asked.entries, u32::from(asked.pages)) {
+        Ok(shape) => Ok(shape),
+        Err(BadShape { which, given }) => Err(BadShape {
+            which,
+            given: asked_for(asked, which, given),
+        }),
+    }
+}
+
+fn asked_for(asked: &FormatNumbers, which: ShapeNumber, given: u64) -> u64
+    ensures { result ≡ asked_for asked.now which given }
+{
+    match which {
+        ShapeNumber::Loggers => u64::from(asked.loggers),
+        ShapeNumber::Numbers => u64::from(asked.numbers),
+        ShapeNumber::Entries | ShapeNumber::Pages | ShapeNumber::MediaLength => given,
+    }
+}
+
+// The line of a fresh array. It is formed without memory, so that its status does not depend on any.
+fn formatted_line(shape: Shape, buf: &mut [u8; 64]) -> &[u8]
+    ensures { result.now ≡ formatted_line shape }
+{
+    let mut buffer = Buffer::new();
+    let words = put_behind(buf, 0, b"formatted ");
+    let media = put_behind(buf, words, buffer.format(shape.media_len()).as_bytes());
+    let space = put_behind(buf, media, b" ");
+    let data = put_behind(buf, space, buffer.format(shape.data_len()).as_bytes());
+    let end = put_behind(buf, data, b"\n");
+    &buf[..end]
+}
+
+// Puts a piece behind the first `at` bytes, and gives where it ends.
+fn put_behind(buf: &mut [u8; 64], at: usize, piece: &[u8]) -> usize
+    requires { at + length piece.now ≤ 64 }
+    ensures end { result ≡ at + length piece.now }
+    ensures text { take result buf.new ≡ take at buf.old ++ piece.now }
+{
+    let end = at + piece.len();
+    buf[at..end].copy_from_slice(piece);
+    end
+}
