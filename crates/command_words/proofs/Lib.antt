@@ -4,3 +4,4 @@ pub mod OptionWords
 pub mod NumberLemmas
 pub mod SettingLemmas
 pub mod WordLemmas
+pub mod OneCommand

@@ -1,5 +1,5 @@
 -- Words that begin with an option, and words that begin with none.
-use Rattle.std.proofs.Common.{◌≡◌, ℕ, ◌<◌, ◌^◌, List, [], ◌∷◌, ◌++◌, refl, sym, ap, ◌∙◌}
+use Rattle.std.proofs.Common.{◌≡◌, ℕ, ◌<◌, ◌^◌, List, [], ◌∷◌, ◌++◌, refl, sym, ◌∙◌}
 use Rattle.std.specs.Fmt.{decimal}
 use Rattle.command_words.specs.Reads.{HasNo}
 use Rattle.command_words.specs.Commands.{Given, apart, joined, number_of, option_words, name_of}

@@ -1,5 +1,5 @@
 -- What the options read so far have set, and one option more.
-use Rattle.std.proofs.Common.{◌≡◌, ℕ, ◌<◌, ◌^◌, ◌==◌, ◌⊎◌, inl, inr, ⊎_elim, Bool, true, false, List, [], ◌∷◌, ◌++◌, map, length, Option, Some, None, sym, subst, ap, ◌∙◌}
+use Rattle.std.proofs.Common.{◌≡◌, ℕ, ◌<◌, ◌^◌, ◌==◌, inl, inr, Bool, false, List, [], ◌∷◌, ◌++◌, map, length, Option, Some, None, sym, subst, ap, ◌∙◌}
 use Rattle.std.specs.List.{flat_map}
 use Rattle.command_words.specs.Commands.{Given, setting_of, number_of, IsSet, IsUnset, AreOptions, option_words}
 use Rattle.command_words.specs.Settings.{place_of, ShowsNumber, ShowsSettings, SetsOne}

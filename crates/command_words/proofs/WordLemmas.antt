@@ -1,10 +1,10 @@
 -- What the words say as a whole.
-use Rattle.std.proofs.Common.{◌≡◌, ℕ, ◌<◌, ◌^◌, ◌⊎◌, inl, inr, Bool, true, List, [], ◌∷◌, Option, Some, None, unwrap_or, refl, sym, subst, ◌∙◌}
+use Rattle.std.proofs.Common.{◌≡◌, ℕ, inl, inr, Bool, true, List, ◌∷◌, Option, Some, None, unwrap_or, refl, sym, subst, ◌∙◌}
 use Rattle.std.specs.Prelude.{codes}
 use Rattle.std.specs.List.{flat_map}
 use Rattle.std.specs.Str.{bytes_eq}
 use Rattle.std.proofs.lemmas.Slice.Eq.{bytes_eq-Decides}
-use Rattle.command_words.specs.Commands.{Given, AreOptions, IsSet, option_words, format, words_of}
+use Rattle.command_words.specs.Commands.{Given, IsSet, option_words, format, words_of}
 use Rattle.command_words.specs.Settings.{ShowsNumber}
 use Rattle.command_words.specs.Shown.{HasNumber}
 use Rattle.command_words.specs.declared.setting.Setting.{Setting}
