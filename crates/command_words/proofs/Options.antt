@@ -1,17 +1,17 @@
 -- Lists of options, and the words that begin with them.
-use Rattle.std.proofs.Common.{◌≡◌, ℕ, ◌<◌, ◌^◌, ◌⊎◌, inl, inr, ⊎_elim, List, [], ◌∷◌, ◌++◌, refl, sym, ap, ◌∙◌, append_assoc, subst, arith}
+use Rattle.std.proofs.Common.{◌≡◌, ℕ, ◌<◌, ◌^◌, inl, inr, ⊎_elim, List, [], ◌∷◌, ◌++◌, refl, sym, ap, ◌∙◌, append_assoc, subst, arith}
 use Rattle.std.specs.List.{flat_map}
 use Rattle.std.specs.Fmt.{decimal}
 use Rattle.std.proofs.lemmas.Fmt.{decimal_injective}
 use Rattle.command_words.specs.Commands.{Given, apart, joined, setting_of, number_of, option_words, name_of, IsSet, IsUnset, AreOptions}
 use Rattle.command_words.specs.declared.setting.Setting.{Setting}
-use Rattle.command_words.proofs.Signs.{not_in, one_first, name_has_no_sign, same_name, decide}
+use Rattle.command_words.proofs.Signs.{not_in, one_first, name_has_no_sign, same_name}
 
 same_number : (m n : ℕ) → m < 2 ^ 16 → n < 2 ^ 16 → decimal m ≡ decimal n → m ≡ n
 same_number m n mf nf e = decimal_injective m n (omega arith) (omega arith) e
 
 -- the head and the tail of equal lists
-heads : (a b : List ℕ) (x y : List (List ℕ)) → a ∷ x ≡ b ∷ y → (a ≡ b) × (x ≡ y)
+pub heads : (a b : List ℕ) (x y : List (List ℕ)) → a ∷ x ≡ b ∷ y → (a ≡ b) × (x ≡ y)
 heads a b x y e = (cc e, cc e)
 
 -- words begin with one option at most

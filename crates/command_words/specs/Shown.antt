@@ -1,6 +1,5 @@
 -- What `Words` tells of a command.
-use Rattle.std.specs.Prelude.{ℕ, ◌≡◌, ◌⊎◌, List, String, string_bytes, map}
-use Rattle.std.specs.Borrow.{Bor}
+use Rattle.std.specs.Prelude.{ℕ, ◌≡◌, ◌⊎◌, List}
 use Rattle.command_words.specs.Commands.{Given, IsSet, IsUnset, Command, run, eaw, format}
 use Rattle.command_words.specs.declared.setting.Setting.{Setting}
 use Rattle.command_words.specs.declared.setting.Setting.TheVariants.{Loggers, Numbers, Entries, Pages}

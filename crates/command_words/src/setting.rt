@@ -1,12 +1,13 @@
 // The options of `format`.
-ghost use Rattle.std.specs.Prelude.{◌≡◌, ◌<◌, ◌++◌, ◌∷◌, List, ℕ, map, length, string_bytes, MatchOption, IfSome};
+ghost use Rattle.std.specs.Prelude.{◌≡◌, ◌<◌, ℕ, map, length, string_bytes, MatchOption, IfSome};
 ghost use Rattle.std.specs.List.{flat_map};
 ghost use Rattle.std.specs.Option.{option_map};
-ghost use Rattle.command_words.specs.Reads.{Reads, ReadsShown, HasNo};
+ghost use Rattle.command_words.specs.Reads.{Reads, ReadsShown};
 ghost use Rattle.command_words.specs.Commands.{AreOptions, name_of, option_words};
 ghost use Rattle.command_words.specs.Settings.{place_of, ShowsSettings, SetsOne, Begins};
 
 use crate::number::read_number;
+use crate::word::{first_word, split_at_sign};
 
 /// What an option sets.
 #[derive(Clone, Copy, Debug, PartialEq, Eq)]
@@ -69,20 +70,16 @@ fn read_option(words: &[String]) -> Option<(Setting, u16, &[String])>
     ensures begins { Begins (map string_bytes words.now) (option_map (λ p. (p.0, p.1, map string_bytes p.2.now)) result) }
     ensures shorter { IfSome result (λ p. length p.2.now < length words.now) }
 {
-    let (word, rest) = words.split_first()?;
-    if let Some((name, number)) = split_at_sign(word.as_str()) {
-        return Some((read_name(name)?, read_number(number)?, rest));
+    let (word, rest) = first_word(words)?;
+    if let Some((name, text)) = split_at_sign(word) {
+        let setting = read_name(name)?;
+        let number = read_number(text)?;
+        return Some((setting, number, rest));
     }
-    let setting = read_name(word.as_str())?;
-    let (number, rest) = rest.split_first()?;
-    Some((setting, read_number(number.as_str())?, rest))
-}
-
-// What stands before the first `=` of a word, and behind it.
-fn split_at_sign(word: &str) -> Option<(&str, &str)>
-    ensures { MatchOption result (HasNo 61 word.now) (λ p. HasNo 61 p.0.now × (word.now ≡ p.0.now ++ 61 ∷ p.1.now)) }
-{
-    word.split_once('=')
+    let setting = read_name(word)?;
+    let (text, behind) = first_word(rest)?;
+    let number = read_number(text)?;
+    Some((setting, number, behind))
 }
 
 fn read_name(name: &str) -> Option<Setting>

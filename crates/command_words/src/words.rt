@@ -4,6 +4,7 @@ ghost use Rattle.command_words.specs.Commands.{IsCommand, words_of};
 ghost use Rattle.command_words.specs.Shown.{ShowsCommand};
 
 use crate::setting::read_settings;
+use crate::word::first_word;
 
 /// What the words ask for.
 #[derive(Clone, Copy, Debug, PartialEq, Eq)]
@@ -27,8 +28,8 @@ pub enum Words {
 pub fn read_words(words: &[String]) -> Option<Words>
     ensures { ReadsShown ShowsCommand IsCommand words_of (map string_bytes words.now) result }
 {
-    let (first, rest) = words.split_first()?;
-    if first.as_str() == "format" {
+    let (first, rest) = first_word(words)?;
+    if first == "format" {
         let settings = read_settings(rest)?;
         return Some(Words::Format {
             loggers: settings.loggers.unwrap_or(4),
@@ -40,7 +41,7 @@ pub fn read_words(words: &[String]) -> Option<Words>
     if !rest.is_empty() {
         return None;
     }
-    match first.as_str() {
+    match first {
         "run" => Some(Words::Run),
         "eaw" => Some(Words::Eaw),
         _ => None,

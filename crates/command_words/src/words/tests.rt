@@ -2,6 +2,7 @@ use super::*;
 use std::alloc::{AllocError, Global};
 use std::test::Fail;
 
+// What some words say.
 fn read(alloc: Global, words: &[&str]) -> Result<Option<Words>, AllocError> {
     let mut owned = Vec::new(alloc);
     for word in words {
@@ -10,22 +11,86 @@ fn read(alloc: Global, words: &[&str]) -> Result<Option<Words>, AllocError> {
     Ok(read_words(&owned))
 }
 
+fn format(loggers: u16, numbers: u16, entries: u16, pages: u16) -> Words {
+    Words::Format {
+        loggers,
+        numbers,
+        entries,
+        pages,
+    }
+}
+
 #[test]
 fn words_are_read(rt: HostRuntime) -> Result<(), Fail> {
-    let format = |loggers, numbers, entries, pages| {
-        Some(Words::Format {
-            loggers,
-            numbers,
-            entries,
-            pages,
-        })
-    };
-    let rows: [(&[&str], Option<Words>); 2] = [
-        (&["run"], Some(Words::Run)),
+    let rows: [(&[&str], Words); 9] = [
+        (&["run"], Words::Run),
+        (&["eaw"], Words::Eaw),
         (&["format"], format(4, 8, 16, 64)),
+        (&["format", "--loggers", "2"], format(2, 8, 16, 64)),
+        (&["format", "--numbers=0"], format(4, 0, 16, 64)),
+        (&["format", "--entries", "65535"], format(4, 8, 65535, 64)),
+        (&["format", "--pages=128"], format(4, 8, 16, 128)),
+        (
+            &[
+                "format",
+                "--loggers",
+                "1",
+                "--numbers=2",
+                "--entries",
+                "8",
+                "--pages",
+                "4",
+            ],
+            format(1, 2, 8, 4),
+        ),
+        (
+            &[
+                "format",
+                "--pages=4",
+                "--entries=8",
+                "--numbers",
+                "2",
+                "--loggers=1",
+            ],
+            format(1, 2, 8, 4),
+        ),
     ];
     for (words, meaning) in rows {
-        assert_eq!(rt; read(rt.alloc(), words)?, meaning, "{words:?}");
+        assert_eq!(rt; read(rt.alloc(), words)?, Some(meaning), "{words:?}");
+    }
+    Ok(())
+}
+
+#[test]
+fn other_words_are_none(rt: HostRuntime) -> Result<(), Fail> {
+    let rows: [&[&str]; 24] = [
+        &[],
+        &[""],
+        &["walk"],
+        &["help"],
+        &["--help"],
+        &["--version"],
+        &["Run"],
+        &["run", "run"],
+        &["run", "--"],
+        &["eaw", "--pages=4"],
+        &["format", "--help"],
+        &["format", "--"],
+        &["format", "4"],
+        &["format", "--logger=4"],
+        &["format", "-l", "4"],
+        &["format", "--loggers"],
+        &["format", "--loggers="],
+        &["format", "--loggers=+4"],
+        &["format", "--loggers=-4"],
+        &["format", "--loggers=04"],
+        &["format", "--loggers", " 4"],
+        &["format", "--loggers=65536"],
+        &["format", "--loggers=4", "--loggers=4"],
+        &["format", "--pages", "4", "--loggers=1", "--pages=4"],
+    ];
+    for words in rows {
+        assert_eq!(rt; read(rt.alloc(), words)?, None, "{words:?}");
     }
     Ok(())
 }

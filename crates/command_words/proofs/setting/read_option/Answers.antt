@@ -1,19 +1,33 @@
-use Rattle.std.proofs.Common.{rules, ◌≡◌, ◌<◌, ◌++◌, ◌∷◌, List, ℕ, map, length, string_bytes, MatchOption, IfSome, ◌+◌, ◌-◌, ◌*◌, ◌≤◌, ◌/◌, ◌%◌, Bool, true, false, nat_eq, nat_lt, [], slice_index_or, slice_set, bit_and, bit_or, Fits, w8, w32, w64, Bor, MutBor}
-use Rattle.std.specs.List.{flat_map}
-use Rattle.std.specs.Option.{option_map}
-use Rattle.command_words.specs.Reads.{Reads, ReadsShown, HasNo}
-use Rattle.command_words.specs.Commands.{AreOptions, name_of, option_words}
-use Rattle.command_words.specs.Settings.{place_of, ShowsSettings, SetsOne, Begins}
+use Rattle.std.proofs.Common.{refl}
+use Rattle.command_words.specs.Commands.{apart, joined}
+use Rattle.command_words.proofs.OptionWords.{joined_words, apart_words, none_of_joined}
 use Rattle.command_words.proofs.setting.read_option.Goals as goal
 
--- src/setting.rt:74:22
-pub returns-in_err-read_name-clause-begins : goal.returns-in_err-read_name-clause-begins
-returns-in_err-read_name-clause-begins c = ?
+pub returns-in_err-setting-clause-begins : goal.returns-in_err-setting-clause-begins
+returns-in_err-setting-clause-begins c = rw c.from_residual-in_err-setting.ensures
+    (none_of_joined _ c.in_ok-word.word.now _ c.in-Some.name.now c.in-Some.text.now c.in_ok-word.ensures.first c.in-Some.ensures.0 c.in-Some.ensures.1
+    (λ setting number fits is says. c.in_err-setting.ensures setting tt is))
 
--- src/setting.rt:74:9
 pub returns-in-Some-clause-begins : goal.returns-in-Some-clause-begins
-returns-in-Some-clause-begins c = ?
+returns-in-Some-clause-begins c =
+    let setting = c.in_ok-setting.setting in
+    let number = c.in_ok-number.number in (
+      joined setting number,
+      refl,
+      refl,
+      c.in_ok-number.ensures.0,
+      joined_words _ c.in_ok-word.word.now _ c.in-Some.name.now c.in-Some.text.now setting number
+          c.in_ok-word.ensures.first c.in-Some.ensures.1 c.in_ok-setting.ensures.1 c.in_ok-number.ensures.1,
+    )
 
--- src/setting.rt:68:1
 pub returns-clause-begins : goal.returns-clause-begins
-returns-clause-begins c = ?
+returns-clause-begins c =
+    let setting = c.in_ok-setting-2.setting in
+    let number = c.in_ok-number-2.number in (
+      apart setting number,
+      refl,
+      refl,
+      c.in_ok-number-2.ensures.0,
+      apart_words _ c.in_ok-word.word.now _ c.in_ok-text.text.now _ setting number
+          c.in_ok-word.ensures.first c.in_ok-text.ensures.first c.in_ok-setting-2.ensures.1 c.in_ok-number-2.ensures.1,
+    )

@@ -1,31 +1,30 @@
-use Rattle.std.proofs.Common.{rules, ◌≡◌, ◌<◌, ◌++◌, ◌∷◌, List, ℕ, map, length, string_bytes, MatchOption, IfSome, ◌+◌, ◌-◌, ◌*◌, ◌≤◌, ◌/◌, ◌%◌, Bool, true, false, nat_eq, nat_lt, [], slice_index_or, slice_set, bit_and, bit_or, Fits, w8, w32, w64, Bor, MutBor}
+use Rattle.std.proofs.Common.{ℕ, ◌<◌, ◌^◌, ◌++◌, List, sym, subst, ap, ◌∙◌}
+use Rattle.std.specs.Prelude.{string_bytes}
 use Rattle.std.specs.List.{flat_map}
-use Rattle.std.specs.Option.{option_map}
-use Rattle.command_words.specs.Reads.{Reads, ReadsShown, HasNo}
-use Rattle.command_words.specs.Commands.{AreOptions, name_of, option_words}
-use Rattle.command_words.specs.Settings.{place_of, ShowsSettings, SetsOne, Begins}
+use Rattle.command_words.specs.Commands.{option_words}
+use Rattle.command_words.proofs.Options.{nothing_behind, again_behind}
+use Rattle.command_words.proofs.SettingLemmas.{some_left, one_sets, one_more}
 use Rattle.command_words.proofs.setting.read_settings.Goals as goal
 
--- src/setting.rt:59:5
-pub loop-rest-init : goal.loop-rest-init
-loop-rest-init c = ?
-
--- src/setting.rt:60:41
 pub returns-in_err-setting : goal.returns-in_err-setting
-returns-in_err-setting c = ?
+returns-in_err-setting c =
+    let so_far = c.loop-rest.invariant in
+    rw c.from_residual.ensures
+    (nothing_behind _ _ so_far.0 (some_left string_bytes c.loop-rest.rest.now c.is_empty.result c.is_empty.ensures c.loop-rest-test.true) so_far.1 so_far.3 c.in_err-setting.ensures.begins)
 
--- src/setting.rt:61:20
 pub returns-in_err-settings : goal.returns-in_err-settings
-returns-in_err-settings c = ?
+returns-in_err-settings c =
+    let so_far = c.loop-rest.invariant in
+    let begins = c.in_ok-setting.ensures.begins in
+    let set = c.in_err-settings.ensures in
+    let fits = subst (λ (n : ℕ). n < 2 ^ 16) (sym begins.2) begins.3 in
+    let split = so_far.3 ∙ ap (λ (r : List (List ℕ)). flat_map option_words so_far.0 ++ r) begins.4 in
+    rw c.from_residual-in_err-settings.ensures
+    (again_behind _ _ so_far.0 begins.0 set.0 so_far.1 fits split (one_sets c.loop-rest.settings so_far.0 c.in_ok-setting.setting set.0 begins.0 so_far.2 begins.1 set.1))
 
--- src/setting.rt:59:5
-pub loop-rest-smaller : goal.loop-rest-smaller
-loop-rest-smaller c = ?
-
--- src/setting.rt:59:5
 pub loop-rest-preserved : goal.loop-rest-preserved
-loop-rest-preserved c = ?
-
--- src/setting.rt:54:1
-pub returns : goal.returns
-returns c = ?
+loop-rest-preserved c =
+    let so_far = c.loop-rest.invariant in
+    let begins = c.in_ok-setting.ensures.begins in
+    one_more c.in_ok-setting.setting c.in_ok-setting.number c.loop-rest.settings c.in_ok-settings.settings so_far.0 begins.0 _ _ _ so_far.1 so_far.2 so_far.3
+    begins.1 begins.2 begins.3 begins.4 c.in_ok-settings.ensures
