@@ -58,26 +58,19 @@ pub(crate) fn run_format<K: Sink, M: Media>(
 {
     let shape = match shape_of(asked) {
         Ok(shape) => shape,
-        Err(bad) => return (bad_shape(bad), media),
+        Err(BadShape { which, given }) => return (Status::BadShape { which, given }, media),
     };
     match format(&mut media, &shape) {
         Ok(()) => {}
-        Err(FormatFault::BadShape(bad)) => return (bad_shape(bad), media),
+        Err(FormatFault::BadShape(BadShape { which, given })) => {
+            return (Status::BadShape { which, given }, media);
+        }
         Err(FormatFault::Media) => return (Status::MediaFault, media),
     }
     let mut buf = [0; 64];
     match write_whole(sink, formatted_line(shape, &mut buf)) {
         Ok(()) => (Status::Good, media),
         Err(_) => (Status::WriteFault, media),
-    }
-}
-
-fn bad_shape(bad: BadShape) -> Status
-    ensures { result ≡ Status.BadShape bad.which bad.given }
-{
-    Status::BadShape {
-        which: bad.which,
-        given: bad.given,
     }
 }
 

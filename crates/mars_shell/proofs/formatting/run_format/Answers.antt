@@ -1,42 +1,29 @@
-use Rattle.std.proofs.Common.{inl, inr, [], true, false, refl, sym, ap, subst, ◌∙◌, rules}
+use Rattle.std.proofs.Common.{◌⊎◌, inr, [], true, false, refl, sym, subst, rules}
 use Rattle.std.proofs.lemmas.Bool.{false≢true}
 use Rattle.std.proofs.lemmas.List.{append-nil}
-use Rattle.array_shape.specs.declared.bad_shape.BadShape.{BadShape as Bad}
+use Rattle.array_shape.specs.declared.bad_shape.BadShape.{BadShape}
 use Rattle.script_io.specs.Written.{IsCut}
 use Rattle.mars_shell.specs.Run.{Idle}
-use Rattle.mars_shell.specs.Formats.{FormatOutcome}
-use Rattle.mars_shell.specs.declared.status.Status.{Status}
-use Rattle.mars_shell.specs.declared.status.Status.TheVariants.{BadShape}
+use Rattle.mars_shell.specs.Formats.{IsFirstWrong, IsOtherLength}
 use Rattle.mars_shell.proofs.Running.{idle_same}
 use Rattle.mars_shell.proofs.FormatLemmas.{begun}
 use Rattle.mars_shell.proofs.formatting.run_format.Goals as goal
 
-pub returns-in-Err-clause-ran : goal.returns-in-Err-clause-ran
-returns-in-Err-clause-ran g c = λ told.
-    let media = g.M.Media in
-    let old = media.view c.args.media in (
-      false,
-      [],
-      (λ _. sym (append-nil _)),
-      (λ cut. absurd (false≢true cut)),
-      subst (λ (s : Status). FormatOutcome c.args.asked.now old s old false []) (sym c.bad_shape.ensures)
-          (idle_same media.tells told old (g.met.M.Media.only_now c.args.media), inl c.in-Err.ensures.bad),
-    )
-
 pub returns-in-Err-BadShape-clause-ran : goal.returns-in-Err-BadShape-clause-ran
 returns-in-Err-BadShape-clause-ran g c = λ told.
     let media = g.M.Media in
+    let asked = c.args.asked.now in
     let old = media.view c.args.media in
-    let status_is = c.bad_shape-in-Err-BadShape.ensures ∙ ap (λ (bad : Bad). BadShape bad.which bad.given) c.in-Err-BadShape.bad-is in
     let same = c.in-Err-BadShape.ensures.untouched (search rules) in
     let wrong = rw c.in-Err-BadShape.field-0-is at c.in-Err-BadShape.ensures.bad_shape in (
       false,
       [],
       (λ _. sym (append-nil _)),
       (λ cut. absurd (false≢true cut)),
-      subst (λ (s : Status). FormatOutcome c.args.asked.now old s (media.view c.format.new.media) false []) (sym status_is) (
+      (
         subst (λ m. Idle old (media.view m) false []) (sym same) (idle_same media.tells told old (g.met.M.Media.only_now c.args.media)),
-        inr (c.in-Ok.shape, c.in-Ok.ensures.shape, wrong.0, wrong.1, wrong.2),
+        subst (λ (bad : BadShape). IsFirstWrong asked bad.which bad.given ⊎ IsOtherLength asked old.size bad.which bad.given) (sym c.in-Err-BadShape.field-0-0-is)
+            (inr (c.in-Ok.shape, c.in-Ok.ensures.shape, wrong.0, wrong.1, wrong.2)),
       ),
     )
 
