@@ -181,17 +181,3 @@ exchange_idle given input before Does read does = record {
   failed = λ cut. absurd (false≢true cut);
   does = does;
 }
-
--- a status that comes once an array is opened is none that comes before
-pub not_early : (status : Status) → IsOfRecords status → IsEarly status → ⊥
-not_early Good of early = early
-not_early WriteFault of early = early
-not_early MediaFault of early = early
-not_early NoMemory of early = early
-not_early (Damaged page) of early = early
-not_early Usage of early = of
-not_early TooLong of early = of
-not_early ReadFault of early = of
-not_early (BadRow logger tid) of early = of
-not_early NotMars of early = of
-not_early (BadShape which given) of early = of
