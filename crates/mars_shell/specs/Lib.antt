@@ -13,3 +13,4 @@ pub mod Served
 pub mod Session
 pub mod Transcript
 pub mod Commands
+pub mod Asked

@@ -1,27 +1,22 @@
 -- Which statuses a whole run ends with, and when.
-use Rattle.std.specs.Prelude.{ℕ, ◌≡◌, List, [], ◌∷◌, codes}
 use Rattle.eaw_device.specs.declared.fault.AttachFault.{AttachFault}
 use Rattle.eaw_device.specs.declared.fault.AttachFault.TheVariants as opening
 use Rattle.mars_shell.specs.declared.status.Status.{Status}
 use Rattle.mars_shell.specs.declared.status.Status.TheVariants.{Good, Usage, TooLong, ReadFault, WriteFault, MediaFault, NoMemory, Damaged, BadRow, NotMars, BadShape}
 
--- the words of a run
-abbrev pub AreRun : List (List ℕ) → Type 0
-AreRun words = words ≡ codes "run" ∷ []
-
--- Usage comes exactly where the words are others.
-abbrev pub WordsSay : List (List ℕ) → Status → Type 0
-WordsSay words Usage = AreRun words → ⊥
-WordsSay words Good = AreRun words
-WordsSay words TooLong = AreRun words
-WordsSay words ReadFault = AreRun words
-WordsSay words WriteFault = AreRun words
-WordsSay words MediaFault = AreRun words
-WordsSay words NoMemory = AreRun words
-WordsSay words (Damaged page) = AreRun words
-WordsSay words (BadRow logger tid) = AreRun words
-WordsSay words NotMars = AreRun words
-WordsSay words (BadShape which given) = AreRun words
+-- Usage comes exactly where the words ask for nothing.
+abbrev pub WordsSay : Type 0 → Status → Type 0
+WordsSay asked Usage = asked → ⊥
+WordsSay asked Good = asked
+WordsSay asked TooLong = asked
+WordsSay asked ReadFault = asked
+WordsSay asked WriteFault = asked
+WordsSay asked MediaFault = asked
+WordsSay asked NoMemory = asked
+WordsSay asked (Damaged page) = asked
+WordsSay asked (BadRow logger tid) = asked
+WordsSay asked NotMars = asked
+WordsSay asked (BadShape which given) = asked
 
 -- statuses that come before the media is opened, and only then
 abbrev pub IsEarly : Status → Type 0

@@ -1,13 +1,17 @@
 // The whole run.
-ghost use Rattle.std.specs.Prelude.{◌≡◌, [], ◌∷◌, map, MatchBool, IsTrue, string_bytes, codes};
+ghost use Rattle.std.specs.Prelude.{◌≡◌, ◌≢◌, map, IsTrue, string_bytes};
 ghost use Rattle.counted.specs.Causes.{Rose};
 ghost use Rattle.mars_shell.specs.Exchange.{Exchange};
-ghost use Rattle.mars_shell.specs.Outcome.{AreRun, WordsSay, IsEarly, IsRefusal};
+ghost use Rattle.mars_shell.specs.Asked.{AreAsked, Done};
+ghost use Rattle.mars_shell.specs.Outcome.{WordsSay, IsEarly, IsRefusal};
 ghost use Rattle.mars_shell.specs.Run.{Outcome};
 
+use crate::commands::run_commands;
+use crate::formatting::{FormatNumbers, run_format};
 use crate::gate::Gate;
 use crate::serve::serve;
 use crate::status::{Status, status_of};
+use command_words::{Words, read_words};
 use eaw_device::Eaw;
 use outside::{Sink, Source};
 use pcm_media::Media;
@@ -16,8 +20,9 @@ use std::alloc::Global;
 
 /// Does all that the program does over the words behind the image's, and gives the media back.
 ///
-/// The input is read first, then the array is opened and recovered, then its records are looked at, and then the lines are
-/// answered. The gate is for runs of several threads; these words ask for none.
+/// For `run` the input is read first, then the array is opened and recovered, then its records are looked at, and then the lines
+/// are answered; for `eaw` all but the records; `format` reads no input. The gate is for runs of several threads; these words
+/// ask for none.
 pub fn run<R: AllocGlobal, S: Source, K: Sink, M: Media, G: Gate>(
     rt: &R,
     words: &[String],
@@ -26,8 +31,8 @@ pub fn run<R: AllocGlobal, S: Source, K: Sink, M: Media, G: Gate>(
     media: M,
     _gate: &G,
 ) -> (Status, M)
-    // Usage comes exactly where the words are not those of a run.
-    ensures words { WordsSay (map string_bytes words.now) result.0 }
+    // Usage comes exactly where the words are those of no command.
+    ensures words { WordsSay (AreAsked (map string_bytes words.now)) result.0 }
     // Other words touch nothing, what ends the run before the media is opened leaves that and the sink alone, and of an
     // array that is not opened nothing is told.
     ensures usage { result.0 ≡ Status.Usage → (source.new ≡ source.old) × (sink.new ≡ sink.old) × (result.1 ≡ media) }
@@ -38,15 +43,31 @@ pub fn run<R: AllocGlobal, S: Source, K: Sink, M: Media, G: Gate>(
     ensures steady { IsTrue (S.steady source.old) → result.0 ≡ Status.ReadFault → ⊥ }
     ensures write_fault { result.0 ≡ Status.WriteFault → Rose (K.faults sink.old) (K.faults sink.new) }
     ensures media_fault { result.0 ≡ Status.MediaFault → Rose (M.view media).faults (M.view result.1).faults }
-    // Each other status has its cause, the text answers the lines of the input one by one, the history is legal, and the
-    // prefix law holds of it.
-    ensures ran { IsTrue M.tells → Exchange S.tells (S.left source.old) K.tells (K.written sink.old) (K.written sink.new) (Rose (K.faults sink.old) (K.faults sink.new))
-        (Outcome (M.view media) result.0 (M.view result.1)) }
+    // What the words ask for was done. Each status has its cause. Of a run the text answers the lines of the input one by one, the
+    // history is legal, and the prefix law holds of it; of raw commands it answers them by the model.
+    ensures ran { IsTrue M.tells → result.0 ≢ Status.Usage → Exchange S.tells (S.left source.old) K.tells (K.written sink.old) (K.written sink.new)
+        (Rose (K.faults sink.old) (K.faults sink.new)) (Done (map string_bytes words.now) (M.view media) result.0 (M.view result.1)) }
 {
-    if is_run(words) {
-        run_lines(rt.alloc(), source, sink, media)
-    } else {
-        (Status::Usage, media)
+    match read_words(words) {
+        None => (Status::Usage, media),
+        Some(Words::Run) => run_lines(rt.alloc(), source, sink, media),
+        Some(Words::Eaw) => run_commands(rt.alloc(), source, sink, media),
+        Some(
+            Words::Format {
+                loggers,
+                numbers,
+                entries,
+                pages,
+            },
+        ) => {
+            let asked = FormatNumbers {
+                loggers,
+                numbers,
+                entries,
+                pages,
+            };
+            run_format(sink, media, &asked)
+        }
     }
 }
 
@@ -80,19 +101,4 @@ fn run_lines<S: Source, K: Sink, M: Media>(
         }
         Err((fault, media)) => (status_of(fault), media),
     }
-}
-
-fn is_run(words: &[String]) -> bool
-    ensures { MatchBool result (AreRun (map string_bytes words.now)) (AreRun (map string_bytes words.now) → ⊥) }
-{
-    match words {
-        [word] => is_the_word(word.as_str()),
-        _ => false,
-    }
-}
-
-fn is_the_word(word: &str) -> bool
-    ensures { MatchBool result (word.now ≡ codes "run") (word.now ≡ codes "run" → ⊥) }
-{
-    word == "run"
 }

@@ -1,0 +1,4 @@
+pub mod Reads
+pub mod Commands
+pub mod Settings
+pub mod Shown
