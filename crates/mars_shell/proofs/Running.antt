@@ -24,7 +24,7 @@ use Rattle.mars_shell.specs.Called.{HasPrefixOf, KeepsPrefix}
 use Rattle.mars_shell.specs.Exchange.{Exchange}
 use Rattle.mars_shell.specs.Kept.{IsKept, Stays, limits_of, slots_of, state_over}
 use Rattle.script_io.specs.Lines.{lines_of}
-use Rattle.mars_shell.specs.Outcome.{IsEarly, IsOfRecords, status_of}
+use Rattle.mars_shell.specs.Outcome.{status_of}
 use Rattle.mars_shell.specs.Records.{records_of, IsSoundData, IsFirstDamaged}
 use Rattle.mars_shell.specs.Run.{IsArray, IsDamaged, records_in, Idle, Answers, OutcomeOf, Outcome}
 use Rattle.mars_shell.specs.Served.{records_held, no_work, Looked, Served, Serves}
