@@ -24,7 +24,7 @@ use Rattle.mars_shell.specs.Called.{HasPrefixOf, KeepsPrefix}
 use Rattle.mars_shell.specs.Exchange.{Exchange}
 use Rattle.mars_shell.specs.Kept.{IsKept, Stays, limits_of, slots_of, state_over}
 use Rattle.script_io.specs.Lines.{lines_of}
-use Rattle.mars_shell.specs.Outcome.{IsEarly, IsOfRecords, status_of}
+use Rattle.mars_shell.specs.Outcome.{status_of}
 use Rattle.mars_shell.specs.Records.{records_of, IsSoundData, IsFirstDamaged}
 use Rattle.mars_shell.specs.Run.{IsArray, IsDamaged, records_in, Idle, Answers, OutcomeOf, Outcome}
 use Rattle.mars_shell.specs.Served.{records_held, no_work, Looked, Served, Serves}
@@ -181,17 +181,3 @@ exchange_idle given input before Does read does = record {
   failed = λ cut. absurd (false≢true cut);
   does = does;
 }
-
--- a status that comes once an array is opened is none that comes before
-pub not_early : (status : Status) → IsOfRecords status → IsEarly status → ⊥
-not_early Good of early = early
-not_early WriteFault of early = early
-not_early MediaFault of early = early
-not_early NoMemory of early = early
-not_early (Damaged page) of early = early
-not_early Usage of early = of
-not_early TooLong of early = of
-not_early ReadFault of early = of
-not_early (BadRow logger tid) of early = of
-not_early NotMars of early = of
-not_early (BadShape which given) of early = of
