@@ -52,6 +52,7 @@ module _ (tells : Bool) (old new : View) (shape : Shape) (logs : List Log) (sett
     good = settled.good;
     bytes = settled.bytes;
     free = λ t. ap (option_map ranges_in) (none_at t (slice_get logs t) refl);
+    unlogged = λ t. ap (option_map (parts_in shape new.content.bytes t)) (none_at t (slice_get logs t) refl);
     alive = refl;
     faults = settled.later;
   }

@@ -53,6 +53,7 @@ pub record Attached (tells : Bool) (media : View) (store : StoreView) : Type 0 w
   pub good : IsTrue tells → AllGood store.shape media.content.bytes store.shape.numbers
   pub bytes : IsTrue tells → store.state.bytes ≡ settled_data store.shape media.content.bytes
   pub free : (t : ℕ) → store.ranges t ≡ None
+  pub unlogged : (t : ℕ) → store.state.logs t ≡ None
   pub alive : store.is_dead ≡ false
   pub faults : media.faults ≤ store.faults
 

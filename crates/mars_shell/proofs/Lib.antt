@@ -10,3 +10,4 @@ pub mod DamageLemmas
 pub mod FaultLemmas
 pub mod Serving
 pub mod Running
+pub mod Commanding

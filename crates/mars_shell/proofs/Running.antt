@@ -26,7 +26,7 @@ use Rattle.mars_shell.specs.Kept.{IsKept, Stays, limits_of, slots_of, state_over
 use Rattle.script_io.specs.Lines.{lines_of}
 use Rattle.mars_shell.specs.Outcome.{IsEarly, IsOfRecords, status_of}
 use Rattle.mars_shell.specs.Records.{records_of, IsSoundData, IsFirstDamaged}
-use Rattle.mars_shell.specs.Run.{IsArray, IsDamaged, records_in, Idle, Answers, Outcome}
+use Rattle.mars_shell.specs.Run.{IsArray, IsDamaged, records_in, Idle, Answers, OutcomeOf, Outcome}
 use Rattle.mars_shell.specs.Served.{records_held, no_work, Looked, Served, Serves}
 use Rattle.mars_shell.specs.Session.{opened}
 use Rattle.mars_shell.specs.Transcript.{Answered}
@@ -56,7 +56,7 @@ one_shape bytes a b says says' = same_shape a b (says_one bytes a b says says')
 
 module _ (tells : Bool) (told : IsTrue tells) (old : View) (only_now : (image : List ℕ) → IsTrue tells → old.left_since old.moment image → MayLeave old.content image) where
   -- what may be left at first opens as it does
-  first_like : (shape : Shape) → AllOpen shape old.content → (image : List ℕ) → old.left_since old.moment image → OpensLike shape old.content image
+  pub first_like : (shape : Shape) → AllOpen shape old.content → (image : List ℕ) → old.left_since old.moment image → OpensLike shape old.content image
   first_like shape all image left =
       let may = only_now image told left in
       let can = all image may in
@@ -156,18 +156,18 @@ module _ (tells : Bool) (told : IsTrue tells) (old : View) (only_now : (image : 
     outcome_of input NotMars cut text short serves = absurd serves
     outcome_of input (BadShape which given) cut text short serves = absurd serves
 
--- a media that was not opened
-pub refused_of : (tells : Bool) (told : IsTrue tells) (old new : View) → ((image : List ℕ) → IsTrue tells → old.left_since old.moment image → MayLeave old.content image)
-    → (fault : AttachFault) (input : List ℕ) → length input ≤ MOST → AttachCause tells old new.faults fault → AttachLeaves tells old new fault → KeepsData tells old new.moment new.left_since
-    → Outcome old (status_of fault) new input false []
-refused_of tells told old new only_now opening.NotMars input short cause leaves keeps =
-    record { short = short; idle = idle_kept tells told old only_now new keeps; untouched = leaves told; cause = λ long mark. cause long told mark }
-refused_of tells told old new only_now (opening.BadShape bad) input short cause leaves keeps =
-    record { short = short; idle = idle_kept tells told old only_now new keeps; untouched = leaves told; cause = (cause.0, (cause.1 told).0, (cause.1 told).1) }
-refused_of tells told old new only_now (opening.BadRow logger tid) input short cause leaves keeps =
-    record { short = short; idle = idle_kept tells told old only_now new keeps; untouched = leaves told; cause = cause told }
-refused_of tells told old new only_now opening.Media input short cause leaves keeps = inl (short, idle_kept tells told old only_now new keeps)
-refused_of tells told old new only_now opening.NoMemory input short cause leaves keeps = inl (idle_kept tells told old only_now new keeps)
+-- a media that was not opened, whatever the work is
+module _ (Works : Status → Type 0) (Broken : ℕ → Type 0) (tells : Bool) (told : IsTrue tells) (old new : View) (only_now : (image : List ℕ) → IsTrue tells → old.left_since old.moment image → MayLeave old.content image) where
+  pub refused_of : (fault : AttachFault) (input : List ℕ) → length input ≤ MOST → AttachCause tells old new.faults fault → AttachLeaves tells old new fault → KeepsData tells old new.moment new.left_since
+      → OutcomeOf Works Broken old (status_of fault) new input false []
+  refused_of opening.NotMars input short cause leaves keeps =
+      record { short = short; idle = idle_kept tells told old only_now new keeps; untouched = leaves told; cause = λ long mark. cause long told mark }
+  refused_of (opening.BadShape bad) input short cause leaves keeps =
+      record { short = short; idle = idle_kept tells told old only_now new keeps; untouched = leaves told; cause = (cause.0, (cause.1 told).0, (cause.1 told).1) }
+  refused_of (opening.BadRow logger tid) input short cause leaves keeps =
+      record { short = short; idle = idle_kept tells told old only_now new keeps; untouched = leaves told; cause = cause told }
+  refused_of opening.Media input short cause leaves keeps = inl (short, idle_kept tells told old only_now new keeps)
+  refused_of opening.NoMemory input short cause leaves keeps = inl (idle_kept tells told old only_now new keeps)
 
 -- what passes through where nothing is written
 pub exchange_idle : {source_tells sink_tells : Bool} {sink_failed : Type 0} (given input before : List ℕ) (Does : List ℕ → Bool → List ℕ → Type 0)

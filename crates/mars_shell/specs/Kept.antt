@@ -13,6 +13,7 @@ use Rattle.history.specs.declared.call.Reply.{Reply}
 use Rattle.history.specs.declared.transaction.Done.{Done}
 use Rattle.mars_shell.specs.Session.{Limits, State, puts_of}
 use Rattle.mars_shell.specs.Records.{slot_at, Holds}
+use Rattle.mars_shell.specs.declared.session.Session.{Session}
 
 -- each record page has 8 slots, and half of the pages are record pages
 abbrev pub slots_of : Shape → ℕ
@@ -33,6 +34,9 @@ pub record Work : Type 0 where
 
 abbrev pub work_of : List Done → Option (List (Call × Reply)) → Option Done → Work
 work_of history live doubt = record { history = history; live = live; doubt = doubt }
+
+abbrev pub work_in : {S : Type 0} → Session S → Work
+work_in session = work_of session.history session.live session.doubt
 
 -- the same over the records at the opening
 abbrev pub state_over : Table → Work → State

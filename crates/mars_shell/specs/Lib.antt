@@ -11,3 +11,4 @@ pub mod Run
 pub mod Served
 pub mod Session
 pub mod Transcript
+pub mod Commands

@@ -83,17 +83,22 @@ pub record Refuses (Cause : Type 0) (old new : View) (input : List ℕ) (cut : B
   pub untouched : Touched [] old.content new.content
   pub cause : Cause
 
--- what was written and done, by the status
-abbrev pub Outcome : View → Status → View → List ℕ → Bool → List ℕ → Type 0
-Outcome old Good new input cut text = Answers old Good new input cut text
-Outcome old WriteFault new input cut text = Answers old WriteFault new input cut text
-Outcome old MediaFault new input cut text = ((length input ≤ MOST) × Idle old new cut text) ⊎ Answers old MediaFault new input cut text
-Outcome old NoMemory new input cut text = Idle old new cut text ⊎ Answers old NoMemory new input cut text
-Outcome old (Damaged page) new input cut text = (length input ≤ MOST) × Idle old new cut text × IsDamaged old page
-Outcome old (BadRow logger tid) new input cut text = Refuses (HasBadRow old logger tid) old new input cut text
-Outcome old NotMars new input cut text = Refuses (512 ≤ old.size → HasMark (header_of old.content.bytes) → ⊥) old new input cut text
-Outcome old (BadShape which given) new input cut text =
+-- What was written and done, by the status: the work over an array that was opened, or that there was none to open. Broken says
+-- which page may be named as damaged.
+abbrev pub OutcomeOf : (Status → Type 0) → (ℕ → Type 0) → View → Status → View → List ℕ → Bool → List ℕ → Type 0
+OutcomeOf Works Broken old Good new input cut text = Works Good
+OutcomeOf Works Broken old WriteFault new input cut text = Works WriteFault
+OutcomeOf Works Broken old MediaFault new input cut text = ((length input ≤ MOST) × Idle old new cut text) ⊎ Works MediaFault
+OutcomeOf Works Broken old NoMemory new input cut text = Idle old new cut text ⊎ Works NoMemory
+OutcomeOf Works Broken old (Damaged page) new input cut text = (length input ≤ MOST) × Idle old new cut text × Broken page
+OutcomeOf Works Broken old (BadRow logger tid) new input cut text = Refuses (HasBadRow old logger tid) old new input cut text
+OutcomeOf Works Broken old NotMars new input cut text = Refuses (512 ≤ old.size → HasMark (header_of old.content.bytes) → ⊥) old new input cut text
+OutcomeOf Works Broken old (BadShape which given) new input cut text =
     Refuses ((512 ≤ old.size) × HasMark (header_of old.content.bytes) × IsBadIn (header_of old.content.bytes) old.size which given) old new input cut text
-Outcome old TooLong new input cut text = (MOST < length input) × Idle old new cut text
-Outcome old ReadFault new input cut text = Idle old new cut text
-Outcome old Usage new input cut text = Idle old new cut text
+OutcomeOf Works Broken old TooLong new input cut text = (MOST < length input) × Idle old new cut text
+OutcomeOf Works Broken old ReadFault new input cut text = Idle old new cut text
+OutcomeOf Works Broken old Usage new input cut text = Idle old new cut text
+
+-- of a run over records
+abbrev pub Outcome : View → Status → View → List ℕ → Bool → List ℕ → Type 0
+Outcome old status new input cut text = OutcomeOf (λ s. Answers old s new input cut text) (IsDamaged old) old status new input cut text

@@ -3,7 +3,7 @@ ghost use Rattle.std.specs.Prelude.{Bool, ◌≡◌, ◌≤◌, List, ℕ, ◌++
 ghost use Rattle.counted.specs.Causes.{Rose};
 ghost use Rattle.history.specs.Table.{Table};
 ghost use Rattle.mars_shell.specs.Called.{KeepsPrefix};
-ghost use Rattle.mars_shell.specs.Kept.{IsReady, IsKept, Stays, limits_of, state_over, work_of};
+ghost use Rattle.mars_shell.specs.Kept.{IsReady, IsKept, Stays, limits_of, state_over, work_in};
 ghost use Rattle.script_io.specs.Lines.{lines_of};
 ghost use Rattle.mars_shell.specs.Outcome.{IsEnding, IsOfLines};
 ghost use Rattle.mars_shell.specs.Transcript.{LineGives, Ends, Answered};
@@ -28,16 +28,16 @@ pub fn answer_all<K: Sink, S: EawStore>(
     sink: &mut K,
     session: &mut Session<S>,
 ) -> Status
-    requires ready { IsReady (S.view session.old.store) (work_of session.old.history session.old.live session.old.doubt) }
+    requires ready { IsReady (S.view session.old.store) (work_in session.old) }
     ensures answered { (cut : Bool) × (text : List ℕ) × (IsTrue K.tells → K.written sink.new ≡ K.written sink.old ++ text)
         × (IsTrue cut → Rose (K.faults sink.old) (K.faults sink.new))
-        × (IsTrue S.tells → (base : Table) → IsKept base (S.view session.old.store) (work_of session.old.history session.old.live session.old.doubt)
-        → Answered (limits_of (S.view session.old.store).shape) (state_over base (work_of session.old.history session.old.live session.old.doubt)) 1 (lines_of input.now) result cut text (state_over base (work_of session.new.history session.new.live session.new.doubt))) }
-    ensures kept { result ≡ Status.Good → IsTrue S.tells → (base : Table) → IsKept base (S.view session.old.store) (work_of session.old.history session.old.live session.old.doubt)
-        → IsKept base (S.view session.new.store) (work_of session.new.history session.new.live session.new.doubt) }
-    ensures ready { result ≡ Status.Good → IsReady (S.view session.new.store) (work_of session.new.history session.new.live session.new.doubt) }
-    ensures prefix { IsTrue S.tells → (base : Table) → IsKept base (S.view session.old.store) (work_of session.old.history session.old.live session.old.doubt)
-        → KeepsPrefix S.opens base (S.view session.old.store) (S.view session.new.store) (work_of session.old.history session.old.live session.old.doubt) (work_of session.new.history session.new.live session.new.doubt) }
+        × (IsTrue S.tells → (base : Table) → IsKept base (S.view session.old.store) (work_in session.old)
+        → Answered (limits_of (S.view session.old.store).shape) (state_over base (work_in session.old)) 1 (lines_of input.now) result cut text (state_over base (work_in session.new))) }
+    ensures kept { result ≡ Status.Good → IsTrue S.tells → (base : Table) → IsKept base (S.view session.old.store) (work_in session.old)
+        → IsKept base (S.view session.new.store) (work_in session.new) }
+    ensures ready { result ≡ Status.Good → IsReady (S.view session.new.store) (work_in session.new) }
+    ensures prefix { IsTrue S.tells → (base : Table) → IsKept base (S.view session.old.store) (work_in session.old)
+        → KeepsPrefix S.opens base (S.view session.old.store) (S.view session.new.store) (work_in session.old) (work_in session.new) }
     ensures kind { IsOfLines result }
     ensures write_fault { result ≡ Status.WriteFault → Rose (K.faults sink.old) (K.faults sink.new) }
     ensures media_fault { result ≡ Status.MediaFault → Rose (S.view session.old.store).faults (S.view session.new.store).faults }
@@ -65,18 +65,18 @@ fn answer_line<K: Sink, S: EawStore>(
     session: &mut Session<S>,
     out: &mut Vec<u8>,
 ) -> Result<(), Status>
-    requires ready { IsReady (S.view session.old.store) (work_of session.old.history session.old.live session.old.doubt) }
-    ensures ready { OnOk result (IsReady (S.view session.new.store) (work_of session.new.history session.new.live session.new.doubt)) }
+    requires ready { IsReady (S.view session.old.store) (work_in session.old) }
+    ensures ready { OnOk result (IsReady (S.view session.new.store) (work_in session.new)) }
     ensures ok { OnOk result ((text : List ℕ) × (IsTrue K.tells → K.written sink.new ≡ K.written sink.old ++ text)
-        × (IsTrue S.tells → (base : Table) → IsKept base (S.view session.old.store) (work_of session.old.history session.old.live session.old.doubt)
-        → LineGives (limits_of (S.view session.old.store).shape) (state_over base (work_of session.old.history session.old.live session.old.doubt)) n bytes.now text (state_over base (work_of session.new.history session.new.live session.new.doubt))
-        × IsKept base (S.view session.new.store) (work_of session.new.history session.new.live session.new.doubt))) }
+        × (IsTrue S.tells → (base : Table) → IsKept base (S.view session.old.store) (work_in session.old)
+        → LineGives (limits_of (S.view session.old.store).shape) (state_over base (work_in session.old)) n bytes.now text (state_over base (work_in session.new))
+        × IsKept base (S.view session.new.store) (work_in session.new))) }
     ensures err { IfErr result (λ status. (cut : Bool) × (text : List ℕ) × (IsTrue K.tells → K.written sink.new ≡ K.written sink.old ++ text)
         × (IsTrue cut → Rose (K.faults sink.old) (K.faults sink.new))
-        × (IsTrue S.tells → (base : Table) → IsKept base (S.view session.old.store) (work_of session.old.history session.old.live session.old.doubt)
-        → Ends (limits_of (S.view session.old.store).shape) (state_over base (work_of session.old.history session.old.live session.old.doubt)) n bytes.now status cut text (state_over base (work_of session.new.history session.new.live session.new.doubt)))) }
-    ensures prefix { IsTrue S.tells → (base : Table) → IsKept base (S.view session.old.store) (work_of session.old.history session.old.live session.old.doubt)
-        → KeepsPrefix S.opens base (S.view session.old.store) (S.view session.new.store) (work_of session.old.history session.old.live session.old.doubt) (work_of session.new.history session.new.live session.new.doubt) }
+        × (IsTrue S.tells → (base : Table) → IsKept base (S.view session.old.store) (work_in session.old)
+        → Ends (limits_of (S.view session.old.store).shape) (state_over base (work_in session.old)) n bytes.now status cut text (state_over base (work_in session.new)))) }
+    ensures prefix { IsTrue S.tells → (base : Table) → IsKept base (S.view session.old.store) (work_in session.old)
+        → KeepsPrefix S.opens base (S.view session.old.store) (S.view session.new.store) (work_in session.old) (work_in session.new) }
     ensures write_fault { IsErrOf result Status.WriteFault → Rose (K.faults sink.old) (K.faults sink.new) }
     ensures media_fault { IsErrOf result Status.MediaFault → Rose (S.view session.old.store).faults (S.view session.new.store).faults }
     ensures kind { IfErr result IsEnding }
@@ -113,15 +113,15 @@ fn prepare<S: EawStore>(
     session: &mut Session<S>,
     out: &mut Vec<u8>,
 ) -> Result<(), Stop>
-    requires ready { IsReady (S.view session.old.store) (work_of session.old.history session.old.live session.old.doubt) }
-    ensures ready { OnOk result (IsReady (S.view session.new.store) (work_of session.new.history session.new.live session.new.doubt)) }
-    ensures ok { OnOk result (IsTrue S.tells → (base : Table) → IsKept base (S.view session.old.store) (work_of session.old.history session.old.live session.old.doubt)
-        → LineGives (limits_of (S.view session.old.store).shape) (state_over base (work_of session.old.history session.old.live session.old.doubt)) n bytes.now out.new.items (state_over base (work_of session.new.history session.new.live session.new.doubt))
-        × IsKept base (S.view session.new.store) (work_of session.new.history session.new.live session.new.doubt)) }
-    ensures err { IfErr result (λ stop. IsTrue S.tells → (base : Table) → IsKept base (S.view session.old.store) (work_of session.old.history session.old.live session.old.doubt)
-        → Stops (limits_of (S.view session.old.store).shape) (state_over base (work_of session.old.history session.old.live session.old.doubt)) n bytes.now stop (state_over base (work_of session.new.history session.new.live session.new.doubt))) }
-    ensures prefix { IsTrue S.tells → (base : Table) → IsKept base (S.view session.old.store) (work_of session.old.history session.old.live session.old.doubt)
-        → KeepsPrefix S.opens base (S.view session.old.store) (S.view session.new.store) (work_of session.old.history session.old.live session.old.doubt) (work_of session.new.history session.new.live session.new.doubt) }
+    requires ready { IsReady (S.view session.old.store) (work_in session.old) }
+    ensures ready { OnOk result (IsReady (S.view session.new.store) (work_in session.new)) }
+    ensures ok { OnOk result (IsTrue S.tells → (base : Table) → IsKept base (S.view session.old.store) (work_in session.old)
+        → LineGives (limits_of (S.view session.old.store).shape) (state_over base (work_in session.old)) n bytes.now out.new.items (state_over base (work_in session.new))
+        × IsKept base (S.view session.new.store) (work_in session.new)) }
+    ensures err { IfErr result (λ stop. IsTrue S.tells → (base : Table) → IsKept base (S.view session.old.store) (work_in session.old)
+        → Stops (limits_of (S.view session.old.store).shape) (state_over base (work_in session.old)) n bytes.now stop (state_over base (work_in session.new))) }
+    ensures prefix { IsTrue S.tells → (base : Table) → IsKept base (S.view session.old.store) (work_in session.old)
+        → KeepsPrefix S.opens base (S.view session.old.store) (S.view session.new.store) (work_in session.old) (work_in session.new) }
     ensures media { IfErr result (λ stop. WhereMedia stop (Rose (S.view session.old.store).faults (S.view session.new.store).faults)) }
     ensures stays { Stays (S.view session.old.store) (S.view session.new.store) }
 {

@@ -2,6 +2,7 @@
 #![tactic(auto)]
 
 mod answer;
+mod commands;
 mod damage;
 mod fault;
 mod gate;

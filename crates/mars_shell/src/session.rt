@@ -10,7 +10,7 @@ ghost use Rattle.eaw_face.specs.StoreView.{LeavesOnly, log_len};
 ghost use Rattle.history.specs.Table.{Table, found};
 ghost use Rattle.history.specs.declared.call.Call.TheVariants.{Begin, Get, Put, Commit};
 ghost use Rattle.mars_shell.specs.Called.{Called, KeepsPrefix};
-ghost use Rattle.mars_shell.specs.Kept.{IsReady, IsKept, Stays, Empties, FitsCall, slots_of, work_of};
+ghost use Rattle.mars_shell.specs.Kept.{IsReady, IsKept, Stays, Empties, FitsCall, slots_of, work_in};
 ghost use Rattle.mars_shell.specs.Live.{either, last_put};
 ghost use Rattle.mars_shell.specs.Records.{record_at};
 ghost use Rattle.mars_shell.specs.Session.{puts_of};
@@ -43,13 +43,13 @@ pub struct Session<S> {
 impl<S: EawStore> Session<S> {
     /// Answers a call. Want of memory leaves all as it was; after a fault of the media no further call is answered.
     pub fn step(&mut self, call: &Call) -> Result<Reply, Fault>
-        requires ready { IsReady (S.view self.old.store) (work_of self.old.history self.old.live self.old.doubt) }
+        requires ready { IsReady (S.view self.old.store) (work_in self.old) }
         requires fits { FitsCall (slots_of (S.view self.old.store).shape) call.now }
         ensures called { Called S.tells S.opens call.now (S.view self.old.store) (S.view self.new.store)
-            (work_of self.old.history self.old.live self.old.doubt) (work_of self.new.history self.new.live self.new.doubt) result }
-        ensures prefix { IsTrue S.tells → (base : Table) → IsKept base (S.view self.old.store) (work_of self.old.history self.old.live self.old.doubt)
+            (work_in self.old) (work_in self.new) result }
+        ensures prefix { IsTrue S.tells → (base : Table) → IsKept base (S.view self.old.store) (work_in self.old)
             → KeepsPrefix S.opens base (S.view self.old.store) (S.view self.new.store)
-            (work_of self.old.history self.old.live self.old.doubt) (work_of self.new.history self.new.live self.new.doubt) }
+            (work_in self.old) (work_in self.new) }
     {
         match call {
             Call::Begin => Ok(self.begin()),
@@ -60,9 +60,9 @@ impl<S: EawStore> Session<S> {
     }
 
     fn begin(&mut self) -> Reply
-        requires ready { IsReady (S.view self.old.store) (work_of self.old.history self.old.live self.old.doubt) }
+        requires ready { IsReady (S.view self.old.store) (work_in self.old) }
         ensures called { Called S.tells S.opens Begin (S.view self.old.store) (S.view self.new.store)
-            (work_of self.old.history self.old.live self.old.doubt) (work_of self.new.history self.new.live self.new.doubt) (Ok result) }
+            (work_in self.old) (work_in self.new) (Ok result) }
     {
         if self.live.is_some() {
             return Reply::Already;
@@ -72,10 +72,10 @@ impl<S: EawStore> Session<S> {
     }
 
     fn get(&mut self, key: u64) -> Result<Reply, Fault>
-        requires ready { IsReady (S.view self.old.store) (work_of self.old.history self.old.live self.old.doubt) }
+        requires ready { IsReady (S.view self.old.store) (work_in self.old) }
         requires fits { key < slots_of (S.view self.old.store).shape }
         ensures called { Called S.tells S.opens (Get key) (S.view self.old.store) (S.view self.new.store)
-            (work_of self.old.history self.old.live self.old.doubt) (work_of self.new.history self.new.live self.new.doubt) result }
+            (work_in self.old) (work_in self.new) result }
     {
         let Some(live) = &mut self.live else {
             return Ok(Reply::NoTransaction);
@@ -91,10 +91,10 @@ impl<S: EawStore> Session<S> {
     }
 
     fn put(&mut self, key: u64, value: Value) -> Result<Reply, Fault>
-        requires ready { IsReady (S.view self.old.store) (work_of self.old.history self.old.live self.old.doubt) }
+        requires ready { IsReady (S.view self.old.store) (work_in self.old) }
         requires fits { key < slots_of (S.view self.old.store).shape }
         ensures called { Called S.tells S.opens (Put key value) (S.view self.old.store) (S.view self.new.store)
-            (work_of self.old.history self.old.live self.old.doubt) (work_of self.new.history self.new.live self.new.doubt) result }
+            (work_in self.old) (work_in self.new) result }
     {
         let Some(live) = &mut self.live else {
             return Ok(Reply::NoTransaction);
@@ -129,9 +129,9 @@ impl<S: EawStore> Session<S> {
     }
 
     fn commit(&mut self) -> Result<Reply, Fault>
-        requires ready { IsReady (S.view self.old.store) (work_of self.old.history self.old.live self.old.doubt) }
+        requires ready { IsReady (S.view self.old.store) (work_in self.old) }
         ensures called { Called S.tells S.opens Commit (S.view self.old.store) (S.view self.new.store)
-            (work_of self.old.history self.old.live self.old.doubt) (work_of self.new.history self.new.live self.new.doubt) result }
+            (work_in self.old) (work_in self.new) result }
     {
         let at = self.history.items().len() as u64 + 1;
         let Some(live) = self.live.take() else {

@@ -1,7 +1,9 @@
 ghost use Rattle.std.specs.Prelude.{◌≡◌};
 ghost use Rattle.mars_shell.specs.Fault.{status_number};
+ghost use Rattle.mars_shell.specs.Outcome.{status_of};
 
 use array_shape::ShapeNumber;
+use eaw_device::AttachFault;
 
 /// How a run ended.
 #[derive(Clone, Copy, Debug, PartialEq, Eq)]
@@ -45,5 +47,21 @@ impl Status {
             Status::NotMars => 9,
             Status::BadShape { .. } => 9,
         }
+    }
+}
+
+// The status of an array that was not opened.
+pub(crate) fn status_of(fault: AttachFault) -> Status
+    ensures { result ≡ status_of fault }
+{
+    match fault {
+        AttachFault::NotMars => Status::NotMars,
+        AttachFault::BadShape(bad) => Status::BadShape {
+            which: bad.which,
+            given: bad.given,
+        },
+        AttachFault::BadRow { logger, tid } => Status::BadRow { logger, tid },
+        AttachFault::Media => Status::MediaFault,
+        AttachFault::NoMemory => Status::NoMemory,
     }
 }

@@ -2,13 +2,13 @@
 ghost use Rattle.std.specs.Prelude.{◌≡◌, [], ◌∷◌, map, MatchBool, IsTrue, string_bytes, codes};
 ghost use Rattle.counted.specs.Causes.{Rose};
 ghost use Rattle.mars_shell.specs.Exchange.{Exchange};
-ghost use Rattle.mars_shell.specs.Outcome.{AreRun, WordsSay, IsEarly, IsRefusal, status_of};
+ghost use Rattle.mars_shell.specs.Outcome.{AreRun, WordsSay, IsEarly, IsRefusal};
 ghost use Rattle.mars_shell.specs.Run.{Outcome};
 
 use crate::gate::Gate;
 use crate::serve::serve;
-use crate::status::Status;
-use eaw_device::{AttachFault, Eaw};
+use crate::status::{Status, status_of};
+use eaw_device::Eaw;
 use outside::{Sink, Source};
 use pcm_media::Media;
 use script_io::{InputFault, read_input};
@@ -79,22 +79,6 @@ fn run_lines<S: Source, K: Sink, M: Media>(
             (status, store.into_media())
         }
         Err((fault, media)) => (status_of(fault), media),
-    }
-}
-
-// The status of an array that was not opened.
-fn status_of(fault: AttachFault) -> Status
-    ensures { result ≡ status_of fault }
-{
-    match fault {
-        AttachFault::NotMars => Status::NotMars,
-        AttachFault::BadShape(bad) => Status::BadShape {
-            which: bad.which,
-            given: bad.given,
-        },
-        AttachFault::BadRow { logger, tid } => Status::BadRow { logger, tid },
-        AttachFault::Media => Status::MediaFault,
-        AttachFault::NoMemory => Status::NoMemory,
     }
 }
 

@@ -1,16 +1,16 @@
 -- Each command that is done, from the steps that it takes.
-use Rattle.std.proofs.Common.{◌≡◌, ℕ, ◌+◌, ◌-◌, ◌*◌, ◌^◌, ◌<◌, ◌≤◌, inl, inr, Bool, true, false, List, [], ◌∷◌, ◌++◌, length, set, take, drop, Result, refl, sym, ◌∙◌, ap, subst, arith}
-use Rattle.std.specs.Prelude.{Option, None}
+use Rattle.std.proofs.Common.{◌≡◌, ℕ, ◌+◌, ◌<◌, ◌≤◌, inr, Bool, true, false, List, [], ◌∷◌, ◌++◌, length, set, take, drop, refl, sym, ◌∙◌, ap, arith}
+use Rattle.std.specs.Prelude.{None}
 use Rattle.std.proofs.lemmas.List.{length-drop, get_or-set_same}
 use Rattle.pcm_media.specs.Images.{put}
 use Rattle.array_shape.specs.Parts.{pieces_of}
 use Rattle.array_image.specs.Parts.{Part, applied, ranges_of}
 use Rattle.eaw_face.specs.State.{State, listed, with_log, edited, range_at}
-use Rattle.eaw_face.specs.StoreView.{StoreView, IsLive, LeavesOnly, log_len}
+use Rattle.eaw_face.specs.StoreView.{IsLive, LeavesOnly}
 use Rattle.eaw_face.specs.Command.{Command, log_write, log_edit, commit, abort, nested_top, partial_abort, atomic_write, after}
 use Rattle.eaw_face.specs.Causes.{IsAlive, Fit}
 use Rattle.eaw_face.specs.Does.{Does, IsEither}
-use Rattle.memory_eaw.specs.Kept.{Kept, called, changed, MustFailChange}
+use Rattle.memory_eaw.specs.Kept.{Kept, changed, MustFailChange}
 use Rattle.memory_eaw.specs.Log.{Log, logged}
 use Rattle.memory_eaw.specs.Plain.{Plain, IsData, view_of, IsSound}
 use Rattle.memory_eaw.specs.Steps.{log_at, relogged, called_plain, changed_plain, committed}

@@ -1,5 +1,5 @@
 -- What is kept of a call that was done.
-use Rattle.std.proofs.Common.{◌≡◌, List, ℕ, Result}
+use Rattle.std.proofs.Common.{◌≡◌}
 use Rattle.eaw_face.specs.StoreView.{StoreView}
 use Rattle.eaw_face.specs.Command.{Command}
 use Rattle.memory_eaw.specs.Kept.{Kept}

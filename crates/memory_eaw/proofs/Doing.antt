@@ -1,16 +1,15 @@
 -- A command that is done: what it makes of data and logs is what the model says.
-use Rattle.std.proofs.Common.{◌≡◌, ℕ, ◌+◌, ◌-◌, ◌*◌, ◌^◌, ◌<◌, ◌≤◌, ◌⊎◌, inl, inr, ⊎_elim, Bool, true, false, cond, List, [], ◌∷◌, ◌++◌, length, set, take, drop, Result, Ok, refl, sym, ◌∙◌, ap, subst, arith}
+use Rattle.std.proofs.Common.{◌≡◌, ℕ, ◌+◌, ◌<◌, ◌≤◌, Bool, true, false, cond, List, [], ◌++◌, length, set, take, Result, Ok, refl, sym, ◌∙◌, ap, arith}
 use Rattle.std.specs.Prelude.{Option, Some, None}
 use Rattle.std.specs.Option.{option_map}
 use Rattle.array_shape.specs.Parts.{pieces_of}
-use Rattle.array_image.specs.Parts.{Part, applied, ranges_of}
+use Rattle.array_image.specs.Parts.{Part, ranges_of}
 use Rattle.eaw_face.specs.State.{Logs, State, listed, with_log, edited, range_at}
 use Rattle.eaw_face.specs.StoreView.{StoreView, LeavesOnly, log_len}
-use Rattle.eaw_face.specs.Command.{Command, log_write, log_edit, commit, abort, nested_top, partial_abort, atomic_write, log_read, read, after, ranges_after}
+use Rattle.eaw_face.specs.Command.{Command, log_write, log_edit, after, ranges_after}
 use Rattle.eaw_face.specs.Causes.{IsAlive, Knows, HasRoom}
 use Rattle.eaw_face.specs.Does.{Becomes, Does, IsEither}
 use Rattle.eaw_face.specs.declared.fault.EawFault.{EawFault}
-use Rattle.memory_eaw.specs.Kept.{Kept}
 use Rattle.memory_eaw.specs.Log.{Log, log_of, logged, outline}
 use Rattle.memory_eaw.specs.Plain.{Plain, IsData, view_of, IsSound}
 use Rattle.memory_eaw.specs.Steps.{log_at}

@@ -1,5 +1,5 @@
 -- Lists after a write, and parts of them.
-use Rattle.std.proofs.Common.{◌≡◌, ℕ, ◌+◌, ◌-◌, ◌<◌, ◌≤◌, List, ◌++◌, length, get_or, take, drop, sym, ◌∙◌, ap, arith, rules}
+use Rattle.std.proofs.Common.{◌≡◌, ℕ, ◌+◌, ◌≤◌, List, length, take, arith, rules}
 use Rattle.std.proofs.lemmas.List.{same_lists, places}
 use Rattle.pcm_media.specs.Images.{put}
 

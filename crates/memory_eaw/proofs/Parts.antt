@@ -1,7 +1,7 @@
 -- Logged parts, the ranges where they lie, and how many a logger has.
-use Rattle.std.proofs.Common.{◌≡◌, ℕ, zero, suc, ◌+◌, ◌<◌, ◌≤◌, Bool, true, false, cond, nat_eq, List, [], ◌∷◌, ◌++◌, length, get_or, set, take, drop, refl, sym, ◌∙◌, ap, subst, arith}
+use Rattle.std.proofs.Common.{◌≡◌, ℕ, zero, suc, ◌+◌, ◌<◌, ◌≤◌, Bool, true, false, cond, nat_eq, List, [], ◌∷◌, ◌++◌, length, get_or, set, take, refl, sym, ◌∙◌, ap, subst, arith}
 use Rattle.std.specs.Prelude.{All, filter}
-use Rattle.std.proofs.lemmas.List.{take_more, length-append, length-map}
+use Rattle.std.proofs.lemmas.List.{take_more, length-map}
 use Rattle.std.proofs.lemmas.List.Elements.{All-cons, All-head, All-tail}
 use Rattle.pcm_media.specs.Images.{put}
 use Rattle.pcm_media.proofs.Puts.{length-put}
@@ -11,7 +11,6 @@ use Rattle.array_shape.specs.Parts.{pieces_of, piece_of, parts_on, is_piece_on}
 use Rattle.array_shape.proofs.Cutting.{filter_few, pieces_on-parts}
 use Rattle.array_image.specs.Parts.{Part, AllFit, ranges_of}
 use Rattle.eaw_face.specs.State.{edited, range_at, is_range_on, count_on}
-use Rattle.eaw_face.specs.StoreView.{ArePlaced}
 use Rattle.memory_eaw.specs.Log.{IsPiece}
 
 -- the range of the part at a position

@@ -1,5 +1,5 @@
 -- The parts of a range, one after another.
-use Rattle.std.proofs.Common.{◌≡◌, ℕ, ◌+◌, ◌-◌, ◌<◌, ◌≤◌, cond, List, [], ◌∷◌, ◌++◌, length, map, drop, take, refl, sym, ◌∙◌, ap, subst, arith, append_assoc}
+use Rattle.std.proofs.Common.{◌≡◌, ℕ, ◌+◌, ◌-◌, ◌<◌, ◌≤◌, cond, List, [], ◌∷◌, ◌++◌, length, map, sym, ◌∙◌, ap, subst, arith, append_assoc}
 use Rattle.std.specs.Prelude.{All, filter, Bool}
 use Rattle.std.proofs.lemmas.Bool.{eq-eqb}
 use Rattle.std.proofs.lemmas.List.{append-nil, length-append, length-map}
@@ -7,7 +7,7 @@ use Rattle.std.proofs.lemmas.List.Elements.{All-nil, All-cons, All-head, All-tai
 use Rattle.array_shape.specs.declared.shape.Shape.{Shape}
 use Rattle.array_shape.specs.declared.part.Part.{Part}
 use Rattle.array_shape.specs.Places.{data_len}
-use Rattle.array_shape.specs.Parts.{Tile, IsPartOf, parts_of, is_part_on, piece_of, pieces_of}
+use Rattle.array_shape.specs.Parts.{Tile, parts_of, is_part_on, piece_of, pieces_of}
 use Rattle.array_shape.proofs.Cutting.{parts_tile, parts_placed, pieces_of-parts}
 
 -- a part of the range of so many bytes at an address

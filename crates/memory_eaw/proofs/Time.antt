@@ -1,15 +1,13 @@
 -- What might have been left of a store in memory, as time goes on.
-use Rattle.std.proofs.Common.{◌≡◌, ℕ, ◌+◌, ◌-◌, ◌^◌, ◌<◌, ◌≤◌, ◌⊎◌, inl, inr, ⊎_elim, List, [], ◌∷◌, ◌++◌, length, refl, sym, ◌∙◌, ap, subst, arith}
-use Rattle.std.specs.Prelude.{All}
-use Rattle.std.proofs.lemmas.List.Elements.{All-head, All-tail}
+use Rattle.std.proofs.Common.{◌≡◌, ℕ, ◌+◌, ◌<◌, ◌≤◌, ◌⊎◌, inl, inr, ⊎_elim, List, [], ◌∷◌, ◌++◌, refl, sym, ◌∙◌, ap, subst, arith}
 use Rattle.array_image.specs.Parts.{Part, applied}
-use Rattle.eaw_face.specs.StoreView.{StoreView, LeavesOnly}
+use Rattle.eaw_face.specs.StoreView.{LeavesOnly}
 use Rattle.eaw_face.specs.Does.{IsEither}
 use Rattle.memory_eaw.specs.Kept.{Version, Kept}
 use Rattle.memory_eaw.specs.Plain.{Plain, WasBefore, LeftSince, IsData, view_of}
-use Rattle.memory_eaw.specs.Steps.{committed, changed_plain}
+use Rattle.memory_eaw.specs.Steps.{committed}
 
-pub was_push : (past : List Version) (v : Version) (t : ℕ) (image : List ℕ) → WasBefore past t image → WasBefore (past ++ v ∷ []) t image
+was_push : (past : List Version) (v : Version) (t : ℕ) (image : List ℕ) → WasBefore past t image → WasBefore (past ++ v ∷ []) t image
 was_push [] v t image was = absurd was
 was_push (u ∷ past) v t image was = ⊎_elim (λ here. inl here) (λ later. inr (was_push past v t image later)) was
 

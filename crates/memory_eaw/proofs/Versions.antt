@@ -1,7 +1,7 @@
 -- The data before each change.
-use Rattle.std.proofs.Common.{◌≡◌, ℕ, ◌+◌, ◌-◌, ◌*◌, ◌<◌, ◌≤◌, ◌⊎◌, inl, inr, ⊎_elim, Bool, List, [], ◌∷◌, ◌++◌, length, take, drop, refl, sym, ◌∙◌, ap, subst, arith}
+use Rattle.std.proofs.Common.{◌≡◌, ℕ, ◌+◌, ◌-◌, ◌*◌, ◌<◌, ◌≤◌, List, [], ◌∷◌, ◌++◌, length, take, drop, ◌∙◌, ap, arith}
 use Rattle.std.proofs.lemmas.List.{nil_from_length, take_all, take-append-le, drop-append-le, length-append, length-drop}
-use Rattle.memory_eaw.specs.Kept.{Version, Kept, versions, HoldsPast}
+use Rattle.memory_eaw.specs.Kept.{Version, versions, HoldsPast}
 
 pub versions-push : (size until : ℕ) (untils past bytes : List ℕ) → length past ≡ length untils * size → length bytes ≡ size → versions size (untils ++ until ∷ []) (past ++ bytes) ≡ versions size untils past ++ record { until = until; bytes = bytes } ∷ []
 versions-push size until [] past bytes whole long =

@@ -1,5 +1,5 @@
 -- Which calls are counted, which of them fail, and what is kept of them.
-use Rattle.std.specs.Prelude.{ℕ, ◌≡◌, ◌<◌, ◌↔◌, Bool, true, false, if◌then◌else◌, List, Result, Ok, Err, IsErrOf}
+use Rattle.std.specs.Prelude.{ℕ, ◌≡◌, ◌<◌, ◌↔◌, Bool, true, false, List, Result, Ok, Err, IsErrOf}
 use Rattle.eaw_face.specs.StoreView.{StoreView, log_len}
 use Rattle.eaw_face.specs.Command.{Command, log_write, log_edit, commit, abort, nested_top, partial_abort, atomic_write, log_read, read}
 use Rattle.eaw_face.specs.Causes.{IsAlive, Knows, HasRoom}

@@ -1,5 +1,5 @@
 -- The laws of a store, of one in memory.
-use Rattle.std.specs.Prelude.{ℕ, zero, suc, ◌≡◌, ◌<◌, ◌≤◌, ◌⊎◌, Bool, true, false, if◌then◌else◌, List, [], ◌∷◌, length, Option, Some, None, All, refl}
+use Rattle.std.specs.Prelude.{ℕ, zero, suc, ◌≡◌, ◌≤◌, Bool, true, false, if◌then◌else◌, List, [], ◌∷◌, length, Some, None, All, refl}
 use Rattle.std.specs.Option.{option_map}
 use Rattle.std.proofs.Common.{inl, inr, ⊎_elim, ap, arith}
 use Rattle.std.proofs.lemmas.List.Elements.{All-head, All-tail}
@@ -8,7 +8,7 @@ use Rattle.array_image.specs.Parts.{Part, ranges_of}
 use Rattle.eaw_face.specs.State.{listed}
 use Rattle.eaw_face.specs.StoreView.{ArePlaced}
 use Rattle.memory_eaw.specs.Kept.{Version}
-use Rattle.memory_eaw.specs.Log.{Log, IsPiece, IsSoundLog, log_of, logged, outline}
+use Rattle.memory_eaw.specs.Log.{Log, IsPiece, IsSoundLog, logged, outline}
 use Rattle.memory_eaw.specs.Plain.{Plain, WasBefore, LeftSince, IsData, IsSound}
 
 logged-past : (logs : List Log) (t : ℕ) → length logs ≤ t → logged logs t ≡ None

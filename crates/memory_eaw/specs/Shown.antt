@@ -4,6 +4,7 @@ use Rattle.memory_eaw.specs.declared.eaw.MemoryEaw.{MemoryEaw}
 use Rattle.memory_eaw.specs.Kept.{Kept}
 use Rattle.memory_eaw.specs.Plain.{Plain, view_of}
 
+-- its fields as one value
 abbrev pub plain_of : MemoryEaw → Plain
 plain_of eaw = record { shape = eaw.shape; bytes = eaw.bytes.items; logs = eaw.logs.items; kept = eaw.journal; is_dead = eaw.is_dead }
 

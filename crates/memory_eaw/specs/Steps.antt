@@ -1,12 +1,11 @@
 -- What the steps of a command make of a store in memory, and why they stop.
 use Rattle.std.specs.Prelude.{ℕ, ◌≡◌, ◌⊎◌, Bool, true, false, List, [], ◌∷◌, get_or, slice_set}
-use Rattle.pcm_media.specs.Images.{put}
 use Rattle.array_image.specs.Parts.{Part, applied}
 use Rattle.eaw_face.specs.StoreView.{StoreView}
 use Rattle.eaw_face.specs.Causes.{IsAlive, IsFirstFull}
 use Rattle.eaw_face.specs.declared.fault.EawFault.{EawFault}
-use Rattle.eaw_face.specs.declared.fault.EawFault.TheVariants.{UnknownTid, LogFull, Media, Dead}
-use Rattle.memory_eaw.specs.Kept.{Kept, failed, called, changed}
+use Rattle.eaw_face.specs.declared.fault.EawFault.TheVariants.{UnknownTid, LogFull, Dead}
+use Rattle.memory_eaw.specs.Kept.{failed, called, changed}
 use Rattle.memory_eaw.specs.Log.{Log}
 use Rattle.memory_eaw.specs.Plain.{Plain}
 

@@ -26,7 +26,7 @@ use std::alloc::Global;
 
 /// An array of editable atomic writes in plain memory, for tests.
 ///
-/// All its memory is taken when it is made. Below the last value of its moment, and while it has room for changes, a call that
+/// All memory for its commands is taken when it is made. Below the last value of its moment, and while it has room for changes, a call that
 /// is not refused fails exactly where it is listed. A call is counted where it is not refused; a commit of nothing and an abort
 /// are not counted, and do not fail.
 #[derive(Drop)]
@@ -98,9 +98,7 @@ impl MemoryEaw {
         ensures known { OnOk result ((self.now.is_dead ≡ false) × (tid < self.now.shape.numbers)) }
         ensures refused { IfErr result (IsUnknown (shown self.now) (tid < self.now.shape.numbers) tid) }
     {
-        if self.is_dead {
-            return Err(EawFault::Dead);
-        }
+        self.check_alive()?;
         if tid >= self.shape.numbers {
             return Err(EawFault::UnknownTid { tid });
         }
@@ -111,9 +109,7 @@ impl MemoryEaw {
         ensures live { OnOk result ((self.now.is_dead ≡ false) × IsLive (shown self.now) tid) }
         ensures refused { IfErr result (IsUnknown (shown self.now) (IsLive (shown self.now) tid) tid) }
     {
-        if self.is_dead {
-            return Err(EawFault::Dead);
-        }
+        self.check_alive()?;
         if tid >= self.shape.numbers || !self.logs[usize::from(tid)].is_live() {
             return Err(EawFault::UnknownTid { tid });
         }
@@ -346,8 +342,9 @@ impl EawStore for MemoryEaw {
         ensures calls { Counts (nested_top tid offset) (shown self.old) (kept_of self.old) (kept_of self.new) result }
     {
         self.check_live(tid)?;
-        self.commit_from(tid, offset as usize)?;
-        self.truncate(tid, offset as usize);
+        let offset = offset as usize;
+        self.commit_from(tid, offset)?;
+        self.truncate(tid, offset);
         Ok(())
     }
 

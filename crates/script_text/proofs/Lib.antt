@@ -3,3 +3,8 @@ pub mod Words
 pub mod Numbers
 pub mod Lines
 pub mod OneLine
+pub mod HexTexts
+pub mod EawReads
+pub mod EawCommands
+pub mod EawReplyLemmas
+pub mod EawOneLine

@@ -48,7 +48,7 @@ same_line c d keys call other cf df most is js e =
     let both = first_space (decimal c) (decimal d) (call_text call) (call_text other) (decimal_is_word c cf) (decimal_is_word d df) e in
     (decimal_injective c d cf df both.0, same_call keys call other most is js both.1)
 
-first_digit : (n : ℕ) → n < 2 ^ 64 → 48 ≤ get_or (decimal n) 0 0
+pub first_digit : (n : ℕ) → n < 2 ^ 64 → 48 ≤ get_or (decimal n) 0 0
 first_digit zero fits = omega (arith, ap (λ (l : List ℕ). get_or l 0 0) (decimal_digit 0 (omega arith)))
 first_digit (suc n) fits = omega (arith, first_decimal (suc n) (omega arith) fits)
 

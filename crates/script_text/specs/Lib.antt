@@ -1,3 +1,7 @@
 pub mod Line
 pub mod Reads
 pub mod Replies
+pub mod HexText
+pub mod Eaw
+pub mod EawLines
+pub mod EawReplies

@@ -1,12 +1,26 @@
 -- What a reader of a text promises.
 use Rattle.std.specs.Prelude.{ℕ, ◌≡◌, List, [], ◌∷◌, Option, Some, None}
+use Rattle.std.specs.Borrow.{Bor}
 
 -- Things of a kind have texts. The bytes are the text of what is read; where nothing is read, they are the text of none of the kind.
 abbrev pub Reads : {X : Type 0} → (X → Type 0) → (X → List ℕ) → List ℕ → Option X → Type 0
 Reads {X} IsOne text bytes None = (x : X) → IsOne x → bytes ≡ text x → ⊥
 Reads {X} IsOne text bytes (Some x) = IsOne x × (bytes ≡ text x)
 
+-- the same, where what is read shows one of the kind
+abbrev pub ReadsShown : {X Y : Type 0} → (X → Y → Type 0) → (Y → Type 0) → (Y → List ℕ) → List ℕ → Option X → Type 0
+ReadsShown {X} {Y} Shows IsOne text bytes None = (y : Y) → IsOne y → bytes ≡ text y → ⊥
+ReadsShown {X} {Y} Shows IsOne text bytes (Some x) = (y : Y) × Shows x y × IsOne y × (bytes ≡ text y)
+
 -- no space
 abbrev pub IsWord : List ℕ → Type 0
 IsWord [] = Unit {0}
 IsWord (byte ∷ bytes) = (byte ≡ 32 → ⊥) × IsWord bytes
+
+-- a number, and the bytes that are lent with it
+abbrev pub place_and_bytes : ℕ × Bor (List ℕ) → ℕ × List ℕ
+place_and_bytes p = (p.0, p.1.now)
+
+-- two numbers, and the bytes that are lent with them
+abbrev pub edit_and_bytes : ℕ × ℕ × Bor (List ℕ) → ℕ × ℕ × List ℕ
+edit_and_bytes p = (p.0, p.1, p.2.now)

@@ -38,7 +38,7 @@ pub fn write_bad_line(out: &mut Vec<u8>, n: u64) -> Result<(), NoMemory>
 }
 
 // Appends a line that ends with a number.
-fn append_number(out: &mut Vec<u8>, front: &[u8], words: &[u8], n: u64) -> Result<(), NoMemory>
+pub fn append_number(out: &mut Vec<u8>, front: &[u8], words: &[u8], n: u64) -> Result<(), NoMemory>
     ensures ok { OnOk result (out.new.items ≡ out.old.items ++ (front.now ++ (words.now ++ (decimal n ++ 10 ∷ [])))) }
     ensures err { OnErr result (out.new.items ≡ out.old.items) }
 {
@@ -46,7 +46,7 @@ fn append_number(out: &mut Vec<u8>, front: &[u8], words: &[u8], n: u64) -> Resul
     append(out, &[front, words, buffer.format(n).as_bytes(), b"\n"])
 }
 
-fn append_log_full(
+pub fn append_log_full(
     out: &mut Vec<u8>,
     caller: &[u8],
     logger: u8,

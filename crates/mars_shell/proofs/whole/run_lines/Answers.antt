@@ -1,8 +1,8 @@
-use Rattle.std.proofs.Common.{Err, inl, refl, sym, ap, subst, arith}
+use Rattle.std.proofs.Common.{Err, inl, refl, sym, ap, subst, false, [], arith}
 use Rattle.counted.specs.Causes.{Rose}
 use Rattle.mars_shell.specs.Exchange.{Exchange}
 use Rattle.mars_shell.specs.Outcome.{IsOfRecords, status_of}
-use Rattle.mars_shell.specs.Run.{Outcome}
+use Rattle.mars_shell.specs.Run.{IsDamaged, Answers, Outcome}
 use Rattle.mars_shell.specs.declared.status.Status.{Status}
 use Rattle.mars_shell.specs.declared.status.Status.TheVariants.{TooLong, ReadFault, NoMemory}
 use Rattle.mars_shell.proofs.Running.{idle_same, exchange_idle, refused_of, outcome_of, not_early}
@@ -48,7 +48,7 @@ returns-clause-ran g c = λ told.
     subst (λ (s : Status). Exchange g.S.Source.tells (g.S.Source.left c.args.source.now) g.K.Sink.tells (g.K.Sink.written c.args.sink.now) (g.K.Sink.written c.args.sink.now)
     (Rose (g.K.Sink.faults c.args.sink.now) (g.K.Sink.faults c.args.sink.now)) (Outcome old s new)) (sym c.status_of.ensures)
     (exchange_idle _ input _ (Outcome old (status_of c.in-Err.fault) new) c.in-Ok.ensures.all
-    (refused_of g.M.Media.tells told old new (g.met.M.Media.only_now c.args.media) c.in-Err.fault input c.in-Ok.ensures.most c.in-Err.ensures.cause c.in-Err.ensures.unwritten c.in-Err.ensures.keeps_on_err))
+    (refused_of (λ s. Answers old s new input false []) (IsDamaged old) g.M.Media.tells told old new (g.met.M.Media.only_now c.args.media) c.in-Err.fault input c.in-Ok.ensures.most c.in-Err.ensures.cause c.in-Err.ensures.unwritten c.in-Err.ensures.keeps_on_err))
 
 pub returns-in-Ok-attach-clause-no_usage : goal.returns-in-Ok-attach-clause-no_usage
 returns-in-Ok-attach-clause-no_usage g c = λ e. subst IsOfRecords e c.serve-status.ensures.kind

@@ -1,5 +1,5 @@
-use Rattle.std.proofs.Common.{◌≡◌, ◌<◌, length, sym, ap, subst, arith}
-use Rattle.memory_eaw.specs.Log.{Log, IsSoundLog}
+use Rattle.std.proofs.Common.{◌<◌, length, sym, subst, arith}
+use Rattle.memory_eaw.specs.Log.{IsSoundLog}
 use Rattle.memory_eaw.specs.Shown.{plain_of}
 use Rattle.memory_eaw.proofs.Sound.{sound_set, sound_read, sound_appended}
 use Rattle.memory_eaw.proofs.Views.{log_is}

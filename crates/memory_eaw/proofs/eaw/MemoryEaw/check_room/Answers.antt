@@ -1,5 +1,5 @@
-use Rattle.std.proofs.Common.{◌≡◌, ℕ, ◌+◌, ◌<◌, ◌≤◌, List, length, refl, sym, ◌∙◌, ap, arith, below_more}
-use Rattle.array_shape.specs.Parts.{pieces_of, parts_on}
+use Rattle.std.proofs.Common.{◌≡◌, ◌<◌, length, refl, sym, ◌∙◌, ap, arith, below_more}
+use Rattle.array_shape.specs.Parts.{pieces_of}
 use Rattle.array_image.specs.Parts.{ranges_of}
 use Rattle.eaw_face.specs.State.{listed, count_on}
 use Rattle.memory_eaw.specs.Log.{Log}

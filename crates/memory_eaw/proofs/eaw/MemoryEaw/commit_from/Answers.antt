@@ -1,4 +1,4 @@
-use Rattle.std.proofs.Common.{◌≡◌, ◌<◌, ℕ, length, sym, ◌∙◌, ap, arith}
+use Rattle.std.proofs.Common.{◌≡◌, ◌<◌, length, ◌∙◌, ap, arith}
 use Rattle.memory_eaw.specs.Log.{Log}
 use Rattle.memory_eaw.specs.Shown.{plain_of}
 use Rattle.memory_eaw.specs.Steps.{log_at}

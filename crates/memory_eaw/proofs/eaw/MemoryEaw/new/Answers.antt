@@ -1,4 +1,4 @@
-use Rattle.std.proofs.Common.{◌≡◌, ℕ, false, [], List, ⊎_elim, refl, ◌∙◌, ap, length}
+use Rattle.std.proofs.Common.{◌≡◌, ℕ, [], List, ⊎_elim, refl, ◌∙◌, ap}
 use Rattle.std.specs.Option.{option_map}
 use Rattle.array_image.specs.Parts.{ranges_of}
 use Rattle.memory_eaw.specs.Kept.{Kept}

@@ -1,4 +1,4 @@
-use Rattle.std.proofs.Common.{◌≡◌, ℕ, List, ◌∙◌, ap, subst}
+use Rattle.std.proofs.Common.{ℕ, List, ◌∙◌, ap, subst}
 use Rattle.pcm_media.specs.Images.{put}
 use Rattle.array_shape.specs.Parts.{pieces_of}
 use Rattle.array_image.specs.Parts.{ranges_of}

@@ -1,4 +1,4 @@
-use Rattle.std.proofs.Common.{◌≡◌, ◌+◌, ◌<◌, ◌≤◌, length, sym, ◌∙◌, ap, arith}
+use Rattle.std.proofs.Common.{◌+◌, ◌≤◌, length, ◌∙◌, ap, arith}
 use Rattle.array_image.specs.Parts.{ranges_of}
 use Rattle.eaw_face.specs.State.{edited, range_at}
 use Rattle.memory_eaw.specs.Plain.{Plain}

@@ -1,7 +1,6 @@
-use Rattle.std.proofs.Common.{◌<◌, List, length, sym, ◌∙◌, ap, arith}
+use Rattle.std.proofs.Common.{length, sym, ◌∙◌, ap, arith}
 use Rattle.array_image.specs.Parts.{ranges_of}
 use Rattle.eaw_face.specs.State.{range_at, part_at}
-use Rattle.memory_eaw.specs.Log.{Log}
 use Rattle.memory_eaw.specs.Plain.{Plain}
 use Rattle.memory_eaw.specs.Shown.{plain_of}
 use Rattle.memory_eaw.specs.Steps.{log_at}

@@ -1,4 +1,4 @@
-use Rattle.std.proofs.Common.{◌≡◌, refl, ◌∙◌, ap, length, drop, arith}
+use Rattle.std.proofs.Common.{refl, ◌∙◌, ap, drop, arith}
 use Rattle.std.proofs.lemmas.List.{length-drop}
 use Rattle.std.proofs.lemmas.Result.{err_from_is_err_and}
 use Rattle.eaw_face.specs.Command.{nested_top}

@@ -1,4 +1,4 @@
-use Rattle.std.proofs.Common.{◌≡◌, ◌+◌, ◌<◌, ◌≤◌, length, List, sym, ◌∙◌, ap, arith}
+use Rattle.std.proofs.Common.{◌+◌, ◌<◌, ◌≤◌, length, List, ap, arith}
 use Rattle.std.specs.Vec.{vec_capacity}
 use Rattle.array_image.specs.Parts.{Part, ranges_of}
 use Rattle.eaw_face.specs.State.{range_at}

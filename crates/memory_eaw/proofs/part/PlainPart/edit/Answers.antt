@@ -1,6 +1,5 @@
-use Rattle.std.proofs.Common.{◌≡◌, ◌+◌, ◌≤◌, ℕ, List, length, take, ◌∙◌, ap, arith}
+use Rattle.std.proofs.Common.{◌+◌, ◌≤◌, ℕ, List, length, take, ◌∙◌, ap, arith}
 use Rattle.std.proofs.lemmas.List.{length-take}
-use Rattle.pcm_media.specs.Images.{put}
 use Rattle.memory_eaw.proofs.Lists.{take-put}
 use Rattle.memory_eaw.proofs.part.PlainPart.edit.Goals as goal
 

@@ -1,0 +1,84 @@
+// Commands that write bytes.
+ghost use Rattle.std.specs.Prelude.{◌≡◌, ◌<◌, false, List, ℕ};
+ghost use Rattle.script_text.specs.Eaw.{log_write, atomic, edit_log};
+ghost use Rattle.script_text.specs.HexText.{IsBlock};
+ghost use Rattle.eaw_script.specs.Performed.{Performed};
+
+use crate::in_data::is_in_data;
+use crate::outcome::{Outcome, refusal};
+use counted::Failed;
+use eaw_face::EawStore;
+
+/// Logs a write.
+pub fn log_write<S: EawStore>(
+    store: &mut S,
+    number: u8,
+    addr: u32,
+    bytes: &[u8],
+) -> Result<Outcome, Failed>
+    requires number { number < (S.view store.old).shape.numbers }
+    requires alive { (S.view store.old).is_dead ≡ false }
+    requires block { IsBlock bytes.now }
+    ensures { (block : List ℕ) → Performed S.tells (S.opens (S.view store.old).shape) (S.view store.old) (S.view store.new) number (log_write addr bytes.now) block result }
+{
+    if !is_in_data(&store.shape(), addr, bytes.len()) {
+        return Ok(Outcome::BadRange);
+    }
+    match store.log_write(number, u64::from(addr), bytes) {
+        Ok(len) => Ok(Outcome::Logged(len)),
+        Err(fault) => refusal(fault),
+    }
+}
+
+/// Writes by itself, under a number that is free.
+pub fn atomic<S: EawStore>(
+    store: &mut S,
+    number: u8,
+    addr: u32,
+    bytes: &[u8],
+) -> Result<Outcome, Failed>
+    requires number { number < (S.view store.old).shape.numbers }
+    requires alive { (S.view store.old).is_dead ≡ false }
+    requires block { IsBlock bytes.now }
+    ensures { (block : List ℕ) → Performed S.tells (S.opens (S.view store.old).shape) (S.view store.old) (S.view store.new) number (atomic addr bytes.now) block result }
+{
+    if !is_in_data(&store.shape(), addr, bytes.len()) {
+        return Ok(Outcome::BadRange);
+    }
+    if store.is_live(number) {
+        return Ok(Outcome::Live);
+    }
+    match store.atomic_write(number, u64::from(addr), bytes) {
+        Ok(()) => Ok(Outcome::Fine),
+        Err(fault) => refusal(fault),
+    }
+}
+
+/// Writes over bytes of a logged part.
+pub fn edit_log<S: EawStore>(
+    store: &mut S,
+    number: u8,
+    pos: u32,
+    at: u32,
+    bytes: &[u8],
+) -> Result<Outcome, Failed>
+    requires number { number < (S.view store.old).shape.numbers }
+    requires alive { (S.view store.old).is_dead ≡ false }
+    requires block { IsBlock bytes.now }
+    ensures { (block : List ℕ) → Performed S.tells (S.opens (S.view store.old).shape) (S.view store.old) (S.view store.new) number (edit_log pos at bytes.now) block result }
+{
+    if !store.is_live(number) {
+        return Ok(Outcome::Unknown);
+    }
+    if pos >= store.log_len(number) {
+        return Ok(Outcome::BadRange);
+    }
+    let (_, len) = store.part_range(number, pos);
+    if u64::from(at) + bytes.len() as u64 > u64::from(len) {
+        return Ok(Outcome::BadRange);
+    }
+    match store.log_edit(number, pos, at, bytes) {
+        Ok(()) => Ok(Outcome::Fine),
+        Err(fault) => refusal(fault),
+    }
+}

@@ -1,0 +1,45 @@
+ghost use Rattle.std.specs.Prelude.{◌<◌};
+ghost use Rattle.script_text.specs.Reads.{ReadsShown};
+ghost use Rattle.script_text.specs.Eaw.{IsCommand, eaw_line};
+ghost use Rattle.script_text.specs.EawLines.{SaysEaw, ShowsTold};
+
+use crate::eaw_call::{EawCall, read_eaw_call};
+use crate::number::read_below;
+use crate::word::split_word;
+
+/// What a line of raw commands says. It borrows the line.
+#[derive(Clone, Copy, Debug, PartialEq, Eq)]
+pub enum EawLine<'a> {
+    /// The line is empty or begins with `#`.
+    Nothing,
+    Told { number: u8, call: EawCall<'a> },
+    Bad,
+}
+
+/// Reads a line of raw commands, without its newline, where there are `numbers` transaction numbers.
+pub fn read_eaw(bytes: &[u8], numbers: u8) -> EawLine<'_>
+    ensures { SaysEaw numbers bytes.now result }
+{
+    if bytes.is_empty() {
+        return EawLine::Nothing;
+    }
+    if bytes[0] == b'#' {
+        return EawLine::Nothing;
+    }
+    match read_eaw_told(bytes, numbers) {
+        Some((number, call)) => EawLine::Told { number, call },
+        None => EawLine::Bad,
+    }
+}
+
+fn read_eaw_told(bytes: &[u8], numbers: u8) -> Option<(u8, EawCall<'_>)>
+    ensures { ReadsShown ShowsTold (λ m. (m.0 < numbers) × IsCommand m.1) (λ m. eaw_line m.0 m.1) bytes.now result }
+{
+    let (word, rest) = split_word(bytes)?;
+    let number = read_below(word, u64::from(numbers))?;
+    let call = read_eaw_call(rest)?;
+    Some((number as u8, call))
+}
+
+#[cfg(test)]
+mod tests;

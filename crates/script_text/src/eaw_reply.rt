@@ -1,0 +1,95 @@
+ghost use Rattle.std.specs.Prelude.{◌≡◌, ℕ, List, [], ◌∷◌, ◌++◌, codes, decimal, OnOk, OnErr};
+ghost use Rattle.std.specs.List.{flat_map};
+ghost use Rattle.script_text.specs.HexText.{hex_of};
+ghost use Rattle.script_text.specs.EawReplies.{answer_of, answer_line};
+
+use crate::append::append;
+use crate::hex_text::append_hex;
+use crate::reply::{append_log_full, append_number, media_fault_line};
+use counted::NoMemory;
+use itoa::Buffer;
+
+/// What answers a raw command.
+#[derive(Clone, Copy, Debug, PartialEq, Eq)]
+pub enum EawReply<'a> {
+    /// The write is logged; the number has so many parts now.
+    Logged(u32),
+    Fine,
+    /// A logged part.
+    Part { addr: u64, bytes: &'a [u8] },
+    /// Committed data.
+    Data { bytes: &'a [u8] },
+    /// How many parts a number has logged.
+    Len(u32),
+    /// How many of them one logger holds.
+    Held(u16),
+    /// The number holds no log.
+    Unknown,
+    /// A range, an offset, a part or a logger is not there.
+    BadRange,
+    /// The number holds a log, and must not.
+    Live,
+    LogFull { logger: u8, held: u16, needed: u16 },
+    Media,
+}
+
+/// Appends a reply's line, bytes in hexadecimal.
+pub fn write_eaw_reply(out: &mut Vec<u8>, number: u8, reply: &EawReply<'_>) -> Result<(), NoMemory>
+    ensures ok { OnOk result (out.new.items ≡ out.old.items ++ answer_line number (answer_of reply.now)) }
+    ensures err { OnErr result (out.new.items ≡ out.old.items) }
+{
+    let mut buffer = Buffer::new();
+    let text = buffer.format(number).as_bytes();
+    match reply {
+        EawReply::Logged(n) => append_number(out, text, b" logged ", u64::from(*n)),
+        EawReply::Fine => append(out, &[text, b" ok\n"]),
+        EawReply::Part { addr, bytes } => append_part(out, text, *addr, bytes),
+        EawReply::Data { bytes } => append_bytes(out, &[text, b" data "], bytes),
+        EawReply::Len(n) => append_number(out, text, b" len ", u64::from(*n)),
+        EawReply::Held(n) => append_number(out, text, b" held ", u64::from(*n)),
+        EawReply::Unknown => append(out, &[text, b" unknown ", text, b"\n"]),
+        EawReply::BadRange => append(out, &[text, b" bad range\n"]),
+        EawReply::Live => append(out, &[text, b" live\n"]),
+        EawReply::LogFull {
+            logger,
+            held,
+            needed,
+        } => append_log_full(out, text, *logger, *held, *needed),
+        EawReply::Media => append(out, &[media_fault_line(number, &mut [0; 16])]),
+    }
+}
+
+fn append_part(out: &mut Vec<u8>, number: &[u8], addr: u64, bytes: &[u8]) -> Result<(), NoMemory>
+    ensures ok { OnOk result (out.new.items ≡ out.old.items ++ (number.now ++ (codes " part " ++ (decimal addr ++ 32 ∷ (hex_of bytes.now ++ 10 ∷ []))))) }
+    ensures err { OnErr result (out.new.items ≡ out.old.items) }
+{
+    let mut buffer = Buffer::new();
+    let addr = buffer.format(addr).as_bytes();
+    append_bytes(out, &[number, b" part ", addr, b" "], bytes)
+}
+
+// Appends a line that ends with bytes in hexadecimal.
+fn append_bytes(out: &mut Vec<u8>, front: &[&[u8]], bytes: &[u8]) -> Result<(), NoMemory>
+    ensures ok { OnOk result (out.new.items ≡ out.old.items ++ (flat_map (λ piece. piece.now) front.now ++ (hex_of bytes.now ++ 10 ∷ []))) }
+    ensures err { OnErr result (out.new.items ≡ out.old.items) }
+{
+    let start = out.len();
+    let answer = append_some_bytes(out, front, bytes);
+    if answer.is_err() {
+        out.truncate(start);
+    }
+    answer
+}
+
+// The same; where memory is short, a front of the line may stand there.
+fn append_some_bytes(out: &mut Vec<u8>, front: &[&[u8]], bytes: &[u8]) -> Result<(), NoMemory>
+    ensures ok { OnOk result (out.new.items ≡ out.old.items ++ (flat_map (λ piece. piece.now) front.now ++ (hex_of bytes.now ++ 10 ∷ []))) }
+    ensures err { OnErr result ((rest : List ℕ) × (out.new.items ≡ out.old.items ++ rest)) }
+{
+    append(out, front)?;
+    append_hex(out, bytes)?;
+    append(out, &[b"\n"])
+}
+
+#[cfg(test)]
+mod tests;

@@ -1,0 +1,60 @@
+// Bytes as text in hexadecimal, two digits for each, in lower case.
+ghost use Rattle.std.specs.Prelude.{◌≡◌, ◌*◌, ◌≤◌, ◌++◌, ◌↔◌, List, ℕ, length, drop, All, IsTrue, MatchBool, OnOk, OnErr};
+ghost use Rattle.script_text.specs.HexText.{hex_of, IsBlock, IsHex, IsDigit};
+
+use counted::NoMemory;
+
+/// The most bytes that a raw command writes or reads.
+pub const MAX_BLOCK: u64 = 1024;
+
+/// Writes the bytes that a text says to the front of `buf`, and tells how many they are.
+pub fn hex_into(hex: &[u8], buf: &mut [u8]) -> usize
+    requires text { IsHex hex.now }
+    requires fits { length hex.now ≤ 2 * length buf.old }
+    ensures bytes { (bytes : List ℕ) → IsBlock bytes → hex.now ≡ hex_of bytes → buf.new ≡ bytes ++ drop (length bytes) buf.old }
+    ensures count { 2 * result ≡ length hex.now }
+{
+    let len = hex.len() / 2;
+    hex::decode_to_slice(hex, &mut buf[..len]).unwrap();
+    len
+}
+
+// Whether a text is that of some bytes, as many as a raw command may have.
+pub fn is_hex(text: &[u8]) -> bool
+    ensures { MatchBool result (IsHex text.now) (IsHex text.now → ⊥) }
+{
+    let len = text.len() as u64;
+    if len == 0 || len > 2 * MAX_BLOCK || len % 2 == 1 {
+        return false;
+    }
+    are_digits(text)
+}
+
+fn are_digits(text: &[u8]) -> bool
+    ensures { IsTrue result ↔ All IsDigit text.now }
+{
+    text.iter().all(|byte| is_digit(*byte))
+}
+
+fn is_digit(byte: u8) -> bool
+    ensures { IsTrue result ↔ IsDigit byte }
+{
+    matches!(byte, b'0'..=b'9' | b'a'..=b'f')
+}
+
+// Appends the text of some bytes.
+pub fn append_hex(out: &mut Vec<u8>, bytes: &[u8]) -> Result<(), NoMemory>
+    ensures ok { OnOk result (out.new.items ≡ out.old.items ++ hex_of bytes.now) }
+    ensures err { OnErr result (out.new.items ≡ out.old.items) }
+{
+    let start = out.len();
+    for byte in bytes {
+        let mut digits = [0; 2];
+        hex::encode_to_slice([*byte], &mut digits).unwrap();
+        if out.extend_from_slice(&digits).is_err() {
+            out.truncate(start);
+            return Err(NoMemory);
+        }
+    }
+    Ok(())
+}
