@@ -8,8 +8,7 @@ use Rattle.array_image.specs.Image.{data_of}
 use Rattle.device_recovery.specs.Recovered.{HasNoVote}
 use Rattle.eaw_face.specs.State.{State}
 use Rattle.eaw_face.specs.StoreView.{StoreView, LeavesOnly}
-use Rattle.eaw_face.specs.Does.{IsEither}
-use Rattle.eaw_device.specs.Opens.{Opens, AllOpen, OpensLike, KeepsData, Attached, IsBehind}
+use Rattle.eaw_device.specs.Opens.{Opens, KeepsData, Attached, IsBehind}
 use Rattle.eaw_script.specs.Along.{OpensAlong, Leaves}
 use Rattle.eaw_script.specs.Transcript.{Answered}
 use Rattle.eaw_script.specs.declared.ended.Ended.{Ended}
@@ -17,9 +16,8 @@ use Rattle.eaw_script.specs.declared.ended.Ended.TheVariants as script
 use Rattle.script_io.specs.Lines.{lines_of}
 use Rattle.script_io.specs.declared.input.TheConstants.{MOST}
 use Rattle.mars_shell.specs.Run.{data_in}
-use Rattle.mars_shell.specs.Commands.{unlogged, script_status, Obeys, NoPage, CommandOutcome}
+use Rattle.mars_shell.specs.Commands.{unlogged, script_status, Obeys, CommandOutcome}
 use Rattle.mars_shell.specs.Outcome.{IsEarly, IsRefusal}
-use Rattle.mars_shell.specs.declared.status.Status.{Status}
 use Rattle.mars_shell.specs.declared.status.Status.TheVariants.{WriteFault, MediaFault}
 use Rattle.mars_shell.proofs.Running.{first_like}
 

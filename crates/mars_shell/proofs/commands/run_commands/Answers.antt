@@ -1,12 +1,12 @@
-use Rattle.std.proofs.Common.{Err, inl, refl, sym, ap, subst, ◌∙◌, arith}
+use Rattle.std.proofs.Common.{Err, inl, refl, sym, ap, subst}
 use Rattle.counted.specs.Causes.{Rose}
 use Rattle.mars_shell.specs.Exchange.{Exchange}
-use Rattle.mars_shell.specs.Outcome.{IsEarly, IsRefusal, status_of}
-use Rattle.mars_shell.specs.Commands.{ObeysAs, NoPage, CommandOutcome, script_status}
+use Rattle.mars_shell.specs.Outcome.{status_of}
+use Rattle.mars_shell.specs.Commands.{ObeysAs, NoPage, CommandOutcome}
 use Rattle.mars_shell.specs.declared.status.Status.{Status}
 use Rattle.mars_shell.specs.declared.status.Status.TheVariants.{TooLong, ReadFault, NoMemory}
 use Rattle.mars_shell.proofs.Running.{idle_same, exchange_idle, refused_of}
-use Rattle.mars_shell.proofs.Commanding.{outcome_of, script_late, script_unrefused, write_failed, media_failed}
+use Rattle.mars_shell.proofs.Commanding.{outcome_of}
 use Rattle.mars_shell.proofs.commands.run_commands.Goals as goal
 
 pub returns-in-Err-TooLong-clause-ran : goal.returns-in-Err-TooLong-clause-ran
