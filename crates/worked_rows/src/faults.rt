@@ -149,8 +149,14 @@ fn power_is_lost_within_a_run_and_within_the_next_opening(rt: HostRuntime) -> Re
             for opening in 0..=most {
                 let left = left_at_last(&rt, &stopped, choice, opening)?;
                 // The transaction is there or not, and nothing else; surely once it was told, and not before its vote.
-                assert!(rt; left == Left::After || passes < DECIDED, "{passes} {opening}");
-                assert!(rt; left == Left::Before || passes >= LOGGED + 3, "{passes} {opening}");
+                assert!(rt;
+                    left == Left::After || passes < DECIDED,
+                    "{passes} {opening}"
+                );
+                assert!(rt;
+                    left == Left::Before || passes >= LOGGED + 3,
+                    "{passes} {opening}"
+                );
             }
         }
     }

@@ -1,7 +1,5 @@
 // Runs that end before a line is answered, and how each status is told.
-use crate::runs::{
-    FIRST, Failing, NOTHING, fresh, media_of, overwrite, run_lines, run_words,
-};
+use crate::runs::{FIRST, Failing, NOTHING, fresh, media_of, overwrite, run_lines, run_words};
 use array_shape::ShapeNumber;
 use mars_shell::{Status, fault_text};
 use std::process::Abort;
@@ -95,7 +93,12 @@ fn other_images_are_not_opened(rt: HostRuntime) -> Result<(), Fail> {
         (511, 0, b'M', Status::NotMars),
         (199_296, 0, b'N', Status::NotMars),
         (199_295, 0, b'N', Status::NotMars),
-        (199_295, 0, b'M', bad_shape(ShapeNumber::MediaLength, 199_295)),
+        (
+            199_295,
+            0,
+            b'M',
+            bad_shape(ShapeNumber::MediaLength, 199_295),
+        ),
         (199_296, 8, 9, bad_shape(ShapeNumber::Loggers, 9)),
         (199_296, 8, 2, bad_shape(ShapeNumber::MediaLength, 199_296)),
         (199_296, 9, 0, bad_shape(ShapeNumber::Numbers, 0)),
@@ -145,7 +148,10 @@ fn a_decided_row_may_be_bad(rt: HostRuntime) -> Result<(), Fail> {
     let second = Status::BadRow { logger: 0, tid: 2 };
     assert_eq!(rt; status_with(&rt, &[(560, past_the_end)])?, third);
     assert_eq!(rt; status_with(&rt, &[(544, empty_cell)])?, second);
-    assert_eq!(rt; status_with(&rt, &[(560, past_the_end), (544, empty_cell)])?, second);
+    assert_eq!(rt;
+        status_with(&rt, &[(560, past_the_end), (544, empty_cell)])?,
+        second
+    );
     // Voted and not decided: the vote is cleared.
     assert_eq!(rt; status_with(&rt, &[(560, &[0xc3, 2])])?, Status::Good);
     Ok(())
@@ -175,6 +181,9 @@ fn data_may_be_damaged(rt: HostRuntime) -> Result<(), Fail> {
     let last = Status::Damaged { page: 255 };
     let first = Status::Damaged { page: 128 };
     assert_eq!(rt; status_with(&rt, &[(199_232, &[2])])?, last);
-    assert_eq!(rt; status_with(&rt, &[(199_232, &[2]), (134_080, &[2])])?, first);
+    assert_eq!(rt;
+        status_with(&rt, &[(199_232, &[2]), (134_080, &[2])])?,
+        first
+    );
     Ok(())
 }
