@@ -5,8 +5,9 @@ ghost use Rattle.array_shape.specs.Places.{HasNumbers};
 ghost use Rattle.pcm_media.specs.Memory.{content_of};
 ghost use Rattle.eaw_device.specs.Fresh.{IsFresh};
 
+use array_shape::Shape;
 use counted::NoMemory;
-use eaw_device::{first_shape, format};
+use eaw_device::format;
 use pcm_media::MemoryMedia;
 use std::alloc::Global;
 
@@ -17,9 +18,9 @@ const WRITTEN: u64 = 262_144;
 
 /// A fresh array in memory.
 pub fn fresh_image(alloc: Global) -> Result<MemoryMedia, NoMemory>
-    ensures fresh { IfOk result (λ media. (shape : Shape) × HasNumbers 1 8 16 256 shape × IsFresh shape (content_of media)) }
+    ensures fresh { IfOk result (λ media. (shape : Shape) × HasNumbers 4 8 16 64 shape × IsFresh shape (content_of media)) }
 {
-    let shape = first_shape();
+    let shape = Shape::default();
     let zeros = vec![in alloc; 0; shape.media_len() as usize]?;
     let mut media = MemoryMedia::new(alloc, &zeros, CALLS, WRITTEN)?;
     match format(&mut media, &shape) {

@@ -2,10 +2,15 @@
 #![tactic(auto)]
 
 mod image;
+mod room;
 
 use crate::image::fresh_image;
+use crate::room::room;
+use command_words::read_words;
 use mars_shell::{OpenGate, Status, fault_text, run};
+use media_file::FileMedia;
 use outside::{StdSink, StdSource};
+use pcm_media::Media;
 use std::io::ErrorKind;
 use std::process::ExitCode;
 use std::{env, io};
@@ -34,15 +39,31 @@ fn whole(rt: &HostRuntime) -> Status {
     };
     match args.as_slice() {
         [_, image, words @ ..] if image.as_str() == "-" => run_in_memory(rt, words),
+        [_, path, words @ ..] => run_on_file(rt, path, words),
         _ => Status::Usage,
     }
 }
 
 // A run over a fresh image that nobody keeps.
 fn run_in_memory(rt: &HostRuntime, words: &[String]) -> Status {
-    let Ok(media) = fresh_image(rt.alloc()) else {
-        return Status::NoMemory;
-    };
+    match fresh_image(rt.alloc()) {
+        Ok(media) => run_over(rt, words, media),
+        Err(_) => Status::NoMemory,
+    }
+}
+
+// A run over a file. Words of no command make none.
+fn run_on_file(rt: &HostRuntime, path: &str, words: &[String]) -> Status {
+    if read_words(words).is_none() {
+        return Status::Usage;
+    }
+    match FileMedia::attach(rt, path, room(words)) {
+        Ok(media) => run_over(rt, words, media),
+        Err(_) => Status::MediaFault,
+    }
+}
+
+fn run_over<M: Media + Drop>(rt: &HostRuntime, words: &[String], media: M) -> Status {
     let mut source = StdSource::new(rt.reader());
     let mut sink = StdSink::new(io::writer(rt));
     run(rt, words, &mut source, &mut sink, media, &OpenGate).0
