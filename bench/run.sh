@@ -1,9 +1,10 @@
 #!/usr/bin/env bash
-# Lines a second, growth and peak memory of `mars - run`.
+# Lines a second, growth and peak memory of `mars`. With a folder as argument also transactions a second on a file in it.
 #
-# Two mixes of lines, each at 30,000 and at 300,000 lines over 1,000 keys, with values of 16 bytes:
-#   puts   a transaction is a begin, a put and a commit
-#   reads  a transaction is a begin, a put, three gets of committed keys, and a commit
+# Three mixes of lines over the image in memory, of some lines and of ten times as many; keys are below 1,000, values have 16 bytes:
+#   puts   run: a transaction is a begin, a put and a commit
+#   reads  run: a transaction is a begin, a put, three gets of committed keys, and a commit
+#   raw    eaw: 64 bytes are logged, and committed
 # Each script is run three times, and the best time counts. The answers go to a file, and the last is compared, so a
 # run that stops early is no result. A time has the start of the process in it, about a millisecond.
 
@@ -15,13 +16,33 @@ trap 'rm -rf "$work"' EXIT
 "$top/mars" - run </dev/null
 program=$top/crates/mars/out/mars
 
-# script MIX LINES: the lines of one script
+# size MIX: the lines of one transaction
+size() {
+    case $1 in puts) echo 3 ;; reads) echo 6 ;; raw) echo 2 ;; esac
+}
+
+# word MIX: the word of the command line
+word() {
+    [ "$1" = raw ] && echo eaw || echo run
+}
+
+# last MIX TRANSACTIONS: the last answer
+last() {
+    [ "$1" = raw ] && echo "0 ok" || echo "0 committed $2"
+}
+
+# script MIX TRANSACTIONS: the lines of one script
 script() {
-    awk -v mix="$1" -v lines="$2" 'BEGIN {
-        size = mix == "puts" ? 3 : 6
-        for (n = 0; n < lines / size; n++) {
-            print "0 begin"
-            printf "0 put %d value%011d\n", n % 1000, n
+    awk -v mix="$1" -v count="$2" 'BEGIN {
+        if (mix == "raw")
+            for (i = 0; i < 64; i++) block = block sprintf("%02x", i)
+        for (n = 0; n < count; n++) {
+            if (mix == "raw") {
+                print "0 logwrite " 64 * (n % 1000) " " block
+            } else {
+                print "0 begin"
+                printf "0 put %d value%011d\n", n % 1000, n
+            }
             if (mix == "reads")
                 for (i = 1; i <= 3; i++) {
                     committed = n < 1000 ? n : 1000
@@ -32,30 +53,34 @@ script() {
     }'
 }
 
-# once FILE: runs it once; prints microseconds and the peak in kilobytes, 0 where nothing measures it
+# once IMAGE WORD FILE: runs it once; prints microseconds and the peak in kilobytes, 0 where nothing measures it
 once() {
     local start=${EPOCHREALTIME/[.,]/}
     if [ -x /usr/bin/time ]; then
-        /usr/bin/time -f %M -o "$work/peak" "$program" - run <"$1" >"$work/answers"
+        /usr/bin/time -f %M -o "$work/peak" "$program" "$1" "$2" <"$3" >"$work/answers"
     else
-        "$program" - run <"$1" >"$work/answers"
+        "$program" "$1" "$2" <"$3" >"$work/answers"
         echo 0 >"$work/peak"
     fi
     echo "$((${EPOCHREALTIME/[.,]/} - start)) $(cat "$work/peak")"
 }
 
+# is_whole MIX TRANSACTIONS: the run went to the end
+is_whole() {
+    [ "$(tail -n 1 "$work/answers")" = "$(last "$1" "$2")" ] || {
+        echo "bench: the run of $2 transactions of $1 stopped early" >&2
+        exit 1
+    }
+}
+
 # measure MIX LINES: prints a row of the table, and leaves the best time in $best
 measure() {
-    local file=$work/$1.$2 size=3 time peak most=0
-    [ "$1" = puts ] || size=6
-    script "$1" "$2" >"$file"
+    local file=$work/$1.$2 count=$(($2 / $(size "$1"))) time peak most=0
+    script "$1" "$count" >"$file"
     best=
     for _ in 1 2 3; do
-        read -r time peak <<<"$(once "$file")"
-        [ "$(tail -n 1 "$work/answers")" = "0 committed $(($2 / size))" ] || {
-            echo "bench: the run of $1 $2 did not commit all" >&2
-            exit 1
-        }
+        read -r time peak <<<"$(once - "$(word "$1")" "$file")"
+        is_whole "$1" "$count"
         if [ -z "$best" ] || [ "$time" -lt "$best" ]; then best=$time; fi
         if [ "$peak" -gt "$most" ]; then most=$peak; fi
     done
@@ -64,11 +89,37 @@ measure() {
     }'
 }
 
+# calls IMAGE COUNT: counts the system calls of a run of so many transactions of one put, where strace is there
+calls() {
+    command -v strace >/dev/null || return 0
+    script puts "$2" >"$work/traced"
+    strace -f -c -e trace=pread64,pwrite64,fdatasync -o "$work/counts" "$program" "$1" run <"$work/traced" >"$work/answers"
+    is_whole puts "$2"
+    echo "system calls of $2 transactions:"
+    cat "$work/counts"
+}
+
+# on_file FOLDER: transactions of one put a second, on a fresh file
+on_file() {
+    local image=$1/mars-bench.$$ count=2000 time peak
+    "$program" "$image" format >/dev/null
+    script puts "$count" >"$work/file"
+    read -r time peak <<<"$(once "$image" run "$work/file")"
+    is_whole puts "$count"
+    awk -v count="$count" -v time="$time" 'BEGIN { printf "file   %d transactions, %d a second\n", count, count * 1e6 / time }'
+    calls "$image" 100
+    rm -f "$image"
+}
+
 printf '%-6s %8s %10s %9s %12s %10s %8s\n' mix lines bytes ms lines/s peak-KB peak/in
-for mix in puts reads; do
-    measure "$mix" 30000
+for mix in puts reads raw; do
+    # Ten times as many raw lines as 30,000 were too long an input.
+    lines=30000
+    [ "$mix" != raw ] || lines=20000
+    measure "$mix" "$lines"
     small=$best
-    measure "$mix" 300000
+    measure "$mix" "$((10 * lines))"
     awk -v mix="$mix" -v small="$small" -v large="$best" \
         'BEGIN { printf "%-6s ten times the lines take %.1f times as long\n", mix, large / small }'
 done
+[ $# -eq 0 ] || on_file "$1"
