@@ -34,7 +34,8 @@ fn statuses_are_told(rt: HostRuntime) -> Result<(), Fail> {
     Ok(())
 }
 
-fn bad_shape(which: ShapeNumber, given: u64) -> Status {
+/// The status of a wrong number.
+pub fn bad_shape(which: ShapeNumber, given: u64) -> Status {
     Status::BadShape { which, given }
 }
 
@@ -47,7 +48,7 @@ fn other_words_touch_nothing(rt: HostRuntime) -> Result<(), Fail> {
         &["Run"],
         &["run", "run"],
         &["--help"],
-        &["format"],
+        &["format", "format"],
     ];
     for words in rows {
         let ran = run_words(&rt, words, FIRST.as_bytes(), fresh(rt.alloc())?, failing)?;
