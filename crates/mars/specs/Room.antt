@@ -1,5 +1,5 @@
 -- The length of the media that the words of the program need.
-use Rattle.std.specs.Prelude.{ℕ, ◌≡◌, ◌⊎◌, List}
+use Rattle.std.specs.Prelude.{ℕ, ◌≡◌, List, Option, Some, None}
 use Rattle.array_shape.specs.declared.shape.Shape.{Shape}
 use Rattle.array_shape.specs.Numbers.{AreInRange}
 use Rattle.array_shape.specs.Places.{HasNumbers, media_len}
@@ -22,7 +22,7 @@ pub record Asks (words : List (List ℕ)) (asked : Words) : Type 0 where
   pub is_command : IsCommand command
   pub says : words ≡ words_of command
 
--- what the words ask for has that room, or they are those of no command and need nothing
-abbrev pub IsRoom : List (List ℕ) → ℕ → Type 0
-IsRoom words room = ((asked : Words) × Asks words asked × HasRoom asked room)
-    ⊎ (((command : Command) → IsCommand command → words ≡ words_of command → ⊥) × (room ≡ 0))
+-- what the words ask for needs that room; where none is told, they are those of no command
+abbrev pub IsRoom : List (List ℕ) → Option ℕ → Type 0
+IsRoom words None = (command : Command) → IsCommand command → words ≡ words_of command → ⊥
+IsRoom words (Some room) = (asked : Words) × Asks words asked × HasRoom asked room

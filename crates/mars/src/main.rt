@@ -6,7 +6,6 @@ mod room;
 
 use crate::image::fresh_image;
 use crate::room::room;
-use command_words::read_words;
 use mars_shell::{OpenGate, Status, fault_text, run};
 use media_file::FileMedia;
 use outside::{StdSink, StdSource};
@@ -54,10 +53,10 @@ fn run_in_memory(rt: &HostRuntime, words: &[String]) -> Status {
 
 // A run over a file. Words of no command make none.
 fn run_on_file(rt: &HostRuntime, path: &str, words: &[String]) -> Status {
-    if read_words(words).is_none() {
+    let Some(least) = room(words) else {
         return Status::Usage;
-    }
-    match FileMedia::attach(rt, path, room(words)) {
+    };
+    match FileMedia::attach(rt, path, least) {
         Ok(media) => run_over(rt, words, media),
         Err(_) => Status::MediaFault,
     }
