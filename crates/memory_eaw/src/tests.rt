@@ -6,7 +6,10 @@ use std::alloc::Global;
 use std::process::Abort;
 use std::test::Fail;
 
-// A command on number 0, whose addresses are those of page 200 and whose pieces are short.
+// The address of page 200.
+const PAGE: u64 = 102_400;
+
+// A command on number 0, whose addresses are within one page and whose pieces are short.
 #[derive(Clone, Copy, Debug)]
 enum Step {
     LogWrite(u64, &'static [u8]),
@@ -97,9 +100,9 @@ fn read_log<S: EawStore>(rt: &impl Abort, store: &mut S, pos: u32) -> Result<Rep
 }
 
 fn read<S: EawStore>(rt: &impl Abort, store: &mut S) -> Result<Reply, EawFault> {
-    assert!(rt; store.shape().data_len() > 102406);
+    assert!(rt; store.shape().data_len() > PAGE + 6);
     let mut buf = [0; 6];
-    store.read(102400, &mut buf)?;
+    store.read(PAGE, &mut buf)?;
     Ok(Reply::Data(buf))
 }
 
@@ -132,21 +135,21 @@ fn zeros(alloc: Global, changes: u64) -> Result<MemoryEaw, NoMemory> {
 fn answers_as_stated(rt: HostRuntime) -> Result<(), Fail> {
     let unknown = EawFault::UnknownTid { tid: 0 };
     let rows = [
-        (Step::LogWrite(102400, b"aa"), Ok(Reply::Logged(1))),
-        (Step::LogWrite(102402, b"bb"), Ok(Reply::Logged(2))),
-        (Step::LogWrite(102404, b"cc"), Ok(Reply::Logged(3))),
+        (Step::LogWrite(PAGE, b"aa"), Ok(Reply::Logged(1))),
+        (Step::LogWrite(PAGE + 2, b"bb"), Ok(Reply::Logged(2))),
+        (Step::LogWrite(PAGE + 4, b"cc"), Ok(Reply::Logged(3))),
         (Step::Nested(2), Ok(Reply::Done)),
         (Step::Read, Ok(Reply::Data(*b"\0\0\0\0cc"))),
         (Step::Edit(1, 0, b"z"), Ok(Reply::Done)),
-        (Step::ReadLog(1), Ok(Reply::Part(102402, 2, *b"zb"))),
+        (Step::ReadLog(1), Ok(Reply::Part(PAGE + 2, 2, *b"zb"))),
         (Step::Partial(1), Ok(Reply::Done)),
-        (Step::ReadLog(0), Ok(Reply::Part(102400, 2, *b"aa"))),
+        (Step::ReadLog(0), Ok(Reply::Part(PAGE, 2, *b"aa"))),
         (Step::Commit, Ok(Reply::Done)),
         (Step::Read, Ok(Reply::Data(*b"aa\0\0cc"))),
         (Step::Commit, Err(unknown)),
-        (Step::Atomic(102402, b"yy"), Ok(Reply::Done)),
+        (Step::Atomic(PAGE + 2, b"yy"), Ok(Reply::Done)),
         (Step::Read, Ok(Reply::Data(*b"aayycc"))),
-        (Step::LogWrite(102405, b"xx"), Ok(Reply::Logged(1))),
+        (Step::LogWrite(PAGE + 5, b"xx"), Ok(Reply::Logged(1))),
         (Step::Abort, Ok(Reply::Done)),
         (Step::Abort, Err(unknown)),
         (Step::Read, Ok(Reply::Data(*b"aayycc"))),
@@ -161,14 +164,14 @@ fn answers_as_stated(rt: HostRuntime) -> Result<(), Fail> {
 #[test]
 fn fails_at_each_listed_call(rt: HostRuntime) -> Result<(), Fail> {
     let steps = [
-        Step::LogWrite(102400, b"aa"),
-        Step::LogWrite(102402, b"bb"),
+        Step::LogWrite(PAGE, b"aa"),
+        Step::LogWrite(PAGE + 2, b"bb"),
         Step::Edit(1, 1, b"c"),
         Step::ReadLog(1),
         Step::Nested(1),
         Step::Commit,
         Step::Read,
-        Step::Atomic(102402, b"yy"),
+        Step::Atomic(PAGE + 2, b"yy"),
     ];
     for nth in 1..10 {
         let mut store = zeros(rt.alloc(), 3)?;
@@ -227,11 +230,11 @@ fn names_the_first_full_logger(rt: HostRuntime) -> Result<(), Fail> {
 fn fails_past_its_room(rt: HostRuntime) -> Result<(), Fail> {
     let mut store = zeros(rt.alloc(), 1)?;
     assert_eq!(rt;
-        take(&rt, &mut store, Step::Atomic(102400, b"aa")),
+        take(&rt, &mut store, Step::Atomic(PAGE, b"aa")),
         Ok(Reply::Done)
     );
     assert_eq!(rt;
-        take(&rt, &mut store, Step::Atomic(102400, b"bb")),
+        take(&rt, &mut store, Step::Atomic(PAGE, b"bb")),
         Err(EawFault::Media)
     );
     assert_eq!(rt; take(&rt, &mut store, Step::Read), Err(EawFault::Dead));

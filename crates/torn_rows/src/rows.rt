@@ -7,6 +7,11 @@ use std::test::Fail;
 // The bytes of the votes.
 const VOTES: [usize; 4] = [512, 528, 11_040, 11_056];
 
+// Where the row of number 1 stands at each logger, and the head of its first cell.
+const ROWS: [usize; 2] = [528, 11_056];
+
+const HEADS: [usize; 2] = [4_768, 15_296];
+
 // An image each of whose bytes is the one before it and a step more.
 fn counted_up(alloc: Global, start: u8, step: u8) -> Result<Vec<u8>, Fail> {
     let mut image = Vec::new(alloc);
@@ -68,28 +73,28 @@ fn a_decided_row_may_be_bad(rt: HostRuntime) -> Result<(), Fail> {
     // and 2.
     let rows = [
         // No length, a part of the next page too, and more than a page.
-        (4_776, 0, bad(0, 1)),
-        (4_776, 3, bad(0, 1)),
-        (4_777, 2, bad(0, 1)),
-        (15_304, 0, bad(1, 1)),
-        (15_305, 2, bad(1, 1)),
+        (HEADS[0] + 8, 0, bad(0, 1)),
+        (HEADS[0] + 8, 3, bad(0, 1)),
+        (HEADS[0] + 9, 2, bad(0, 1)),
+        (HEADS[1] + 8, 0, bad(1, 1)),
+        (HEADS[1] + 9, 2, bad(1, 1)),
         // The page of the other logger, and past the data.
-        (4_769, 3, bad(0, 1)),
-        (4_769, 0x11, bad(0, 1)),
-        (4_775, 0x80, bad(0, 1)),
-        (15_297, 0, bad(1, 1)),
-        (15_297, 0x10, bad(1, 1)),
+        (HEADS[0] + 1, 3, bad(0, 1)),
+        (HEADS[0] + 1, 0x11, bad(0, 1)),
+        (HEADS[0] + 7, 0x80, bad(0, 1)),
+        (HEADS[1] + 1, 0, bad(1, 1)),
+        (HEADS[1] + 1, 0x10, bad(1, 1)),
         // Cells that are not there.
-        (530, 8, bad(0, 1)),
-        (531, 1, bad(0, 1)),
-        (532, 9, bad(0, 1)),
-        (11_061, 0xff, bad(1, 1)),
+        (ROWS[0] + 2, 8, bad(0, 1)),
+        (ROWS[0] + 3, 1, bad(0, 1)),
+        (ROWS[0] + 4, 9, bad(0, 1)),
+        (ROWS[1] + 5, 0xff, bad(1, 1)),
         // The last page of the data, a whole page, and a row of no cell.
-        (4_769, 0x0d, found(2, 0)),
-        (15_305, 0, found(2, 0)),
-        (532, 0, found(2, 0)),
+        (HEADS[0] + 1, 0x0d, found(2, 0)),
+        (HEADS[1] + 9, 0, found(2, 0)),
+        (ROWS[0] + 4, 0, found(2, 0)),
         // Votes that are not of one mind.
-        (529, 1, found(1, 1)),
+        (ROWS[0] + 1, 1, found(1, 1)),
     ];
     let (_, decided) = stopped_after(&rt, rt.alloc(), DECIDED)?;
     for (at, byte, answer) in rows {
@@ -111,7 +116,7 @@ fn a_lower_number_is_named_before_a_lower_logger(rt: HostRuntime) -> Result<(), 
         change(&mut image, at, 0xc3);
     }
     // Now logger 0 has a bad row too, of number 1.
-    change(&mut image, 529, 1);
+    change(&mut image, ROWS[0] + 1, 1);
     let mut media = media_of(rt.alloc(), &image)?;
     assert_eq!(rt; recovered(&rt, &mut media), bad(1, 0));
     Ok(())
