@@ -8,7 +8,7 @@ use Rattle.pcm_media.specs.View.{View, LeavesOnly, Writes}
 use Rattle.pcm_media.proofs.Writing.{writes_none}
 use Rattle.array_shape.specs.declared.shape.Shape.{Shape}
 use Rattle.array_shape.specs.Places.{media_len}
-use Rattle.array_image.specs.Parts.{applied, places_of}
+use Rattle.array_shape.specs.Logged.{applied, places_of}
 use Rattle.array_image.specs.Image.{data_of}
 use Rattle.array_image.specs.Standing.{IsEither, IsClean, SameCells}
 use Rattle.array_image.specs.Marked.{named_parts, IsMaskOf, AreGood}

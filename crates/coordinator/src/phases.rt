@@ -2,7 +2,7 @@
 ghost use Rattle.std.specs.Prelude.{◌≡◌, ◌+◌, ◌≤◌, ◌<◌, [], ◌∷◌, ℕ, true, false, length, slice_index, IsTrue, OnOk};
 ghost use Rattle.pcm_media.specs.View.{View, Writes};
 ghost use Rattle.array_shape.specs.Places.{media_len};
-ghost use Rattle.array_image.specs.Parts.{applied, places_of};
+ghost use Rattle.array_shape.specs.Logged.{applied, places_of};
 ghost use Rattle.array_image.specs.Image.{data_of};
 ghost use Rattle.array_image.specs.Marked.{named_parts, AreGood};
 ghost use Rattle.coordinator.specs.Between.{body_places, vote_places, HaveNames, HaveVotes};

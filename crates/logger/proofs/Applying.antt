@@ -1,14 +1,15 @@
 -- The parts in cells are written into the data, one cell after another.
 use Rattle.std.proofs.Common.{◌≡◌, ℕ, zero, suc, ◌+◌, ◌-◌, ◌<◌, ◌≤◌, Bool, List, [], ◌∷◌, ◌++◌, Result, length, refl, sym, ◌∙◌, ap, subst, arith}
 use Rattle.std.specs.Prelude.{IsTrue}
-use Rattle.pcm_media.specs.Images.{put, IsOutside}
+use Rattle.counted.specs.Bytes.{put}
+use Rattle.pcm_media.specs.Images.{IsOutside}
 use Rattle.pcm_media.specs.View.{View, Writes}
-use Rattle.pcm_media.proofs.Puts.{length-put}
+use Rattle.counted.proofs.Puts.{length-put}
 use Rattle.pcm_media.proofs.Writing.{writes_none, writes_on}
 use Rattle.array_shape.specs.declared.shape.Shape.{Shape}
 use Rattle.array_shape.specs.Places.{media_len, place_of}
 use Rattle.array_shape.proofs.Apart.{placed_fits}
-use Rattle.array_image.specs.Parts.{Part, applied, places_of, AllPlaced}
+use Rattle.array_shape.specs.Logged.{Part, applied, places_of, AllPlaced}
 use Rattle.array_image.specs.Image.{cell_of, cell_part, parts_from, data_of, IsGoodCell}
 use Rattle.array_image.proofs.Data.{data_put, outside_data, all_placed}
 use Rattle.array_image.proofs.Places.{cell_no_data}

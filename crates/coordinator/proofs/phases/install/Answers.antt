@@ -3,7 +3,7 @@ use Rattle.std.specs.Prelude.{slice_index}
 use Rattle.pcm_media.specs.Images.{IsOutside}
 use Rattle.array_shape.specs.declared.shape.Shape.{Shape}
 use Rattle.array_shape.specs.Places.{media_len}
-use Rattle.array_image.specs.Parts.{applied, places_of}
+use Rattle.array_shape.specs.Logged.{applied, places_of}
 use Rattle.array_image.specs.Image.{data_of, cell_of, parts_from, IsGoodCell}
 use Rattle.array_image.proofs.Calls.{goes_on, hands_on}
 use Rattle.coordinator.proofs.Applying.{still_good, parts_within, logger_applied}

@@ -3,7 +3,7 @@ use Rattle.std.proofs.lemmas.Result.{on_ok_weaker}
 use Rattle.array_shape.specs.Places.{media_len}
 use Rattle.array_image.specs.Image.{data_of}
 use Rattle.array_image.specs.Joined.{joined}
-use Rattle.array_image.specs.Parts.{applied}
+use Rattle.array_shape.specs.Logged.{applied}
 use Rattle.array_image.specs.Decided.{number_parts, settled_data}
 use Rattle.array_image.proofs.Calls.{goes_on, hands_on, barrier_keeps}
 use Rattle.device_recovery.proofs.Applying.{whole_frame, number_good, number_within, number_applied}

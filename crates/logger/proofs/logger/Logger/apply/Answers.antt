@@ -1,7 +1,7 @@
 use Rattle.std.proofs.Common.{◌≡◌, ◌∙◌, length, arith}
 use Rattle.std.specs.Prelude.{IsTrue}
 use Rattle.array_shape.specs.Places.{media_len}
-use Rattle.array_image.specs.Parts.{places_of}
+use Rattle.array_shape.specs.Logged.{places_of}
 use Rattle.array_image.specs.Image.{parts_from}
 use Rattle.logger.proofs.Applying.{applied_more, writes_more, cell_good, data_after}
 use Rattle.logger.proofs.Ranges.{writes_failed}
