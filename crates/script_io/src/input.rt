@@ -1,6 +1,6 @@
 // The whole input, read into memory before anything else is looked at.
 ghost use Rattle.std.specs.Prelude.{◌≡◌, ◌<◌, ◌≤◌, List, ℕ, [], length, IfOk, OnOk, IsErrOf, IsTrue};
-ghost use Rattle.counted.specs.Causes.{Rose};
+ghost use Rattle.script_io.specs.Input.{input_limit, InputCounts};
 
 use outside::Source;
 use std::alloc::Global;
@@ -20,10 +20,9 @@ pub enum InputFault {
 pub fn read_input<S: Source>(alloc: Global, source: &mut S) -> Result<Vec<u8>, InputFault>
     ensures all { IfOk result (λ input. IsTrue S.tells → S.left source.old ≡ input.items) }
     ensures ended { OnOk result (IsTrue S.tells → S.left source.new ≡ []) }
-    ensures most { IfOk result (λ input. length input.items ≤ MOST) }
-    ensures too_long { IsErrOf result InputFault.TooLong → (input : List ℕ) × (MOST < length input) × (IsTrue S.tells → S.left source.old ≡ input) }
-    ensures failed { IsErrOf result InputFault.Failed → Rose (S.faults source.old) (S.faults source.new) }
-    ensures later { S.faults source.old ≤ S.faults source.new }
+    ensures most { IfOk result (λ input. length input.items ≤ input_limit) }
+    ensures too_long { IsErrOf result InputFault.TooLong → (input : List ℕ) × (input_limit < length input) × (IsTrue S.tells → S.left source.old ≡ input) }
+    ensures counts { InputCounts (S.faults source.old) (S.faults source.new) result }
     ensures steady { IsTrue (S.steady source.old) → IsErrOf result InputFault.Failed → ⊥ }
 {
     let mut input = Vec::new(alloc);

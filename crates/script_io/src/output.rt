@@ -1,6 +1,6 @@
-ghost use Rattle.std.specs.Prelude.{Bool, ◌≡◌, ◌≤◌, List, ℕ, ◌++◌, OnOk, OnErr, IsTrue};
-ghost use Rattle.counted.specs.Causes.{Rose, HasCause};
-ghost use Rattle.script_io.specs.Written.{IsCut, IsWritten};
+ghost use Rattle.std.specs.Prelude.{◌≡◌, List, ℕ, ◌++◌, OnOk, OnErr, IsTrue};
+ghost use Rattle.counted.specs.Causes.{HasCause};
+ghost use Rattle.script_io.specs.Written.{IsCut, IsWritten, Wrote};
 
 use counted::Failed;
 use outside::Sink;
@@ -21,10 +21,7 @@ pub fn write_whole<K: Sink>(sink: &mut K, piece: &[u8]) -> Result<(), Failed>
 
 /// Writes as much of the piece as the sink takes.
 pub fn write_front<K: Sink>(sink: &mut K, piece: &[u8])
-    ensures front { (cut : Bool) × (part : List ℕ) × IsWritten cut part piece.now
-        × (IsTrue cut → Rose (K.faults sink.old) (K.faults sink.new))
-        × (IsTrue K.tells → K.written sink.new ≡ K.written sink.old ++ part) }
-    ensures later { K.faults sink.old ≤ K.faults sink.new }
+    ensures { Wrote K.tells (K.written sink.old) (K.written sink.new) (K.faults sink.old) (K.faults sink.new) (λ cut part. IsWritten cut part piece.now) }
 {
     match write_whole(sink, piece) {
         Ok(()) => {}

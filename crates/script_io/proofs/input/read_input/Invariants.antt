@@ -7,7 +7,7 @@ invariant-loop-count g l =
     let s = g.S.Source in record {
       told : IsTrue s.tells → s.left l.fn.source ≡ l.input.items ++ s.left l.source;
       short : length l.input.items ≤ 16777216;
-      later : s.faults l.fn.source ≤ s.faults l.source;
+      kept : s.faults l.source ≡ s.faults l.fn.source;
       steady : IsTrue (s.steady l.fn.source) → IsTrue (s.steady l.source);
     }
 

@@ -16,5 +16,5 @@ loop-rest-preserved g c =
         more c.args.piece.now done rest c.in_ok-count.count c.loop-rest.invariant.0.1,
         λ tells. c.in_ok-count.ensures.bytes tells ∙ ap (λ x. x ++ take c.in_ok-count.count rest) (c.loop-rest.invariant.0.2 tells) ∙ append_assoc _ done _,
       ),
-      omega (arith, c.in_ok-count.ensures.cause.later),
+      c.in_ok-count.ensures.cause.kept ∙ c.loop-rest.invariant.1,
     )

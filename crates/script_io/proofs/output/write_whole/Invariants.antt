@@ -1,4 +1,4 @@
-use Rattle.std.proofs.Common.{◌≡◌, ◌≤◌, ◌++◌, List, ℕ, length, IsTrue}
+use Rattle.std.proofs.Common.{◌≡◌, ◌++◌, List, ℕ, length, IsTrue}
 use Rattle.script_io.proofs.output.write_whole.Given as goal
 
 -- the piece is what is written and what is left
@@ -6,7 +6,7 @@ abbrev pub invariant-loop-rest : goal.invariant-loop-rest
 invariant-loop-rest g l =
     let k = g.K.Sink in
     ((done : List ℕ) × (l.piece ≡ done ++ l.rest) × (IsTrue k.tells → k.written l.sink ≡ k.written l.fn.sink ++ done))
-    × (k.faults l.fn.sink ≤ k.faults l.sink)
+    × (k.faults l.sink ≡ k.faults l.fn.sink)
 
 abbrev pub decreases-loop-rest : goal.decreases-loop-rest
 decreases-loop-rest g l = length l.rest
