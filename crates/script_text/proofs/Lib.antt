@@ -6,5 +6,5 @@ pub mod OneLine
 pub mod HexTexts
 pub mod EawReads
 pub mod EawCommands
-pub mod EawReplyLemmas
+pub mod AnswerLemmas
 pub mod EawOneLine

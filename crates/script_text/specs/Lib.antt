@@ -4,4 +4,4 @@ pub mod Replies
 pub mod HexText
 pub mod Eaw
 pub mod EawLines
-pub mod EawReplies
+pub mod AnswerLines

@@ -6,7 +6,8 @@ ghost use Rattle.script_text.specs.HexText.{IsHex};
 ghost use Rattle.script_text.specs.Eaw.{IsCommand, eaw_text};
 ghost use Rattle.script_text.specs.EawLines.{ShowsCall};
 
-use crate::hex_text::{MAX_BLOCK, is_hex};
+use crate::block::BLOCK;
+use crate::hex_text::is_hex;
 use crate::number::read_below;
 use crate::word::{after, is_text, split_word};
 
@@ -127,7 +128,7 @@ fn read_range(bytes: &[u8]) -> Option<(u32, u32)>
 {
     let rest = after(bytes, b"read ")?;
     let (addr, rest) = split_number(rest)?;
-    let len = read_below(rest, MAX_BLOCK + 1)?;
+    let len = read_below(rest, BLOCK as u64 + 1)?;
     if len == 0 {
         return None;
     }

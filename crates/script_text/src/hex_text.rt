@@ -2,13 +2,21 @@
 ghost use Rattle.std.specs.Prelude.{◌≡◌, ◌*◌, ◌≤◌, ◌++◌, ◌↔◌, List, ℕ, length, drop, All, IsTrue, MatchBool, OnOk, OnErr};
 ghost use Rattle.script_text.specs.HexText.{hex_of, IsBlock, IsHex, IsDigit};
 
+use crate::block::{BLOCK, Block};
 use counted::NoMemory;
 
-/// The most bytes that a raw command writes or reads.
-pub const MAX_BLOCK: u64 = 1024;
+/// The bytes that a text says.
+pub fn block_of(hex: &[u8]) -> Block
+    requires { IsHex hex.now }
+    ensures { (bytes : List ℕ) → IsBlock bytes → hex.now ≡ hex_of bytes → result ≡ bytes }
+{
+    let mut buf = [0; BLOCK];
+    let len = hex_into(hex, &mut buf);
+    Block::of(&buf[..len])
+}
 
-/// Writes the bytes that a text says to the front of `buf`, and tells how many they are.
-pub fn hex_into(hex: &[u8], buf: &mut [u8]) -> usize
+// Writes the bytes that a text says to the front of `buf`, and tells how many they are.
+fn hex_into(hex: &[u8], buf: &mut [u8]) -> usize
     requires text { IsHex hex.now }
     requires fits { length hex.now ≤ 2 * length buf.old }
     ensures bytes { (bytes : List ℕ) → IsBlock bytes → hex.now ≡ hex_of bytes → buf.new ≡ bytes ++ drop (length bytes) buf.old }
@@ -23,8 +31,8 @@ pub fn hex_into(hex: &[u8], buf: &mut [u8]) -> usize
 pub fn is_hex(text: &[u8]) -> bool
     ensures { MatchBool result (IsHex text.now) (IsHex text.now → ⊥) }
 {
-    let len = text.len() as u64;
-    if len == 0 || len > 2 * MAX_BLOCK || len % 2 == 1 {
+    let len = text.len();
+    if len == 0 || len > 2 * BLOCK || len % 2 == 1 {
         return false;
     }
     are_digits(text)

@@ -1,13 +1,10 @@
 // Laws of the grammars.
 ghost use Rattle.std.specs.Prelude.{◌≡◌, ◌^◌, ◌<◌, ◌≤◌, ℕ, List};
 ghost use Rattle.history.specs.declared.call.Call.{Call};
-ghost use Rattle.history.specs.declared.call.Reply.TheVariants.{Media};
 ghost use Rattle.script_text.specs.declared.line.Line.{Line};
 ghost use Rattle.script_text.specs.Line.{Says, IsCall, line_text};
-ghost use Rattle.script_text.specs.Replies.{reply_line};
 ghost use Rattle.script_text.specs.Eaw.{Command, IsCommand, eaw_line};
 ghost use Rattle.script_text.specs.EawLines.{Meaning, Means};
-ghost use Rattle.script_text.specs.EawReplies.{answer_line, media_fault};
 
 /// No line is the text of two callers' calls, so a line says one thing.
 pub fn one_line()
@@ -23,9 +20,4 @@ pub fn one_raw_line()
         → eaw_line c command ≡ eaw_line d other → (c ≡ d) × (command ≡ other) }
     ensures means { (numbers : ℕ) (bytes : List ℕ) (meaning other : Meaning) → numbers ≤ 2 ^ 64
         → Means numbers bytes meaning → Means numbers bytes other → meaning ≡ other }
-{}
-
-/// A fault of the media is told by one line, to a call and to a raw command.
-pub fn one_media_fault()
-    ensures { (number : ℕ) → reply_line number Media ≡ answer_line number media_fault }
 {}

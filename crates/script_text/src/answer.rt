@@ -1,24 +1,25 @@
 ghost use Rattle.std.specs.Prelude.{◌≡◌, ℕ, List, [], ◌∷◌, ◌++◌, codes, decimal, OnOk, OnErr};
 ghost use Rattle.std.specs.List.{flat_map};
 ghost use Rattle.script_text.specs.HexText.{hex_of};
-ghost use Rattle.script_text.specs.EawReplies.{answer_of, answer_line};
+ghost use Rattle.script_text.specs.AnswerLines.{answer_line};
 
 use crate::append::append;
+use crate::block::Block;
 use crate::hex_text::append_hex;
-use crate::reply::{append_log_full, append_number, media_fault_line};
+use crate::reply::{append_log_full, append_number};
 use counted::NoMemory;
 use itoa::Buffer;
 
 /// What answers a raw command.
-#[derive(Clone, Copy, Debug, PartialEq, Eq)]
-pub enum EawReply<'a> {
+#[derive(Drop)]
+pub enum Answer {
     /// The write is logged; the number has so many parts now.
     Logged(u32),
     Fine,
     /// A logged part.
-    Part { addr: u64, bytes: &'a [u8] },
+    Part { addr: u64, bytes: Block },
     /// Committed data.
-    Data { bytes: &'a [u8] },
+    Data { bytes: Block },
     /// How many parts a number has logged.
     Len(u32),
     /// How many of them one logger holds.
@@ -30,32 +31,30 @@ pub enum EawReply<'a> {
     /// The number holds a log, and must not.
     Live,
     LogFull { logger: u8, held: u16, needed: u16 },
-    Media,
 }
 
-/// Appends a reply's line, bytes in hexadecimal.
-pub fn write_eaw_reply(out: &mut Vec<u8>, number: u8, reply: &EawReply<'_>) -> Result<(), NoMemory>
-    ensures ok { OnOk result (out.new.items ≡ out.old.items ++ answer_line number (answer_of reply.now)) }
+/// Appends an answer's line, bytes in hexadecimal.
+pub fn write_answer(out: &mut Vec<u8>, number: u8, answer: &Answer) -> Result<(), NoMemory>
+    ensures ok { OnOk result (out.new.items ≡ out.old.items ++ answer_line number answer.now) }
     ensures err { OnErr result (out.new.items ≡ out.old.items) }
 {
     let mut buffer = Buffer::new();
     let text = buffer.format(number).as_bytes();
-    match reply {
-        EawReply::Logged(n) => append_number(out, text, b" logged ", u64::from(*n)),
-        EawReply::Fine => append(out, &[text, b" ok\n"]),
-        EawReply::Part { addr, bytes } => append_part(out, text, *addr, bytes),
-        EawReply::Data { bytes } => append_bytes(out, &[text, b" data "], bytes),
-        EawReply::Len(n) => append_number(out, text, b" len ", u64::from(*n)),
-        EawReply::Held(n) => append_number(out, text, b" held ", u64::from(*n)),
-        EawReply::Unknown => append(out, &[text, b" unknown ", text, b"\n"]),
-        EawReply::BadRange => append(out, &[text, b" bad range\n"]),
-        EawReply::Live => append(out, &[text, b" live\n"]),
-        EawReply::LogFull {
+    match answer {
+        Answer::Logged(n) => append_number(out, text, b" logged ", u64::from(*n)),
+        Answer::Fine => append(out, &[text, b" ok\n"]),
+        Answer::Part { addr, bytes } => append_part(out, text, *addr, bytes.as_bytes()),
+        Answer::Data { bytes } => append_bytes(out, &[text, b" data "], bytes.as_bytes()),
+        Answer::Len(n) => append_number(out, text, b" len ", u64::from(*n)),
+        Answer::Held(n) => append_number(out, text, b" held ", u64::from(*n)),
+        Answer::Unknown => append(out, &[text, b" unknown ", text, b"\n"]),
+        Answer::BadRange => append(out, &[text, b" bad range\n"]),
+        Answer::Live => append(out, &[text, b" live\n"]),
+        Answer::LogFull {
             logger,
             held,
             needed,
         } => append_log_full(out, text, *logger, *held, *needed),
-        EawReply::Media => append(out, &[media_fault_line(number, &mut [0; 16])]),
     }
 }
 

@@ -3,10 +3,10 @@ use Rattle.std.proofs.Common.{◌≡◌, ℕ, List, [], ◌∷◌, ◌++◌, ref
 use Rattle.std.specs.Prelude.{codes, Result, OnOk}
 use Rattle.std.specs.Fmt.{decimal}
 use Rattle.std.proofs.lemmas.List.{append-nil}
-use Rattle.history.specs.declared.call.Reply.TheVariants.{Media}
 use Rattle.script_text.specs.HexText.{hex_of}
-use Rattle.script_text.specs.Replies.{reply_line}
-use Rattle.script_text.specs.EawReplies.{Answer, part, committed, media_fault, answer_text, answer_line}
+use Rattle.script_text.specs.AnswerLines.{answer_text, answer_line}
+use Rattle.script_text.specs.declared.answer.Answer.{Answer}
+use Rattle.script_text.specs.declared.answer.Answer.TheVariants.{Part, Data}
 
 -- the number, and what stands behind it
 answer_is : (number : ℕ) (answer : Answer) (text rest : List ℕ) → text ≡ decimal number → rest ≡ 32 ∷ (answer_text number answer ++ 10 ∷ []) → text ++ rest ≡ answer_line number answer
@@ -19,22 +19,12 @@ pub answer_appended : {T E : Type 0} (number : ℕ) (now answer : Answer) (text 
 answer_appended number now answer text rest old new result first is behind ok =
     subst (λ (line : List ℕ). OnOk result (new ≡ old ++ line)) (answer_is number answer text rest first behind ∙ ap (answer_line number) (sym is)) ok
 
-pub part_text : (number addr : ℕ) (bytes : List ℕ) → codes " part " ++ (decimal addr ++ 32 ∷ (hex_of bytes ++ 10 ∷ [])) ≡ 32 ∷ (answer_text number (part addr bytes) ++ 10 ∷ [])
+pub part_text : (number addr : ℕ) (bytes : List ℕ) → codes " part " ++ (decimal addr ++ 32 ∷ (hex_of bytes ++ 10 ∷ [])) ≡ 32 ∷ (answer_text number (Part addr bytes) ++ 10 ∷ [])
 part_text number addr bytes = simp append_assoc
 
 -- committed data behind the number and its word
-pub data_appended : {T E : Type 0} (number : ℕ) (now : Answer) (bytes text old new : List ℕ) (result : Result T E) → text ≡ decimal number → now ≡ committed bytes
+pub data_appended : {T E : Type 0} (number : ℕ) (now : Answer) (bytes text old new : List ℕ) (result : Result T E) → text ≡ decimal number → now ≡ Data bytes
     → OnOk result (new ≡ old ++ ((text ++ codes " data ") ++ (hex_of bytes ++ 10 ∷ []))) → OnOk result (new ≡ old ++ answer_line number now)
 data_appended number now bytes text old new result first is ok =
-    answer_appended number now (committed bytes) text (codes " data " ++ (hex_of bytes ++ 10 ∷ [])) old new result first is refl
+    answer_appended number now (Data bytes) text (codes " data " ++ (hex_of bytes ++ 10 ∷ [])) old new result first is refl
     (subst (λ (line : List ℕ). OnOk result (new ≡ old ++ line)) (append_assoc text (codes " data ") (hex_of bytes ++ 10 ∷ [])) ok)
-
--- a fault of the media is told as to a caller
-pub media_line_is : (number : ℕ) → reply_line number Media ≡ answer_line number media_fault
-unfolding reply_line answer_line
-media_line_is number = refl
-
-pub media_appended : {T E : Type 0} (number : ℕ) (now : Answer) (line old new : List ℕ) (result : Result T E) → now ≡ media_fault → line ≡ reply_line number Media
-    → OnOk result (new ≡ old ++ (line ++ [])) → OnOk result (new ≡ old ++ answer_line number now)
-media_appended number now line old new result is says ok =
-    subst (λ (l : List ℕ). OnOk result (new ≡ old ++ l)) (append-nil line ∙ says ∙ media_line_is number ∙ ap (answer_line number) (sym is)) ok
