@@ -23,6 +23,7 @@ pub record Does {T : Type 0} (tells : Bool) (Opens : List ℕ → List ℕ → T
   pub shape : new.shape ≡ old.shape
   pub later : old.faults ≤ new.faults
   pub cause : Cause old command new.faults result
+  pub kept : OnOk result (new.faults ≡ old.faults)
   pub done : OnOk result (Becomes tells command old new)
   pub dies : IsErrOf result Media → new.is_dead ≡ true
   pub time : IsTrue tells → old.is_dead ≡ false → LeavesOnly (IsEither Opens old.state.bytes (after command old.state).bytes) old new

@@ -1,5 +1,5 @@
 // The commands, as the layers above see them.
-ghost use Rattle.std.specs.Prelude.{◌≡◌, ◌≢◌, ◌+◌, ◌≤◌, ◌<◌, true, false, Bool, List, ℕ, take, drop, length, Option, None, is_some, IsTrue, IfOk, IfErr, OnOk, OnErr};
+ghost use Rattle.std.specs.Prelude.{◌≡◌, ◌≢◌, ◌+◌, ◌≤◌, ◌<◌, true, false, Bool, List, ℕ, take, drop, length, Option, None, is_some, IsTrue, IfOk, IfErr, IsErrOf, OnOk, OnErr};
 ghost use Rattle.std.specs.Option.{option_map};
 ghost use Rattle.counted.specs.Bytes.{range};
 ghost use Rattle.array_shape.specs.declared.shape.Shape.{Shape};
@@ -44,6 +44,7 @@ pub trait EawStore {
     fn commit(&mut self, tid: u8) -> Result<(), EawFault>
         ensures does { Does tells (opens (view self.old).shape) (commit tid) (view self.old) (view self.new) result }
         ensures idle { log_len (view self.old) tid ≡ 0 → (view self.new).moment ≡ (view self.old).moment }
+        ensures due { IsErrOf result EawFault.Media → 0 < log_len (view self.old) tid }
         ensures refused { IfErr result (λ fault. fault ≢ EawFault.Media → self.new ≡ self.old) };
 
     /// Abort: drops all that the number has logged, and frees the number.
@@ -58,6 +59,7 @@ pub trait EawStore {
         requires { offset ≤ log_len (view self.old) tid }
         ensures does { Does tells (opens (view self.old).shape) (nested_top tid offset) (view self.old) (view self.new) result }
         ensures idle { log_len (view self.old) tid ≡ offset → (view self.new).moment ≡ (view self.old).moment }
+        ensures due { IsErrOf result EawFault.Media → offset < log_len (view self.old) tid }
         ensures refused { IfErr result (λ fault. fault ≢ EawFault.Media → self.new ≡ self.old) };
 
     /// PartialAbort: drops the parts from this offset of the log on. The number stays live.

@@ -1,3 +1,2 @@
 pub mod Performing
-pub mod Preparing
-pub mod Running
+pub mod Answering

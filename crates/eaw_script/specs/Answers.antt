@@ -1,11 +1,12 @@
 -- What a number's raw command answers, and what it leaves.
-use Rattle.std.specs.Prelude.{ℕ, ◌≡◌, ◌++◌, length}
+use Rattle.std.specs.Prelude.{ℕ, ◌≡◌, ◌<◌, ◌++◌, length}
 use Rattle.counted.specs.Bytes.{range}
 use Rattle.array_shape.specs.declared.shape.Shape.{Shape}
 use Rattle.eaw_face.specs.State.{State, listed, range_at, part_at, count_on}
 use Rattle.eaw_face.specs.Command as model
 use Rattle.script_text.specs.Eaw.{Command, log_write, commit, abort, nested, partial, atomic, edit_log, read_log, read, log_len, held}
-use Rattle.script_text.specs.EawReplies.{Answer, logged, fine, part, committed, long, holds, unknown, bad_range, live, log_full, media_fault}
+use Rattle.script_text.specs.declared.answer.Answer.{Answer}
+use Rattle.script_text.specs.declared.answer.Answer.TheVariants.{Logged, Fine, Part, Data, Len, Held, Unknown, BadRange, Live, LogFull}
 use Rattle.eaw_script.specs.Tests.{Log, log_of, needed, IsKnown, IsThere, IsFree, HasRoom, IsFull}
 
 -- the store's command for it; a question about a log changes no more than a read of it
@@ -28,17 +29,12 @@ done_by t command old = model.after (command_of t command) old
 
 -- its answer there: the length of the log behind a write, the bytes that were asked for, a count
 abbrev pub answer_to : Shape → Log → State → ℕ → Command → Answer
-answer_to shape log old t (log_write addr bytes) = logged (length (listed log ++ needed (log_write addr bytes)))
-answer_to shape log old t commit = fine
-answer_to shape log old t abort = fine
-answer_to shape log old t (nested offset) = fine
-answer_to shape log old t (partial offset) = fine
-answer_to shape log old t (atomic addr bytes) = fine
-answer_to shape log old t (edit_log pos at bytes) = fine
-answer_to shape log old t (read_log pos) = part (range_at (listed log) pos).0 (part_at (listed (old.logs t)) pos).1
-answer_to shape log old t (read addr len) = committed (range old.bytes addr len)
-answer_to shape log old t log_len = long (length (listed log))
-answer_to shape log old t (held logger) = holds (count_on shape logger (listed log))
+answer_to shape log old t (log_write addr bytes) = Logged (length (listed log ++ needed (log_write addr bytes)))
+answer_to shape log old t (read_log pos) = Part (range_at (listed log) pos).0 (part_at (listed (old.logs t)) pos).1
+answer_to shape log old t (read addr len) = Data (range old.bytes addr len)
+answer_to shape log old t log_len = Len (length (listed log))
+answer_to shape log old t (held logger) = Held (count_on shape logger (listed log))
+answer_to shape log old t _ = Fine
 
 -- it passes each test
 pub record Passes (shape : Shape) (log : Log) (command : Command) : Type 0 where
@@ -53,36 +49,25 @@ pub record IsDone (shape : Shape) (log : Log) (old : State) (t : ℕ) (command :
   pub answer_is : answer ≡ answer_to shape log old t command
   pub state : new ≡ done_by t command old
 
--- Number t, with this log, gets this answer. A refusal comes where its own test is the first that fails, and changes nothing;
--- a fault of the media is no answer that the model gives.
+-- Number t, with this log, gets this answer. A refusal comes where its own test is the first that fails, and changes nothing.
 abbrev pub AnswersWith : Shape → Log → State → ℕ → Command → Answer → State → Type 0
-AnswersWith shape log old t command unknown new = (IsKnown log command → ⊥) × (new ≡ old)
-AnswersWith shape log old t command bad_range new = IsKnown log command × (IsThere shape log command → ⊥) × (new ≡ old)
-AnswersWith shape log old t command live new = IsKnown log command × IsThere shape log command × (IsFree log command → ⊥) × (new ≡ old)
-AnswersWith shape log old t command (log_full g h n) new =
+AnswersWith shape log old t command Unknown new = (IsKnown log command → ⊥) × (new ≡ old)
+AnswersWith shape log old t command BadRange new = IsKnown log command × (IsThere shape log command → ⊥) × (new ≡ old)
+AnswersWith shape log old t command Live new = IsKnown log command × IsThere shape log command × (IsFree log command → ⊥) × (new ≡ old)
+AnswersWith shape log old t command (LogFull g h n) new =
     IsKnown log command × IsThere shape log command × IsFree log command × IsFull shape log command g h n × (new ≡ old)
-AnswersWith shape log old t command (logged len) new = IsDone shape log old t command (logged len) new
-AnswersWith shape log old t command fine new = IsDone shape log old t command fine new
-AnswersWith shape log old t command (part addr bytes) new = IsDone shape log old t command (part addr bytes) new
-AnswersWith shape log old t command (committed bytes) new = IsDone shape log old t command (committed bytes) new
-AnswersWith shape log old t command (long len) new = IsDone shape log old t command (long len) new
-AnswersWith shape log old t command (holds count) new = IsDone shape log old t command (holds count) new
-AnswersWith shape log old t command media_fault new = ⊥
+AnswersWith shape log old t command answer new = IsDone shape log old t command answer new
 
 -- the same, with the log that the number has
 abbrev pub Answers : Shape → State → ℕ → Command → Answer → State → Type 0
 Answers shape old t command answer new = AnswersWith shape (log_of old t) old t command answer new
 
--- the commands in which the media may fail
-abbrev pub MayFail : Command → Type 0
-MayFail (log_write addr bytes) = Unit {0}
-MayFail commit = Unit {0}
-MayFail abort = ⊥
-MayFail (nested offset) = Unit {0}
-MayFail (partial offset) = ⊥
-MayFail (atomic addr bytes) = Unit {0}
-MayFail (edit_log pos at bytes) = Unit {0}
-MayFail (read_log pos) = Unit {0}
-MayFail (read addr len) = Unit {0}
-MayFail log_len = ⊥
-MayFail (held logger) = ⊥
+-- the commands that ask the media for something: not one that drops parts or counts them, nor a commit of no parts
+abbrev pub MayFail : Log → Command → Type 0
+MayFail log commit = 0 < length (listed log)
+MayFail log (nested offset) = offset < length (listed log)
+MayFail log abort = ⊥
+MayFail log (partial offset) = ⊥
+MayFail log log_len = ⊥
+MayFail log (held logger) = ⊥
+MayFail log _ = Unit {0}

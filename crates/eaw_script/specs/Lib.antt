@@ -1,6 +1,6 @@
 pub mod Tests
 pub mod Answers
-pub mod Transcript
-pub mod Along
+pub mod Progress
+pub mod Lines
 pub mod Performed
-pub mod Prepared
+pub mod Laws

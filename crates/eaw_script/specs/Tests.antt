@@ -19,72 +19,39 @@ log_of state t = option_map ranges_of (state.logs t)
 -- What is done with a log needs a number that holds one.
 abbrev pub IsKnown : Log → Command → Type 0
 IsKnown log (log_write addr bytes) = Unit {0}
-IsKnown log commit = IsSome log
-IsKnown log abort = IsSome log
-IsKnown log (nested offset) = IsSome log
-IsKnown log (partial offset) = IsSome log
 IsKnown log (atomic addr bytes) = Unit {0}
-IsKnown log (edit_log pos at bytes) = IsSome log
-IsKnown log (read_log pos) = IsSome log
 IsKnown log (read addr len) = Unit {0}
 IsKnown log log_len = Unit {0}
 IsKnown log (held logger) = Unit {0}
+IsKnown log _ = IsSome log
 
 -- A range lies in the data, an offset is at most the log's length, a position is below it and an edit lies within its part,
 -- and a logger is one of the array's.
 abbrev pub IsThere : Shape → Log → Command → Type 0
 IsThere shape log (log_write addr bytes) = addr + length bytes ≤ data_len shape
-IsThere shape log commit = Unit {0}
-IsThere shape log abort = Unit {0}
 IsThere shape log (nested offset) = offset ≤ length (listed log)
 IsThere shape log (partial offset) = offset ≤ length (listed log)
 IsThere shape log (atomic addr bytes) = addr + length bytes ≤ data_len shape
 IsThere shape log (edit_log pos at bytes) = (pos < length (listed log)) × (at + length bytes ≤ (range_at (listed log) pos).1)
 IsThere shape log (read_log pos) = pos < length (listed log)
 IsThere shape log (read addr len) = addr + len ≤ data_len shape
-IsThere shape log log_len = Unit {0}
 IsThere shape log (held logger) = logger < shape.loggers
+IsThere shape log _ = Unit {0}
 
 -- A transaction of one write needs a number that holds no log.
 abbrev pub IsFree : Log → Command → Type 0
-IsFree log (log_write addr bytes) = Unit {0}
-IsFree log commit = Unit {0}
-IsFree log abort = Unit {0}
-IsFree log (nested offset) = Unit {0}
-IsFree log (partial offset) = Unit {0}
 IsFree log (atomic addr bytes) = log ≡ None
-IsFree log (edit_log pos at bytes) = Unit {0}
-IsFree log (read_log pos) = Unit {0}
-IsFree log (read addr len) = Unit {0}
-IsFree log log_len = Unit {0}
-IsFree log (held logger) = Unit {0}
+IsFree log _ = Unit {0}
 
 -- the ranges that a command logs, and those of the number's log that stand before them
 abbrev pub needed : Command → List (ℕ × ℕ)
 needed (log_write addr bytes) = ranges_of (parts_of_write addr bytes)
-needed commit = []
-needed abort = []
-needed (nested offset) = []
-needed (partial offset) = []
 needed (atomic addr bytes) = ranges_of (parts_of_write addr bytes)
-needed (edit_log pos at bytes) = []
-needed (read_log pos) = []
-needed (read addr len) = []
-needed log_len = []
-needed (held logger) = []
+needed _ = []
 
 abbrev pub before_them : Log → Command → List (ℕ × ℕ)
 before_them log (log_write addr bytes) = listed log
-before_them log commit = []
-before_them log abort = []
-before_them log (nested offset) = []
-before_them log (partial offset) = []
-before_them log (atomic addr bytes) = []
-before_them log (edit_log pos at bytes) = []
-before_them log (read_log pos) = []
-before_them log (read addr len) = []
-before_them log log_len = []
-before_them log (held logger) = []
+before_them log _ = []
 
 -- each logger has room for its share of them
 abbrev pub HasRoom : Shape → Log → Command → Type 0

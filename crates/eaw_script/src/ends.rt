@@ -1,74 +1,75 @@
 // Commands that end a log, or a rest of it.
-ghost use Rattle.std.specs.Prelude.{◌≡◌, ◌<◌, false, List, ℕ};
+ghost use Rattle.std.specs.Prelude.{◌≡◌, ◌<◌, false};
 ghost use Rattle.script_text.specs.Eaw.{commit, abort, nested, partial};
 ghost use Rattle.eaw_script.specs.Performed.{Performed};
 
-use crate::outcome::{Outcome, refusal};
+use crate::refusal::refusal;
 use counted::Failed;
 use eaw_face::EawStore;
+use script_text::Answer;
 
 /// Commits a log.
-pub fn commit<S: EawStore>(store: &mut S, number: u8) -> Result<Outcome, Failed>
+pub fn commit<S: EawStore>(store: &mut S, number: u8) -> Result<Answer, Failed>
     requires number { number < (S.view store.old).shape.numbers }
     requires alive { (S.view store.old).is_dead ≡ false }
-    ensures { (block : List ℕ) → Performed S.tells (S.opens (S.view store.old).shape) (S.view store.old) (S.view store.new) number commit block result }
+    ensures { Performed S.tells (S.opens (S.view store.old).shape) (S.view store.old) (S.view store.new) number commit result }
 {
     if !store.is_live(number) {
-        return Ok(Outcome::Unknown);
+        return Ok(Answer::Unknown);
     }
     match store.commit(number) {
-        Ok(()) => Ok(Outcome::Fine),
+        Ok(()) => Ok(Answer::Fine),
         Err(fault) => refusal(fault),
     }
 }
 
 /// Drops a log.
-pub fn abort<S: EawStore>(store: &mut S, number: u8) -> Result<Outcome, Failed>
+pub fn abort<S: EawStore>(store: &mut S, number: u8) -> Result<Answer, Failed>
     requires number { number < (S.view store.old).shape.numbers }
     requires alive { (S.view store.old).is_dead ≡ false }
-    ensures { (block : List ℕ) → Performed S.tells (S.opens (S.view store.old).shape) (S.view store.old) (S.view store.new) number abort block result }
+    ensures { Performed S.tells (S.opens (S.view store.old).shape) (S.view store.old) (S.view store.new) number abort result }
 {
     if !store.is_live(number) {
-        return Ok(Outcome::Unknown);
+        return Ok(Answer::Unknown);
     }
     match store.abort(number) {
-        Ok(()) => Ok(Outcome::Fine),
+        Ok(()) => Ok(Answer::Fine),
         Err(fault) => refusal(fault),
     }
 }
 
 /// Commits what a log has from an offset on.
-pub fn nested<S: EawStore>(store: &mut S, number: u8, offset: u32) -> Result<Outcome, Failed>
+pub fn nested<S: EawStore>(store: &mut S, number: u8, offset: u32) -> Result<Answer, Failed>
     requires number { number < (S.view store.old).shape.numbers }
     requires alive { (S.view store.old).is_dead ≡ false }
-    ensures { (block : List ℕ) → Performed S.tells (S.opens (S.view store.old).shape) (S.view store.old) (S.view store.new) number (nested offset) block result }
+    ensures { Performed S.tells (S.opens (S.view store.old).shape) (S.view store.old) (S.view store.new) number (nested offset) result }
 {
     if !store.is_live(number) {
-        return Ok(Outcome::Unknown);
+        return Ok(Answer::Unknown);
     }
     if offset > store.log_len(number) {
-        return Ok(Outcome::BadRange);
+        return Ok(Answer::BadRange);
     }
     match store.nested_top(number, offset) {
-        Ok(()) => Ok(Outcome::Fine),
+        Ok(()) => Ok(Answer::Fine),
         Err(fault) => refusal(fault),
     }
 }
 
 /// Drops what a log has from an offset on.
-pub fn partial<S: EawStore>(store: &mut S, number: u8, offset: u32) -> Result<Outcome, Failed>
+pub fn partial<S: EawStore>(store: &mut S, number: u8, offset: u32) -> Result<Answer, Failed>
     requires number { number < (S.view store.old).shape.numbers }
     requires alive { (S.view store.old).is_dead ≡ false }
-    ensures { (block : List ℕ) → Performed S.tells (S.opens (S.view store.old).shape) (S.view store.old) (S.view store.new) number (partial offset) block result }
+    ensures { Performed S.tells (S.opens (S.view store.old).shape) (S.view store.old) (S.view store.new) number (partial offset) result }
 {
     if !store.is_live(number) {
-        return Ok(Outcome::Unknown);
+        return Ok(Answer::Unknown);
     }
     if offset > store.log_len(number) {
-        return Ok(Outcome::BadRange);
+        return Ok(Answer::BadRange);
     }
     match store.partial_abort(number, offset) {
-        Ok(()) => Ok(Outcome::Fine),
+        Ok(()) => Ok(Answer::Fine),
         Err(fault) => refusal(fault),
     }
 }

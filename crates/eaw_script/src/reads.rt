@@ -1,83 +1,76 @@
 // Commands that read bytes or ask for a count.
-ghost use Rattle.std.specs.Prelude.{◌≡◌, ◌<◌, ◌≤◌, false, List, ℕ};
+ghost use Rattle.std.specs.Prelude.{◌≡◌, ◌<◌, ◌≤◌, false};
 ghost use Rattle.script_text.specs.Eaw.{read_log, read, log_len, held};
 ghost use Rattle.eaw_script.specs.Performed.{Performed};
 
 use crate::in_data::is_in_data;
-use crate::outcome::{BLOCK, Outcome, refusal};
+use crate::refusal::refusal;
 use counted::Failed;
 use eaw_face::EawStore;
+use script_text::{Answer, BLOCK, Block};
 
 // How many bytes a part has at most.
 const PART: usize = 512;
 
-/// Reads a logged part to the front of the block.
-pub fn read_log<S: EawStore>(
-    store: &mut S,
-    number: u8,
-    pos: u32,
-    block: &mut [u8; BLOCK],
-) -> Result<Outcome, Failed>
+/// Reads a logged part.
+pub fn read_log<S: EawStore>(store: &mut S, number: u8, pos: u32) -> Result<Answer, Failed>
     requires number { number < (S.view store.old).shape.numbers }
     requires alive { (S.view store.old).is_dead ≡ false }
-    ensures { Performed S.tells (S.opens (S.view store.old).shape) (S.view store.old) (S.view store.new) number (read_log pos) block.new result }
+    ensures { Performed S.tells (S.opens (S.view store.old).shape) (S.view store.old) (S.view store.new) number (read_log pos) result }
 {
     if !store.is_live(number) {
-        return Ok(Outcome::Unknown);
+        return Ok(Answer::Unknown);
     }
     if pos >= store.log_len(number) {
-        return Ok(Outcome::BadRange);
+        return Ok(Answer::BadRange);
     }
     let mut part = [0; PART];
     match store.log_read(number, pos, &mut part) {
-        Ok((addr, len)) => {
-            block[..PART].copy_from_slice(&part);
-            Ok(Outcome::Part { addr, len })
-        }
+        Ok((addr, len)) => Ok(Answer::Part {
+            addr,
+            bytes: Block::of(&part[..usize::from(len)]),
+        }),
         Err(fault) => refusal(fault),
     }
 }
 
-/// Reads committed data to the front of the block.
-pub fn read<S: EawStore>(
-    store: &mut S,
-    number: u8,
-    addr: u32,
-    len: u32,
-    block: &mut [u8; BLOCK],
-) -> Result<Outcome, Failed>
+/// Reads committed data.
+pub fn read<S: EawStore>(store: &mut S, number: u8, addr: u32, len: u32) -> Result<Answer, Failed>
     requires number { number < (S.view store.old).shape.numbers }
     requires alive { (S.view store.old).is_dead ≡ false }
     requires len { len ≤ 1024 }
-    ensures { Performed S.tells (S.opens (S.view store.old).shape) (S.view store.old) (S.view store.new) number (read addr len) block.new result }
+    ensures { Performed S.tells (S.opens (S.view store.old).shape) (S.view store.old) (S.view store.new) number (read addr len) result }
 {
     let count = len as usize;
     if !is_in_data(&store.shape(), addr, count) {
-        return Ok(Outcome::BadRange);
+        return Ok(Answer::BadRange);
     }
-    match store.read(u64::from(addr), &mut block[..count]) {
-        Ok(()) => Ok(Outcome::Data { len }),
+    let mut bytes = [0; BLOCK];
+    match store.read(u64::from(addr), &mut bytes[..count]) {
+        Ok(()) => Ok(Answer::Data {
+            bytes: Block::of(&bytes[..count]),
+        }),
         Err(fault) => refusal(fault),
     }
 }
 
 /// How many parts a log has.
-pub fn log_len<S: EawStore>(store: &S, number: u8) -> Outcome
+pub fn log_len<S: EawStore>(store: &S, number: u8) -> Answer
     requires number { number < (S.view store.now).shape.numbers }
     requires alive { (S.view store.now).is_dead ≡ false }
-    ensures { (block : List ℕ) → Performed S.tells (S.opens (S.view store.now).shape) (S.view store.now) (S.view store.now) number log_len block (Ok result) }
+    ensures { Performed S.tells (S.opens (S.view store.now).shape) (S.view store.now) (S.view store.now) number log_len (Ok result) }
 {
-    Outcome::Len(store.log_len(number))
+    Answer::Len(store.log_len(number))
 }
 
 /// How many of them one logger holds.
-pub fn held<S: EawStore>(store: &S, number: u8, logger: u8) -> Outcome
+pub fn held<S: EawStore>(store: &S, number: u8, logger: u8) -> Answer
     requires number { number < (S.view store.now).shape.numbers }
     requires alive { (S.view store.now).is_dead ≡ false }
-    ensures { (block : List ℕ) → Performed S.tells (S.opens (S.view store.now).shape) (S.view store.now) (S.view store.now) number (held logger) block (Ok result) }
+    ensures { Performed S.tells (S.opens (S.view store.now).shape) (S.view store.now) (S.view store.now) number (held logger) (Ok result) }
 {
     if logger >= store.shape().loggers {
-        return Outcome::BadRange;
+        return Answer::BadRange;
     }
-    Outcome::Held(store.held(number, logger))
+    Answer::Held(store.held(number, logger))
 }

@@ -1,13 +1,14 @@
 // Commands that write bytes.
-ghost use Rattle.std.specs.Prelude.{◌≡◌, ◌<◌, false, List, ℕ};
+ghost use Rattle.std.specs.Prelude.{◌≡◌, ◌<◌, false};
 ghost use Rattle.script_text.specs.Eaw.{log_write, atomic, edit_log};
 ghost use Rattle.script_text.specs.HexText.{IsBlock};
 ghost use Rattle.eaw_script.specs.Performed.{Performed};
 
 use crate::in_data::is_in_data;
-use crate::outcome::{Outcome, refusal};
+use crate::refusal::refusal;
 use counted::Failed;
 use eaw_face::EawStore;
+use script_text::Answer;
 
 /// Logs a write.
 pub fn log_write<S: EawStore>(
@@ -15,17 +16,17 @@ pub fn log_write<S: EawStore>(
     number: u8,
     addr: u32,
     bytes: &[u8],
-) -> Result<Outcome, Failed>
+) -> Result<Answer, Failed>
     requires number { number < (S.view store.old).shape.numbers }
     requires alive { (S.view store.old).is_dead ≡ false }
     requires block { IsBlock bytes.now }
-    ensures { (block : List ℕ) → Performed S.tells (S.opens (S.view store.old).shape) (S.view store.old) (S.view store.new) number (log_write addr bytes.now) block result }
+    ensures { Performed S.tells (S.opens (S.view store.old).shape) (S.view store.old) (S.view store.new) number (log_write addr bytes.now) result }
 {
     if !is_in_data(&store.shape(), addr, bytes.len()) {
-        return Ok(Outcome::BadRange);
+        return Ok(Answer::BadRange);
     }
     match store.log_write(number, u64::from(addr), bytes) {
-        Ok(len) => Ok(Outcome::Logged(len)),
+        Ok(len) => Ok(Answer::Logged(len)),
         Err(fault) => refusal(fault),
     }
 }
@@ -36,20 +37,20 @@ pub fn atomic<S: EawStore>(
     number: u8,
     addr: u32,
     bytes: &[u8],
-) -> Result<Outcome, Failed>
+) -> Result<Answer, Failed>
     requires number { number < (S.view store.old).shape.numbers }
     requires alive { (S.view store.old).is_dead ≡ false }
     requires block { IsBlock bytes.now }
-    ensures { (block : List ℕ) → Performed S.tells (S.opens (S.view store.old).shape) (S.view store.old) (S.view store.new) number (atomic addr bytes.now) block result }
+    ensures { Performed S.tells (S.opens (S.view store.old).shape) (S.view store.old) (S.view store.new) number (atomic addr bytes.now) result }
 {
     if !is_in_data(&store.shape(), addr, bytes.len()) {
-        return Ok(Outcome::BadRange);
+        return Ok(Answer::BadRange);
     }
     if store.is_live(number) {
-        return Ok(Outcome::Live);
+        return Ok(Answer::Live);
     }
     match store.atomic_write(number, u64::from(addr), bytes) {
-        Ok(()) => Ok(Outcome::Fine),
+        Ok(()) => Ok(Answer::Fine),
         Err(fault) => refusal(fault),
     }
 }
@@ -61,24 +62,24 @@ pub fn edit_log<S: EawStore>(
     pos: u32,
     at: u32,
     bytes: &[u8],
-) -> Result<Outcome, Failed>
+) -> Result<Answer, Failed>
     requires number { number < (S.view store.old).shape.numbers }
     requires alive { (S.view store.old).is_dead ≡ false }
     requires block { IsBlock bytes.now }
-    ensures { (block : List ℕ) → Performed S.tells (S.opens (S.view store.old).shape) (S.view store.old) (S.view store.new) number (edit_log pos at bytes.now) block result }
+    ensures { Performed S.tells (S.opens (S.view store.old).shape) (S.view store.old) (S.view store.new) number (edit_log pos at bytes.now) result }
 {
     if !store.is_live(number) {
-        return Ok(Outcome::Unknown);
+        return Ok(Answer::Unknown);
     }
     if pos >= store.log_len(number) {
-        return Ok(Outcome::BadRange);
+        return Ok(Answer::BadRange);
     }
     let (_, len) = store.part_range(number, pos);
     if u64::from(at) + bytes.len() as u64 > u64::from(len) {
-        return Ok(Outcome::BadRange);
+        return Ok(Answer::BadRange);
     }
     match store.log_edit(number, pos, at, bytes) {
-        Ok(()) => Ok(Outcome::Fine),
+        Ok(()) => Ok(Answer::Fine),
         Err(fault) => refusal(fault),
     }
 }

@@ -1,11 +1,31 @@
-use Rattle.std.proofs.Common.{◌≡◌, ℕ, ◌<◌, ◌≤◌, length, take, sym, ap, subst, ◌∙◌, arith, rules}
-use Rattle.std.proofs.lemmas.List.{take-append-le}
-use Rattle.eaw_face.specs.State.{State, listed, part_at}
-use Rattle.eaw_face.specs.StoreView.{LeavesOnly}
+use Rattle.std.proofs.Common.{◌≡◌, ℕ, ◌<◌, ◌≤◌, List, length, take, sym, ap, subst, ◌∙◌, arith, rules}
+use Rattle.std.proofs.lemmas.List.{length-take, length-take-le}
+use Rattle.array_shape.specs.declared.shape.Shape.{Shape}
+use Rattle.eaw_face.specs.State.{State, listed, range_at, part_at}
+use Rattle.eaw_face.specs.StoreView.{LeavesOnly, ArePlaced}
 use Rattle.eaw_face.specs.Does.{IsEither}
-use Rattle.script_text.specs.EawReplies.{part}
+use Rattle.script_text.specs.declared.answer.Answer.TheVariants.{Part}
 use Rattle.eaw_script.proofs.Performing.{part_len}
 use Rattle.eaw_script.proofs.reads.read_log.Goals as goal
+
+-- the part that was read is no longer than the buffer
+short : (shape : Shape) (ranges : List (ℕ × ℕ)) (pos addr len : ℕ) → ArePlaced shape ranges → pos < length ranges → (addr, len) ≡ range_at ranges pos → len ≤ 512
+short shape ranges pos addr len placed there is = subst (λ (n : ℕ). n ≤ 512) (sym (ap (λ (p : ℕ × ℕ). p.1) is)) (part_len shape ranges pos placed there)
+
+pub slice_bounds-part-end : goal.slice_bounds-part-end
+slice_bounds-part-end g c =
+    let there : c.args.pos < length (listed ((g.S.EawStore.view c.args.store.now).ranges c.args.number)) = omega (arith, c.if-pos-log_len.false, c.log_len.ensures) in
+    omega (arith, short _ _ c.args.pos c.in-Ok.addr c.in-Ok.len (g.met.S.EawStore.placed c.args.store.now c.args.number) there c.in-Ok.ensures.part, c.from.ensures, c.log_read.array_long)
+
+pub slice_bounds-of-end : goal.slice_bounds-of-end
+slice_bounds-of-end g c =
+    let there : c.args.pos < length (listed ((g.S.EawStore.view c.args.store.now).ranges c.args.number)) = omega (arith, c.if-pos-log_len.false, c.log_len.ensures) in
+    let fits : c.from.result ≤ length c.log_read.new.buf =
+    omega (arith, short _ _ c.args.pos c.in-Ok.addr c.in-Ok.len (g.met.S.EawStore.placed c.args.store.now c.args.number) there c.in-Ok.ensures.part, c.from.ensures, c.log_read.array_long) in
+    sym (length-take-le c.from.result c.log_read.new.buf fits)
+
+pub of-requires : goal.of-requires
+of-requires g c = omega (arith, length-take c.from.result c.log_read.new.buf, c.log_read.array_long)
 
 pub returns-in-Ok : goal.returns-in-Ok
 returns-in-Ok g c =
@@ -16,21 +36,16 @@ returns-in-Ok g c =
     let does = c.in-Ok.ensures.does in
     let there : pos < length (listed (old.ranges t)) = omega (arith, c.if-pos-log_len.false, c.log_len.ensures) in
     let its = c.in-Ok.ensures.part in
-    let short : c.in-Ok.len ≤ 512 = subst (λ (n : ℕ). n ≤ 512) (sym (ap (λ (p : ℕ × ℕ). p.1) its)) (part_len old.shape _ pos (g.met.S.EawStore.placed c.args.store.now t) there) in
-    let long : length c.copy_from_slice.new.self ≡ 512 = ap length c.copy_from_slice.ensures.after ∙ c.log_read.array_long in
     record {
       shape = does.shape;
-      later = does.later;
-      fits = omega arith;
+      cause = record { later = omega (arith, does.kept); failed = tt; kept = does.kept };
       alive = does.done.alive;
       answers = λ told. record {
         passes = record { known = search rules; there = there; free = tt; room = λ g lt. omega arith };
-        answer_is = ap (λ xs. part c.in-Ok.addr xs)
-            (take-append-le c.in-Ok.len c.copy_from_slice.new.self _ (omega (arith, long)) ∙ ap (λ xs. take c.in-Ok.len xs) c.copy_from_slice.ensures.after ∙ c.in-Ok.ensures.bytes told)
-            ∙ ap (λ addr. part addr (part_at (listed (old.state.logs t)) pos).1) (ap (λ (p : ℕ × ℕ). p.0) its);
+        answer_is = ap (λ (xs : List ℕ). Part c.in-Ok.addr xs) (c.of.ensures ∙ ap (λ n. take n c.log_read.new.buf) c.from.ensures ∙ c.in-Ok.ensures.bytes told)
+            ∙ ap (λ (addr : ℕ). Part addr (part_at (listed (old.state.logs t)) pos).1) (ap (λ (p : ℕ × ℕ). p.0) its);
         state = does.done.state told;
       };
-      rose = tt;
       fails = tt;
       time = λ told. subst (λ (d : State). LeavesOnly (IsEither (s.opens old.shape) old.state.bytes d.bytes) old (s.view c.log_read.new.self)) (sym (does.done.state told)) (does.time told c.requires.alive);
     }
