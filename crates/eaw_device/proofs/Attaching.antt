@@ -55,7 +55,10 @@ cause_on tells old mid faults (BadRow g t) size touched later cause = λ told.
       bad = subst (λ b. IsFirstBad found.shape b g t) same found.bad;
     }
 cause_on tells old mid faults Media size touched later cause = omega (arith, cause, later)
-cause_on tells old mid faults NoMemory size touched later cause = tt
+cause_on tells old mid faults NoMemory size touched later cause = λ told.
+    let same = same_bytes old.content mid.content (touched told) in
+    let found = cause told in
+    (found.0, subst (λ b. SaysShape (header_of b) found.0) same found.1, sym size ∙ found.2)
 
 pub reading_leaves : (tells : Bool) (old new : View) (fault : AttachFault) → (IsTrue tells → Touched [] old.content new.content) → AttachLeaves tells old new fault
 reading_leaves tells old new NotMars touched = touched

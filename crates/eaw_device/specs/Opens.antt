@@ -70,7 +70,7 @@ AttachCause tells media faults NotMars = 512 ≤ media.size → IsTrue tells →
 AttachCause tells media faults (BadShape bad) = (512 ≤ media.size) × (IsTrue tells → HasMark (header_of media.content.bytes) × IsBadIn (header_of media.content.bytes) media.size bad.which bad.given)
 AttachCause tells media faults (BadRow g t) = IsTrue tells → HasBadRow media g t
 AttachCause tells media faults Media = Rose media.faults faults
-AttachCause tells media faults NoMemory = Unit {0}
+AttachCause tells media faults NoMemory = IsTrue tells → (shape : Shape) × SaysShape (header_of media.content.bytes) shape × (media.size ≡ media_len shape)
 
 -- but where the media failed, nothing was written
 abbrev pub AttachLeaves : Bool → View → View → AttachFault → Type 0

@@ -1,5 +1,5 @@
 // The steps of an opening, on the media alone.
-ghost use Rattle.std.specs.Prelude.{◌≡◌, ◌≤◌, [], IsTrue, IfOk, IfErr, OnOk};
+ghost use Rattle.std.specs.Prelude.{◌≡◌, ◌+◌, ◌≤◌, [], IsTrue, IfOk, IfErr, OnOk};
 ghost use Rattle.pcm_media.specs.View.{Writes};
 ghost use Rattle.array_shape.specs.Places.{media_len};
 ghost use Rattle.row_bytes.specs.Header.{SaysShape};
@@ -22,6 +22,7 @@ pub(crate) fn read_header<M: Media>(media: &mut M) -> Result<Shape, AttachFault>
     ensures sized { IfOk result (λ shape. (M.view media.old).size ≡ media_len shape) }
     ensures cause { IfErr result (AttachCause M.tells (M.view media.old) (M.view media.new).faults) }
     ensures fault { IfErr result IsOfHeader }
+    ensures once { OnOk result ((M.view media.new).moment ≡ (M.view media.old).moment + 1) }
     ensures does { Writes M.tells [] (M.view media.old) (M.view media.new) (media_answer result) }
 {
     if media.len() < 512 {

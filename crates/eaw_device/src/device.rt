@@ -38,6 +38,7 @@ impl<M: Media> Eaw<M> {
         ensures keeps { IfOk result (λ eaw. KeepsData M.tells (M.view media) (M.view eaw.media).moment (M.view eaw.media).left_since) }
         ensures keeps_on_err { IfErr result (λ e. KeepsData M.tells (M.view media) (M.view e.1).moment (M.view e.1).left_since) }
         ensures later { IfErr result (λ e. (M.view media).faults ≤ (M.view e.1).faults) }
+        ensures early { IfErr result (λ e. e.0 ≡ AttachFault.NoMemory → (M.view e.1).moment ≡ (M.view media).moment + 1) }
     {
         match open_array(alloc, &mut media) {
             Ok((shape, logs)) => Ok(Eaw {

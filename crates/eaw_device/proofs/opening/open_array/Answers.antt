@@ -49,3 +49,6 @@ pub returns-in-Err-settle-clause-unwritten : goal.returns-in-Err-settle-clause-u
 returns-in-Err-settle-clause-unwritten g c =
     let m = g.M.Media in
     leaves_on m.tells (m.view c.args.media.now) (m.view c.read_header.new.media) (m.view c.settle.new.media) c.in-Err-settle.fault c.read_header.ensures.does.touched c.in-Err-settle.ensures.unwritten
+
+pub returns-in-Err-clause-cause : goal.returns-in-Err-clause-cause
+returns-in-Err-clause-cause g c = λ told. (c.in_ok-shape.shape, c.in_ok-shape.ensures.shape told, c.in_ok-shape.ensures.sized)
