@@ -10,6 +10,7 @@ use Rattle.row_bytes.specs.Header.{header_bytes}
 use Rattle.eaw_device.specs.Fresh.{HasParts, IsFresh}
 use Rattle.eaw_device.proofs.FreshLemmas.{header_parts}
 use Rattle.eaw_device.proofs.Formatting.{header_left}
+use Rattle.eaw_device.proofs.Spared.{cells_then, header_spares, none_spares}
 use Rattle.eaw_device.proofs.fresh.write_header.Goals as goal
 
 first_bytes : (n i : ℕ) → n ≡ 512 → IsOutside ((0, 512) ∷ []) i → IsOutside ((0, n) ∷ []) i
@@ -55,3 +56,14 @@ returns-clause-fresh g c = λ told.
     let long : length header ≡ 512 = omega arith in
     let fresh = fresh_with shape old header sized long c.write_array_header.ensures.written (c.requires.parts told) in
     on_ok_weaker c.barrier.result (λ is. subst (IsFresh shape) (sym (is ∙ ap settled (c.in_ok-write.ensures.written told))) fresh) (c.barrier.ensures.settled told)
+
+pub returns-in_err-write-clause-cells : goal.returns-in_err-write-clause-cells
+returns-in_err-write-clause-cells g c told =
+    let long : length c.write_array_header.new.out ≡ 512 = omega arith in
+    header_spares c.args.shape.now _ _ _ _ (c.write.ensures.does.touched told) refl long
+
+pub returns-clause-cells : goal.returns-clause-cells
+returns-clause-cells g c told =
+    let shape = c.args.shape.now in
+    let long : length c.write_array_header.new.out ≡ 512 = omega arith in
+    cells_then shape _ _ _ (header_spares shape _ _ _ _ (c.in_ok-write.ensures.does.touched told) refl long) (none_spares shape _ _ (c.barrier.ensures.does.touched told))
