@@ -1,7 +1,8 @@
 -- Calls of a media one after another, and a barrier behind them.
-use Rattle.std.proofs.Common.{◌≡◌, ℕ, inl, inr, ⊎_elim, Bool, List, [], Result, Ok, Err, sym, ◌∙◌, ap, subst}
-use Rattle.std.specs.Prelude.{IsTrue, OnErr}
-use Rattle.counted.specs.Causes.{Rose}
+use Rattle.std.proofs.Common.{◌≡◌, ℕ, inl, inr, ⊎_elim, Bool, List, [], Result, Ok, Err, refl, sym, ◌∙◌, ap, subst}
+use Rattle.std.proofs.lemmas.Bool.{false≢true}
+use Rattle.std.specs.Prelude.{IsTrue, IsOk, IsErr, OnOk, OnErr}
+use Rattle.counted.specs.Causes.{Rose, HasCause}
 use Rattle.counted.specs.Moments.{Elapses}
 use Rattle.counted.proofs.Going.{weaker, then}
 use Rattle.pcm_media.specs.Images.{Content, IsOutside, settled}
@@ -15,29 +16,33 @@ SoFar tells ranges old now = let done : Result (Unit {0}) (Unit {0}) = Ok tt in 
 
 module _ (tells : Bool) (all more : List (ℕ × ℕ)) (old mid new : View) (within : IsTrue tells → (i : ℕ) → IsOutside all i → IsOutside more i) (so_far : SoFar tells all old mid) where
   -- one more call, and what its answer says of faults
-  calls_on : {T E U F : Type 0} {r : Result T E} (s : Result U F) → Writes tells more mid new r → OnErr s (Rose mid.faults new.faults) → Writes tells all old new s
-  calls_on s call rose = record {
+  calls_on : {T E U F : Type 0} {r : Result T E} (s : Result U F) → Writes tells more mid new r → HasCause mid.faults new.faults s → Writes tells all old new s
+  calls_on s call cause = record {
     size = call.size ∙ so_far.size;
-    cause = let done : Result (Unit {0}) (Unit {0}) = Ok tt in cause_on old.faults mid.faults new.faults done s so_far.cause (record { later = call.cause.later; failed = rose });
+    cause = let done : Result (Unit {0}) (Unit {0}) = Ok tt in cause_on old.faults mid.faults new.faults done s refl so_far.cause cause;
     touched = λ told. touched_within all more old.content mid.content new.content (so_far.touched told) (within told) (call.touched told);
     time = λ told. then (so_far.time told) (weaker (left_partly_on all more old.content mid.content (so_far.touched told) (within told)) (call.time told));
   }
 
   -- one that succeeded
-  pub goes_on : {T E : Type 0} {r : Result T E} → Writes tells more mid new r → SoFar tells all old new
-  goes_on call = let done : Result (Unit {0}) (Unit {0}) = Ok tt in calls_on done call tt
+  pub goes_on : {T E : Type 0} {r : Result T E} → Writes tells more mid new r → IsOk r → SoFar tells all old new
+  goes_on {T} {E} {r} call ok = let done : Result (Unit {0}) (Unit {0}) = Ok tt in calls_on done call (done_cause r ok call.cause)
+    where
+      done_cause : (r : Result T E) → IsOk r → HasCause mid.faults new.faults r → (let done : Result (Unit {0}) (Unit {0}) = Ok tt in HasCause mid.faults new.faults done)
+      done_cause (Ok x) ok cause = record { later = cause.later; failed = tt; kept = cause.kept }
+      done_cause (Err e) ok cause = absurd (false≢true ok)
 
   -- the last one, whose answer is handed on
   pub ends_with : {T E : Type 0} (r : Result T E) → Writes tells more mid new r → Writes tells all old new r
-  ends_with r call = calls_on r call call.cause.failed
+  ends_with r call = calls_on r call call.cause
 
   -- one that failed, whose fault is handed on
-  pub hands_on : {T E U F : Type 0} {e : E} (s : Result U F) → (let r : Result T E = Err e in Writes tells more mid new r) → Writes tells all old new s
-  hands_on {T} {E} {U} {F} s call = calls_on s call (any s)
+  pub hands_on : {T E U F : Type 0} {e : E} (s : Result U F) → IsErr s → (let r : Result T E = Err e in Writes tells more mid new r) → Writes tells all old new s
+  hands_on {T} {E} {U} {F} s err call = calls_on s call (handed s err)
     where
-      any : (s : Result U F) → OnErr s (Rose mid.faults new.faults)
-      any (Ok x) = tt
-      any (Err e) = call.cause.failed
+      handed : (s : Result U F) → IsErr s → HasCause mid.faults new.faults s
+      handed (Ok x) err = absurd (false≢true err)
+      handed (Err e) err = record { later = call.cause.later; failed = call.cause.failed; kept = tt }
 
 -- the barrier behind them
 pub then_barrier : (tells : Bool) (all : List (ℕ × ℕ)) (old mid new : View) {T E : Type 0} (r : Result T E) → SoFar tells all old mid → Writes tells [] mid new r → Writes tells all old new r

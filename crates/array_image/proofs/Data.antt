@@ -2,13 +2,14 @@
 use Rattle.std.proofs.Common.{◌≡◌, ℕ, zero, suc, ◌+◌, ◌-◌, ◌%◌, ◌<◌, ◌≤◌, inl, inr, ⊎_elim, List, [], ◌∷◌, ◌++◌, length, get_or, refl, sym, ◌∙◌, ap, subst, arith}
 use Rattle.std.proofs.lemmas.List.{ext_get_or, get_or_past}
 use Rattle.std.proofs.lemmas.Bool.{cases_lt, cases_eq}
-use Rattle.pcm_media.specs.Images.{put, SameOutside, IsOutside}
-use Rattle.pcm_media.proofs.Puts.{length-put, get_or-put_inside}
+use Rattle.counted.specs.Bytes.{put}
+use Rattle.pcm_media.specs.Images.{SameOutside, IsOutside}
+use Rattle.counted.proofs.Puts.{length-put, get_or-put_inside}
 use Rattle.pcm_media.proofs.Left.{get_or-put_outside, outside-append}
 use Rattle.array_shape.specs.declared.shape.Shape.{Shape}
 use Rattle.array_shape.specs.Places.{media_len, data_len, place_of, IsPlaced}
 use Rattle.array_image.specs.Joined.{joined}
-use Rattle.array_image.specs.Parts.{Part, applied, AllFit, ranges_of, places_of, AllPlaced, AllOwned}
+use Rattle.array_shape.specs.Logged.{Part, applied, AllFit, ranges_of, places_of, AllPlaced, AllOwned}
 use Rattle.array_image.specs.Image.{bytes_from, data_of}
 use Rattle.array_image.proofs.Joined.{joined_more}
 use Rattle.array_image.proofs.Applied.{applied-append}

@@ -6,7 +6,7 @@ use Rattle.pcm_media.proofs.Left.{before_write, touched_by_loss, outside-both}
 use Rattle.array_shape.specs.declared.shape.Shape.{Shape}
 use Rattle.array_shape.specs.Places.{row_at, place_of}
 use Rattle.row_bytes.specs.declared.row.Row.{Row}
-use Rattle.array_image.specs.Parts.{Part, AllPlaced, places_of}
+use Rattle.array_shape.specs.Logged.{Part, AllPlaced, places_of}
 use Rattle.array_image.specs.Image.{row_of, data_of, IsGoodCell}
 use Rattle.array_image.specs.Decided.{has_logger}
 use Rattle.array_image.specs.Standing.{IsAtRest, SameCells}

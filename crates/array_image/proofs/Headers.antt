@@ -1,10 +1,11 @@
 -- The header stays: nothing is written into the first 512 bytes but by `format`.
 use Rattle.std.proofs.Common.{◌≡◌, ℕ, ◌<◌, List, [], ◌∷◌, ◌++◌, arith}
-use Rattle.pcm_media.specs.Images.{Content, MayLeave, SameOutside, IsOutside, range, partly}
+use Rattle.counted.specs.Bytes.{range}
+use Rattle.pcm_media.specs.Images.{Content, MayLeave, SameOutside, IsOutside, partly}
 use Rattle.pcm_media.proofs.Left.{outside-both}
 use Rattle.pcm_media.proofs.Ranges.{range_away}
 use Rattle.array_shape.specs.declared.shape.Shape.{Shape}
-use Rattle.array_image.specs.Parts.{Part, places_of}
+use Rattle.array_shape.specs.Logged.{Part, places_of}
 
 -- these ranges lie behind the header
 abbrev pub AreBehind : List (ℕ × ℕ) → Type 0

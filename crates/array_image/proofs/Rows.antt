@@ -3,13 +3,14 @@ use Rattle.std.proofs.Common.{◌≡◌, ℕ, zero, suc, ◌+◌, ◌<◌, ◌�
 use Rattle.std.specs.Prelude.{nat_eq}
 use Rattle.std.proofs.lemmas.List.{length-take-le, length-drop}
 use Rattle.byteorder.specs.Endian.{little_from}
-use Rattle.pcm_media.specs.Images.{range, SameOutside, IsOutside}
+use Rattle.counted.specs.Bytes.{range}
+use Rattle.pcm_media.specs.Images.{SameOutside, IsOutside}
 use Rattle.pcm_media.proofs.Ranges.{length-range, get_or-range, range_away}
 use Rattle.array_shape.specs.declared.shape.Shape.{Shape}
 use Rattle.array_shape.specs.Places.{row_at, cell_at, media_len}
 use Rattle.row_bytes.specs.declared.row.Row.{Row}
 use Rattle.row_bytes.specs.Said.{row_said}
-use Rattle.array_image.specs.Parts.{AllOwned, IsOwned}
+use Rattle.array_shape.specs.Logged.{AllOwned, IsOwned}
 use Rattle.array_image.specs.Image.{row_of, cell_of, cell_head, cell_part, parts_from, IsGoodCell}
 use Rattle.array_image.proofs.Places.{cell_fits_in}
 

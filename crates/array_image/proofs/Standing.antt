@@ -5,7 +5,7 @@ use Rattle.std.proofs.lemmas.Bool.{cases_Bool, cases_eq, false≢true}
 use Rattle.array_shape.specs.declared.shape.Shape.{Shape}
 use Rattle.array_shape.specs.Places.{media_len}
 use Rattle.array_image.specs.Joined.{joined}
-use Rattle.array_image.specs.Parts.{Part, applied, AllPlaced}
+use Rattle.array_shape.specs.Logged.{Part, applied, AllPlaced}
 use Rattle.array_image.specs.Image.{row_of, parts_from, row_parts, data_of}
 use Rattle.array_image.specs.Decided.{has_logger, decided, decided_parts, number_parts, all_decided}
 use Rattle.array_image.specs.Standing.{IsGoodRow, IsAtRest, StandsFor, IsEither}

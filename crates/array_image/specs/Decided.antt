@@ -4,7 +4,7 @@ use Rattle.std.specs.Int.{bit_at}
 use Rattle.array_shape.specs.declared.shape.Shape.{Shape}
 use Rattle.row_bytes.specs.declared.row.Row.{Row}
 use Rattle.array_image.specs.Joined.{joined}
-use Rattle.array_image.specs.Parts.{Part, applied}
+use Rattle.array_shape.specs.Logged.{Part, applied}
 use Rattle.array_image.specs.Image.{row_of, row_parts, data_of}
 
 -- a mask has a logger

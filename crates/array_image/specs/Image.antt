@@ -1,12 +1,12 @@
 -- What an image of an array says: its rows, its cells and the parts in them, its data.
 use Rattle.std.specs.Prelude.{ℕ, zero, suc, ◌+◌, List, [], ◌∷◌, take, drop, slice_index}
-use Rattle.pcm_media.specs.Images.{range}
+use Rattle.counted.specs.Bytes.{range}
 use Rattle.array_shape.specs.declared.shape.Shape.{Shape}
 use Rattle.array_shape.specs.Places.{row_at, cell_at, place_of, data_len}
 use Rattle.row_bytes.specs.declared.row.Row.{Row}
 use Rattle.row_bytes.specs.declared.head.Head.{Head}
 use Rattle.row_bytes.specs.Said.{row_said, head_said}
-use Rattle.array_image.specs.Parts.{Part, IsOwned}
+use Rattle.array_shape.specs.Logged.{Part, IsOwned}
 
 -- the row of number t at logger g
 abbrev pub row_of : Shape → List ℕ → ℕ → ℕ → Row

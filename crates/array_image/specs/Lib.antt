@@ -1,5 +1,4 @@
 pub mod Joined
-pub mod Parts
 pub mod Image
 pub mod Decided
 pub mod Standing

@@ -3,7 +3,7 @@ use Rattle.std.specs.Prelude.{ℕ, ◌+◌, ◌^◌, ◌<◌, ◌≤◌, ◌≡�
 use Rattle.array_shape.specs.declared.shape.Shape.{Shape}
 use Rattle.array_shape.specs.Places.{media_len}
 use Rattle.array_image.specs.Joined.{joined}
-use Rattle.array_image.specs.Parts.{Part}
+use Rattle.array_shape.specs.Logged.{Part}
 use Rattle.array_image.specs.Image.{row_of, cell_of, parts_from, data_of, IsGoodCell}
 use Rattle.array_image.specs.Decided.{has_logger}
 

@@ -1,7 +1,7 @@
 // Laws of images: each follows from the definitions alone.
 ghost use Rattle.std.specs.Prelude.{◌≡◌, ◌<◌, List, ℕ, length};
 ghost use Rattle.array_shape.specs.Places.{data_len};
-ghost use Rattle.array_image.specs.Parts.{Part, applied, AllPlaced, parts_at};
+ghost use Rattle.array_shape.specs.Logged.{Part, applied, AllPlaced, parts_at};
 ghost use Rattle.array_image.specs.Standing.{IsEither};
 ghost use Rattle.array_image.specs.Marked.{IsMaskOf, IsMarked};
 

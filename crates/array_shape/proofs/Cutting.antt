@@ -1,4 +1,4 @@
--- The parts of a range and the pieces of a write, one after another.
+-- The parts of a range and the parts of a write, one after another.
 use Rattle.std.proofs.Common.{◌≡◌, ℕ, zero, suc, ◌+◌, ◌-◌, ◌*◌, ◌%◌, ◌^◌, ◌<◌, ◌≤◌, Bool, true, false, cond, nat_eq, inl, inr, min, List, [], ◌∷◌, ◌++◌, length, take, drop, map, refl, length-drop, sym, ◌∙◌, ap, subst, arith}
 use Rattle.std.proofs.lemmas.Bool.{cases_lt}
 use Rattle.std.proofs.lemmas.List.{take_min, drop-drop, length-take, take-append-drop}
@@ -9,7 +9,7 @@ use Rattle.std.specs.Prelude.{All, filter}
 use Rattle.array_shape.specs.declared.shape.Shape.{Shape}
 use Rattle.array_shape.specs.declared.part.Part.{Part}
 use Rattle.array_shape.specs.Places.{logger_of, data_len, IsPlaced}
-use Rattle.array_shape.specs.Parts.{page_left, first_parts, parts_of, Tile, AreCutAtPages, IsPartOf, first_pieces, pieces_of, piece_of, is_part_on, parts_on, is_piece_on, pieces_on}
+use Rattle.array_shape.specs.Parts.{page_left, first_parts, parts_of, Tile, AreCutAtPages, IsPartOf, first_parts_of_write, parts_of_write, part_of_write, is_part_on, parts_on, is_write_part_on, write_parts_on}
 
 -- the first part of a range that is not empty
 abbrev pub first_part : Shape → ℕ → ℕ → Part
@@ -111,70 +111,70 @@ module _ (shape : Shape) where
   unfolding parts_of
   parts_placed addr len fits = first_placed len addr len fits
 
--- the pieces of a write one after another
-first_pieces-more : (n m addr : ℕ) (bytes : List ℕ) → length bytes ≤ n → length bytes ≤ m → first_pieces n addr bytes ≡ first_pieces m addr bytes
-first_pieces-more zero zero addr bytes le le' = refl
-first_pieces-more zero (suc m) addr [] le le' = refl
-first_pieces-more zero (suc m) addr (b ∷ bytes) le le' = absurd (omega arith)
-first_pieces-more (suc n) zero addr [] le le' = refl
-first_pieces-more (suc n) zero addr (b ∷ bytes) le le' = absurd (omega arith)
-first_pieces-more (suc n) (suc m) addr [] le le' = refl
-first_pieces-more (suc n) (suc m) addr (b ∷ bytes) le le' =
+-- the parts of a write one after another
+first_parts_of_write-more : (n m addr : ℕ) (bytes : List ℕ) → length bytes ≤ n → length bytes ≤ m → first_parts_of_write n addr bytes ≡ first_parts_of_write m addr bytes
+first_parts_of_write-more zero zero addr bytes le le' = refl
+first_parts_of_write-more zero (suc m) addr [] le le' = refl
+first_parts_of_write-more zero (suc m) addr (b ∷ bytes) le le' = absurd (omega arith)
+first_parts_of_write-more (suc n) zero addr [] le le' = refl
+first_parts_of_write-more (suc n) zero addr (b ∷ bytes) le le' = absurd (omega arith)
+first_parts_of_write-more (suc n) (suc m) addr [] le le' = refl
+first_parts_of_write-more (suc n) (suc m) addr (b ∷ bytes) le le' =
     let long = length-drop (page_left addr) (b ∷ bytes) in
     ap (λ (ps : List (ℕ × List ℕ)). (addr, take (page_left addr) (b ∷ bytes)) ∷ ps)
-    (first_pieces-more n m (addr + page_left addr) (drop (page_left addr) (b ∷ bytes)) (omega arith) (omega arith))
+    (first_parts_of_write-more n m (addr + page_left addr) (drop (page_left addr) (b ∷ bytes)) (omega arith) (omega arith))
 
-pub pieces_of-none : (addr : ℕ) → pieces_of addr [] ≡ []
-unfolding pieces_of
-pieces_of-none addr = refl
+pub parts_of_write-none : (addr : ℕ) → parts_of_write addr [] ≡ []
+unfolding parts_of_write
+parts_of_write-none addr = refl
 
-pub pieces_of-some : (addr : ℕ) (bytes : List ℕ) → 0 < length bytes → pieces_of addr bytes ≡ (addr, take (page_left addr) bytes) ∷ pieces_of (addr + page_left addr) (drop (page_left addr) bytes)
-unfolding pieces_of
-pieces_of-some addr [] lt = absurd (omega arith)
-pieces_of-some addr (b ∷ bytes) lt =
+pub parts_of_write-some : (addr : ℕ) (bytes : List ℕ) → 0 < length bytes → parts_of_write addr bytes ≡ (addr, take (page_left addr) bytes) ∷ parts_of_write (addr + page_left addr) (drop (page_left addr) bytes)
+unfolding parts_of_write
+parts_of_write-some addr [] lt = absurd (omega arith)
+parts_of_write-some addr (b ∷ bytes) lt =
     let long = length-drop (page_left addr) (b ∷ bytes) in
     ap (λ (ps : List (ℕ × List ℕ)). (addr, take (page_left addr) (b ∷ bytes)) ∷ ps)
-    (first_pieces-more (length bytes) (length (drop (page_left addr) (b ∷ bytes))) (addr + page_left addr) (drop (page_left addr) (b ∷ bytes)) (omega arith) (omega arith))
+    (first_parts_of_write-more (length bytes) (length (drop (page_left addr) (b ∷ bytes))) (addr + page_left addr) (drop (page_left addr) (b ∷ bytes)) (omega arith) (omega arith))
 
 module _ (shape : Shape) (base : ℕ) (bytes : List ℕ) where
   -- of the bytes from some address on
-  first_pieces-parts : (n addr : ℕ) (xs : List ℕ) (len : ℕ) → base ≤ addr → xs ≡ drop (addr - base) bytes → length xs ≡ len → first_pieces n addr xs ≡ map (piece_of base bytes) (first_parts shape n addr len)
-  first_pieces-parts zero addr xs len le is long = refl
-  first_pieces-parts (suc n) addr [] zero le is long = refl
-  first_pieces-parts (suc n) addr [] (suc len) le is long = absurd (omega arith)
-  first_pieces-parts (suc n) addr (x ∷ xs) zero le is long = absurd (omega arith)
-  first_pieces-parts (suc n) addr (x ∷ xs) (suc len) le is long =
+  first_parts_of_write-parts : (n addr : ℕ) (xs : List ℕ) (len : ℕ) → base ≤ addr → xs ≡ drop (addr - base) bytes → length xs ≡ len → first_parts_of_write n addr xs ≡ map (part_of_write base bytes) (first_parts shape n addr len)
+  first_parts_of_write-parts zero addr xs len le is long = refl
+  first_parts_of_write-parts (suc n) addr [] zero le is long = refl
+  first_parts_of_write-parts (suc n) addr [] (suc len) le is long = absurd (omega arith)
+  first_parts_of_write-parts (suc n) addr (x ∷ xs) zero le is long = absurd (omega arith)
+  first_parts_of_write-parts (suc n) addr (x ∷ xs) (suc len) le is long =
       let here : take (page_left addr) (x ∷ xs) ≡ take (min (page_left addr) (suc len)) (drop (addr - base) bytes) =
       sym (take_min (page_left addr) (x ∷ xs)) ∙ (λ i. take (min (page_left addr) (long i)) (is i)) in
       let on : drop (page_left addr) (x ∷ xs) ≡ drop (addr + page_left addr - base) bytes =
       ap (drop (page_left addr)) is ∙ drop-drop (page_left addr) (addr - base) bytes ∙ (let place : addr - base + page_left addr ≡ addr + page_left addr - base = omega arith in ap (λ (k : ℕ). drop k bytes) place) in
       let fewer = length-drop (page_left addr) (x ∷ xs) in
-      let rest = first_pieces-parts n (addr + page_left addr) (drop (page_left addr) (x ∷ xs)) (suc len - page_left addr) (omega arith) on (omega arith) in
+      let rest = first_parts_of_write-parts n (addr + page_left addr) (drop (page_left addr) (x ∷ xs)) (suc len - page_left addr) (omega arith) on (omega arith) in
       λ i. (addr, here i) ∷ rest i
 
-  -- The pieces of a write are the bytes of the parts of its range.
-  pub pieces_of-parts : pieces_of base bytes ≡ map (piece_of base bytes) (parts_of shape base (length bytes))
-  unfolding pieces_of parts_of
-  pieces_of-parts = first_pieces-parts (length bytes) base bytes (length bytes) (omega arith) (let none : 0 ≡ base - base = omega arith in ap (λ (k : ℕ). drop k bytes) none) refl
+  -- The parts of a write are the bytes of the parts of its range.
+  pub parts_of_write-parts : parts_of_write base bytes ≡ map (part_of_write base bytes) (parts_of shape base (length bytes))
+  unfolding parts_of_write parts_of
+  parts_of_write-parts = first_parts_of_write-parts (length bytes) base bytes (length bytes) (omega arith) (let none : 0 ≡ base - base = omega arith in ap (λ (k : ℕ). drop k bytes) none) refl
 
   -- a part's piece is on the part's logger
-  first_on : (g n addr len : ℕ) → filter (is_piece_on shape g) (map (piece_of base bytes) (first_parts shape n addr len)) ≡ map (piece_of base bytes) (filter (is_part_on g) (first_parts shape n addr len))
+  first_on : (g n addr len : ℕ) → filter (is_write_part_on shape g) (map (part_of_write base bytes) (first_parts shape n addr len)) ≡ map (part_of_write base bytes) (filter (is_part_on g) (first_parts shape n addr len))
   first_on g zero addr len = refl
   first_on g (suc n) addr zero = refl
   first_on g (suc n) addr (suc len) =
       let rest = first_on g n (addr + page_left addr) (suc len - page_left addr) in
-      let here = piece_of base bytes (first_part shape addr (suc len)) in
+      let here = part_of_write base bytes (first_part shape addr (suc len)) in
       go (nat_eq (logger_of shape addr) g) (first_part shape addr (suc len)) (first_parts shape n (addr + page_left addr) (suc len - page_left addr)) rest
     where
-      go : (on : Bool) (part : Part) (parts : List Part) → filter (is_piece_on shape g) (map (piece_of base bytes) parts) ≡ map (piece_of base bytes) (filter (is_part_on g) parts)
-          → cond on (piece_of base bytes part ∷ filter (is_piece_on shape g) (map (piece_of base bytes) parts)) (filter (is_piece_on shape g) (map (piece_of base bytes) parts))
-          ≡ map (piece_of base bytes) (cond on (part ∷ filter (is_part_on g) parts) (filter (is_part_on g) parts))
-      go true part parts same = ap (λ (l : List (ℕ × List ℕ)). piece_of base bytes part ∷ l) same
+      go : (on : Bool) (part : Part) (parts : List Part) → filter (is_write_part_on shape g) (map (part_of_write base bytes) parts) ≡ map (part_of_write base bytes) (filter (is_part_on g) parts)
+          → cond on (part_of_write base bytes part ∷ filter (is_write_part_on shape g) (map (part_of_write base bytes) parts)) (filter (is_write_part_on shape g) (map (part_of_write base bytes) parts))
+          ≡ map (part_of_write base bytes) (cond on (part ∷ filter (is_part_on g) parts) (filter (is_part_on g) parts))
+      go true part parts same = ap (λ (l : List (ℕ × List ℕ)). part_of_write base bytes part ∷ l) same
       go false part parts same = same
 
-  pub pieces_on-parts : (g : ℕ) → pieces_on shape g base bytes ≡ map (piece_of base bytes) (parts_on shape g base (length bytes))
+  pub write_parts_on-parts : (g : ℕ) → write_parts_on shape g base bytes ≡ map (part_of_write base bytes) (parts_on shape g base (length bytes))
   unfolding parts_of
-  pieces_on-parts g = ap (filter (is_piece_on shape g)) pieces_of-parts ∙ first_on g (length bytes) base (length bytes)
+  write_parts_on-parts g = ap (filter (is_write_part_on shape g)) parts_of_write-parts ∙ first_on g (length bytes) base (length bytes)
 
 -- how many parts there may be
 module _ (shape : Shape) where
@@ -202,7 +202,7 @@ filter_few p (x ∷ xs) = few (p x) (filter_few p xs)
     few false le = omega arith
 
 -- the bytes of the pieces, one after another, are those of the write
-first_joined : (n addr : ℕ) (bytes : List ℕ) → length bytes ≤ n → flat_map (λ (p : ℕ × List ℕ). p.1) (first_pieces n addr bytes) ≡ bytes
+first_joined : (n addr : ℕ) (bytes : List ℕ) → length bytes ≤ n → flat_map (λ (p : ℕ × List ℕ). p.1) (first_parts_of_write n addr bytes) ≡ bytes
 first_joined zero addr [] le = refl
 first_joined zero addr (b ∷ bytes) le = absurd (omega arith)
 first_joined (suc n) addr [] le = refl
@@ -211,30 +211,30 @@ first_joined (suc n) addr (b ∷ bytes) le =
     ap (λ (l : List ℕ). take (page_left addr) (b ∷ bytes) ++ l) (first_joined n (addr + page_left addr) (drop (page_left addr) (b ∷ bytes)) (omega arith))
     ∙ take-append-drop (page_left addr) (b ∷ bytes)
 
-pub pieces_joined : (addr : ℕ) (bytes : List ℕ) → flat_map (λ (p : ℕ × List ℕ). p.1) (pieces_of addr bytes) ≡ bytes
-unfolding pieces_of
-pieces_joined addr bytes = first_joined (length bytes) addr bytes (omega arith)
+pub write_parts_joined : (addr : ℕ) (bytes : List ℕ) → flat_map (λ (p : ℕ × List ℕ). p.1) (parts_of_write addr bytes) ≡ bytes
+unfolding parts_of_write
+write_parts_joined addr bytes = first_joined (length bytes) addr bytes (omega arith)
 
 -- each piece lies in one page of the data
-abbrev pub IsPiece : Shape → ℕ × List ℕ → Type 0
-IsPiece shape piece = IsPlaced shape piece.0 (length piece.1)
+abbrev pub IsWritePart : Shape → ℕ × List ℕ → Type 0
+IsWritePart shape piece = IsPlaced shape piece.0 (length piece.1)
 
-first_pieces_placed : (shape : Shape) (n addr : ℕ) (bytes : List ℕ) → addr + length bytes ≤ data_len shape → All (IsPiece shape) (first_pieces n addr bytes)
-first_pieces_placed shape zero addr bytes fits = All-nil (IsPiece shape)
-first_pieces_placed shape (suc n) addr [] fits = All-nil (IsPiece shape)
-first_pieces_placed shape (suc n) addr (b ∷ bytes) fits =
+first_parts_of_write_placed : (shape : Shape) (n addr : ℕ) (bytes : List ℕ) → addr + length bytes ≤ data_len shape → All (IsWritePart shape) (first_parts_of_write n addr bytes)
+first_parts_of_write_placed shape zero addr bytes fits = All-nil (IsWritePart shape)
+first_parts_of_write_placed shape (suc n) addr [] fits = All-nil (IsWritePart shape)
+first_parts_of_write_placed shape (suc n) addr (b ∷ bytes) fits =
     let long = length-take (page_left addr) (b ∷ bytes) in
-    All-cons (IsPiece shape) (addr, take (page_left addr) (b ∷ bytes)) _ (record { some = omega arith; page = omega arith; inside = omega arith })
+    All-cons (IsWritePart shape) (addr, take (page_left addr) (b ∷ bytes)) _ (record { some = omega arith; page = omega arith; inside = omega arith })
     (elim (cases_lt (length (b ∷ bytes)) (page_left addr)) [
-      | inl lt ↦ subst (All (IsPiece shape)) (sym (first_pieces_none n (addr + page_left addr) (drop (page_left addr) (b ∷ bytes)) (omega (arith, length-drop (page_left addr) (b ∷ bytes))))) (All-nil (IsPiece shape))
-      | inr le ↦ first_pieces_placed shape n (addr + page_left addr) (drop (page_left addr) (b ∷ bytes)) (omega (arith, length-drop (page_left addr) (b ∷ bytes)))
+      | inl lt ↦ subst (All (IsWritePart shape)) (sym (first_parts_of_write_none n (addr + page_left addr) (drop (page_left addr) (b ∷ bytes)) (omega (arith, length-drop (page_left addr) (b ∷ bytes))))) (All-nil (IsWritePart shape))
+      | inr le ↦ first_parts_of_write_placed shape n (addr + page_left addr) (drop (page_left addr) (b ∷ bytes)) (omega (arith, length-drop (page_left addr) (b ∷ bytes)))
     ])
   where
-    first_pieces_none : (n addr : ℕ) (bytes : List ℕ) → length bytes ≡ 0 → first_pieces n addr bytes ≡ []
-    first_pieces_none zero addr bytes none = refl
-    first_pieces_none (suc n) addr [] none = refl
-    first_pieces_none (suc n) addr (b ∷ bytes) none = absurd (omega arith)
+    first_parts_of_write_none : (n addr : ℕ) (bytes : List ℕ) → length bytes ≡ 0 → first_parts_of_write n addr bytes ≡ []
+    first_parts_of_write_none zero addr bytes none = refl
+    first_parts_of_write_none (suc n) addr [] none = refl
+    first_parts_of_write_none (suc n) addr (b ∷ bytes) none = absurd (omega arith)
 
-pub pieces_placed : (shape : Shape) (addr : ℕ) (bytes : List ℕ) → addr + length bytes ≤ data_len shape → All (IsPiece shape) (pieces_of addr bytes)
-unfolding pieces_of
-pieces_placed shape addr bytes fits = first_pieces_placed shape (length bytes) addr bytes fits
+pub write_parts_placed : (shape : Shape) (addr : ℕ) (bytes : List ℕ) → addr + length bytes ≤ data_len shape → All (IsWritePart shape) (parts_of_write addr bytes)
+unfolding parts_of_write
+write_parts_placed shape addr bytes fits = first_parts_of_write_placed shape (length bytes) addr bytes fits

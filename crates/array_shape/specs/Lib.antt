@@ -1,4 +1,5 @@
 pub mod Numbers
 pub mod Places
 pub mod Parts
+pub mod Logged
 pub mod Areas

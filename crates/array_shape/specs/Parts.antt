@@ -1,4 +1,4 @@
--- The parts of a range of the data, and the pieces of a write: both are cut at the multiples of 512.
+-- The parts of a range of the data, and those of a write with their bytes: both are cut at the multiples of 512.
 use Rattle.std.specs.Prelude.{ℕ, zero, suc, ◌≡◌, ◌+◌, ◌-◌, ◌%◌, ◌≤◌, min, List, [], ◌∷◌, length, take, drop, filter, All, Bool, nat_eq}
 use Rattle.array_shape.specs.declared.shape.Shape.{Shape}
 use Rattle.array_shape.specs.declared.part.Part.{Part}
@@ -35,30 +35,30 @@ pub record IsPartOf (shape : Shape) (part : Part) : Type 0 where
   pub placed : IsPlaced shape part.addr part.len
   pub logger : part.logger ≡ logger_of shape part.addr
 
--- the first n pieces of a write, each up to the end of its page or of the bytes
-abbrev pub first_pieces : ℕ → ℕ → List ℕ → List (ℕ × List ℕ)
-first_pieces zero addr bytes = []
-first_pieces (suc n) addr [] = []
-first_pieces (suc n) addr (b ∷ bytes) =
-    (addr, take (page_left addr) (b ∷ bytes)) ∷ first_pieces n (addr + page_left addr) (drop (page_left addr) (b ∷ bytes))
+-- the first n parts of a write, each up to the end of its page or of the bytes
+abbrev pub first_parts_of_write : ℕ → ℕ → List ℕ → List (ℕ × List ℕ)
+first_parts_of_write zero addr bytes = []
+first_parts_of_write (suc n) addr [] = []
+first_parts_of_write (suc n) addr (b ∷ bytes) =
+    (addr, take (page_left addr) (b ∷ bytes)) ∷ first_parts_of_write n (addr + page_left addr) (drop (page_left addr) (b ∷ bytes))
 
--- A write of bytes at an address, cut at the multiples of 512: each piece's address and bytes.
-unfoldable pub pieces_of : ℕ → List ℕ → List (ℕ × List ℕ)
-pieces_of addr bytes = first_pieces (length bytes) addr bytes
+-- A write of bytes at an address, cut at the multiples of 512: each part's address and bytes.
+unfoldable pub parts_of_write : ℕ → List ℕ → List (ℕ × List ℕ)
+parts_of_write addr bytes = first_parts_of_write (length bytes) addr bytes
 
--- the piece of a write of bytes at an address that goes to one part of its range
-abbrev pub piece_of : ℕ → List ℕ → Part → ℕ × List ℕ
-piece_of addr bytes part = (part.addr, take part.len (drop (part.addr - addr) bytes))
+-- the address and the bytes of one part of a write
+abbrev pub part_of_write : ℕ → List ℕ → Part → ℕ × List ℕ
+part_of_write addr bytes part = (part.addr, take part.len (drop (part.addr - addr) bytes))
 
--- those of the parts, and of the pieces, that logger g has
+-- those of them that logger g has
 abbrev pub is_part_on : ℕ → Part → Bool
 is_part_on g part = nat_eq part.logger g
 
 abbrev pub parts_on : Shape → ℕ → ℕ → ℕ → List Part
 parts_on shape g addr len = filter (is_part_on g) (parts_of shape addr len)
 
-abbrev pub is_piece_on : Shape → ℕ → ℕ × List ℕ → Bool
-is_piece_on shape g piece = nat_eq (logger_of shape piece.0) g
+abbrev pub is_write_part_on : Shape → ℕ → ℕ × List ℕ → Bool
+is_write_part_on shape g part = nat_eq (logger_of shape part.0) g
 
-abbrev pub pieces_on : Shape → ℕ → ℕ → List ℕ → List (ℕ × List ℕ)
-pieces_on shape g addr bytes = filter (is_piece_on shape g) (pieces_of addr bytes)
+abbrev pub write_parts_on : Shape → ℕ → ℕ → List ℕ → List (ℕ × List ℕ)
+write_parts_on shape g addr bytes = filter (is_write_part_on shape g) (parts_of_write addr bytes)

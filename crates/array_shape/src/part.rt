@@ -1,4 +1,4 @@
-/// A piece of a range of the data that lies within one page.
+/// A part of a range of the data that lies within one page.
 #[derive(Clone, Copy, Debug, PartialEq, Eq)]
 pub struct Part {
     /// The logger that has its page.

@@ -5,7 +5,7 @@ use Rattle.pcm_media.specs.Images.{SameOutside, IsOutside}
 use Rattle.array_shape.specs.declared.shape.Shape.{Shape}
 use Rattle.array_shape.specs.Places.{media_len}
 use Rattle.array_image.specs.Joined.{joined}
-use Rattle.array_image.specs.Parts.{Part, applied, AllPlaced, places_of}
+use Rattle.array_shape.specs.Logged.{Part, applied, AllPlaced, places_of}
 use Rattle.array_image.specs.Image.{data_of, cell_of, parts_from, IsGoodCell}
 use Rattle.array_image.specs.Standing.{SameCells}
 use Rattle.array_image.specs.Marked.{named_at, named_parts, AreGood}

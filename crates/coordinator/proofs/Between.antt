@@ -9,7 +9,7 @@ use Rattle.array_shape.specs.declared.shape.Shape.{Shape}
 use Rattle.array_shape.specs.Places.{row_at, media_len}
 use Rattle.row_bytes.specs.declared.row.Row.{Row}
 use Rattle.array_image.specs.Joined.{joined}
-use Rattle.array_image.specs.Parts.{Part, applied, AllFit, AllPlaced, ranges_of, places_of}
+use Rattle.array_shape.specs.Logged.{Part, applied, AllFit, AllPlaced, ranges_of, places_of}
 use Rattle.array_image.specs.Image.{data_of}
 use Rattle.array_image.specs.Decided.{has_logger}
 use Rattle.array_image.specs.Standing.{IsAtRest, StandsFor, IsEither, IsClean, SameCells}

@@ -8,7 +8,7 @@ use Rattle.pcm_media.specs.View.{View, LeavesOnly}
 use Rattle.pcm_media.proofs.Left.{outside-append}
 use Rattle.array_shape.specs.declared.shape.Shape.{Shape}
 use Rattle.array_shape.specs.Places.{row_at, media_len}
-use Rattle.array_image.specs.Parts.{Part, applied, places_of}
+use Rattle.array_shape.specs.Logged.{Part, applied, places_of}
 use Rattle.array_image.specs.Image.{data_of, parts_from}
 use Rattle.array_image.specs.Standing.{StandsFor, IsEither, IsClean, SameCells}
 use Rattle.array_image.specs.Marked.{named_at, named_parts, IsMaskOf}

@@ -4,7 +4,7 @@ use Rattle.std.specs.Prelude.{slice_index, nat_lt}
 use Rattle.pcm_media.specs.Images.{IsOutside}
 use Rattle.array_shape.specs.declared.shape.Shape.{Shape}
 use Rattle.array_shape.specs.Places.{row_at}
-use Rattle.array_image.specs.Parts.{places_of}
+use Rattle.array_shape.specs.Logged.{places_of}
 use Rattle.array_image.specs.Marked.{named_parts}
 use Rattle.array_image.proofs.Joined.{outside_joined}
 use Rattle.array_image.proofs.Headers.{AreBehind, places_behind, behind-append}

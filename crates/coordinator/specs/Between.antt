@@ -5,7 +5,7 @@ use Rattle.array_shape.specs.declared.shape.Shape.{Shape}
 use Rattle.array_shape.specs.Places.{row_at}
 use Rattle.row_bytes.specs.declared.row.Row.{Row}
 use Rattle.array_image.specs.Joined.{joined}
-use Rattle.array_image.specs.Parts.{Part, places_of}
+use Rattle.array_shape.specs.Logged.{Part, places_of}
 use Rattle.array_image.specs.Image.{row_of}
 use Rattle.array_image.specs.Marked.{named_parts, IsMarked}
 

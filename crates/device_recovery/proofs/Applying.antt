@@ -5,7 +5,7 @@ use Rattle.array_shape.specs.declared.shape.Shape.{Shape}
 use Rattle.array_shape.specs.Places.{media_len}
 use Rattle.row_bytes.specs.declared.row.Row.{Row}
 use Rattle.array_image.specs.Joined.{joined}
-use Rattle.array_image.specs.Parts.{Part, applied, places_of}
+use Rattle.array_shape.specs.Logged.{Part, applied, places_of}
 use Rattle.array_image.specs.Image.{row_of, cell_of, parts_from, row_parts, data_of, IsGoodCell}
 use Rattle.array_image.specs.Decided.{decided, decided_parts, number_parts, all_decided}
 use Rattle.array_image.specs.Standing.{IsGoodRow}

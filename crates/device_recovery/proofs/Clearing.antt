@@ -4,7 +4,7 @@ use Rattle.std.proofs.lemmas.Bool.{cases_Bool, false≢true, false_from_ne_true}
 use Rattle.pcm_media.specs.Images.{SameOutside, IsOutside}
 use Rattle.array_shape.specs.declared.shape.Shape.{Shape}
 use Rattle.array_shape.specs.Places.{row_at, place_of}
-use Rattle.array_image.specs.Parts.{Part, applied, AllOwned}
+use Rattle.array_shape.specs.Logged.{Part, applied, AllOwned}
 use Rattle.array_image.specs.Image.{row_of, parts_from, row_parts, data_of, IsGoodCell}
 use Rattle.array_image.specs.Decided.{decided, decided_parts, number_parts, all_decided, settled_data}
 use Rattle.array_image.specs.Standing.{IsGoodRow, IsLawful, SameCells}

@@ -8,7 +8,7 @@ use Rattle.pcm_media.proofs.Left.{outside-append, outside-both, left_as_read}
 use Rattle.array_shape.specs.declared.shape.Shape.{Shape}
 use Rattle.array_shape.specs.Places.{media_len}
 use Rattle.row_bytes.specs.declared.row.Row.{Row}
-use Rattle.array_image.specs.Parts.{places_of}
+use Rattle.array_shape.specs.Logged.{places_of}
 use Rattle.array_image.specs.Image.{data_of}
 use Rattle.array_image.specs.Decided.{all_decided, settled_data}
 use Rattle.array_image.specs.Standing.{IsLawful, IsAtRest, IsClean}

@@ -1,12 +1,12 @@
 -- What the table and heads that were read say of the image.
 use Rattle.std.proofs.Common.{◌≡◌, ℕ, ◌+◌, ◌<◌, ◌≤◌, List, drop, sym, ◌∙◌, ap, subst, arith}
 use Rattle.std.proofs.lemmas.List.{take-take}
-use Rattle.pcm_media.specs.Images.{range}
+use Rattle.counted.specs.Bytes.{range}
 use Rattle.array_shape.specs.declared.shape.Shape.{Shape}
 use Rattle.row_bytes.specs.declared.row.Row.{Row}
 use Rattle.row_bytes.specs.declared.head.Head.{Head}
 use Rattle.row_bytes.specs.Said.{head_said}
-use Rattle.array_image.specs.Parts.{IsOwned}
+use Rattle.array_shape.specs.Logged.{IsOwned}
 use Rattle.array_image.specs.Image.{row_of, cell_of, cell_head, IsGoodCell}
 use Rattle.array_image.specs.Decided.{decided}
 use Rattle.array_image.specs.Standing.{IsGoodRow}

@@ -1,11 +1,12 @@
 -- What recovery finds, says and writes.
 use Rattle.std.specs.Prelude.{ℕ, ◌≡◌, ◌+◌, ◌*◌, ◌<◌, Bool, true, false, ◌&&◌, not, if◌then◌else◌, List, [], ◌∷◌, ◌++◌, length, Result, Ok, Err}
 use Rattle.counted.specs.declared.Failed.{Failed}
-use Rattle.pcm_media.specs.Images.{Content, MayLeave, range}
+use Rattle.counted.specs.Bytes.{range}
+use Rattle.pcm_media.specs.Images.{Content, MayLeave}
 use Rattle.array_shape.specs.declared.shape.Shape.{Shape}
 use Rattle.array_shape.specs.Places.{row_at}
 use Rattle.array_image.specs.Joined.{joined}
-use Rattle.array_image.specs.Parts.{places_of}
+use Rattle.array_shape.specs.Logged.{places_of}
 use Rattle.array_image.specs.Image.{row_of}
 use Rattle.array_image.specs.Decided.{decided, all_decided, settled_data}
 use Rattle.array_image.specs.Standing.{IsGoodRow, IsLawful}

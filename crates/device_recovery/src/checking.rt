@@ -2,7 +2,7 @@
 ghost use Rattle.std.specs.Prelude.{◌≡◌, ◌↔◌, ◌+◌, ◌*◌, ◌<◌, ◌≤◌, [], ℕ, true, false, IsTrue, IfOk, IfErr, OnOk};
 ghost use Rattle.pcm_media.specs.View.{Writes};
 ghost use Rattle.array_shape.specs.Places.{media_len};
-ghost use Rattle.array_image.specs.Parts.{IsOwned};
+ghost use Rattle.array_shape.specs.Logged.{IsOwned};
 ghost use Rattle.array_image.specs.Image.{row_of, cell_of, cell_head, IsGoodCell};
 ghost use Rattle.array_image.specs.Decided.{decided};
 ghost use Rattle.array_image.specs.Standing.{IsGoodRow};

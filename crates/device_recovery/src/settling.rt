@@ -2,7 +2,7 @@
 ghost use Rattle.std.specs.Prelude.{◌≡◌, ◌+◌, ◌<◌, ◌≤◌, [], ℕ, true, false, IsTrue, OnOk};
 ghost use Rattle.pcm_media.specs.View.{Writes};
 ghost use Rattle.array_shape.specs.Places.{media_len};
-ghost use Rattle.array_image.specs.Parts.{applied, places_of};
+ghost use Rattle.array_shape.specs.Logged.{applied, places_of};
 ghost use Rattle.array_image.specs.Image.{row_of, data_of};
 ghost use Rattle.array_image.specs.Decided.{decided, number_parts, all_decided, settled_data};
 ghost use Rattle.array_image.specs.Standing.{IsGoodRow};
@@ -80,7 +80,7 @@ fn clear_number<M: Media>(
             continue;
         }
         let logger = Logger::new(*shape, number);
-        logger.unvote(media, tid)?;
+        logger.set_vote(media, tid, false)?;
     }
     Ok(())
 }

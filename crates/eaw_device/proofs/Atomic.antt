@@ -4,11 +4,11 @@ use Rattle.std.specs.Prelude.{IsTrue, IfErr, IsSome, Option, Some, None}
 use Rattle.std.specs.Option.{option_map}
 use Rattle.std.proofs.lemmas.Bool.{cases_eq, eq-eqb, ne_eqb, false≢true}
 use Rattle.counted.proofs.Going.{weaker, then}
-use Rattle.pcm_media.specs.Images.{put}
+use Rattle.counted.specs.Bytes.{put}
 use Rattle.array_shape.specs.declared.shape.Shape.{Shape}
-use Rattle.array_shape.specs.Parts.{pieces_of}
-use Rattle.array_image.specs.Parts.{applied, ranges_of}
-use Rattle.logger.proofs.Pieces.{applied_pieces}
+use Rattle.array_shape.specs.Parts.{parts_of_write}
+use Rattle.array_shape.specs.Logged.{applied, ranges_of}
+use Rattle.logger.proofs.WriteParts.{applied_write_parts}
 use Rattle.eaw_face.specs.State.{State, Logs, listed, with_log}
 use Rattle.eaw_face.specs.StoreView.{StoreView, IsLive, LeavesOnly}
 use Rattle.eaw_face.specs.Command.{log_write, commit, atomic_write, after}
@@ -49,23 +49,23 @@ module _ (tells : Bool) (Opens : Shape → List ℕ → List ℕ → Type 0) (ol
   pub mid_live : IsLive mid t
   mid_live = record {
     small = subst (λ (shape : Shape). t < shape.numbers) (sym first.shape) first.cause.1;
-    live = subst IsSome (sym (ap (λ (ranges : Logs (ℕ × ℕ)). ranges t) first.done.ranges ∙ with_here old.ranges t (Some (listed (old.ranges t) ++ ranges_of (pieces_of addr bytes))))) refl;
+    live = subst IsSome (sym (ap (λ (ranges : Logs (ℕ × ℕ)). ranges t) first.done.ranges ∙ with_here old.ranges t (Some (listed (old.ranges t) ++ ranges_of (parts_of_write addr bytes))))) refl;
   }
 
-  room : Fit old [] (ranges_of (pieces_of addr bytes))
-  room = subst (λ (log : Option (List (ℕ × ℕ))). Fit old (listed log) (ranges_of (pieces_of addr bytes))) free first.cause.2
+  room : Fit old [] (ranges_of (parts_of_write addr bytes))
+  room = subst (λ (log : Option (List (ℕ × ℕ))). Fit old (listed log) (ranges_of (parts_of_write addr bytes))) free first.cause.2
 
-  mid_log : IsTrue tells → mid.state.logs t ≡ Some (pieces_of addr bytes)
+  mid_log : IsTrue tells → mid.state.logs t ≡ Some (parts_of_write addr bytes)
   mid_log told =
-      ap (λ (s : State). s.logs t) (first.done.state told) ∙ with_here old.state.logs t (Some (listed (old.state.logs t) ++ pieces_of addr bytes))
-      ∙ ap (λ (log : Option (List (ℕ × List ℕ))). Some (listed log ++ pieces_of addr bytes)) (none_logged told alive)
+      ap (λ (s : State). s.logs t) (first.done.state told) ∙ with_here old.state.logs t (Some (listed (old.state.logs t) ++ parts_of_write addr bytes))
+      ∙ ap (λ (log : Option (List (ℕ × List ℕ))). Some (listed log ++ parts_of_write addr bytes)) (none_logged told alive)
 
   mid_bytes : IsTrue tells → mid.state.bytes ≡ old.state.bytes
   mid_bytes told = ap (λ (s : State). s.bytes) (first.done.state told)
 
   written : IsTrue tells → (after (commit t) mid.state).bytes ≡ put old.state.bytes addr bytes
   written told =
-      (λ i. applied (listed (mid_log told i)) (mid_bytes told i)) ∙ applied_pieces addr bytes old.state.bytes (inside told)
+      (λ i. applied (listed (mid_log told i)) (mid_bytes told i)) ∙ applied_write_parts addr bytes old.state.bytes (inside told)
 
   module _ (r : Result (Unit {0}) EawFault) (second : Does tells (Opens mid.shape) (commit t) mid new r) where
     second_here : Does tells (Opens old.shape) (commit t) mid new r
@@ -79,10 +79,10 @@ module _ (tells : Bool) (Opens : Shape → List ℕ → List ℕ → Type 0) (ol
     becomes : Becomes tells (commit t) mid new → Becomes tells (atomic_write t addr bytes) old new
     becomes done = record {
       alive = done.alive;
-      ranges = done.ranges ∙ ap (λ (ranges : Logs (ℕ × ℕ)). with_log ranges t None) first.done.ranges ∙ given_up old.ranges t (Some (listed (old.ranges t) ++ ranges_of (pieces_of addr bytes))) free;
+      ranges = done.ranges ∙ ap (λ (ranges : Logs (ℕ × ℕ)). with_log ranges t None) first.done.ranges ∙ given_up old.ranges t (Some (listed (old.ranges t) ++ ranges_of (parts_of_write addr bytes))) free;
       state = λ told.
           let logs : with_log mid.state.logs t None ≡ old.state.logs =
-          ap (λ (s : State). with_log s.logs t None) (first.done.state told) ∙ given_up old.state.logs t (Some (listed (old.state.logs t) ++ pieces_of addr bytes)) (none_logged told alive) in
+          ap (λ (s : State). with_log s.logs t None) (first.done.state told) ∙ given_up old.state.logs t (Some (listed (old.state.logs t) ++ parts_of_write addr bytes)) (none_logged told alive) in
           done.state told ∙ (λ i. record { bytes = written told i; logs = logs i });
     }
 

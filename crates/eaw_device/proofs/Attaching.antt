@@ -8,7 +8,7 @@ use Rattle.pcm_media.proofs.Left.{outside-both, same_bytes, touched_after_nothin
 use Rattle.array_shape.specs.declared.shape.Shape.{Shape}
 use Rattle.array_shape.specs.Places.{media_len}
 use Rattle.row_bytes.specs.Header.{HasMark, SaysShape, IsBadIn}
-use Rattle.array_image.specs.Parts.{places_of}
+use Rattle.array_shape.specs.Logged.{places_of}
 use Rattle.array_image.specs.Decided.{all_decided}
 use Rattle.array_image.proofs.Headers.{AreBehind, places_behind, header_stays}
 use Rattle.device_recovery.specs.declared.report.RecoverFault.{RecoverFault}

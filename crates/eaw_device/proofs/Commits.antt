@@ -7,7 +7,7 @@ use Rattle.counted.proofs.Going.{stays}
 use Rattle.pcm_media.specs.View.{View, LeavesOnly}
 use Rattle.array_shape.specs.declared.shape.Shape.{Shape}
 use Rattle.array_shape.specs.Places.{media_len}
-use Rattle.array_image.specs.Parts.{Part, applied}
+use Rattle.array_shape.specs.Logged.{Part, applied}
 use Rattle.array_image.specs.Image.{data_of}
 use Rattle.array_image.specs.Standing.{IsEither, IsClean, SameCells}
 use Rattle.eaw_face.specs.State.{listed}

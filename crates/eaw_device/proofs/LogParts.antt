@@ -6,8 +6,8 @@ use Rattle.std.proofs.lemmas.Bool.{cases_eq, eq-eqb, ne_eqb}
 use Rattle.std.proofs.lemmas.List.Elements.{All-head, All-tail}
 use Rattle.array_shape.specs.declared.shape.Shape.{Shape}
 use Rattle.array_shape.specs.Places.{IsShape, logger_of, data_len, media_len}
-use Rattle.array_shape.specs.Parts.{is_piece_on}
-use Rattle.array_image.specs.Parts.{Part, applied, ranges_of, AllPlaced, parts_at}
+use Rattle.array_shape.specs.Parts.{is_write_part_on}
+use Rattle.array_shape.specs.Logged.{Part, applied, ranges_of, AllPlaced, parts_at}
 use Rattle.array_image.specs.Image.{cell_of, cell_part, parts_from}
 use Rattle.array_image.specs.Marked.{named_at, named_parts, AreGood}
 use Rattle.array_image.proofs.Orders.{applied_named}
@@ -53,13 +53,13 @@ all_placed-drop shape zero ps placed = placed
 all_placed-drop shape (suc n) [] placed = tt
 all_placed-drop shape (suc n) (p ∷ ps) placed = all_placed-drop shape n ps placed.1
 
--- as many pieces as their ranges
-pub count_on-ranges_of : (shape : Shape) (g : ℕ) (ps : List Part) → count_on shape g (ranges_of ps) ≡ length (filter (is_piece_on shape g) ps)
+-- as many of a write as their ranges
+pub count_on-ranges_of : (shape : Shape) (g : ℕ) (ps : List Part) → count_on shape g (ranges_of ps) ≡ length (filter (is_write_part_on shape g) ps)
 count_on-ranges_of shape g [] = refl
 count_on-ranges_of shape g (p ∷ ps) = one (nat_eq (logger_of shape p.0) g) (count_on-ranges_of shape g ps)
   where
-    one : (on : Bool) → length (filter (is_range_on shape g) (ranges_of ps)) ≡ length (filter (is_piece_on shape g) ps)
-        → length (cond on ((p.0, length p.1) ∷ filter (is_range_on shape g) (ranges_of ps)) (filter (is_range_on shape g) (ranges_of ps))) ≡ length (cond on (p ∷ filter (is_piece_on shape g) ps) (filter (is_piece_on shape g) ps))
+    one : (on : Bool) → length (filter (is_range_on shape g) (ranges_of ps)) ≡ length (filter (is_write_part_on shape g) ps)
+        → length (cond on ((p.0, length p.1) ∷ filter (is_range_on shape g) (ranges_of ps)) (filter (is_range_on shape g) (ranges_of ps))) ≡ length (cond on (p ∷ filter (is_write_part_on shape g) ps) (filter (is_write_part_on shape g) ps))
     one true same = ap suc same
     one false same = same
 
@@ -105,7 +105,7 @@ module _ (shape : Shape) (image : List ℕ) (t : ℕ) where
       ]
 
   -- entries with the ranges of parts, of which each logger has its own in its cells, have these parts
-  pub same_parts : (shaped : IsShape shape) (es : List Entry) (qs : List Part) → ranges_in es ≡ ranges_of qs → ((g : ℕ) → g < shape.loggers → map (part_in g) (cells_on shape g es) ≡ filter (is_piece_on shape g) qs) → parts_in shape image t es ≡ qs
+  pub same_parts : (shaped : IsShape shape) (es : List Entry) (qs : List Part) → ranges_in es ≡ ranges_of qs → ((g : ℕ) → g < shape.loggers → map (part_in g) (cells_on shape g es) ≡ filter (is_write_part_on shape g) qs) → parts_in shape image t es ≡ qs
   same_parts shaped [] [] ranges same = refl
   same_parts shaped [] (q ∷ qs) ranges same = absurd (let long = ap length ranges in omega (arith, long))
   same_parts shaped (e ∷ es) [] ranges same = absurd (let long = ap length ranges in omega (arith, long))
@@ -113,17 +113,17 @@ module _ (shape : Shape) (image : List ℕ) (t : ℕ) where
       let first = firsts_same (e.addr, e.len) (q.0, length q.1) (ranges_in es) (ranges_of qs) ranges in
       let rest = rests_same (e.addr, e.len) (q.0, length q.1) (ranges_in es) (ranges_of qs) ranges in
       let logger : logger_of shape q.0 ≡ logger_of shape e.addr = ap (λ (r : ℕ × ℕ). logger_of shape r.0) (sym first) in
-      let on : (g : ℕ) → logger_of shape e.addr ≡ g → g < shape.loggers → part_in g e.cell ∷ map (part_in g) (cells_on shape g es) ≡ q ∷ filter (is_piece_on shape g) qs =
+      let on : (g : ℕ) → logger_of shape e.addr ≡ g → g < shape.loggers → part_in g e.cell ∷ map (part_in g) (cells_on shape g es) ≡ q ∷ filter (is_write_part_on shape g) qs =
       λ g is lt.
       sym (ap (map (part_in g)) (cells_on_here shape g e es is)) ∙ same g lt
-      ∙ ap (λ (b : Bool). cond b (q ∷ filter (is_piece_on shape g) qs) (filter (is_piece_on shape g) qs)) (eq-eqb (logger_of shape q.0) g (logger ∙ is)) in
+      ∙ ap (λ (b : Bool). cond b (q ∷ filter (is_write_part_on shape g) qs) (filter (is_write_part_on shape g) qs)) (eq-eqb (logger_of shape q.0) g (logger ∙ is)) in
       let here = logger_of shape e.addr in
-      let head = firsts_same (part_in here e.cell) q (map (part_in here) (cells_on shape here es)) (filter (is_piece_on shape here) qs) (on here refl (logger_small shape e.addr shaped)) in
+      let head = firsts_same (part_in here e.cell) q (map (part_in here) (cells_on shape here es)) (filter (is_write_part_on shape here) qs) (on here refl (logger_small shape e.addr shaped)) in
       let tail = same_parts shaped es qs rest (λ g lt. elim (cases_eq (logger_of shape e.addr) g) [
-        | inl is ↦ rests_same (part_in g e.cell) q (map (part_in g) (cells_on shape g es)) (filter (is_piece_on shape g) qs) (on g is lt)
+        | inl is ↦ rests_same (part_in g e.cell) q (map (part_in g) (cells_on shape g es)) (filter (is_write_part_on shape g) qs) (on g is lt)
         | inr ne ↦
             sym (ap (map (part_in g)) (cells_on_past shape g e es ne)) ∙ same g lt
-            ∙ ap (λ (b : Bool). cond b (q ∷ filter (is_piece_on shape g) qs) (filter (is_piece_on shape g) qs)) (ne_eqb (logger_of shape q.0) g (λ is. ne (sym logger ∙ is)))
+            ∙ ap (λ (b : Bool). cond b (q ∷ filter (is_write_part_on shape g) qs) (filter (is_write_part_on shape g) qs)) (ne_eqb (logger_of shape q.0) g (λ is. ne (sym logger ∙ is)))
       ]) in
       (λ i. head i ∷ tail i)
 

@@ -4,11 +4,11 @@ use Rattle.std.specs.Prelude.{slice_index}
 use Rattle.pcm_media.specs.Images.{SameOutside, IsOutside}
 use Rattle.array_shape.specs.declared.shape.Shape.{Shape}
 use Rattle.array_shape.specs.Places.{media_len, cell_at}
-use Rattle.array_shape.specs.Parts.{pieces_on}
+use Rattle.array_shape.specs.Parts.{write_parts_on}
 use Rattle.array_shape.specs.Areas.{cell}
 use Rattle.array_shape.proofs.Apart.{areas_apart}
 use Rattle.array_image.specs.Joined.{joined}
-use Rattle.array_image.specs.Parts.{Part}
+use Rattle.array_shape.specs.Logged.{Part}
 use Rattle.array_image.specs.Image.{cell_of, IsGoodCell}
 use Rattle.array_image.proofs.Joined.{outside_joined, outside_at}
 use Rattle.array_image.proofs.Places.{cell_fits_in}
@@ -59,24 +59,24 @@ holds_same shape g t e parts old new same holds = record {
 }
 
 module _ (shape : Shape) (t : ℕ) (small : t < shape.numbers) (held : List ℕ) (addr : ℕ) (bytes : List ℕ)
-    (room : (g : ℕ) → g < shape.loggers → slice_index held g + length (pieces_on shape g addr bytes) ≤ shape.entries) where
+    (room : (g : ℕ) → g < shape.loggers → slice_index held g + length (write_parts_on shape g addr bytes) ≤ shape.entries) where
   abbrev places : List (ℕ × ℕ)
   places = staged_places shape t held addr bytes
 
   -- what is written at one logger
-  pub staged_at : (g : ℕ) → g < shape.loggers → (i : ℕ) → IsOutside places i → IsOutside (cell_ranges shape g t (slice_index held g) (length (pieces_on shape g addr bytes))) i
-  staged_at g lt i out = outside_at (λ h. cell_ranges shape h t (slice_index held h) (length (pieces_on shape h addr bytes))) i 0 shape.loggers out g (omega arith) (omega arith)
+  pub staged_at : (g : ℕ) → g < shape.loggers → (i : ℕ) → IsOutside places i → IsOutside (cell_ranges shape g t (slice_index held g) (length (write_parts_on shape g addr bytes))) i
+  staged_at g lt i out = outside_at (λ h. cell_ranges shape h t (slice_index held h) (length (write_parts_on shape h addr bytes))) i 0 shape.loggers out g (omega arith) (omega arith)
 
-  staged_outside : (x : ℕ) → ((g e : ℕ) → g < shape.loggers → slice_index held g ≤ e → e < slice_index held g + length (pieces_on shape g addr bytes) → cell_at shape g t e ≤ x → x < cell_at shape g t e + 528 → ⊥) → IsOutside places x
-  staged_outside x away = outside_joined (λ h. cell_ranges shape h t (slice_index held h) (length (pieces_on shape h addr bytes))) x 0 shape.loggers (λ g le lt.
-      outside_cells shape g t (slice_index held g) (length (pieces_on shape g addr bytes)) x (λ e low high. away g e (omega arith) low high))
+  staged_outside : (x : ℕ) → ((g e : ℕ) → g < shape.loggers → slice_index held g ≤ e → e < slice_index held g + length (write_parts_on shape g addr bytes) → cell_at shape g t e ≤ x → x < cell_at shape g t e + 528 → ⊥) → IsOutside places x
+  staged_outside x away = outside_joined (λ h. cell_ranges shape h t (slice_index held h) (length (write_parts_on shape h addr bytes))) x 0 shape.loggers (λ g le lt.
+      outside_cells shape g t (slice_index held g) (length (write_parts_on shape g addr bytes)) x (λ e low high. away g e (omega arith) low high))
 
   pub staged_in_cells : AreInCells shape places
   staged_in_cells x none = staged_outside x (λ g e lt low high. none g t e lt small (let fits = room g lt in let inside : e < shape.entries = omega arith in inside))
 
   pub staged_within : AllWithin (media_len shape) places
-  staged_within = within-joined (media_len shape) (λ h. cell_ranges shape h t (slice_index held h) (length (pieces_on shape h addr bytes))) 0 shape.loggers (λ g le lt.
-      cells_within shape g t (slice_index held g) (length (pieces_on shape g addr bytes)) (omega arith) small (room g (omega arith)))
+  staged_within = within-joined (media_len shape) (λ h. cell_ranges shape h t (slice_index held h) (length (write_parts_on shape h addr bytes))) 0 shape.loggers (λ g le lt.
+      cells_within shape g t (slice_index held g) (length (write_parts_on shape g addr bytes)) (omega arith) small (room g (omega arith)))
 
   -- the cells of another number, and the held ones of this
   pub staged_cell : (old new : List ℕ) → SameOutside places old new → (h u f : ℕ) → h < shape.loggers → u < shape.numbers → f < shape.entries → ((u ≢ t) ⊎ (f < slice_index held h)) → cell_of shape new h u f ≡ cell_of shape old h u f

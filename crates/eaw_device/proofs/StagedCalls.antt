@@ -5,7 +5,7 @@ use Rattle.std.proofs.lemmas.Bool.{cases_eq, false≢true}
 use Rattle.counted.specs.declared.Failed.{Failed}
 use Rattle.pcm_media.specs.View.{View, Writes}
 use Rattle.array_shape.specs.declared.shape.Shape.{Shape}
-use Rattle.array_shape.specs.Parts.{pieces_on}
+use Rattle.array_shape.specs.Parts.{write_parts_on}
 use Rattle.array_image.proofs.Calls.{SoFar, goes_on, hands_on}
 use Rattle.logger.specs.declared.stage_fault.StageFault.{StageFault}
 use Rattle.logger.specs.declared.stage_fault.StageFault.TheVariants.{Full, Media}
@@ -20,12 +20,12 @@ when_ok (Err e) fine p = absurd (false≢true (sym fine))
 
 -- what is said of a stage
 pub record Stages (tells : Bool) (t addr : ℕ) (bytes : List ℕ) (mid new : View) (r : Result ℕ StageFault) (shape : Shape) (g k : ℕ) : Type 0 where
-  pub fault : IfErr r (IsStageFault shape.entries k (length (pieces_on shape g addr bytes)))
-  pub holds : IsTrue tells → OnOk r (HoldsParts shape new.content.bytes g t k (pieces_on shape g addr bytes))
-  pub does : Writes tells (cell_ranges shape g t k (length (pieces_on shape g addr bytes))) mid new (media_answer r)
+  pub fault : IfErr r (IsStageFault shape.entries k (length (write_parts_on shape g addr bytes)))
+  pub holds : IsTrue tells → OnOk r (HoldsParts shape new.content.bytes g t k (write_parts_on shape g addr bytes))
+  pub does : Writes tells (cell_ranges shape g t k (length (write_parts_on shape g addr bytes))) mid new (media_answer r)
 
 module _ (tells : Bool) (shape : Shape) (t : ℕ) (small : t < shape.numbers) (held : List ℕ) (addr : ℕ) (bytes : List ℕ)
-    (room : (g : ℕ) → g < shape.loggers → slice_index held g + length (pieces_on shape g addr bytes) ≤ shape.entries)
+    (room : (g : ℕ) → g < shape.loggers → slice_index held g + length (write_parts_on shape g addr bytes) ≤ shape.entries)
     (old mid new : View) (r : Result ℕ StageFault) (number : ℕ) (there : number < shape.loggers)
     (so_far : SoFar tells (staged_places shape t held addr bytes) old mid)
     (its : Shape) (shape_is : its ≡ shape) (n : ℕ) (n_is : n ≡ number) (at : ℕ) (at_is : at ≡ number)
@@ -39,28 +39,28 @@ module _ (tells : Bool) (shape : Shape) (t : ℕ) (small : t < shape.numbers) (h
       refl' : r ≡ r
       refl' = λ i. r
 
-      by : (s : Result ℕ StageFault) → r ≡ s → Writes tells (cell_ranges shape number t (slice_index held number) (length (pieces_on shape number addr bytes))) mid new (media_answer s)
-          → IfErr s (IsStageFault shape.entries (slice_index held number) (length (pieces_on shape number addr bytes)))
+      by : (s : Result ℕ StageFault) → r ≡ s → Writes tells (cell_ranges shape number t (slice_index held number) (length (write_parts_on shape number addr bytes))) mid new (media_answer s)
+          → IfErr s (IsStageFault shape.entries (slice_index held number) (length (write_parts_on shape number addr bytes)))
           → (let failed : Result (Unit {0}) Failed = Err (record {}) in Writes tells (staged_places shape t held addr bytes) old new failed)
       by (Ok k) is does fault = absurd (false≢true (ap is_err (sym is) ∙ broke))
       by (Err (Full h k)) is does fault = absurd (let fits = room number there in omega (arith, fault.2))
       by (Err Media) is does fault =
-          hands_on tells (staged_places shape t held addr bytes) (cell_ranges shape number t (slice_index held number) (length (pieces_on shape number addr bytes))) old mid new
+          hands_on tells (staged_places shape t held addr bytes) (cell_ranges shape number t (slice_index held number) (length (write_parts_on shape number addr bytes))) old mid new
           (λ told. staged_at shape t small held addr bytes room number there) so_far (Err (record {})) does
 
   pub stage_goes_on : SoFar tells (staged_places shape t held addr bytes) old new
-  stage_goes_on = goes_on tells (staged_places shape t held addr bytes) (cell_ranges shape number t (slice_index held number) (length (pieces_on shape number addr bytes))) old mid new
+  stage_goes_on = goes_on tells (staged_places shape t held addr bytes) (cell_ranges shape number t (slice_index held number) (length (write_parts_on shape number addr bytes))) old mid new
       (λ told. staged_at shape t small held addr bytes room number there) so_far said.does
 
-  pub stage_holds : is_err r ≡ false → IsTrue tells → ((g : ℕ) → g < number → HoldsParts shape mid.content.bytes g t (slice_index held g) (pieces_on shape g addr bytes))
-      → (g : ℕ) → g < number + 1 → HoldsParts shape new.content.bytes g t (slice_index held g) (pieces_on shape g addr bytes)
+  pub stage_holds : is_err r ≡ false → IsTrue tells → ((g : ℕ) → g < number → HoldsParts shape mid.content.bytes g t (slice_index held g) (write_parts_on shape g addr bytes))
+      → (g : ℕ) → g < number + 1 → HoldsParts shape new.content.bytes g t (slice_index held g) (write_parts_on shape g addr bytes)
   stage_holds fine told before g lt = elim (cases_eq g number) [
-    | inl is ↦ subst (λ (h : ℕ). HoldsParts shape new.content.bytes h t (slice_index held h) (pieces_on shape h addr bytes)) (sym is) (when_ok r fine (said.holds told))
+    | inl is ↦ subst (λ (h : ℕ). HoldsParts shape new.content.bytes h t (slice_index held h) (write_parts_on shape h addr bytes)) (sym is) (when_ok r fine (said.holds told))
     | inr ne ↦
         (let below : g < number = omega arith in
-        holds_same shape g t (slice_index held g) (pieces_on shape g addr bytes) mid.content.bytes new.content.bytes
+        holds_same shape g t (slice_index held g) (write_parts_on shape g addr bytes) mid.content.bytes new.content.bytes
         (λ k low high. let fits = room g (omega arith) in
-        other_logger shape number t (slice_index held number) (length (pieces_on shape number addr bytes)) there small (room number there) mid.content.bytes new.content.bytes (said.does.touched told).bytes
+        other_logger shape number t (slice_index held number) (length (write_parts_on shape number addr bytes)) there small (room number there) mid.content.bytes new.content.bytes (said.does.touched told).bytes
         g t k (omega arith) small (omega arith) ne)
         (before g below))
   ]

@@ -7,7 +7,7 @@ use Rattle.std.proofs.lemmas.List.{nil_from_length, length-set}
 use Rattle.std.proofs.lemmas.Option.{slice_get_read}
 use Rattle.pcm_media.specs.View.{View}
 use Rattle.array_shape.specs.declared.shape.Shape.{Shape}
-use Rattle.array_image.specs.Parts.{Part, ranges_of}
+use Rattle.array_shape.specs.Logged.{Part, ranges_of}
 use Rattle.array_image.specs.Image.{cell_of, IsGoodCell}
 use Rattle.eaw_face.specs.State.{listed, with_log}
 use Rattle.eaw_device.specs.declared.log.Entry.{Entry}

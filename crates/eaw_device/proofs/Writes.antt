@@ -13,9 +13,9 @@ use Rattle.pcm_media.specs.View.{View, Writes, LeavesOnly}
 use Rattle.array_shape.specs.declared.shape.Shape.{Shape}
 use Rattle.array_shape.specs.declared.part.Part.{Part as Place}
 use Rattle.array_shape.specs.Places.{media_len, data_len}
-use Rattle.array_shape.specs.Parts.{parts_of, parts_on, piece_of, pieces_of, pieces_on}
-use Rattle.array_shape.proofs.Cutting.{pieces_of-parts, pieces_on-parts}
-use Rattle.array_image.specs.Parts.{Part, ranges_of}
+use Rattle.array_shape.specs.Parts.{parts_of, parts_on, part_of_write, parts_of_write, write_parts_on}
+use Rattle.array_shape.proofs.Cutting.{parts_of_write-parts, write_parts_on-parts}
+use Rattle.array_shape.specs.Logged.{Part, ranges_of}
 use Rattle.array_image.specs.Image.{cell_of, data_of, IsGoodCell}
 use Rattle.array_image.proofs.Staging.{staged_data}
 use Rattle.logger.specs.Cells.{HoldsParts}
@@ -40,12 +40,12 @@ use Rattle.eaw_device.proofs.Tables.{entries_live, ranges_there, parts_there, ra
 use Rattle.eaw_device.proofs.Sure.{cells_sure, cells_time}
 use Rattle.eaw_device.proofs.Doing.{done, failed, refused}
 
--- as many pieces as parts
-pub length-pieces_on : (shape : Shape) (g addr : ℕ) (bytes : List ℕ) → length (pieces_on shape g addr bytes) ≡ length (parts_on shape g addr (length bytes))
-length-pieces_on shape g addr bytes = ap length (pieces_on-parts shape addr bytes g) ∙ length-map (parts_on shape g addr (length bytes)) (piece_of addr bytes)
+-- as many of a write as parts
+pub length-write_parts_on : (shape : Shape) (g addr : ℕ) (bytes : List ℕ) → length (write_parts_on shape g addr bytes) ≡ length (parts_on shape g addr (length bytes))
+length-write_parts_on shape g addr bytes = ap length (write_parts_on-parts shape addr bytes g) ∙ length-map (parts_on shape g addr (length bytes)) (part_of_write addr bytes)
 
--- the pieces of a write go where the parts of its range lie
-ranges_of-within : (shape : Shape) (addr : ℕ) (bytes : List ℕ) (ps : List Place) → All (IsWithin shape addr (length bytes)) ps → ranges_of (map (piece_of addr bytes) ps) ≡ map (λ (p : Place). (p.addr, p.len)) ps
+-- the parts of a write go where the parts of its range lie
+ranges_of-within : (shape : Shape) (addr : ℕ) (bytes : List ℕ) (ps : List Place) → All (IsWithin shape addr (length bytes)) ps → ranges_of (map (part_of_write addr bytes) ps) ≡ map (λ (p : Place). (p.addr, p.len)) ps
 ranges_of-within shape addr bytes [] within = refl
 ranges_of-within shape addr bytes (p ∷ ps) within =
     let here = All-head (IsWithin shape addr (length bytes)) p ps within in
@@ -53,8 +53,8 @@ ranges_of-within shape addr bytes (p ∷ ps) within =
     let rest = ranges_of-within shape addr bytes ps (All-tail (IsWithin shape addr (length bytes)) p ps within) in
     λ i. (p.addr, long i) ∷ rest i
 
-pub ranges_of-pieces : (shape : Shape) (addr : ℕ) (bytes : List ℕ) → addr + length bytes ≤ data_len shape → ranges_of (pieces_of addr bytes) ≡ map (λ (p : Place). (p.addr, p.len)) (parts_of shape addr (length bytes))
-ranges_of-pieces shape addr bytes fits = ap ranges_of (pieces_of-parts shape addr bytes) ∙ ranges_of-within shape addr bytes (parts_of shape addr (length bytes)) (all_within shape addr (length bytes) fits)
+pub ranges_of-pieces : (shape : Shape) (addr : ℕ) (bytes : List ℕ) → addr + length bytes ≤ data_len shape → ranges_of (parts_of_write addr bytes) ≡ map (λ (p : Place). (p.addr, p.len)) (parts_of shape addr (length bytes))
+ranges_of-pieces shape addr bytes fits = ap ranges_of (parts_of_write-parts shape addr bytes) ∙ ranges_of-within shape addr bytes (parts_of shape addr (length bytes)) (all_within shape addr (length bytes) fits)
 
 module _ (tells : Bool) (old : View) (shape : Shape) (logs : List Log) (is_dead : Bool) (sound : IsSound tells old shape logs is_dead) (alive : is_dead ≡ false) (t : ℕ) (small : t < shape.numbers) (log : Log) (there : slice_get logs t ≡ Some log)
     (addr : ℕ) (bytes : List ℕ) (inside : addr + length bytes ≤ data_len shape) where
@@ -64,11 +64,11 @@ module _ (tells : Bool) (old : View) (shape : Shape) (logs : List Log) (is_dead 
   counted : (g : ℕ) → g < shape.loggers → count_on shape g (listed (option_map ranges_in (entries_at logs t))) ≡ slice_index log.held g
   counted g lt = ap (count_on shape g) (ranges_there shape logs t log there kept) ∙ count_on-ranges_in shape g log.entries.items ∙ length-cells_on_kept shape log g kept lt
 
-  needed : (g : ℕ) → count_on shape g (ranges_of (pieces_of addr bytes)) ≡ length (parts_on shape g addr (length bytes))
-  needed g = count_on-ranges_of shape g (pieces_of addr bytes) ∙ length-pieces_on shape g addr bytes
+  needed : (g : ℕ) → count_on shape g (ranges_of (parts_of_write addr bytes)) ≡ length (parts_on shape g addr (length bytes))
+  needed g = count_on-ranges_of shape g (parts_of_write addr bytes) ∙ length-write_parts_on shape g addr bytes
 
   -- what is said of a log that has no room
-  pub first_full : (g h n : ℕ) → LacksCells shape log.held addr (length bytes) g h n → IsFirstFull (view_of old shape logs is_dead) (listed (option_map ranges_in (entries_at logs t))) (ranges_of (pieces_of addr bytes)) g h n
+  pub first_full : (g h n : ℕ) → LacksCells shape log.held addr (length bytes) g h n → IsFirstFull (view_of old shape logs is_dead) (listed (option_map ranges_in (entries_at logs t))) (ranges_of (parts_of_write addr bytes)) g h n
   first_full g h n said = record {
     logger = said.logger;
     held_is = said.held_is ∙ sym (counted g said.logger);
@@ -81,21 +81,21 @@ module _ (tells : Bool) (old : View) (shape : Shape) (logs : List Log) (is_dead 
   }
 
   module _ (room : (g : ℕ) → g < shape.loggers → HasCells shape log.held addr (length bytes) g) where
-    pub fits : Fit (view_of old shape logs is_dead) (listed (option_map ranges_in (entries_at logs t))) (ranges_of (pieces_of addr bytes))
+    pub fits : Fit (view_of old shape logs is_dead) (listed (option_map ranges_in (entries_at logs t))) (ranges_of (parts_of_write addr bytes))
     fits g lt = omega (arith, room g lt, counted g lt, needed g)
 
-    pub pieces_fit : (g : ℕ) → g < shape.loggers → slice_index log.held g + length (pieces_on shape g addr bytes) ≤ shape.entries
-    pieces_fit g lt = omega (arith, room g lt, length-pieces_on shape g addr bytes)
+    pub write_parts_fit : (g : ℕ) → g < shape.loggers → slice_index log.held g + length (write_parts_on shape g addr bytes) ≤ shape.entries
+    write_parts_fit g lt = omega (arith, room g lt, length-write_parts_on shape g addr bytes)
 
     module _ (new : View) {E : Type 0} (r : Result (Unit {0}) E) (does : Writes tells (staged_places shape t log.held addr bytes) old new r) (long : IsTrue tells → length old.content.bytes ≡ media_len shape) where
       time : IsTrue tells → is_dead ≡ false → LeavesOnly (face.IsEither (Opens shape) (data_of shape old.content.bytes) (data_of shape old.content.bytes)) old new
-      time told fine = cells_time tells shape (staged_places shape t log.held addr bytes) (staged_in_cells shape t small log.held addr bytes pieces_fit) (staged_within shape t small log.held addr bytes pieces_fit)
+      time told fine = cells_time tells shape (staged_places shape t log.held addr bytes) (staged_in_cells shape t small log.held addr bytes write_parts_fit) (staged_within shape t small log.held addr bytes write_parts_fit)
           old new r does told (long told) (sound.told told alive).sure (data_of shape old.content.bytes)
 
       pub write_failed : Rose old.faults new.faults → (let failed : Result ℕ EawFault = Err Media in face.Does tells (Opens shape) (log_write t addr bytes) (view_of old shape logs is_dead) (view_of new shape logs true) failed)
       write_failed rose = failed tells (Opens shape) (log_write t addr bytes) (view_of old shape logs is_dead) (view_of new shape logs true) refl does.cause.later time alive small fits rose refl
 
-      module _ (holds : IsTrue tells → (g : ℕ) → g < shape.loggers → HoldsParts shape new.content.bytes g t (slice_index log.held g) (pieces_on shape g addr bytes))
+      module _ (holds : IsTrue tells → (g : ℕ) → g < shape.loggers → HoldsParts shape new.content.bytes g t (slice_index log.held g) (write_parts_on shape g addr bytes))
           (now : Log) (kept' : IsKept shape now) (live : now.is_live ≡ true) (adds : Adds log.entries.items now.entries.items (map (λ (p : Place). (p.addr, p.len)) (parts_of shape addr (length bytes)))) where
         below : t < length logs
         below = slice_get_within logs t log there
@@ -105,41 +105,41 @@ module _ (tells : Bool) (old : View) (shape : Shape) (logs : List Log) (is_dead 
         same told u l is g e lt low other =
             let few = (sound.kept u l is).fits g lt in
             let known = slice_get_within logs u l is in
-            staged_cell shape t small log.held addr bytes pieces_fit old.content.bytes new.content.bytes (does.touched told).bytes g u e lt (omega (arith, sound.many)) (omega arith) other
+            staged_cell shape t small log.held addr bytes write_parts_fit old.content.bytes new.content.bytes (does.touched told).bytes g u e lt (omega (arith, sound.many)) (omega arith) other
 
-        added_ranges : ranges_in adds.added ≡ ranges_of (pieces_of addr bytes)
+        added_ranges : ranges_in adds.added ≡ ranges_of (parts_of_write addr bytes)
         added_ranges = adds.ranges_are ∙ sym (ranges_of-pieces shape addr bytes inside)
 
-        added_many : (g : ℕ) → length (cells_on shape g adds.added) ≡ length (pieces_on shape g addr bytes)
-        added_many g = sym (count_on-ranges_in shape g adds.added) ∙ ap (count_on shape g) added_ranges ∙ count_on-ranges_of shape g (pieces_of addr bytes)
+        added_many : (g : ℕ) → length (cells_on shape g adds.added) ≡ length (write_parts_on shape g addr bytes)
+        added_many g = sym (count_on-ranges_in shape g adds.added) ∙ ap (count_on shape g) added_ranges ∙ count_on-ranges_of shape g (parts_of_write addr bytes)
 
         now_cells : (g : ℕ) → g < shape.loggers → cells_on shape g log.entries.items ++ cells_on shape g adds.added ≡ range_with_len 0 (slice_index now.held g)
         now_cells g lt = sym (cells_on-append shape g log.entries.items adds.added) ∙ ap (cells_on shape g) (sym adds.items) ∙ kept'.cells g lt
 
-        now_held : (g : ℕ) → g < shape.loggers → slice_index now.held g ≡ slice_index log.held g + length (pieces_on shape g addr bytes)
+        now_held : (g : ℕ) → g < shape.loggers → slice_index now.held g ≡ slice_index log.held g + length (write_parts_on shape g addr bytes)
         now_held g lt =
             let total = ap length (now_cells g lt) ∙ length-range_with_len 0 (slice_index now.held g) in
             omega (arith, total, length-append (cells_on shape g log.entries.items) (cells_on shape g adds.added), length-cells_on_kept shape log g kept lt, added_many g)
 
-        added_cells : (g : ℕ) → g < shape.loggers → cells_on shape g adds.added ≡ range_with_len (slice_index log.held g) (length (pieces_on shape g addr bytes))
+        added_cells : (g : ℕ) → g < shape.loggers → cells_on shape g adds.added ≡ range_with_len (slice_index log.held g) (length (write_parts_on shape g addr bytes))
         added_cells g lt =
             let split = numbers_split (cells_on shape g log.entries.items) (cells_on shape g adds.added) 0 (slice_index now.held g) (now_cells g lt) in
             let from : 0 + length (cells_on shape g log.entries.items) ≡ slice_index log.held g = omega (arith, length-cells_on_kept shape log g kept lt) in
-            let many : slice_index now.held g - length (cells_on shape g log.entries.items) ≡ length (pieces_on shape g addr bytes) = omega (arith, now_held g lt, length-cells_on_kept shape log g kept lt) in
+            let many : slice_index now.held g - length (cells_on shape g log.entries.items) ≡ length (write_parts_on shape g addr bytes) = omega (arith, now_held g lt, length-cells_on_kept shape log g kept lt) in
             split.1 ∙ (λ i. range_with_len (from i) (many i))
 
-        added_parts : IsTrue tells → parts_in shape new.content.bytes t adds.added ≡ pieces_of addr bytes
-        added_parts told = same_parts shape new.content.bytes t sound.shaped adds.added (pieces_of addr bytes) added_ranges (λ g lt.
+        added_parts : IsTrue tells → parts_in shape new.content.bytes t adds.added ≡ parts_of_write addr bytes
+        added_parts told = same_parts shape new.content.bytes t sound.shaped adds.added (parts_of_write addr bytes) added_ranges (λ g lt.
             ap (map (part_in shape new.content.bytes t g)) (added_cells g lt)
-            ∙ sym (parts_from-numbers shape new.content.bytes t g (slice_index log.held g) (length (pieces_on shape g addr bytes))) ∙ (holds told g lt).hold)
+            ∙ sym (parts_from-numbers shape new.content.bytes t g (slice_index log.held g) (length (write_parts_on shape g addr bytes))) ∙ (holds told g lt).hold)
 
         old_kept : IsTrue tells → parts_in shape new.content.bytes t log.entries.items ≡ parts_in shape old.content.bytes t log.entries.items
         old_kept told = parts_kept shape old.content.bytes new.content.bytes t log kept (λ g e lt low. same told t log there g e lt low (inr low))
 
-        now_parts : IsTrue tells → parts_in shape new.content.bytes t now.entries.items ≡ parts_in shape old.content.bytes t log.entries.items ++ pieces_of addr bytes
+        now_parts : IsTrue tells → parts_in shape new.content.bytes t now.entries.items ≡ parts_in shape old.content.bytes t log.entries.items ++ parts_of_write addr bytes
         now_parts told = ap (parts_in shape new.content.bytes t) adds.items ∙ parts_in-append shape new.content.bytes t log.entries.items adds.added ∙ (λ i. old_kept told i ++ added_parts told i)
 
-        now_ranges : ranges_in now.entries.items ≡ ranges_in log.entries.items ++ ranges_of (pieces_of addr bytes)
+        now_ranges : ranges_in now.entries.items ≡ ranges_in log.entries.items ++ ranges_of (parts_of_write addr bytes)
         now_ranges = ap ranges_in adds.items ∙ ranges_in-append log.entries.items adds.added ∙ ap (λ (rs : List (ℕ × ℕ)). ranges_in log.entries.items ++ rs) added_ranges
 
         now_is_held : IsTrue tells → IsHeld shape new.content.bytes t now
@@ -150,15 +150,15 @@ module _ (tells : Bool) (old : View) (shape : Shape) (logs : List Log) (is_dead 
                 | inl before ↦ subst (IsGoodCell shape g) (sym (same told t log there g e lt before (inr before))) (was.good g e lt before)
                 | inr past ↦ (holds told g lt).good e past (omega (arith, now_held g lt))
               ];
-              heads = ap ranges_of (now_parts told) ∙ ranges_of-append (parts_in shape old.content.bytes t log.entries.items) (pieces_of addr bytes)
-                  ∙ ap (λ (rs : List (ℕ × ℕ)). rs ++ ranges_of (pieces_of addr bytes)) was.heads ∙ sym now_ranges;
+              heads = ap ranges_of (now_parts told) ∙ ranges_of-append (parts_in shape old.content.bytes t log.entries.items) (parts_of_write addr bytes)
+                  ∙ ap (λ (rs : List (ℕ × ℕ)). rs ++ ranges_of (parts_of_write addr bytes)) was.heads ∙ sym now_ranges;
             }
 
         module _ (at : ℕ) (is : at ≡ t) where
           pub write_sound : IsSound tells new shape (slice_set logs at now) is_dead
           write_sound = subst (λ (k : ℕ). IsSound tells new shape (slice_set logs k now) is_dead) (sym is)
               (sound_set tells old new shape logs is_dead sound does.size t now below kept'
-              (λ told fine. cells_sure shape (staged_places shape t log.held addr bytes) (staged_in_cells shape t small log.held addr bytes pieces_fit) old.content (long told) (staged_within shape t small log.held addr bytes pieces_fit)
+              (λ told fine. cells_sure shape (staged_places shape t log.held addr bytes) (staged_in_cells shape t small log.held addr bytes write_parts_fit) old.content (long told) (staged_within shape t small log.held addr bytes write_parts_fit)
               (sound.told told alive).sure new.content (does.touched told))
               (λ told fine. now_is_held told)
               (λ told fine u ne l lies. held_kept shape old.content.bytes new.content.bytes u l (sound.kept u l lies) (λ g e lt low. same told u l lies g e lt low (inl ne)) ((sound.told told alive).held u l lies)))
@@ -173,11 +173,11 @@ module _ (tells : Bool) (old : View) (shape : Shape) (logs : List Log) (is_dead 
               (record {
                 alive = alive;
                 ranges = ranges_set logs t now below _ (ap (option_map ranges_in) (entries_live now live)
-                    ∙ ap (λ (rs : List (ℕ × ℕ)). Some rs) (now_ranges ∙ ap (λ (rs : List (ℕ × ℕ)). rs ++ ranges_of (pieces_of addr bytes)) (sym (ranges_there shape logs t log there kept))));
+                    ∙ ap (λ (rs : List (ℕ × ℕ)). Some rs) (now_ranges ∙ ap (λ (rs : List (ℕ × ℕ)). rs ++ ranges_of (parts_of_write addr bytes)) (sym (ranges_there shape logs t log there kept))));
                 state = λ told.
-                    let bytes' = staged_data shape (staged_places shape t log.held addr bytes) (staged_in_cells shape t small log.held addr bytes pieces_fit) old.content.bytes new.content.bytes (does.touched told).bytes in
+                    let bytes' = staged_data shape (staged_places shape t log.held addr bytes) (staged_in_cells shape t small log.held addr bytes write_parts_fit) old.content.bytes new.content.bytes (does.touched told).bytes in
                     let logs' = parts_set logs t now below shape old.content.bytes new.content.bytes _ (ap (option_map (parts_in shape new.content.bytes t)) (entries_live now live)
-                    ∙ ap (λ (ps : List Part). Some ps) (now_parts told ∙ ap (λ (ps : List Part). ps ++ pieces_of addr bytes) (sym (parts_there shape logs t log there kept old.content.bytes))))
+                    ∙ ap (λ (ps : List Part). Some ps) (now_parts told ∙ ap (λ (ps : List Part). ps ++ parts_of_write addr bytes) (sym (parts_there shape logs t log there kept old.content.bytes))))
                     (λ u ne. others_kept shape logs old.content.bytes new.content.bytes u (sound.kept u) (λ l lies g e lt low. same told u l lies g e lt low (inl ne))) in
                     λ i. record { bytes = bytes' i; logs = logs' i };
               }))

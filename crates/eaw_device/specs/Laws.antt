@@ -7,7 +7,7 @@ use Rattle.std.proofs.lemmas.List.Elements.{All-head, All-tail}
 use Rattle.pcm_media.specs.Images.{Content, MayLeave}
 use Rattle.array_shape.specs.declared.shape.Shape.{Shape}
 use Rattle.array_shape.specs.Places.{IsPlaced}
-use Rattle.array_image.specs.Parts.{ranges_of}
+use Rattle.array_shape.specs.Logged.{ranges_of}
 use Rattle.array_image.specs.Image.{data_of}
 use Rattle.array_image.proofs.Standing.{at_rest_stands}
 use Rattle.eaw_face.specs.State.{listed}

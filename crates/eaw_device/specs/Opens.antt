@@ -2,7 +2,8 @@
 use Rattle.std.specs.Prelude.{ℕ, ◌≡◌, ◌+◌, ◌*◌, ◌≤◌, ◌⊎◌, Bool, false, IsTrue, List, [], None}
 use Rattle.counted.specs.Causes.{Rose}
 use Rattle.counted.specs.Moments.{Elapses}
-use Rattle.pcm_media.specs.Images.{Content, MayLeave, Touched, range}
+use Rattle.counted.specs.Bytes.{range}
+use Rattle.pcm_media.specs.Images.{Content, MayLeave, Touched}
 use Rattle.pcm_media.specs.View.{View}
 use Rattle.array_shape.specs.declared.shape.Shape.{Shape}
 use Rattle.array_shape.specs.Places.{media_len}

@@ -4,7 +4,7 @@ use Rattle.std.specs.Option.{ForSome}
 use Rattle.pcm_media.specs.Images.{IsOutside}
 use Rattle.pcm_media.specs.View.{View, Writes}
 use Rattle.array_shape.specs.declared.shape.Shape.{Shape}
-use Rattle.array_shape.specs.Parts.{parts_on, pieces_on}
+use Rattle.array_shape.specs.Parts.{parts_on, write_parts_on}
 use Rattle.array_image.specs.Joined.{joined}
 use Rattle.logger.specs.Cells.{cell_ranges}
 use Rattle.eaw_face.specs.declared.fault.EawFault.{EawFault}
@@ -49,7 +49,7 @@ RefusesWrite shape logs is_dead t addr len Dead = is_dead ≡ true
 
 -- the cells of number t, behind the held ones, that a write takes at all loggers
 abbrev pub staged_places : Shape → ℕ → List ℕ → ℕ → List ℕ → List (ℕ × ℕ)
-staged_places shape t held addr bytes = joined (λ g. cell_ranges shape g t (slice_index held g) (length (pieces_on shape g addr bytes))) 0 shape.loggers
+staged_places shape t held addr bytes = joined (λ g. cell_ranges shape g t (slice_index held g) (length (write_parts_on shape g addr bytes))) 0 shape.loggers
 
 -- calls that write behind the header alone
 pub record WritesBehind {T E : Type 0} (tells : Bool) (old new : View) (result : Result T E) : Type 0 where

@@ -2,7 +2,7 @@
 ghost use Rattle.std.specs.Prelude.{◌≡◌, ◌+◌, ◌-◌, ◌≤◌, ◌<◌, ℕ, Ok, drop, length, slice_index, IsTrue, OnOk};
 ghost use Rattle.pcm_media.specs.View.{LeavesOnly};
 ghost use Rattle.array_shape.specs.Places.{media_len};
-ghost use Rattle.array_image.specs.Parts.{applied};
+ghost use Rattle.array_shape.specs.Logged.{applied};
 ghost use Rattle.array_image.specs.Image.{data_of};
 ghost use Rattle.array_image.specs.Standing.{IsEither, IsClean, SameCells};
 ghost use Rattle.eaw_device.specs.Logs.{parts_in, IsKept, IsHeld};

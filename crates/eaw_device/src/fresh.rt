@@ -1,7 +1,7 @@
 // What a fresh array is written as.
 ghost use Rattle.std.specs.Prelude.{◌≡◌, ◌≢◌, ◌≤◌, ◌<◌, ◌*◌, ◌↔◌, [], ◌∷◌, ℕ, Ok, IsTrue, IfErr, OnOk, IsErrOf, replicate};
 ghost use Rattle.counted.specs.Causes.{Rose};
-ghost use Rattle.pcm_media.specs.Images.{range};
+ghost use Rattle.counted.specs.Bytes.{range};
 ghost use Rattle.pcm_media.specs.View.{Writes, LeavesOnly};
 ghost use Rattle.array_shape.specs.Places.{media_len, row_at, page_count};
 ghost use Rattle.array_image.specs.Image.{data_of};

@@ -1,6 +1,6 @@
 // Committed data, read page by page.
 ghost use Rattle.std.specs.Prelude.{◌≡◌, ◌+◌, ◌≤◌, ◌<◌, [], length, IsTrue, OnOk};
-ghost use Rattle.pcm_media.specs.Images.{range};
+ghost use Rattle.counted.specs.Bytes.{range};
 ghost use Rattle.pcm_media.specs.View.{Writes};
 ghost use Rattle.array_shape.specs.Places.{media_len, data_len};
 ghost use Rattle.array_image.specs.Image.{data_of};

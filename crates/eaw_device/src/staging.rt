@@ -2,7 +2,7 @@
 ghost use Rattle.std.specs.Prelude.{◌≡◌, ◌+◌, ◌≤◌, ◌<◌, ℕ, length, slice_index, IsTrue, IfErr, OnOk};
 ghost use Rattle.pcm_media.specs.View.{Writes};
 ghost use Rattle.array_shape.specs.Places.{media_len, data_len};
-ghost use Rattle.array_shape.specs.Parts.{pieces_on};
+ghost use Rattle.array_shape.specs.Parts.{write_parts_on};
 ghost use Rattle.logger.specs.Cells.{HoldsParts};
 ghost use Rattle.eaw_device.specs.Logs.{IsKept};
 ghost use Rattle.eaw_device.specs.Steps.{HasCells, SaysFull, staged_places};
@@ -47,10 +47,10 @@ pub(crate) fn stage_all<M: Media>(
     requires tid { tid < shape.now.numbers }
     requires kept { IsKept shape.now log.now }
     requires range { addr + length bytes.now ≤ data_len shape.now }
-    requires room { (g : ℕ) → g < shape.now.loggers → slice_index log.now.held g + length (pieces_on shape.now g addr bytes.now) ≤ shape.now.entries }
+    requires room { (g : ℕ) → g < shape.now.loggers → slice_index log.now.held g + length (write_parts_on shape.now g addr bytes.now) ≤ shape.now.entries }
     requires size { (M.view media.old).size ≡ media_len shape.now }
     ensures holds { IsTrue M.tells → OnOk result ((g : ℕ) → g < shape.now.loggers →
-        HoldsParts shape.now (M.view media.new).content.bytes g tid (slice_index log.now.held g) (pieces_on shape.now g addr bytes.now)) }
+        HoldsParts shape.now (M.view media.new).content.bytes g tid (slice_index log.now.held g) (write_parts_on shape.now g addr bytes.now)) }
     ensures does { Writes M.tells (staged_places shape.now tid log.now.held addr bytes.now) (M.view media.old) (M.view media.new) result }
 {
     for number in 0..shape.loggers {

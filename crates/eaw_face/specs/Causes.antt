@@ -1,8 +1,8 @@
 -- When each answer of a command comes. The refusals stand in their order: a later one comes only where no earlier one does.
 use Rattle.std.specs.Prelude.{ℕ, ◌≡◌, ◌+◌, ◌<◌, ◌≤◌, true, false, List, [], Result, Ok, Err}
 use Rattle.counted.specs.Causes.{Rose}
-use Rattle.array_shape.specs.Parts.{pieces_of}
-use Rattle.array_image.specs.Parts.{ranges_of}
+use Rattle.array_shape.specs.Parts.{parts_of_write}
+use Rattle.array_shape.specs.Logged.{ranges_of}
 use Rattle.eaw_face.specs.State.{listed, count_on}
 use Rattle.eaw_face.specs.StoreView.{StoreView, IsLive}
 use Rattle.eaw_face.specs.Command.{Command, log_write, log_edit, commit, abort, nested_top, partial_abort, atomic_write, log_read, read}
@@ -42,13 +42,13 @@ abbrev pub Fit : StoreView → List (ℕ × ℕ) → List (ℕ × ℕ) → Type 
 Fit store held needed = (g : ℕ) → g < store.shape.loggers → count_on store.shape g held + count_on store.shape g needed ≤ store.shape.entries
 
 abbrev pub HasRoom : StoreView → Command → Type 0
-HasRoom store (log_write t addr bytes) = Fit store (listed (store.ranges t)) (ranges_of (pieces_of addr bytes))
+HasRoom store (log_write t addr bytes) = Fit store (listed (store.ranges t)) (ranges_of (parts_of_write addr bytes))
 HasRoom store (log_edit t pos at bytes) = Unit {0}
 HasRoom store (commit t) = Unit {0}
 HasRoom store (abort t) = Unit {0}
 HasRoom store (nested_top t offset) = Unit {0}
 HasRoom store (partial_abort t offset) = Unit {0}
-HasRoom store (atomic_write t addr bytes) = Fit store [] (ranges_of (pieces_of addr bytes))
+HasRoom store (atomic_write t addr bytes) = Fit store [] (ranges_of (parts_of_write addr bytes))
 HasRoom store (log_read t) = Unit {0}
 HasRoom store read = Unit {0}
 
@@ -61,13 +61,13 @@ pub record IsFirstFull (store : StoreView) (held needed : List (ℕ × ℕ)) (g 
   pub before : (k : ℕ) → k < g → count_on store.shape k held + count_on store.shape k needed ≤ store.shape.entries
 
 abbrev pub IsFull : StoreView → Command → ℕ → ℕ → ℕ → Type 0
-IsFull store (log_write t addr bytes) g h n = IsFirstFull store (listed (store.ranges t)) (ranges_of (pieces_of addr bytes)) g h n
+IsFull store (log_write t addr bytes) g h n = IsFirstFull store (listed (store.ranges t)) (ranges_of (parts_of_write addr bytes)) g h n
 IsFull store (log_edit t pos at bytes) g h n = ⊥
 IsFull store (commit t) g h n = ⊥
 IsFull store (abort t) g h n = ⊥
 IsFull store (nested_top t offset) g h n = ⊥
 IsFull store (partial_abort t offset) g h n = ⊥
-IsFull store (atomic_write t addr bytes) g h n = IsFirstFull store [] (ranges_of (pieces_of addr bytes)) g h n
+IsFull store (atomic_write t addr bytes) g h n = IsFirstFull store [] (ranges_of (parts_of_write addr bytes)) g h n
 IsFull store (log_read t) g h n = ⊥
 IsFull store read g h n = ⊥
 

@@ -1,8 +1,8 @@
 -- The commands, and what each makes of the data and of the logs.
 use Rattle.std.specs.Prelude.{ℕ, List, ◌++◌, take, drop, Some, None}
-use Rattle.pcm_media.specs.Images.{put}
-use Rattle.array_shape.specs.Parts.{pieces_of}
-use Rattle.array_image.specs.Parts.{applied, ranges_of}
+use Rattle.counted.specs.Bytes.{put}
+use Rattle.array_shape.specs.Parts.{parts_of_write}
+use Rattle.array_shape.specs.Logged.{applied, ranges_of}
 use Rattle.eaw_face.specs.State.{Logs, State, listed, with_log, edited}
 
 -- A write into a log; an edit of a logged part; commit and abort of a log; a nested top action, which commits a log from an
@@ -20,7 +20,7 @@ pub data Command : Type 0 where
 
 -- the data and the logs after a command that was done
 abbrev pub after : Command → State → State
-after (log_write t addr bytes) s = record { bytes = s.bytes; logs = with_log s.logs t (Some (listed (s.logs t) ++ pieces_of addr bytes)) }
+after (log_write t addr bytes) s = record { bytes = s.bytes; logs = with_log s.logs t (Some (listed (s.logs t) ++ parts_of_write addr bytes)) }
 after (log_edit t pos at bytes) s = record { bytes = s.bytes; logs = with_log s.logs t (Some (edited pos at bytes (listed (s.logs t)))) }
 after (commit t) s = record { bytes = applied (listed (s.logs t)) s.bytes; logs = with_log s.logs t None }
 after (abort t) s = record { bytes = s.bytes; logs = with_log s.logs t None }
@@ -32,7 +32,7 @@ after read s = s
 
 -- where the logged parts lie after it: that much is known of a store that does not tell its bytes
 abbrev pub ranges_after : Command → Logs (ℕ × ℕ) → Logs (ℕ × ℕ)
-ranges_after (log_write t addr bytes) ranges = with_log ranges t (Some (listed (ranges t) ++ ranges_of (pieces_of addr bytes)))
+ranges_after (log_write t addr bytes) ranges = with_log ranges t (Some (listed (ranges t) ++ ranges_of (parts_of_write addr bytes)))
 ranges_after (log_edit t pos at bytes) ranges = ranges
 ranges_after (commit t) ranges = with_log ranges t None
 ranges_after (abort t) ranges = with_log ranges t None

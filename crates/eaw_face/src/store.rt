@@ -1,10 +1,10 @@
 // The commands, as the layers above see them.
 ghost use Rattle.std.specs.Prelude.{◌≡◌, ◌≢◌, ◌+◌, ◌≤◌, ◌<◌, true, false, Bool, List, ℕ, take, drop, length, Option, None, is_some, IsTrue, IfOk, IfErr, OnOk, OnErr};
 ghost use Rattle.std.specs.Option.{option_map};
-ghost use Rattle.pcm_media.specs.Images.{range};
+ghost use Rattle.counted.specs.Bytes.{range};
 ghost use Rattle.array_shape.specs.declared.shape.Shape.{Shape};
 ghost use Rattle.array_shape.specs.Places.{data_len, IsShape};
-ghost use Rattle.array_image.specs.Parts.{ranges_of};
+ghost use Rattle.array_shape.specs.Logged.{ranges_of};
 ghost use Rattle.eaw_face.specs.State.{listed, range_at, part_at, count_on};
 ghost use Rattle.eaw_face.specs.Command.{log_write, log_edit, commit, abort, nested_top, partial_abort, atomic_write, log_read, read};
 ghost use Rattle.eaw_face.specs.StoreView.{StoreView, IsLive, ArePlaced, log_len};

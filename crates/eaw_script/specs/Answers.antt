@@ -1,6 +1,6 @@
 -- What a number's raw command answers, and what it leaves.
 use Rattle.std.specs.Prelude.{ℕ, ◌≡◌, ◌++◌, length}
-use Rattle.pcm_media.specs.Images.{range}
+use Rattle.counted.specs.Bytes.{range}
 use Rattle.array_shape.specs.declared.shape.Shape.{Shape}
 use Rattle.eaw_face.specs.State.{State, listed, range_at, part_at, count_on}
 use Rattle.eaw_face.specs.Command as model

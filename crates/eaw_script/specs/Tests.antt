@@ -3,8 +3,8 @@ use Rattle.std.specs.Prelude.{ℕ, ◌≡◌, ◌+◌, ◌<◌, ◌≤◌, List,
 use Rattle.std.specs.Option.{option_map}
 use Rattle.array_shape.specs.declared.shape.Shape.{Shape}
 use Rattle.array_shape.specs.Places.{data_len}
-use Rattle.array_shape.specs.Parts.{pieces_of}
-use Rattle.array_image.specs.Parts.{ranges_of}
+use Rattle.array_shape.specs.Parts.{parts_of_write}
+use Rattle.array_shape.specs.Logged.{ranges_of}
 use Rattle.eaw_face.specs.State.{State, listed, range_at, count_on}
 use Rattle.script_text.specs.Eaw.{Command, log_write, commit, abort, nested, partial, atomic, edit_log, read_log, read, log_len, held}
 
@@ -61,12 +61,12 @@ IsFree log (held logger) = Unit {0}
 
 -- the ranges that a command logs, and those of the number's log that stand before them
 abbrev pub needed : Command → List (ℕ × ℕ)
-needed (log_write addr bytes) = ranges_of (pieces_of addr bytes)
+needed (log_write addr bytes) = ranges_of (parts_of_write addr bytes)
 needed commit = []
 needed abort = []
 needed (nested offset) = []
 needed (partial offset) = []
-needed (atomic addr bytes) = ranges_of (pieces_of addr bytes)
+needed (atomic addr bytes) = ranges_of (parts_of_write addr bytes)
 needed (edit_log pos at bytes) = []
 needed (read_log pos) = []
 needed (read addr len) = []

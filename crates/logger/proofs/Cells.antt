@@ -3,8 +3,9 @@ use Rattle.std.proofs.Common.{◌≡◌, ℕ, zero, suc, ◌+◌, ◌*◌, ◌^�
 use Rattle.std.proofs.lemmas.List.{get_or-drop, get_or-take, length-take-le, length-drop, ext_get_or}
 use Rattle.std.proofs.lemmas.Bool.{cases_lt, cases_eq}
 use Rattle.std.proofs.lemmas.Nat.{mul-le}
-use Rattle.pcm_media.specs.Images.{put, range, SameOutside, IsOutside}
-use Rattle.pcm_media.proofs.Puts.{length-put, get_or-put_before, get_or-put_after, get_or-put_inside}
+use Rattle.counted.specs.Bytes.{put, range}
+use Rattle.pcm_media.specs.Images.{SameOutside, IsOutside}
+use Rattle.counted.proofs.Puts.{length-put, get_or-put_before, get_or-put_after, get_or-put_inside}
 use Rattle.pcm_media.proofs.Left.{get_or-put_outside}
 use Rattle.pcm_media.proofs.Ranges.{get_or-range, length-range}
 use Rattle.array_shape.specs.declared.shape.Shape.{Shape}
@@ -12,7 +13,7 @@ use Rattle.array_shape.specs.Places.{media_len, cell_at}
 use Rattle.row_bytes.specs.declared.head.Head.{Head}
 use Rattle.row_bytes.specs.Written.{head_bytes}
 use Rattle.row_bytes.proofs.Saying.{head_said-same, head_said-bytes}
-use Rattle.array_image.specs.Parts.{Part, applied, IsOwned, AllOwned}
+use Rattle.array_shape.specs.Logged.{Part, applied, IsOwned, AllOwned}
 use Rattle.array_image.specs.Image.{cell_of, cell_head, cell_part, IsGoodCell}
 use Rattle.array_image.proofs.Places.{cell_fits_in}
 use Rattle.array_image.proofs.Rows.{cell_away}

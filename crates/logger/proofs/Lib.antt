@@ -3,4 +3,4 @@ pub mod Cells
 pub mod Ranges
 pub mod Staging
 pub mod Applying
-pub mod Pieces
+pub mod WriteParts

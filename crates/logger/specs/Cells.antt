@@ -3,7 +3,7 @@ use Rattle.std.specs.Prelude.{ℕ, zero, suc, ◌≡◌, ◌+◌, ◌≤◌, ◌
 use Rattle.array_shape.specs.declared.shape.Shape.{Shape}
 use Rattle.array_shape.specs.Places.{cell_at, place_of}
 use Rattle.row_bytes.specs.Written.{head_bytes}
-use Rattle.array_image.specs.Parts.{Part}
+use Rattle.array_shape.specs.Logged.{Part}
 use Rattle.array_image.specs.Image.{cell_of, parts_from, IsGoodCell}
 
 -- parts that are written to the cells of number t at logger g from e on: each one's head, and its bytes behind that

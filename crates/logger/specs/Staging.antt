@@ -1,14 +1,14 @@
 -- What is staged of a write, and why it is not.
 use Rattle.std.specs.Prelude.{ℕ, ◌≡◌, ◌+◌, ◌≤◌, ◌<◌, List, Result, Ok, Err}
 use Rattle.counted.specs.declared.Failed.{Failed}
-use Rattle.array_shape.specs.Parts.{pieces_on}
+use Rattle.array_shape.specs.Parts.{write_parts_on}
 use Rattle.logger.specs.declared.logger.Logger.{Logger}
 use Rattle.logger.specs.declared.stage_fault.StageFault.{StageFault}
 use Rattle.logger.specs.declared.stage_fault.StageFault.TheVariants.{Full, Media}
 
--- the pieces of a write that a logger has
-abbrev pub pieces_here : Logger → ℕ → List ℕ → List (ℕ × List ℕ)
-pieces_here logger addr bytes = pieces_on logger.shape logger.number addr bytes
+-- the parts of a write that a logger has
+abbrev pub write_parts_here : Logger → ℕ → List ℕ → List (ℕ × List ℕ)
+write_parts_here logger addr bytes = write_parts_on logger.shape logger.number addr bytes
 
 -- The fault of a write that needs so many cells where so many are held: they are too many, or else the media failed.
 abbrev pub IsStageFault : ℕ → ℕ → ℕ → StageFault → Type 0

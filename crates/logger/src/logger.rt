@@ -1,13 +1,13 @@
 // Reads and writes of one logger's region.
 ghost use Rattle.std.specs.Prelude.{◌≡◌, ◌+◌, ◌≤◌, ◌<◌, length};
-ghost use Rattle.array_shape.specs.Parts.{piece_of};
+ghost use Rattle.array_shape.specs.Parts.{part_of_write};
 ghost use Rattle.array_image.specs.Image.{cell_head};
 
 use crate::stage_fault::StageFault;
 use array_shape::{HEAD_LEN, PAGE_LEN, Part, Shape};
 use counted::Failed;
 use pcm_media::Media;
-use row_bytes::{Head, Row, VOTED, read_head, write_head, write_row};
+use row_bytes::{Head, Row, read_head, vote_byte, write_head, write_row};
 
 /// One logger of an array. It has a row for each transaction number, the cells of each, and its share of the pages.
 #[derive(Clone, Copy, Debug, PartialEq, Eq)]
@@ -20,15 +20,16 @@ pub struct Logger {
 impl Logger {
     ghost use Rattle.std.specs.Prelude.{◌≡◌, ◌↔◌, ◌+◌, ◌≤◌, ◌<◌, ℕ, [], ◌∷◌, drop, length, true, false};
     ghost use Rattle.std.specs.Prelude.{IsTrue, IfOk, OnOk, IfErr, OnErr};
-    ghost use Rattle.pcm_media.specs.Images.{put, written};
+    ghost use Rattle.counted.specs.Bytes.{put};
+    ghost use Rattle.pcm_media.specs.Images.{written};
     ghost use Rattle.pcm_media.specs.View.{Writes};
     ghost use Rattle.array_shape.specs.Places.{media_len, data_len, row_at, cell_at, place_of};
     ghost use Rattle.array_shape.specs.Parts.{parts_on};
-    ghost use Rattle.row_bytes.specs.Written.{row_rest};
-    ghost use Rattle.array_image.specs.Parts.{applied, places_of, IsOwned};
+    ghost use Rattle.row_bytes.specs.Written.{row_rest, vote_byte};
+    ghost use Rattle.array_shape.specs.Logged.{applied, places_of, IsOwned};
     ghost use Rattle.array_image.specs.Image.{row_of, cell_of, cell_head, cell_part, parts_from, data_of, IsGoodCell};
     ghost use Rattle.logger.specs.Cells.{cell_writes, cell_ranges, in_media, HoldsParts};
-    ghost use Rattle.logger.specs.Staging.{pieces_here, IsStageFault, media_answer};
+    ghost use Rattle.logger.specs.Staging.{write_parts_here, IsStageFault, media_answer};
 
     /// The logger of this number.
     pub fn new(shape: Shape, number: u8) -> Logger
@@ -70,36 +71,20 @@ impl Logger {
         media.write(self.shape.row_at(self.number, tid) + 1, &bytes[1..])
     }
 
-    /// Votes for the row of a transaction number.
-    pub fn vote<M: Media>(self, media: &mut M, tid: u8) -> Result<(), Failed>
+    /// Votes for the row of a transaction number, or takes the vote back.
+    pub fn set_vote<M: Media>(self, media: &mut M, tid: u8, voted: bool) -> Result<(), Failed>
         requires size { (M.view media.old).size ≡ media_len self.shape }
         requires tid { tid < self.shape.numbers }
         ensures written { IsTrue M.tells → OnOk result ((M.view media.new).content ≡
-            written (row_at self.shape self.number tid) (0xC3 ∷ []) (M.view media.old).content) }
+            written (row_at self.shape self.number tid) (vote_byte voted ∷ []) (M.view media.old).content) }
         ensures row { IsTrue M.tells → OnOk result (
             row_of self.shape (M.view media.new).content.bytes self.number tid ≡
             (let row = row_of self.shape (M.view media.old).content.bytes self.number tid in
-            record row { voted = true })) }
+            record row { voted = voted })) }
         ensures does { Writes M.tells ((row_at self.shape self.number tid, 1) ∷ [])
             (M.view media.old) (M.view media.new) result }
     {
-        media.write(self.shape.row_at(self.number, tid), &[VOTED])
-    }
-
-    /// Takes the vote for the row of a transaction number back.
-    pub fn unvote<M: Media>(self, media: &mut M, tid: u8) -> Result<(), Failed>
-        requires size { (M.view media.old).size ≡ media_len self.shape }
-        requires tid { tid < self.shape.numbers }
-        ensures written { IsTrue M.tells → OnOk result ((M.view media.new).content ≡
-            written (row_at self.shape self.number tid) (0 ∷ []) (M.view media.old).content) }
-        ensures row { IsTrue M.tells → OnOk result (
-            row_of self.shape (M.view media.new).content.bytes self.number tid ≡
-            (let row = row_of self.shape (M.view media.old).content.bytes self.number tid in
-            record row { voted = false })) }
-        ensures does { Writes M.tells ((row_at self.shape self.number tid, 1) ∷ [])
-            (M.view media.old) (M.view media.new) result }
-    {
-        media.write(self.shape.row_at(self.number, tid), &[0])
+        media.write(self.shape.row_at(self.number, tid), &[vote_byte(voted)])
     }
 
     /// How many cells a write needs here: one for each of its parts that this logger has.
@@ -131,17 +116,17 @@ impl Logger {
         requires size { (M.view media.old).size ≡ media_len self.shape }
         requires tid { tid < self.shape.numbers }
         requires range { addr + length bytes.now ≤ data_len self.shape }
-        ensures took { IfOk result (λ n. n ≡ length (pieces_here self addr bytes.now)) }
-        ensures fits { OnOk result (held + length (pieces_here self addr bytes.now) ≤ self.shape.entries) }
-        ensures fault { IfErr result (IsStageFault self.shape.entries held (length (pieces_here self addr bytes.now))) }
-        ensures full { self.shape.entries < held + length (pieces_here self addr bytes.now) → media.new ≡ media.old }
+        ensures took { IfOk result (λ n. n ≡ length (write_parts_here self addr bytes.now)) }
+        ensures fits { OnOk result (held + length (write_parts_here self addr bytes.now) ≤ self.shape.entries) }
+        ensures fault { IfErr result (IsStageFault self.shape.entries held (length (write_parts_here self addr bytes.now))) }
+        ensures full { self.shape.entries < held + length (write_parts_here self addr bytes.now) → media.new ≡ media.old }
         ensures written { IsTrue M.tells → OnOk result ((M.view media.new).content.bytes ≡
-            applied (cell_writes self.shape self.number tid held (pieces_here self addr bytes.now))
+            applied (cell_writes self.shape self.number tid held (write_parts_here self addr bytes.now))
             (M.view media.old).content.bytes) }
         ensures holds { IsTrue M.tells → OnOk result (
-            HoldsParts self.shape (M.view media.new).content.bytes self.number tid held (pieces_here self addr bytes.now)) }
+            HoldsParts self.shape (M.view media.new).content.bytes self.number tid held (write_parts_here self addr bytes.now)) }
         ensures does { Writes M.tells
-            (cell_ranges self.shape self.number tid held (length (pieces_here self addr bytes.now)))
+            (cell_ranges self.shape self.number tid held (length (write_parts_here self addr bytes.now)))
             (M.view media.old) (M.view media.new) (media_answer result) }
     {
         let needed = self.cells_needed(addr, bytes.len() as u64);
@@ -243,12 +228,12 @@ impl Logger {
         requires size { (M.view media.old).size ≡ media_len self.shape }
         requires tid { tid < self.shape.numbers }
         requires range { addr + length bytes.now ≤ data_len self.shape }
-        requires room { held + length (pieces_here self addr bytes.now) ≤ self.shape.entries }
+        requires room { held + length (write_parts_here self addr bytes.now) ≤ self.shape.entries }
         ensures written { IsTrue M.tells → OnOk result ((M.view media.new).content.bytes ≡
-            applied (cell_writes self.shape self.number tid held (pieces_here self addr bytes.now))
+            applied (cell_writes self.shape self.number tid held (write_parts_here self addr bytes.now))
             (M.view media.old).content.bytes) }
         ensures does { Writes M.tells
-            (cell_ranges self.shape self.number tid held (length (pieces_here self addr bytes.now)))
+            (cell_ranges self.shape self.number tid held (length (write_parts_here self addr bytes.now)))
             (M.view media.old) (M.view media.new) result }
     {
         let mut entry = held;
@@ -348,7 +333,7 @@ impl Logger {
 fn bytes_of(part: Part, addr: u64, bytes: &[u8]) -> &[u8]
     requires from { addr ≤ part.addr }
     requires to { part.addr + part.len ≤ addr + length bytes.now }
-    ensures { result.now ≡ (piece_of addr bytes.now part).1 }
+    ensures { result.now ≡ (part_of_write addr bytes.now part).1 }
 {
     let from = (part.addr - addr) as usize;
     &bytes[from..from + usize::from(part.len)]

@@ -5,7 +5,7 @@ use Rattle.std.proofs.lemmas.Bool.{false≢true, cases_lt}
 use Rattle.std.proofs.lemmas.List.{drop-drop, drop-take, take-take}
 use Rattle.std.proofs.Math.Nat.{mul_left_comm}
 use Rattle.counted.proofs.Going as going
-use Rattle.pcm_media.specs.Images.{range}
+use Rattle.counted.specs.Bytes.{range}
 use Rattle.array_shape.specs.declared.shape.Shape.{Shape}
 use Rattle.array_shape.specs.Places.{IsShape, page_count}
 use Rattle.eaw_face.specs.State.{State as Data}

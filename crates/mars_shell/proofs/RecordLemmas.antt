@@ -4,9 +4,9 @@ use Rattle.std.specs.Ordering.{nat_cmp}
 use Rattle.std.specs.Cmp.{nat_cmp_total, unsigned_tied}
 use Rattle.std.specs.FinMap.{get, insert, get-empty, get-insert, same_map, nat_cmp-IsAntisymmetric}
 use Rattle.std.proofs.lemmas.Bool.{cases_eq, cases_lt, eq-eqb, ne_eqb}
-use Rattle.pcm_media.specs.Images.{put}
+use Rattle.counted.specs.Bytes.{put}
 use Rattle.pcm_media.proofs.Left.{same_outside-put}
-use Rattle.pcm_media.proofs.Puts.{length-put}
+use Rattle.counted.proofs.Puts.{length-put}
 use Rattle.pcm_media.proofs.Ranges.{range-put, range_away}
 use Rattle.history.specs.Table.{Table}
 use Rattle.record_slots.specs.Slots.{slot_said}

@@ -4,7 +4,7 @@ use Rattle.std.specs.Option.{option_map}
 use Rattle.counted.proofs.Going as going
 use Rattle.array_shape.specs.declared.shape.Shape.{Shape}
 use Rattle.array_shape.specs.Places.{data_len}
-use Rattle.array_image.specs.Parts.{Part, applied, ranges_of}
+use Rattle.array_shape.specs.Logged.{Part, applied, ranges_of}
 use Rattle.eaw_face.specs.State.{State as Data, listed}
 use Rattle.eaw_face.specs.StoreView.{StoreView, LeavesOnly}
 use Rattle.eaw_face.specs.Does.{IsEither}

@@ -4,8 +4,8 @@ use Rattle.std.specs.FinMap.{get, insert}
 use Rattle.std.proofs.lemmas.Bool.{eq-eqb, ne_eqb, cases_eq}
 use Rattle.array_shape.specs.declared.shape.Shape.{Shape}
 use Rattle.array_shape.specs.Places.{IsShape, logger_of}
-use Rattle.array_shape.specs.Parts.{pieces_of}
-use Rattle.array_image.specs.Parts.{Part, applied, ranges_of}
+use Rattle.array_shape.specs.Parts.{parts_of_write}
+use Rattle.array_shape.specs.Logged.{Part, applied, ranges_of}
 use Rattle.eaw_face.specs.State.{State as Data, listed, count_on}
 use Rattle.eaw_face.specs.StoreView.{StoreView}
 use Rattle.eaw_face.specs.Command.{read, log_write}
@@ -118,7 +118,7 @@ module _ (tells : Bool) (old new : StoreView) (calls : List (Call × Reply)) (ke
   own = logger_of old.shape at
 
   abbrev needed : List (ℕ × ℕ)
-  needed = ranges_of (pieces_of at bytes)
+  needed = ranges_of (parts_of_write at bytes)
 
   has_logger : own < old.shape.loggers
   has_logger = let some = is_shape.some_loggers in omega arith
@@ -156,7 +156,7 @@ module _ (tells : Bool) (old new : StoreView) (calls : List (Call × Reply)) (ke
       → Steps base old new (work_of history (Some calls) doubt) (work_of history (Some (calls ++ (Put key value, Fine) ∷ [])) doubt) (Put key value) Fine
   put_steps base told says lt has_room became kept =
       let log = listed (old.state.logs 0) in
-      let logs : listed (new.state.logs 0) ≡ log ++ pieces_of at bytes = ap (λ (d : Data). listed (d.logs 0)) (became.state told) in
+      let logs : listed (new.state.logs 0) ≡ log ++ parts_of_write at bytes = ap (λ (d : Data). listed (d.logs 0)) (became.state told) in
       let same : new.state.bytes ≡ old.state.bytes = ap (λ (d : Data). d.bytes) (became.state told) in
       let now : applied (listed (new.state.logs 0)) new.state.bytes ≡ applied ((at, bytes) ∷ []) (applied log old.state.bytes) =
       (λ i. applied (logs i) (same i)) ∙ ap (λ (ps : List Part). applied (log ++ ps) old.state.bytes) (slot_piece (slots_of old.shape) key bytes size)

@@ -7,9 +7,9 @@ use Rattle.std.specs.Prelude.{filter}
 use Rattle.std.specs.Option.{option_map}
 use Rattle.array_shape.specs.declared.shape.Shape.{Shape}
 use Rattle.array_shape.specs.Places.{logger_of}
-use Rattle.array_shape.specs.Parts.{page_left, pieces_of}
-use Rattle.array_shape.proofs.Cutting.{pieces_of-none, pieces_of-some}
-use Rattle.array_image.specs.Parts.{Part, applied, ranges_of}
+use Rattle.array_shape.specs.Parts.{page_left, parts_of_write}
+use Rattle.array_shape.proofs.Cutting.{parts_of_write-none, parts_of_write-some}
+use Rattle.array_shape.specs.Logged.{Part, applied, ranges_of}
 use Rattle.eaw_face.specs.State.{listed, is_range_on, count_on}
 use Rattle.mars_shell.specs.Records.{slot_at}
 use Rattle.mars_shell.specs.Session.{is_put_on}
@@ -20,17 +20,17 @@ slot_placed : (n : ℕ) → (64 * n) % 512 + 64 ≤ 512
 slot_placed n = omega arith
 
 -- and so a write of one is one part
-one_piece : (addr : ℕ) (bytes : List ℕ) → 0 < length bytes → addr % 512 + length bytes ≤ 512 → pieces_of addr bytes ≡ (addr, bytes) ∷ []
-one_piece addr bytes some fits =
+one_write_part : (addr : ℕ) (bytes : List ℕ) → 0 < length bytes → addr % 512 + length bytes ≤ 512 → parts_of_write addr bytes ≡ (addr, bytes) ∷ []
+one_write_part addr bytes some fits =
     let all : length bytes ≤ page_left addr = omega arith in
-    pieces_of-some addr bytes some
-    ∙ (λ i. (addr, take_all (page_left addr) bytes all i) ∷ pieces_of (addr + page_left addr) (drop_all (page_left addr) bytes all i))
-    ∙ ap (λ (l : List (ℕ × List ℕ)). (addr, bytes) ∷ l) (pieces_of-none (addr + page_left addr))
+    parts_of_write-some addr bytes some
+    ∙ (λ i. (addr, take_all (page_left addr) bytes all i) ∷ parts_of_write (addr + page_left addr) (drop_all (page_left addr) bytes all i))
+    ∙ ap (λ (l : List (ℕ × List ℕ)). (addr, bytes) ∷ l) (parts_of_write-none (addr + page_left addr))
 
-pub slot_piece : (slots k : ℕ) (bytes : List ℕ) → length bytes ≡ 64 → pieces_of (slot_at slots k) bytes ≡ (slot_at slots k, bytes) ∷ []
-slot_piece slots k bytes size = one_piece (slot_at slots k) bytes (omega (arith, size)) (omega (arith, size, slot_placed (slots + k)))
+pub slot_piece : (slots k : ℕ) (bytes : List ℕ) → length bytes ≡ 64 → parts_of_write (slot_at slots k) bytes ≡ (slot_at slots k, bytes) ∷ []
+slot_piece slots k bytes size = one_write_part (slot_at slots k) bytes (omega (arith, size)) (omega (arith, size, slot_placed (slots + k)))
 
-pub slot_range : (slots k : ℕ) (bytes : List ℕ) → length bytes ≡ 64 → ranges_of (pieces_of (slot_at slots k) bytes) ≡ (slot_at slots k, 64) ∷ []
+pub slot_range : (slots k : ℕ) (bytes : List ℕ) → length bytes ≡ 64 → ranges_of (parts_of_write (slot_at slots k) bytes) ≡ (slot_at slots k, 64) ∷ []
 slot_range slots k bytes size = ap ranges_of (slot_piece slots k bytes size) ∙ ap (λ (n : ℕ). (slot_at slots k, n) ∷ []) size
 
 pub slots_put-push : (slots : ℕ) (puts : List (ℕ × List ℕ)) (put : ℕ × List ℕ) → slots_put slots (puts ++ put ∷ []) ≡ slots_put slots puts ++ (slot_at slots put.0, 64) ∷ []

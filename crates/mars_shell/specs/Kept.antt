@@ -2,7 +2,7 @@
 use Rattle.std.specs.Prelude.{ℕ, ◌*◌, ◌≡◌, ◌<◌, ◌≤◌, Bool, false, IsTrue, List, [], ◌∷◌, Option, None, unwrap_or}
 use Rattle.array_shape.specs.declared.shape.Shape.{Shape}
 use Rattle.array_shape.specs.Places.{page_count}
-use Rattle.array_image.specs.Parts.{applied}
+use Rattle.array_shape.specs.Logged.{applied}
 use Rattle.eaw_face.specs.State.{listed, count_on}
 use Rattle.eaw_face.specs.StoreView.{StoreView}
 use Rattle.history.specs.Table.{Table, left_by}

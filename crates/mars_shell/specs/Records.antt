@@ -1,7 +1,7 @@
 -- The records of an array's data: the record of key k stands in slot k.
 use Rattle.std.specs.Prelude.{ℕ, zero, suc, ◌+◌, ◌*◌, ◌/◌, ◌<◌, ◌≡◌, nat_eq, if◌then◌else◌, List, length, Option, Some, None}
 use Rattle.std.specs.FinMap.{empty, insert}
-use Rattle.pcm_media.specs.Images.{range}
+use Rattle.counted.specs.Bytes.{range}
 use Rattle.history.specs.Table.{Table}
 use Rattle.record_slots.specs.Slots.{slot_said}
 use Rattle.record_slots.specs.declared.slot.Slot.{Slot}

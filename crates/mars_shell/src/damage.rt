@@ -1,6 +1,6 @@
 // Whether the record pages are sound.
 ghost use Rattle.std.specs.Prelude.{◌+◌, ◌*◌, ◌^◌, ◌≤◌, ◌<◌, ℕ, IsTrue, IfOk, IfSome, IfNone, MatchBool};
-ghost use Rattle.pcm_media.specs.Images.{range};
+ghost use Rattle.counted.specs.Bytes.{range};
 ghost use Rattle.eaw_face.specs.Command.{read};
 ghost use Rattle.eaw_face.specs.Does.{Does};
 ghost use Rattle.eaw_face.specs.Causes.{IsAlive};

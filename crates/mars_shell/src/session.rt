@@ -1,7 +1,7 @@
 // One caller's session over a store: the history, and the transaction that runs.
 ghost use Rattle.std.specs.Prelude.{◌≡◌, ◌<◌, ◌↔◌, Ok, IsTrue, IfOk, OnOk, OnErr, length};
 ghost use Rattle.counted.specs.Causes.{Rose};
-ghost use Rattle.array_image.specs.Parts.{applied};
+ghost use Rattle.array_shape.specs.Logged.{applied};
 ghost use Rattle.eaw_face.specs.Causes.{IsAlive};
 ghost use Rattle.eaw_face.specs.Command.{read};
 ghost use Rattle.eaw_face.specs.Does.{Does, IsEither};

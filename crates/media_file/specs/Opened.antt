@@ -2,7 +2,7 @@
 use Rattle.std.specs.Prelude.{ℕ, ◌≡◌, ◌-◌, ◌^◌, ◌<◌, [], Result, OnOk}
 use Rattle.counted.specs.Causes.{HasCause}
 use Rattle.pcm_media.specs.View.{View}
-use Rattle.pcm_media.specs.Kept.{next_count, faults_after}
+use Rattle.counted.specs.Causes.{next_count, faults_after}
 
 -- its length, how many calls it has had, and how many of them failed; both counts stop at the last value of their type
 pub record Opened : Type 0 where

@@ -2,8 +2,8 @@
 use Rattle.std.proofs.Common.{◌≡◌, ℕ, ◌+◌, ◌<◌, ◌≤◌, Bool, true, false, cond, List, [], ◌++◌, length, set, take, Result, Ok, refl, sym, ◌∙◌, ap, arith}
 use Rattle.std.specs.Prelude.{Option, Some, None}
 use Rattle.std.specs.Option.{option_map}
-use Rattle.array_shape.specs.Parts.{pieces_of}
-use Rattle.array_image.specs.Parts.{Part, ranges_of}
+use Rattle.array_shape.specs.Parts.{parts_of_write}
+use Rattle.array_shape.specs.Logged.{Part, ranges_of}
 use Rattle.eaw_face.specs.State.{Logs, State, listed, with_log, edited, range_at}
 use Rattle.eaw_face.specs.StoreView.{StoreView, LeavesOnly, log_len}
 use Rattle.eaw_face.specs.Command.{Command, log_write, log_edit, after, ranges_after}
@@ -74,15 +74,15 @@ module _ (old : Plain) (sound : IsSound old) (t : ℕ) (lt : t < old.shape.numbe
   log_is_some live = logged-at old.logs t within ∙ ap (λ (b : Bool). cond b (Some (log_at old.logs t).parts) None) live
 
   module _ (new : Plain) (alive : new.is_dead ≡ false) where
-    pub becomes_written : (addr : ℕ) (bytes : List ℕ) → new.bytes ≡ old.bytes → new.logs ≡ set old.logs t (record { is_live = true; parts = (log_at old.logs t).parts ++ pieces_of addr bytes; room = (log_at old.logs t).room })
+    pub becomes_written : (addr : ℕ) (bytes : List ℕ) → new.bytes ≡ old.bytes → new.logs ≡ set old.logs t (record { is_live = true; parts = (log_at old.logs t).parts ++ parts_of_write addr bytes; room = (log_at old.logs t).room })
         → Becomes true (log_write t addr bytes) (view_of old) (view_of new)
     becomes_written addr bytes same logs =
-        becomes_with new (record { is_live = true; parts = (log_at old.logs t).parts ++ pieces_of addr bytes; room = (log_at old.logs t).room }) (Some (listed (logged old.logs t) ++ pieces_of addr bytes)) alive logs
-        (live_log true ((log_at old.logs t).parts ++ pieces_of addr bytes) refl (listed (logged old.logs t) ++ pieces_of addr bytes) (ap (λ (ps : List Part). ps ++ pieces_of addr bytes) (sym parts_is)))
+        becomes_with new (record { is_live = true; parts = (log_at old.logs t).parts ++ parts_of_write addr bytes; room = (log_at old.logs t).room }) (Some (listed (logged old.logs t) ++ parts_of_write addr bytes)) alive logs
+        (live_log true ((log_at old.logs t).parts ++ parts_of_write addr bytes) refl (listed (logged old.logs t) ++ parts_of_write addr bytes) (ap (λ (ps : List Part). ps ++ parts_of_write addr bytes) (sym parts_is)))
         (log_write t addr bytes)
         (ap (λ (rs : List (ℕ × ℕ)). with_log (view_of old).ranges t (Some rs))
-        (ap (λ (rs : List (ℕ × ℕ)). rs ++ ranges_of (pieces_of addr bytes)) (listed-map (logged old.logs t)) ∙ sym (ranges_of-append (listed (logged old.logs t)) (pieces_of addr bytes))))
-        (ap (λ (bs : List ℕ). let s : State = record { bytes = bs; logs = with_log (logged old.logs) t (Some (listed (logged old.logs t) ++ pieces_of addr bytes)) } in s) (sym same))
+        (ap (λ (rs : List (ℕ × ℕ)). rs ++ ranges_of (parts_of_write addr bytes)) (listed-map (logged old.logs t)) ∙ sym (ranges_of-append (listed (logged old.logs t)) (parts_of_write addr bytes))))
+        (ap (λ (bs : List ℕ). let s : State = record { bytes = bs; logs = with_log (logged old.logs) t (Some (listed (logged old.logs t) ++ parts_of_write addr bytes)) } in s) (sym same))
 
     pub becomes_freed : (command : Command) → new.logs ≡ set old.logs t (record { is_live = false; parts = []; room = (log_at old.logs t).room })
         → ranges_after command (view_of old).ranges ≡ with_log (view_of old).ranges t None → after command (view_of old).state ≡ record { bytes = new.bytes; logs = with_log (logged old.logs) t None } → Becomes true command (view_of old) (view_of new)

@@ -3,15 +3,15 @@ use Rattle.std.proofs.Common.{◌≡◌, ℕ, zero, suc, ◌+◌, ◌<◌, ◌�
 use Rattle.std.specs.Prelude.{All, filter}
 use Rattle.std.proofs.lemmas.List.{take_more, length-map}
 use Rattle.std.proofs.lemmas.List.Elements.{All-cons, All-head, All-tail}
-use Rattle.pcm_media.specs.Images.{put}
-use Rattle.pcm_media.proofs.Puts.{length-put}
+use Rattle.counted.specs.Bytes.{put}
+use Rattle.counted.proofs.Puts.{length-put}
 use Rattle.array_shape.specs.declared.shape.Shape.{Shape}
 use Rattle.array_shape.specs.Places.{data_len, logger_of, IsPlaced}
-use Rattle.array_shape.specs.Parts.{pieces_of, piece_of, parts_on, is_piece_on}
-use Rattle.array_shape.proofs.Cutting.{filter_few, pieces_on-parts}
-use Rattle.array_image.specs.Parts.{Part, AllFit, ranges_of}
+use Rattle.array_shape.specs.Parts.{parts_of_write, part_of_write, parts_on, is_write_part_on}
+use Rattle.array_shape.proofs.Cutting.{filter_few, write_parts_on-parts}
+use Rattle.array_shape.specs.Logged.{Part, AllFit, ranges_of}
 use Rattle.eaw_face.specs.State.{edited, range_at, is_range_on, count_on}
-use Rattle.memory_eaw.specs.Log.{IsPiece}
+use Rattle.memory_eaw.specs.Log.{IsWritePart}
 
 -- the range of the part at a position
 pub range_at-parts : (ps : List Part) (pos : ℕ) (d : Part) → pos < length ps → range_at (ranges_of ps) pos ≡ ((get_or ps pos d).0, length (get_or ps pos d).1)
@@ -54,13 +54,13 @@ ranges_of-take (suc n) (p ∷ ps) = ap (λ (l : List (ℕ × ℕ)). (p.0, length
 
 module _ (shape : Shape) where
   -- the parts that a logger has are those whose ranges it has
-  pub count_on-pieces : (g : ℕ) (ps : List Part) → count_on shape g (ranges_of ps) ≡ length (filter (is_piece_on shape g) ps)
-  count_on-pieces g [] = refl
-  count_on-pieces g (p ∷ ps) = go (nat_eq (logger_of shape p.0) g) (count_on-pieces g ps)
+  pub count_on-write_parts : (g : ℕ) (ps : List Part) → count_on shape g (ranges_of ps) ≡ length (filter (is_write_part_on shape g) ps)
+  count_on-write_parts g [] = refl
+  count_on-write_parts g (p ∷ ps) = go (nat_eq (logger_of shape p.0) g) (count_on-write_parts g ps)
     where
-      go : (on : Bool) → count_on shape g (ranges_of ps) ≡ length (filter (is_piece_on shape g) ps)
+      go : (on : Bool) → count_on shape g (ranges_of ps) ≡ length (filter (is_write_part_on shape g) ps)
           → length (cond on ((p.0, length p.1) ∷ filter (is_range_on shape g) (ranges_of ps)) (filter (is_range_on shape g) (ranges_of ps)))
-          ≡ length (cond on (p ∷ filter (is_piece_on shape g) ps) (filter (is_piece_on shape g) ps))
+          ≡ length (cond on (p ∷ filter (is_write_part_on shape g) ps) (filter (is_write_part_on shape g) ps))
       go true is = ap suc is
       go false is = is
 
@@ -91,28 +91,28 @@ module _ (shape : Shape) where
       one false = refl
 
   -- how many parts of a write a logger has
-  pub count_on-write : (g addr : ℕ) (bytes : List ℕ) → count_on shape g (ranges_of (pieces_of addr bytes)) ≡ length (parts_on shape g addr (length bytes))
+  pub count_on-write : (g addr : ℕ) (bytes : List ℕ) → count_on shape g (ranges_of (parts_of_write addr bytes)) ≡ length (parts_on shape g addr (length bytes))
   count_on-write g addr bytes =
-      count_on-pieces g (pieces_of addr bytes) ∙ ap length (pieces_on-parts shape addr bytes g) ∙ length-map (parts_on shape g addr (length bytes)) (piece_of addr bytes)
+      count_on-write_parts g (parts_of_write addr bytes) ∙ ap length (write_parts_on-parts shape addr bytes g) ∙ length-map (parts_on shape g addr (length bytes)) (part_of_write addr bytes)
 
   abbrev IsThere : ℕ × ℕ → Type 0
   IsThere r = IsPlaced shape r.0 r.1
 
-  placed_from : (ps qs : List Part) → ranges_of qs ≡ ranges_of ps → All (IsPiece shape) ps → All (IsPiece shape) qs
+  placed_from : (ps qs : List Part) → ranges_of qs ≡ ranges_of ps → All (IsWritePart shape) ps → All (IsWritePart shape) qs
   placed_from [] [] same placed = placed
   placed_from [] (q ∷ qs) same placed = absurd (cc same)
   placed_from (p ∷ ps) [] same placed = absurd (cc same)
   placed_from (p ∷ ps) (q ∷ qs) same placed =
       let rest : ranges_of qs ≡ ranges_of ps = cc same in
-      All-cons (IsPiece shape) q qs (subst IsThere (head_is (q.0, length q.1) (p.0, length p.1) (ranges_of qs) (ranges_of ps) (sym same)) (All-head (IsPiece shape) p ps placed)) (placed_from ps qs rest (All-tail (IsPiece shape) p ps placed))
+      All-cons (IsWritePart shape) q qs (subst IsThere (head_is (q.0, length q.1) (p.0, length p.1) (ranges_of qs) (ranges_of ps) (sym same)) (All-head (IsWritePart shape) p ps placed)) (placed_from ps qs rest (All-tail (IsWritePart shape) p ps placed))
     where
       head_is : (r s : ℕ × ℕ) (rs ss : List (ℕ × ℕ)) → s ∷ ss ≡ r ∷ rs → s ≡ r
       head_is r s rs ss is = cc is
 
-  pub placed_edited : (ps : List Part) (pos at : ℕ) (bytes : List ℕ) → at + length bytes ≤ (range_at (ranges_of ps) pos).1 → All (IsPiece shape) ps → All (IsPiece shape) (edited pos at bytes ps)
+  pub placed_edited : (ps : List Part) (pos at : ℕ) (bytes : List ℕ) → at + length bytes ≤ (range_at (ranges_of ps) pos).1 → All (IsWritePart shape) ps → All (IsWritePart shape) (edited pos at bytes ps)
   placed_edited ps pos at bytes within placed = placed_from ps (edited pos at bytes ps) (ranges_of-edited ps pos at bytes within) placed
 
   -- parts that lie in the data fit it
-  pub all_fit : (ps : List Part) → All (IsPiece shape) ps → AllFit (data_len shape) ps
+  pub all_fit : (ps : List Part) → All (IsWritePart shape) ps → AllFit (data_len shape) ps
   all_fit [] placed = tt
-  all_fit (p ∷ ps) placed = ((All-head (IsPiece shape) p ps placed).inside, all_fit ps (All-tail (IsPiece shape) p ps placed))
+  all_fit (p ∷ ps) placed = ((All-head (IsWritePart shape) p ps placed).inside, all_fit ps (All-tail (IsWritePart shape) p ps placed))

@@ -5,12 +5,12 @@ use Rattle.std.proofs.lemmas.List.{drop_all, length-set, length-append, length-d
 use Rattle.std.proofs.lemmas.List.Elements.{All-weaker, All-append, All-get_or, All-push, All-set}
 use Rattle.array_shape.specs.declared.shape.Shape.{Shape}
 use Rattle.array_shape.specs.Places.{data_len}
-use Rattle.array_shape.specs.Parts.{pieces_of}
-use Rattle.array_shape.proofs.Cutting.{pieces_placed}
-use Rattle.array_image.specs.Parts.{Part, applied, ranges_of}
+use Rattle.array_shape.specs.Parts.{parts_of_write}
+use Rattle.array_shape.proofs.Cutting.{write_parts_placed}
+use Rattle.array_shape.specs.Logged.{Part, applied, ranges_of}
 use Rattle.eaw_face.specs.State.{edited, range_at}
 use Rattle.memory_eaw.specs.Kept.{Version, MustFail, MustFailChange}
-use Rattle.memory_eaw.specs.Log.{Log, IsPiece, IsSoundLog}
+use Rattle.memory_eaw.specs.Log.{Log, IsWritePart, IsSoundLog}
 use Rattle.memory_eaw.specs.Plain.{Plain, IsSound}
 use Rattle.memory_eaw.specs.Steps.{log_at, called_plain, changed_plain, failed_plain, committed}
 use Rattle.memory_eaw.proofs.Parts.{ranges_of-edited, length-ranges_of, placed_edited}
@@ -82,13 +82,13 @@ module _ (shape : Shape) (log : Log) (sound : IsSoundLog shape log) where
         placed = placed_edited shape log.parts pos at bytes within sound.placed;
       }
 
-  pub sound_appended : (addr : ℕ) (bytes : List ℕ) → addr + length bytes ≤ data_len shape → length log.parts + length (pieces_of addr bytes) ≤ shape.loggers * shape.entries
-      → (let log' : Log = record { is_live = true; parts = log.parts ++ pieces_of addr bytes; room = log.room } in IsSoundLog shape log')
+  pub sound_appended : (addr : ℕ) (bytes : List ℕ) → addr + length bytes ≤ data_len shape → length log.parts + length (parts_of_write addr bytes) ≤ shape.loggers * shape.entries
+      → (let log' : Log = record { is_live = true; parts = log.parts ++ parts_of_write addr bytes; room = log.room } in IsSoundLog shape log')
   sound_appended addr bytes inside fits = record {
     idle = λ off. absurd (cc off);
-    few = omega (arith, fits, length-append log.parts (pieces_of addr bytes));
+    few = omega (arith, fits, length-append log.parts (parts_of_write addr bytes));
     room = sound.room;
-    placed = All-append (IsPiece shape) log.parts (pieces_of addr bytes) sound.placed (pieces_placed shape addr bytes inside);
+    placed = All-append (IsWritePart shape) log.parts (parts_of_write addr bytes) sound.placed (write_parts_placed shape addr bytes inside);
   }
 
 committed-some : (ps : List Part) (plain : Plain) → 0 < length ps → committed ps plain ≡ changed_plain (applied ps plain.bytes) plain

@@ -1,6 +1,6 @@
 -- What a store in memory keeps of its calls.
 use Rattle.std.specs.Prelude.{ℕ, ◌≡◌, ◌+◌, ◌-◌, ◌*◌, ◌^◌, ◌<◌, ◌≤◌, ◌⊎◌, List, [], ◌∷◌, ◌++◌, length, take, drop, Contains}
-use Rattle.pcm_media.specs.Kept.{next_count}
+use Rattle.counted.specs.Causes.{next_count}
 
 -- the data as it was until a call raised the moment to this one
 pub record Version : Type 0 where

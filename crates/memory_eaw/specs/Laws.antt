@@ -4,11 +4,11 @@ use Rattle.std.specs.Option.{option_map}
 use Rattle.std.proofs.Common.{inl, inr, ⊎_elim, ap, arith}
 use Rattle.std.proofs.lemmas.List.Elements.{All-head, All-tail}
 use Rattle.array_shape.specs.declared.shape.Shape.{Shape}
-use Rattle.array_image.specs.Parts.{Part, ranges_of}
+use Rattle.array_shape.specs.Logged.{Part, ranges_of}
 use Rattle.eaw_face.specs.State.{listed}
 use Rattle.eaw_face.specs.StoreView.{ArePlaced}
 use Rattle.memory_eaw.specs.Kept.{Version}
-use Rattle.memory_eaw.specs.Log.{Log, IsPiece, IsSoundLog, logged, outline}
+use Rattle.memory_eaw.specs.Log.{Log, IsWritePart, IsSoundLog, logged, outline}
 use Rattle.memory_eaw.specs.Plain.{Plain, WasBefore, LeftSince, IsData, IsSound}
 
 logged-past : (logs : List Log) (t : ℕ) → length logs ≤ t → logged logs t ≡ None
@@ -16,11 +16,11 @@ logged-past [] t le = refl
 logged-past (log ∷ logs) zero le = absurd (omega arith)
 logged-past (log ∷ logs) (suc t) le = logged-past logs t (omega arith)
 
-are_placed : (shape : Shape) (parts : List Part) → All (IsPiece shape) parts → ArePlaced shape (ranges_of parts)
+are_placed : (shape : Shape) (parts : List Part) → All (IsWritePart shape) parts → ArePlaced shape (ranges_of parts)
 are_placed shape [] placed = tt
-are_placed shape (p ∷ parts) placed = (All-head (IsPiece shape) p parts placed, are_placed shape parts (All-tail (IsPiece shape) p parts placed))
+are_placed shape (p ∷ parts) placed = (All-head (IsWritePart shape) p parts placed, are_placed shape parts (All-tail (IsWritePart shape) p parts placed))
 
-log_placed : (shape : Shape) (is_live : Bool) (parts : List Part) → All (IsPiece shape) parts → ArePlaced shape (listed (option_map ranges_of (if is_live then Some parts else None)))
+log_placed : (shape : Shape) (is_live : Bool) (parts : List Part) → All (IsWritePart shape) parts → ArePlaced shape (listed (option_map ranges_of (if is_live then Some parts else None)))
 log_placed shape true parts placed = are_placed shape parts placed
 log_placed shape false parts placed = tt
 

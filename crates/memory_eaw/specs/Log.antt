@@ -3,7 +3,7 @@ use Rattle.std.specs.Prelude.{ℕ, zero, suc, ◌≡◌, ◌*◌, ◌≤◌, Boo
 use Rattle.std.specs.Option.{option_map}
 use Rattle.array_shape.specs.declared.shape.Shape.{Shape}
 use Rattle.array_shape.specs.Places.{IsPlaced}
-use Rattle.array_image.specs.Parts.{Part, ranges_of}
+use Rattle.array_shape.specs.Logged.{Part, ranges_of}
 use Rattle.eaw_face.specs.State.{Logs}
 
 -- whether the number is live; its parts, in the order in which they were logged; and for how many there is room
@@ -13,15 +13,15 @@ pub record Log : Type 0 where
   pub room : ℕ
 
 -- a part lies within one page of the data
-abbrev pub IsPiece : Shape → Part → Type 0
-IsPiece shape part = IsPlaced shape part.0 (length part.1)
+abbrev pub IsWritePart : Shape → Part → Type 0
+IsWritePart shape part = IsPlaced shape part.0 (length part.1)
 
 -- A number that is not live has nothing logged. There is room for as many parts as the loggers have entries of a number.
 pub record IsSoundLog (shape : Shape) (log : Log) : Type 0 where
   pub idle : log.is_live ≡ false → log.parts ≡ []
   pub few : length log.parts ≤ shape.loggers * shape.entries
   pub room : shape.loggers * shape.entries ≤ log.room
-  pub placed : All (IsPiece shape) log.parts
+  pub placed : All (IsWritePart shape) log.parts
 
 -- what it has logged, as the model says it
 abbrev pub log_of : Log → Option (List Part)

@@ -1,6 +1,6 @@
 -- What the steps of a command make of a store in memory, and why they stop.
 use Rattle.std.specs.Prelude.{ℕ, ◌≡◌, ◌⊎◌, Bool, true, false, List, [], ◌∷◌, get_or, slice_set}
-use Rattle.array_image.specs.Parts.{Part, applied}
+use Rattle.array_shape.specs.Logged.{Part, applied}
 use Rattle.eaw_face.specs.StoreView.{StoreView}
 use Rattle.eaw_face.specs.Causes.{IsAlive, IsFirstFull}
 use Rattle.eaw_face.specs.declared.fault.EawFault.{EawFault}

@@ -1,9 +1,9 @@
 // An array in memory.
 ghost use Rattle.std.specs.Prelude.{ℕ, ◌≡◌, ◌≢◌, ◌+◌, ◌*◌, ◌^◌, ◌≤◌, ◌<◌, true, false, [], ◌∷◌, ◌++◌, length, take, drop, replicate, IfOk, IfErr, OnOk, OnErr};
-ghost use Rattle.pcm_media.specs.Images.{put, range};
+ghost use Rattle.counted.specs.Bytes.{put, range};
 ghost use Rattle.array_shape.specs.Places.{data_len};
-ghost use Rattle.array_shape.specs.Parts.{pieces_of};
-ghost use Rattle.array_image.specs.Parts.{applied, ranges_of};
+ghost use Rattle.array_shape.specs.Parts.{parts_of_write};
+ghost use Rattle.array_shape.specs.Logged.{applied, ranges_of};
 ghost use Rattle.eaw_face.specs.State.{listed, edited, range_at, part_at};
 ghost use Rattle.eaw_face.specs.StoreView.{IsLive, log_len};
 ghost use Rattle.eaw_face.specs.Command.{log_write, log_edit, commit, abort, nested_top, partial_abort, atomic_write, log_read, read};
@@ -120,8 +120,8 @@ impl MemoryEaw {
     fn check_room(&self, tid: u8, addr: u64, bytes: &[u8]) -> Result<(), EawFault>
         requires tid { tid < self.now.shape.numbers }
         requires inside { addr + length bytes.now ≤ data_len self.now.shape }
-        ensures fits { OnOk result (Fit (shown self.now) (listed ((shown self.now).ranges tid)) (ranges_of (pieces_of addr bytes.now))) }
-        ensures full { IfErr result (IsFullBy (shown self.now) (listed ((shown self.now).ranges tid)) (ranges_of (pieces_of addr bytes.now))) }
+        ensures fits { OnOk result (Fit (shown self.now) (listed ((shown self.now).ranges tid)) (ranges_of (parts_of_write addr bytes.now))) }
+        ensures full { IfErr result (IsFullBy (shown self.now) (listed ((shown self.now).ranges tid)) (ranges_of (parts_of_write addr bytes.now))) }
     {
         let log = &self.logs[usize::from(tid)];
         for logger in 0..self.shape.loggers {
@@ -202,13 +202,13 @@ impl MemoryEaw {
         overwrite(&mut self.bytes, addr as usize, bytes);
     }
 
-    // Logs the pieces of a write. Gives how many parts the number has logged then.
+    // Logs the parts of a write. Gives how many parts the number has logged then.
     fn append(&mut self, tid: u8, addr: u64, bytes: &[u8]) -> u32
         requires tid { tid < self.old.shape.numbers }
         requires inside { addr + length bytes.now ≤ data_len self.old.shape }
-        requires room { length (log_at (plain_of self.old).logs tid).parts + length (pieces_of addr bytes.now) ≤ self.old.shape.loggers * self.old.shape.entries }
-        ensures logs { plain_of self.new ≡ relogged tid true ((log_at (plain_of self.old).logs tid).parts ++ pieces_of addr bytes.now) (plain_of self.old) }
-        ensures len { result ≡ length (log_at (plain_of self.old).logs tid).parts + length (pieces_of addr bytes.now) }
+        requires room { length (log_at (plain_of self.old).logs tid).parts + length (parts_of_write addr bytes.now) ≤ self.old.shape.loggers * self.old.shape.entries }
+        ensures logs { plain_of self.new ≡ relogged tid true ((log_at (plain_of self.old).logs tid).parts ++ parts_of_write addr bytes.now) (plain_of self.old) }
+        ensures len { result ≡ length (log_at (plain_of self.old).logs tid).parts + length (parts_of_write addr bytes.now) }
     {
         let shape = self.shape;
         let log = &mut self.logs[usize::from(tid)];

@@ -2,10 +2,10 @@
 ghost use Rattle.std.specs.Prelude.{◌≡◌, ◌+◌, ◌-◌, ◌^◌, ◌≤◌, ◌<◌, true, false, [], ◌++◌, length, take, drop, IfOk, All, vec_len};
 ghost use Rattle.std.specs.Vec.{vec_capacity};
 ghost use Rattle.array_shape.specs.Places.{data_len};
-ghost use Rattle.array_shape.specs.Parts.{parts_on, pieces_of};
-ghost use Rattle.array_image.specs.Parts.{applied, AllFit, ranges_of};
+ghost use Rattle.array_shape.specs.Parts.{parts_on, parts_of_write};
+ghost use Rattle.array_shape.specs.Logged.{applied, AllFit, ranges_of};
 ghost use Rattle.eaw_face.specs.State.{edited, range_at, part_at, count_on};
-ghost use Rattle.memory_eaw.specs.Log.{IsPiece};
+ghost use Rattle.memory_eaw.specs.Log.{IsWritePart};
 
 use crate::part::PlainPart;
 use array_shape::{Part, Shape};
@@ -30,7 +30,7 @@ impl Model for PlainLog {
 }
 
 // The bytes of a write that go to one part of its range.
-fn piece_of(part: Part, addr: u64, bytes: &[u8]) -> &[u8]
+fn part_of_write(part: Part, addr: u64, bytes: &[u8]) -> &[u8]
     requires from { addr ≤ part.addr }
     requires to { part.addr + part.len ≤ addr + length bytes.now }
     ensures { result.now ≡ take part.len (drop (part.addr - addr) bytes.now) }
@@ -39,15 +39,15 @@ fn piece_of(part: Part, addr: u64, bytes: &[u8]) -> &[u8]
     &bytes[from..from + usize::from(part.len)]
 }
 
-// Appends the pieces of a write.
-fn push_pieces(parts: &mut Vec<PlainPart>, shape: Shape, addr: u64, bytes: &[u8])
+// Appends the parts of a write.
+fn push_parts(parts: &mut Vec<PlainPart>, shape: Shape, addr: u64, bytes: &[u8])
     requires inside { addr + length bytes.now ≤ data_len shape }
-    requires room { vec_len parts.old + length (pieces_of addr bytes.now) ≤ vec_capacity parts.old }
-    ensures items { parts.new.items ≡ parts.old.items ++ pieces_of addr bytes.now }
+    requires room { vec_len parts.old + length (parts_of_write addr bytes.now) ≤ vec_capacity parts.old }
+    ensures items { parts.new.items ≡ parts.old.items ++ parts_of_write addr bytes.now }
     ensures capacity { vec_capacity parts.new ≡ vec_capacity parts.old }
 {
     for part in shape.parts(addr, bytes.len() as u64) {
-        let piece = piece_of(part, addr, bytes);
+        let piece = part_of_write(part, addr, bytes);
         parts.push_reserved(PlainPart::new(part.addr, piece));
     }
 }
@@ -55,7 +55,7 @@ fn push_pieces(parts: &mut Vec<PlainPart>, shape: Shape, addr: u64, bytes: &[u8]
 // How many parts this logger has.
 fn count(parts: &[PlainPart], shape: Shape, logger: u8) -> u16
     requires few { length parts.now < 2 ^ 16 }
-    requires placed { All (IsPiece shape) parts.now }
+    requires placed { All (IsWritePart shape) parts.now }
     ensures { result ≡ count_on shape logger (ranges_of parts.now) }
 {
     let mut count = 0;
@@ -134,7 +134,7 @@ impl PlainLog {
     // How many of its parts this logger has.
     pub fn count_on(&self, shape: Shape, logger: u8) -> u16
         requires few { length self.now.parts < 2 ^ 16 }
-        requires placed { All (IsPiece shape) self.now.parts }
+        requires placed { All (IsWritePart shape) self.now.parts }
         ensures { result ≡ count_on shape logger (ranges_of self.now.parts) }
     {
         count(&self.parts, shape, logger)
@@ -149,14 +149,14 @@ impl PlainLog {
         apply_all(&self.parts[offset..], target);
     }
 
-    // Logs the pieces of a write, and is live.
+    // Logs the parts of a write, and is live.
     pub fn append(&mut self, shape: Shape, addr: u64, bytes: &[u8])
         requires inside { addr + length bytes.now ≤ data_len shape }
-        requires room { length self.old.parts + length (pieces_of addr bytes.now) ≤ self.old.room }
-        ensures { self.new ≡ record { is_live = true; parts = self.old.parts ++ pieces_of addr bytes.now; room = self.old.room } }
+        requires room { length self.old.parts + length (parts_of_write addr bytes.now) ≤ self.old.room }
+        ensures { self.new ≡ record { is_live = true; parts = self.old.parts ++ parts_of_write addr bytes.now; room = self.old.room } }
     {
         self.is_live = true;
-        push_pieces(&mut self.parts, shape, addr, bytes);
+        push_parts(&mut self.parts, shape, addr, bytes);
     }
 
     // Replaces bytes of a part, from this place in it on.

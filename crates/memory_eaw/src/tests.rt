@@ -9,7 +9,7 @@ use std::test::Fail;
 // The address of page 200.
 const PAGE: u64 = 102_400;
 
-// A command on number 0, whose addresses are within one page and whose pieces are short.
+// A command on number 0, whose addresses are within one page and whose parts are short.
 #[derive(Clone, Copy, Debug)]
 enum Step {
     LogWrite(u64, &'static [u8]),

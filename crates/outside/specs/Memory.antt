@@ -1,5 +1,5 @@
 -- What a source and a sink in memory show.
-use Rattle.std.specs.Prelude.{ℕ, List}
+use Rattle.std.specs.Prelude.{ℕ, ◌+◌, ◌==◌, ◌&&◌, nat_le, Bool, List, length}
 
 -- the bytes that are left, the calls that are to fail, how many were made, and how many of them failed
 pub record Reading : Type 0 where
@@ -15,3 +15,7 @@ pub record Writing : Type 0 where
   pub listed : List ℕ
   pub calls : ℕ
   pub faults : ℕ
+
+-- no call is to fail, and there is room for so many more bytes
+abbrev pub has_room : Writing → ℕ → Bool
+has_room sink more = (length sink.listed == 0) && nat_le (length sink.text + more) sink.room

@@ -1,8 +1,9 @@
 // A sink in memory, which fails at the calls that are listed.
-ghost use Rattle.std.specs.Prelude.{◌≡◌, ◌+◌, ◌≤◌, ◌↔◌, true, [], ◌∷◌, ◌++◌, length, IfOk, OnOk, OnErr, IsErr, Contains};
+ghost use Rattle.std.specs.Prelude.{◌≡◌, ◌+◌, ◌-◌, ◌≤◌, ◌↔◌, ℕ, true, [], ◌∷◌, ◌++◌, length, IfOk, OnOk, OnErr, IsErr, IsTrue, IsOkAnd, Contains};
 ghost use Rattle.counted.specs.Causes.{HasCause};
 ghost use Rattle.outside.specs.Told.{Puts, TakesPart};
-ghost use Rattle.outside.specs.Counts.{next_count, faults_after};
+ghost use Rattle.outside.specs.Memory.{has_room};
+ghost use Rattle.counted.specs.Causes.{next_count, faults_after};
 
 use crate::Sink;
 use counted::{Failed, NoMemory};
@@ -70,6 +71,9 @@ impl Sink for MemorySink {
 
     ghost faults = { λ s. s.faults };
 
+    // No call is listed, and its room suffices.
+    ghost steady = { has_room };
+
     fn write(&mut self, piece: &[u8]) -> Result<usize, Failed>
         ensures part { TakesPart result piece.now }
         ensures whole { IfOk result (λ n. n ≡ length piece.now) }
@@ -84,6 +88,8 @@ impl Sink for MemorySink {
         ensures calls { self.new.calls ≡ next_count self.old.calls }
         ensures faults { self.new.faults ≡ faults_after self.old.faults result }
         ensures cause { HasCause self.old.faults self.new.faults result }
+        ensures steady { (more : ℕ) → length piece.now ≤ more → IsTrue (has_room self.old more)
+            → IsOkAnd result (λ n. IsTrue (has_room self.new (more - n))) }
     {
         self.calls = self.calls.saturating_add(1);
         if self.listed.contains(&self.calls) {

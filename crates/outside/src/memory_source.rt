@@ -2,7 +2,7 @@
 ghost use Rattle.std.specs.Prelude.{◌≡◌, ◌≤◌, ◌==◌, ◌↔◌, min, true, [], ◌∷◌, ◌++◌, length, drop, IfOk, OnOk, OnErr, IsErr, IsOk, MatchResult, Contains, IsTrue};
 ghost use Rattle.counted.specs.Causes.{HasCause};
 ghost use Rattle.outside.specs.Told.{Takes};
-ghost use Rattle.outside.specs.Counts.{next_count, faults_after};
+ghost use Rattle.counted.specs.Causes.{next_count, faults_after};
 
 use crate::Source;
 use counted::{Failed, NoMemory};

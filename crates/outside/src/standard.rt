@@ -3,7 +3,7 @@ ghost use Rattle.std.specs.Prelude.{◌≡◌, ◌≤◌, false, [], length, IfO
 ghost use Rattle.std.specs.Io.KnownBytes.{ReadConsumes, WriteAppends};
 ghost use Rattle.counted.specs.Causes.{HasCause};
 ghost use Rattle.outside.specs.Told.{TakesPart};
-ghost use Rattle.outside.specs.Counts.{faults_after};
+ghost use Rattle.counted.specs.Causes.{faults_after};
 
 use crate::{Sink, Source};
 use counted::Failed;
@@ -89,6 +89,8 @@ impl<W: Write> Sink for StdSink<W> {
     ghost written = { λ _. [] };
 
     ghost faults = { λ s. s.faults };
+
+    ghost steady = { λ _ _. false };
 
     /// A writer that takes nothing of a piece that is not empty has failed.
     fn write(&mut self, piece: &[u8]) -> Result<usize, Failed>

@@ -1,13 +1,13 @@
 -- What a call does to a media behind a fuse.
 use Rattle.std.proofs.Common.{◌≡◌, ℕ, ◌-◌, ◌^◌, ◌<◌, ◌≤◌, ◌⊎◌, min, Bool, inl, inr, ⊎_elim, List, Result, Err, refl, subst, arith}
 use Rattle.std.proofs.lemmas.Bool.{cases_lt}
-use Rattle.std.proofs.lemmas.Result.{on_err_weaker}
+use Rattle.std.proofs.lemmas.Result.{on_err_weaker, on_ok_weaker}
 use Rattle.std.specs.Prelude.{IsTrue}
 use Rattle.counted.specs.Causes.{Rose}
 use Rattle.counted.specs.Moments.{Ticks}
 use Rattle.pcm_media.specs.Images.{MayLeave, partly}
 use Rattle.pcm_media.specs.View.{View, Writes, LeavesOnly}
-use Rattle.pcm_media.specs.Kept.{next_count}
+use Rattle.counted.specs.Causes.{next_count}
 use Rattle.pcm_media.specs.Fused.{fused_view}
 use Rattle.pcm_media.proofs.Left.{touched_by_nothing, left_partly}
 
@@ -16,7 +16,7 @@ pub stopped : {T E : Type 0} (tells : Bool) (ranges : List (ℕ × ℕ)) (inner 
     → (let r : Result T E = Err e in Writes tells ranges (fused_view inner blown) (fused_view inner then) r)
 stopped tells ranges inner blown then e le is = record {
   size = refl;
-  cause = record { later = omega arith; failed = omega arith };
+  cause = record { later = omega arith; failed = omega arith; kept = tt };
   touched = λ told. touched_by_nothing ranges inner.content;
   time = λ told. record { later = omega arith; keeps = λ t image le left. left; only = λ t image le left. inl left };
 }
@@ -65,7 +65,7 @@ module _ (tells : Bool) (ranges : List (ℕ × ℕ)) (old new : View)
     pub passed_on : Writes tells ranges (fused_view old 0) (fused_view new 0) result
     passed_on = record {
       size = writes.size;
-      cause = record { later = omega (arith, writes.cause.later); failed = on_err_weaker result (λ (rose : Rose old.faults new.faults). omega (arith, rose)) writes.cause.failed };
+      cause = record { later = omega (arith, writes.cause.later); failed = on_err_weaker result (λ (rose : Rose old.faults new.faults). omega (arith, rose)) writes.cause.failed; kept = on_ok_weaker result (λ (same : new.faults ≡ old.faults). omega (arith, same)) writes.cause.kept };
       touched = writes.touched;
       time = time;
     }

@@ -1,4 +1,3 @@
-pub mod Puts
 pub mod Left
 pub mod Ranges
 pub mod Writing

@@ -1,18 +1,11 @@
 -- What a media holds, and what a loss of power may leave of it.
-use Rattle.std.specs.Prelude.{ℕ, ◌+◌, ◌<◌, ◌≤◌, ◌≡◌, List, [], ◌∷◌, ◌++◌, length, take, drop, slice_index}
+use Rattle.std.specs.Prelude.{ℕ, ◌+◌, ◌<◌, ◌≤◌, ◌≡◌, List, [], ◌∷◌, ◌++◌, length, slice_index}
+use Rattle.counted.specs.Bytes.{put}
 
 -- the bytes that a read gives, and each range (place and length) that was written since the last barrier that succeeded
 pub record Content : Type 0 where
   pub bytes : List ℕ
   pub unsettled : List (ℕ × ℕ)
-
--- so many bytes from a place on
-abbrev pub range : List ℕ → ℕ → ℕ → List ℕ
-range bytes at count = take count (drop at bytes)
-
--- the old bytes with these at this place
-abbrev pub put : List ℕ → ℕ → List ℕ → List ℕ
-put old at bytes = take at old ++ bytes ++ drop (at + length bytes) old
 
 -- none of the ranges has this place
 abbrev pub IsOutside : List (ℕ × ℕ) → ℕ → Type 0

@@ -1,7 +1,7 @@
 -- What a media in memory keeps of its calls.
-use Rattle.std.specs.Prelude.{ℕ, ◌≡◌, ◌+◌, ◌-◌, ◌^◌, ◌<◌, ◌≤◌, ◌⊎◌, min, Bool, true, false, List, [], ◌∷◌, ◌++◌, length, Contains, Result, Ok, Err, OnOk, OnErr, is_ok}
+use Rattle.std.specs.Prelude.{ℕ, ◌≡◌, ◌+◌, ◌-◌, ◌^◌, ◌<◌, ◌≤◌, ◌⊎◌, ◌==◌, ◌&&◌, nat_le, Bool, true, false, List, [], ◌∷◌, ◌++◌, length, Contains, Result, Ok, Err, OnOk, OnErr, is_ok}
 use Rattle.std.specs.Bool.{OnTrue, OnFalse}
-use Rattle.counted.specs.Causes.{HasCause}
+use Rattle.counted.specs.Causes.{HasCause, next_count, faults_after}
 use Rattle.counted.specs.Moments.{Ticks}
 use Rattle.pcm_media.specs.declared.call.Call.{Call}
 use Rattle.pcm_media.specs.declared.call.Record.{Record}
@@ -21,15 +21,6 @@ pub record Kept : Type 0 where
 abbrev pub fresh_kept : ℕ → ℕ → Kept
 fresh_kept calls bytes = record { records = []; written = []; moment = 0; listed = []; faults = 0; calls_room = calls; bytes_room = bytes }
 
--- one more, up to the last value of a u64
-abbrev pub next_count : ℕ → ℕ
-next_count n = min (n + 1) (2 ^ 64 - 1)
-
--- the count of faults behind a call that answered this
-abbrev pub faults_after : {T E : Type 0} → ℕ → Result T E → ℕ
-faults_after n (Ok x) = n
-faults_after n (Err e) = next_count n
-
 -- the next call fails whatever it is: it is listed, or the moment stands at its last value
 abbrev pub MustFail : Kept → Type 0
 MustFail kept = (kept.moment ≡ 2 ^ 64 - 1) ⊎ Contains kept.listed (kept.moment + 1)
@@ -37,6 +28,11 @@ MustFail kept = (kept.moment ≡ 2 ^ 64 - 1) ⊎ Contains kept.listed (kept.mome
 -- there is room for one call more, which writes so many bytes
 abbrev pub HasRoom : Kept → ℕ → Type 0
 HasRoom kept count = (length kept.records < kept.calls_room) × (length kept.written + count ≤ kept.bytes_room)
+
+-- no call is listed, and there is room for so many calls more, which write so many bytes
+abbrev pub has_room_for : Kept → ℕ → ℕ → Bool
+has_room_for kept calls bytes = (length kept.listed == 0) && nat_le (kept.moment + calls) (2 ^ 64 - 1)
+    && nat_le (length kept.records + calls) kept.calls_room && nat_le (length kept.written + bytes) kept.bytes_room
 
 -- this call is kept behind the others, stamped with the moment to which it raised
 abbrev pub records_with : Kept → ℕ → Call → Bool → List Record

@@ -1,9 +1,9 @@
 -- What a media in memory shows.
-use Rattle.std.specs.Prelude.{ℕ, ◌<◌, ◌≡◌, ◌⊎◌, List, length}
+use Rattle.std.specs.Prelude.{ℕ, ◌<◌, ◌≡◌, ◌⊎◌, Bool, List, length}
 use Rattle.std.proofs.Common.{inl, ⊎_elim, arith}
 use Rattle.pcm_media.specs.Images.{Content, MayLeave}
 use Rattle.pcm_media.specs.View.{View}
-use Rattle.pcm_media.specs.Kept.{Kept, fresh_kept}
+use Rattle.pcm_media.specs.Kept.{Kept, fresh_kept, has_room_for}
 use Rattle.pcm_media.specs.Replay.{at_rest, total_bytes, IsStamped, content_after, LeftBefore}
 
 -- the bytes with which it was made, and what it keeps of its calls
@@ -31,6 +31,10 @@ view_of memory = record {
   left_since = LeftSince memory;
   faults = memory.kept.faults;
 }
+
+-- its next calls will not fail: so many, which write so many bytes
+abbrev pub is_steady : Memory → ℕ → ℕ → Bool
+is_steady memory calls bytes = has_room_for memory.kept calls bytes
 
 -- made anew, with these bytes and room for so many calls and written bytes
 abbrev pub fresh_memory : List ℕ → ℕ → ℕ → Memory

@@ -3,7 +3,8 @@ use Rattle.std.specs.Prelude.{ℕ, ◌+◌, ◌<◌, ◌≤◌, ◌⊎◌, Bool,
 use Rattle.pcm_media.specs.declared.call.Call.{Call}
 use Rattle.pcm_media.specs.declared.call.Call.TheVariants.{Read, Write, Barrier}
 use Rattle.pcm_media.specs.declared.call.Record.{Record}
-use Rattle.pcm_media.specs.Images.{Content, MayLeave, put, partly, settled}
+use Rattle.counted.specs.Bytes.{put}
+use Rattle.pcm_media.specs.Images.{Content, MayLeave, partly, settled}
 
 -- settled, with these bytes
 abbrev pub at_rest : List ℕ → Content

@@ -1,10 +1,11 @@
 // A media that passes so many calls on, and then fails each.
-ghost use Rattle.std.specs.Prelude.{◌≡◌, ◌+◌, ◌-◌, ◌<◌, ◌≤◌, [], ◌∷◌, length, IsTrue, OnOk};
+ghost use Rattle.std.specs.Prelude.{◌≡◌, ◌+◌, ◌-◌, ◌<◌, ◌≤◌, nat_le, ◌&&◌, [], ◌∷◌, length, ℕ, IsTrue, IsOk, OnOk};
 ghost use Rattle.std.specs.Bool.{OnTrue, OnFalse};
 ghost use Rattle.counted.specs.Moments.{Ticks};
-ghost use Rattle.pcm_media.specs.Images.{range, written, settled};
+ghost use Rattle.counted.specs.Bytes.{range};
+ghost use Rattle.pcm_media.specs.Images.{written, settled};
 ghost use Rattle.pcm_media.specs.View.{Writes};
-ghost use Rattle.pcm_media.specs.Kept.{next_count};
+ghost use Rattle.counted.specs.Causes.{next_count};
 ghost use Rattle.pcm_media.specs.Fused.{fused_view, Burns};
 
 use crate::Media;
@@ -72,12 +73,15 @@ impl<M> FusedMedia<M> {
 }
 
 impl<M: Media> Media for FusedMedia<M> {
+    ghost use Rattle.std.specs.Prelude.{nat_le, ◌&&◌};
     ghost use Rattle.pcm_media.specs.Fused.{fused_view, only_fused};
     ghost use Rattle.std.proofs.Common.{inr};
 
     ghost tells = { M.tells };
 
     ghost view = { λ m. fused_view (M.view m.inner) m.blown };
+
+    ghost steady = { λ m calls more. nat_le calls m.passes && M.steady m.inner calls more };
 
     ghost long = { λ m told. M.long m.inner told };
 
@@ -105,6 +109,8 @@ impl<M: Media> Media for FusedMedia<M> {
             (fused_view (M.view self.old.inner) self.old.blown).moment
             (fused_view (M.view self.new.inner) self.new.blown).moment
             result }
+        ensures steady { (calls more : ℕ) → IsTrue (nat_le (calls + 1) self.old.passes && M.steady self.old.inner (calls + 1) more)
+            → IsOk result × IsTrue (nat_le calls self.new.passes && M.steady self.new.inner calls more) }
 
         ensures passed_on { 0 < self.old.passes →
             Writes M.tells [] (M.view self.old.inner) (M.view self.new.inner) result }
@@ -128,6 +134,8 @@ impl<M: Media> Media for FusedMedia<M> {
             (fused_view (M.view self.old.inner) self.old.blown).moment
             (fused_view (M.view self.new.inner) self.new.blown).moment
             result }
+        ensures steady { (calls more : ℕ) → IsTrue (nat_le (calls + 1) self.old.passes && M.steady self.old.inner (calls + 1) (length bytes.now + more))
+            → IsOk result × IsTrue (nat_le calls self.new.passes && M.steady self.new.inner calls more) }
 
         ensures passed_on { 0 < self.old.passes →
             Writes M.tells ((at, length bytes.now) ∷ []) (M.view self.old.inner) (M.view self.new.inner) result }
@@ -150,6 +158,8 @@ impl<M: Media> Media for FusedMedia<M> {
             (fused_view (M.view self.old.inner) self.old.blown).moment
             (fused_view (M.view self.new.inner) self.new.blown).moment
             result }
+        ensures steady { (calls more : ℕ) → IsTrue (nat_le (calls + 1) self.old.passes && M.steady self.old.inner (calls + 1) more)
+            → IsOk result × IsTrue (nat_le calls self.new.passes && M.steady self.new.inner calls more) }
 
         ensures passed_on { 0 < self.old.passes →
             Writes M.tells [] (M.view self.old.inner) (M.view self.new.inner) result }

@@ -1,6 +1,7 @@
 // The calls that a media in memory keeps, and those that are to fail.
 ghost use Rattle.std.specs.Prelude.{◌≡◌, ◌↔◌, [], ◌∷◌, ◌++◌, length, IfOk, OnOk, OnErr, IsErr};
-ghost use Rattle.pcm_media.specs.Kept.{fresh_kept, next_count, MustFail, HasRoom, Makes, Takes};
+ghost use Rattle.counted.specs.Causes.{next_count};
+ghost use Rattle.pcm_media.specs.Kept.{fresh_kept, MustFail, HasRoom, Makes, Takes};
 
 use crate::{Call, Record};
 use counted::{Failed, NoMemory};

@@ -1,7 +1,8 @@
 // A media as the layers above see it: what a read gives, and what a loss of power may leave.
-ghost use Rattle.std.specs.Prelude.{◌≡◌, ◌+◌, ◌≤◌, [], ◌∷◌, Bool, List, ℕ, length, IsTrue, OnOk};
+ghost use Rattle.std.specs.Prelude.{◌≡◌, ◌+◌, ◌≤◌, [], ◌∷◌, Bool, List, ℕ, length, IsTrue, IsOk, OnOk};
 ghost use Rattle.counted.specs.Moments.{Ticks};
-ghost use Rattle.pcm_media.specs.Images.{MayLeave, range, written, settled};
+ghost use Rattle.counted.specs.Bytes.{range};
+ghost use Rattle.pcm_media.specs.Images.{MayLeave, written, settled};
 ghost use Rattle.pcm_media.specs.View.{View, Writes};
 
 use counted::Failed;
@@ -14,6 +15,9 @@ pub trait Media {
 
     /// Its length, what it holds, the moment, what might have been left since a moment, and its count of faults.
     ghost view: { Self → View };
+
+    /// Whether its next calls of `read`, `write` and `barrier` will not fail: so many, which write so many bytes in all.
+    ghost steady: { Self → ℕ → ℕ → Bool };
 
     /// How many bytes it has.
     fn len(&self) -> u64
@@ -28,20 +32,23 @@ pub trait Media {
         requires { at + length buf.old ≤ (view self.old).size }
         ensures bytes { IsTrue tells → OnOk result (buf.new ≡ range (view self.old).content.bytes at (length buf.old)) }
         ensures does { Writes tells [] (view self.old) (view self.new) result }
-        ensures ticks { Ticks (view self.old).moment (view self.new).moment result };
+        ensures ticks { Ticks (view self.old).moment (view self.new).moment result }
+        ensures steady { (calls more : ℕ) → IsTrue (steady self.old (calls + 1) more) → IsOk result × IsTrue (steady self.new calls more) };
 
     /// Writes the bytes at the place `at`. Until the next barrier that succeeds, a loss of power may leave anything there.
     fn write(&mut self, at: u64, bytes: &[u8]) -> Result<(), Failed>
         requires { at + length bytes.now ≤ (view self.old).size }
         ensures written { IsTrue tells → OnOk result ((view self.new).content ≡ written at bytes.now (view self.old).content) }
         ensures does { Writes tells ((at, length bytes.now) ∷ []) (view self.old) (view self.new) result }
-        ensures ticks { Ticks (view self.old).moment (view self.new).moment result };
+        ensures ticks { Ticks (view self.old).moment (view self.new).moment result }
+        ensures steady { (calls more : ℕ) → IsTrue (steady self.old (calls + 1) (length bytes.now + more)) → IsOk result × IsTrue (steady self.new calls more) };
 
     /// Waits until all that was written is sure.
     fn barrier(&mut self) -> Result<(), Failed>
         ensures settled { IsTrue tells → OnOk result ((view self.new).content ≡ settled (view self.old).content) }
         ensures does { Writes tells [] (view self.old) (view self.new) result }
-        ensures ticks { Ticks (view self.old).moment (view self.new).moment result };
+        ensures ticks { Ticks (view self.old).moment (view self.new).moment result }
+        ensures steady { (calls more : ℕ) → IsTrue (steady self.old (calls + 1) more) → IsOk result × IsTrue (steady self.new calls more) };
 
     /// It tells as many bytes as it has.
     ghost long: { (m : Self) → IsTrue tells → length (view m).content.bytes ≡ (view m).size };

@@ -1,11 +1,12 @@
 // A media in memory, which keeps its calls and fails at those that are listed.
-ghost use Rattle.std.specs.Prelude.{◌≡◌, ◌+◌, ◌-◌, ◌^◌, ◌≤◌, ◌<◌, ◌↔◌, [], ◌∷◌, ◌++◌, length, true, IfOk, OnOk, OnErr, IsErr};
+ghost use Rattle.std.specs.Prelude.{◌≡◌, ◌+◌, ◌-◌, ◌^◌, ◌≤◌, ◌<◌, ◌↔◌, [], ◌∷◌, ◌++◌, length, ℕ, true, IsTrue, IsOk, IfOk, OnOk, OnErr, IsErr};
 ghost use Rattle.counted.specs.Moments.{Ticks};
-ghost use Rattle.pcm_media.specs.Images.{put, range, written, settled, partly};
+ghost use Rattle.counted.specs.Bytes.{put, range};
+ghost use Rattle.pcm_media.specs.Images.{written, settled, partly};
 ghost use Rattle.pcm_media.specs.View.{Writes};
 ghost use Rattle.pcm_media.specs.declared.call.Call.TheVariants.{Read, Write, Barrier};
 ghost use Rattle.pcm_media.specs.Kept.{MustFail, HasRoom, Makes};
-ghost use Rattle.pcm_media.specs.Memory.{fresh_memory, content_of, view_of};
+ghost use Rattle.pcm_media.specs.Memory.{fresh_memory, content_of, view_of, is_steady};
 ghost use Rattle.pcm_media.specs.Choice.{IsLeftBy};
 
 use crate::choice::choose;
@@ -124,11 +125,13 @@ impl MemoryMedia {
 
 impl Media for MemoryMedia {
     ghost use Rattle.std.specs.Prelude.{true, refl};
-    ghost use Rattle.pcm_media.specs.Memory.{view_of, counts_now, only_now};
+    ghost use Rattle.pcm_media.specs.Memory.{view_of, is_steady, counts_now, only_now};
 
     ghost tells = { true };
 
     ghost view = { view_of };
+
+    ghost steady = { is_steady };
 
     ghost long = { λ m told. refl };
 
@@ -151,6 +154,7 @@ impl Media for MemoryMedia {
         ensures same { content_of self.new ≡ content_of self.old }
         ensures does { Writes true [] (view_of self.old) (view_of self.new) result }
         ensures ticks { Ticks self.old.kept.moment self.new.kept.moment result }
+        ensures steady { (calls more : ℕ) → IsTrue (is_steady self.old (calls + 1) more) → IsOk result × IsTrue (is_steady self.new calls more) }
 
         ensures listed { HasRoom self.old.kept 0 → (IsErr result ↔ MustFail self.old.kept) }
         ensures past_room { MustFail self.old.kept → IsErr result }
@@ -176,6 +180,7 @@ impl Media for MemoryMedia {
             OnErr result (content_of self.new ≡ partly ((at, length bytes.now) ∷ []) (content_of self.old)) }
         ensures does { Writes true ((at, length bytes.now) ∷ []) (view_of self.old) (view_of self.new) result }
         ensures ticks { Ticks self.old.kept.moment self.new.kept.moment result }
+        ensures steady { (calls more : ℕ) → IsTrue (is_steady self.old (calls + 1) (length bytes.now + more)) → IsOk result × IsTrue (is_steady self.new calls more) }
 
         ensures listed { HasRoom self.old.kept (length bytes.now) → (IsErr result ↔ MustFail self.old.kept) }
         ensures past_room { MustFail self.old.kept → IsErr result }
@@ -196,6 +201,7 @@ impl Media for MemoryMedia {
         ensures err { OnErr result (content_of self.new ≡ content_of self.old) }
         ensures does { Writes true [] (view_of self.old) (view_of self.new) result }
         ensures ticks { Ticks self.old.kept.moment self.new.kept.moment result }
+        ensures steady { (calls more : ℕ) → IsTrue (is_steady self.old (calls + 1) more) → IsOk result × IsTrue (is_steady self.new calls more) }
 
         ensures listed { HasRoom self.old.kept 0 → (IsErr result ↔ MustFail self.old.kept) }
         ensures past_room { MustFail self.old.kept → IsErr result }

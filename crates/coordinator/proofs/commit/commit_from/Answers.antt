@@ -1,5 +1,5 @@
 use Rattle.std.proofs.Common.{sym, ap, subst, List}
-use Rattle.array_image.specs.Parts.{Part, applied}
+use Rattle.array_shape.specs.Logged.{Part, applied}
 use Rattle.array_image.specs.Image.{data_of}
 use Rattle.array_image.specs.Marked.{IsMaskOf}
 use Rattle.coordinator.proofs.Masks.{mask_none, none_mask}

@@ -1,6 +1,6 @@
 use Rattle.std.proofs.Common.{◌≡◌, IsTrue}
 use Rattle.array_image.specs.Joined.{joined}
-use Rattle.array_image.specs.Parts.{applied, places_of}
+use Rattle.array_shape.specs.Logged.{applied, places_of}
 use Rattle.array_image.specs.Image.{data_of}
 use Rattle.array_image.specs.Marked.{named_at, named_parts}
 use Rattle.array_image.proofs.Calls.{SoFar}

@@ -1,4 +1,4 @@
-use Rattle.std.proofs.Common.{◌≡◌, ◌+◌, ◌≤◌, true, [], ⊎_elim, sym, ◌∙◌, subst, arith}
+use Rattle.std.proofs.Common.{refl, ◌≡◌, ◌+◌, ◌≤◌, true, [], ⊎_elim, sym, ◌∙◌, subst, arith}
 use Rattle.std.proofs.lemmas.Bool.{cases_eq}
 use Rattle.pcm_media.proofs.Left.{same_bytes}
 use Rattle.array_image.specs.Decided.{decided}
@@ -14,7 +14,7 @@ loop-logger-preserved g c =
     let shape = c.args.shape.now in
     let base = (m.view c.args.media.now).content.bytes in
     record {
-      does = goes_on m.tells [] [] _ _ _ (λ told i out. out) c.loop-logger.invariant.does c.in_ok-is_bad.ensures.does;
+      does = goes_on m.tells [] [] _ _ _ (λ told i out. out) c.loop-logger.invariant.does c.in_ok-is_bad.ensures.does refl;
       good = λ told h lt. ⊎_elim
           (λ is. subst (λ k. decided shape base k c.args.tid ≡ true → IsGoodRow shape base k c.args.tid) (sym is)
           (subst (λ image. decided shape image c.loop-logger.logger c.args.tid ≡ true → IsGoodRow shape image c.loop-logger.logger c.args.tid) (same_bytes _ _ (c.loop-logger.invariant.does.touched told)) (c.in_ok-is_bad.ensures.none told c.if-branch.false)))

@@ -1,4 +1,4 @@
-use Rattle.std.proofs.Common.{◌≡◌, ◌+◌, ◌≤◌, true, [], ⊎_elim, sym, ◌∙◌, subst, arith}
+use Rattle.std.proofs.Common.{refl, ◌≡◌, ◌+◌, ◌≤◌, true, [], ⊎_elim, sym, ◌∙◌, subst, arith}
 use Rattle.std.proofs.lemmas.Bool.{cases_eq}
 use Rattle.std.proofs.lemmas.Result.{err_from_is_err_and}
 use Rattle.pcm_media.proofs.Left.{same_bytes}
@@ -29,7 +29,7 @@ loop-tid-preserved g c =
     let shape = c.args.shape.now in
     let base = (m.view c.args.media.now).content.bytes in
     record {
-      does = goes_on m.tells [] [] _ _ _ (λ told i out. out) c.loop-tid.invariant.does c.in_ok-check_number.ensures.does;
+      does = goes_on m.tells [] [] _ _ _ (λ told i out. out) c.loop-tid.invariant.does c.in_ok-check_number.ensures.does refl;
       good = λ told h t lt lt'. ⊎_elim
           (λ is. subst (λ k. decided shape base h k ≡ true → IsGoodRow shape base h k) (sym is)
           (subst (λ image. decided shape image h c.loop-tid.tid ≡ true → IsGoodRow shape image h c.loop-tid.tid) (same_bytes _ _ (c.loop-tid.invariant.does.touched told)) (c.in_ok-check_number.ensures.good told h lt)))

@@ -2,7 +2,7 @@ use Rattle.std.proofs.Common.{◌≡◌, ℕ, ◌-◌, ◌<◌, List, length, ta
 use Rattle.std.specs.Prelude.{slice_index, OnOk, IsTrue}
 use Rattle.std.proofs.lemmas.List.{get_or-take, take_all}
 use Rattle.pcm_media.specs.View.{LeavesOnly}
-use Rattle.array_image.specs.Parts.{applied}
+use Rattle.array_shape.specs.Logged.{applied}
 use Rattle.array_image.specs.Image.{data_of}
 use Rattle.array_image.specs.Standing.{IsEither}
 use Rattle.array_image.specs.Marked.{named_parts}

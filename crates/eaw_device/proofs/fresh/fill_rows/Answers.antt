@@ -1,6 +1,6 @@
 use Rattle.std.proofs.Common.{◌≡◌, ◌+◌, ◌*◌, ◌≤◌, ℕ, length, sym, ap, subst, ◌∙◌, arith}
 use Rattle.std.proofs.lemmas.List.{length-replicate}
-use Rattle.pcm_media.specs.Images.{put}
+use Rattle.counted.specs.Bytes.{put}
 use Rattle.pcm_media.proofs.Writing.{writes_on}
 use Rattle.array_shape.specs.Places.{media_len}
 use Rattle.array_image.specs.Image.{data_of}

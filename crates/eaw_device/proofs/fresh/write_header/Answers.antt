@@ -1,6 +1,7 @@
 use Rattle.std.proofs.Common.{◌≡◌, ◌+◌, ◌≤◌, ℕ, List, [], ◌∷◌, length, refl, sym, ap, subst, ◌∙◌, arith}
 use Rattle.std.proofs.lemmas.Result.{on_ok_weaker}
-use Rattle.pcm_media.specs.Images.{Content, put, settled, written, IsOutside, SameOutside}
+use Rattle.counted.specs.Bytes.{put}
+use Rattle.pcm_media.specs.Images.{Content, settled, written, IsOutside, SameOutside}
 use Rattle.pcm_media.proofs.Left.{same_outside-put}
 use Rattle.pcm_media.proofs.Ranges.{range-put}
 use Rattle.pcm_media.proofs.Writing.{writes_on, writes_within}

@@ -1,6 +1,6 @@
 use Rattle.std.proofs.Common.{ℕ, ◌<◌, IsTrue}
 use Rattle.std.specs.Prelude.{slice_index}
-use Rattle.array_shape.specs.Parts.{pieces_on}
+use Rattle.array_shape.specs.Parts.{write_parts_on}
 use Rattle.array_image.proofs.Calls.{SoFar}
 use Rattle.logger.specs.Cells.{HoldsParts}
 use Rattle.eaw_device.specs.Steps.{staged_places}
@@ -11,5 +11,5 @@ invariant-loop-number g l =
     let m = g.M.Media in
     record {
       does : SoFar m.tells (staged_places l.shape l.tid l.log.held l.addr l.bytes) (m.view l.fn.media) (m.view l.media);
-      holds : IsTrue m.tells → (h : ℕ) → h < l.number → HoldsParts l.shape (m.view l.media).content.bytes h l.tid (slice_index l.log.held h) (pieces_on l.shape h l.addr l.bytes);
+      holds : IsTrue m.tells → (h : ℕ) → h < l.number → HoldsParts l.shape (m.view l.media).content.bytes h l.tid (slice_index l.log.held h) (write_parts_on l.shape h l.addr l.bytes);
     }

@@ -1,5 +1,5 @@
 use Rattle.std.proofs.Common.{◌≡◌, ℕ, ◌+◌, ◌*◌, ◌/◌, ap, sym, subst, ◌∙◌, arith}
-use Rattle.pcm_media.specs.Images.{range}
+use Rattle.counted.specs.Bytes.{range}
 use Rattle.mars_shell.specs.Kept.{slots_of}
 use Rattle.mars_shell.specs.Records.{IsFirstDamaged}
 use Rattle.mars_shell.proofs.DamageLemmas.{slots_whole, sound_more, first_damaged, read_on}

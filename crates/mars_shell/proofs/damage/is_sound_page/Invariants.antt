@@ -1,5 +1,5 @@
 use Rattle.std.proofs.Common.{ℕ, ◌+◌, ◌*◌, ◌<◌}
-use Rattle.pcm_media.specs.Images.{range}
+use Rattle.counted.specs.Bytes.{range}
 use Rattle.record_slots.specs.Slots.{slot_said}
 use Rattle.mars_shell.specs.Records.{IsSoundIn}
 use Rattle.mars_shell.proofs.damage.is_sound_page.Given as goal

@@ -1,7 +1,7 @@
 use Rattle.std.proofs.Common.{◌≡◌, List, [], length, sym, ap, ◌∙◌}
 use Rattle.std.proofs.lemmas.Bool.{false≢true}
 use Rattle.std.proofs.lemmas.List.{nil_from_length}
-use Rattle.array_image.specs.Parts.{Part, applied}
+use Rattle.array_shape.specs.Logged.{Part, applied}
 use Rattle.eaw_face.specs.State.{listed}
 use Rattle.mars_shell.proofs.StoreLemmas.{logs_nothing, not_some}
 use Rattle.mars_shell.proofs.session.commit_log.Goals as goal

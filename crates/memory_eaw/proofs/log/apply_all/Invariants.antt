@@ -1,5 +1,5 @@
 use Rattle.std.proofs.Common.{◌≡◌, drop, length}
-use Rattle.array_image.specs.Parts.{applied, AllFit}
+use Rattle.array_shape.specs.Logged.{applied, AllFit}
 use Rattle.memory_eaw.proofs.log.apply_all.Given as goal
 
 abbrev pub invariant-loop-part : goal.invariant-loop-part

@@ -3,7 +3,7 @@ use Rattle.std.proofs.lemmas.Bool.{eq-eqb, ne_eqb}
 use Rattle.std.proofs.lemmas.List.{length-take}
 use Rattle.array_shape.specs.declared.shape.Shape.{Shape}
 use Rattle.array_shape.specs.Places.{logger_of}
-use Rattle.array_image.specs.Parts.{Part, ranges_of}
+use Rattle.array_shape.specs.Logged.{Part, ranges_of}
 use Rattle.eaw_face.specs.State.{count_on}
 use Rattle.memory_eaw.proofs.Parts.{count_on-more, count_on-few}
 use Rattle.memory_eaw.proofs.log.count.Goals as goal

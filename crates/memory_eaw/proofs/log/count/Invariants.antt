@@ -1,5 +1,5 @@
 use Rattle.std.proofs.Common.{◌≡◌, take}
-use Rattle.array_image.specs.Parts.{ranges_of}
+use Rattle.array_shape.specs.Logged.{ranges_of}
 use Rattle.eaw_face.specs.State.{count_on}
 use Rattle.memory_eaw.proofs.log.count.Given as goal
 

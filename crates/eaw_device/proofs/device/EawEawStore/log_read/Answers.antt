@@ -1,7 +1,7 @@
 use Rattle.std.proofs.Common.{◌≡◌, ◌∙◌, ℕ, List, length, take, drop, sym, ap, arith}
 use Rattle.array_shape.specs.declared.shape.Shape.{Shape}
 use Rattle.array_shape.specs.Places.{logger_of}
-use Rattle.array_image.specs.Parts.{Part}
+use Rattle.array_shape.specs.Logged.{Part}
 use Rattle.array_image.specs.Image.{cell_of, cell_head}
 use Rattle.eaw_face.specs.State.{range_at, part_at}
 use Rattle.eaw_device.specs.Logs.{parts_in}

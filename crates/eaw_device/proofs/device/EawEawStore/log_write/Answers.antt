@@ -9,7 +9,7 @@ use Rattle.eaw_device.proofs.StagedCalls.{when_ok}
 use Rattle.eaw_device.proofs.Doing.{when_err, one_log}
 use Rattle.eaw_device.proofs.Tables.{found_log}
 use Rattle.eaw_device.proofs.Keeping.{log_short}
-use Rattle.eaw_device.proofs.Writes.{write_refused, pieces_fit, write_failed, write_sound, write_done, write_len}
+use Rattle.eaw_device.proofs.Writes.{write_refused, write_parts_fit, write_failed, write_sound, write_done, write_len}
 use Rattle.eaw_device.proofs.device.EawEawStore.log_write.Goals as goal
 
 pub returns-in_err-at-clause-does : goal.returns-in_err-at-clause-does
@@ -30,7 +30,7 @@ stage_all-requires-clause-room g c =
     let s = c.args.self.now in
     let below : c.args.tid < length s.logs.items = omega (arith, s.sound.many, c.in_ok-at.ensures.small) in
     let there = found_log s.logs.items c.in_ok-at.at c.args.tid c.index-log.result.now c.in_ok-at.ensures.at below c.index-log.ensures in
-    pieces_fit m.tells (m.view s.media) s.shape s.logs.items s.is_dead s.sound c.in_ok-at.ensures.alive c.args.tid c.in_ok-at.ensures.small c.index-log.result.now there c.args.addr c.args.bytes.now c.requires.inside
+    write_parts_fit m.tells (m.view s.media) s.shape s.logs.items s.is_dead s.sound c.in_ok-at.ensures.alive c.args.tid c.in_ok-at.ensures.small c.index-log.result.now there c.args.addr c.args.bytes.now c.requires.inside
     (c.in_ok-at.ensures.room c.index-log.result.now there)
 
 pub returns-then-is_err-clause-does : goal.returns-then-is_err-clause-does

@@ -1,6 +1,7 @@
 use Rattle.std.proofs.Common.{◌≡◌, ◌+◌, ◌∙◌, ap, length, arith}
 use Rattle.std.proofs.lemmas.Result.{on_ok_weaker}
-use Rattle.pcm_media.specs.Images.{Content, put}
+use Rattle.counted.specs.Bytes.{put}
+use Rattle.pcm_media.specs.Images.{Content}
 use Rattle.array_shape.specs.Places.{media_len}
 use Rattle.array_image.specs.Image.{cell_of}
 use Rattle.array_image.proofs.Places.{cell_fits_in}

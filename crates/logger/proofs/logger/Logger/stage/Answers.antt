@@ -3,13 +3,13 @@ use Rattle.std.proofs.lemmas.List.{length-map}
 use Rattle.std.proofs.lemmas.Result.{err_from_is_err_and}
 use Rattle.array_shape.specs.declared.shape.Shape.{Shape}
 use Rattle.array_shape.specs.Places.{media_len}
-use Rattle.array_shape.specs.Parts.{parts_on, piece_of, pieces_on}
-use Rattle.array_shape.proofs.Cutting.{pieces_on-parts}
+use Rattle.array_shape.specs.Parts.{parts_on, part_of_write, write_parts_on}
+use Rattle.array_shape.proofs.Cutting.{write_parts_on-parts}
 use Rattle.logger.proofs.Staging.{staged_holds}
 use Rattle.logger.proofs.logger.Logger.stage.Goals as goal
 
-as_many : (shape : Shape) (g addr : ℕ) (bytes : List ℕ) (n : ℕ) → n ≡ length (parts_on shape g addr (length bytes)) → n ≡ length (pieces_on shape g addr bytes)
-as_many shape g addr bytes n is = omega (arith, ap length (pieces_on-parts shape addr bytes g), length-map (parts_on shape g addr (length bytes)) (piece_of addr bytes))
+as_many : (shape : Shape) (g addr : ℕ) (bytes : List ℕ) (n : ℕ) → n ≡ length (parts_on shape g addr (length bytes)) → n ≡ length (write_parts_on shape g addr bytes)
+as_many shape g addr bytes n is = omega (arith, ap length (write_parts_on-parts shape addr bytes g), length-map (parts_on shape g addr (length bytes)) (part_of_write addr bytes))
 
 pub returns-then-from-clause-fault : goal.returns-then-from-clause-fault
 returns-then-from-clause-fault g c =
@@ -25,7 +25,7 @@ pub returns-in_err-put_parts-clause-fault : goal.returns-in_err-put_parts-clause
 returns-in_err-put_parts-clause-fault g c =
     let needed = as_many c.args.self.shape c.args.self.number c.args.addr c.args.bytes.now c.cells_needed-needed.result c.cells_needed-needed.ensures in
     let fault = err_from_is_err_and c.from_residual.result c.from_residual.ensures.1 in
-    let room : c.args.held + length (pieces_on c.args.self.shape c.args.self.number c.args.addr c.args.bytes.now) ≤ c.args.self.shape.entries = omega arith in
+    let room : c.args.held + length (write_parts_on c.args.self.shape c.args.self.number c.args.addr c.args.bytes.now) ≤ c.args.self.shape.entries = omega arith in
     rw (fault.1, fault.2) room
 
 pub returns-in_err-put_parts-clause-full : goal.returns-in_err-put_parts-clause-full

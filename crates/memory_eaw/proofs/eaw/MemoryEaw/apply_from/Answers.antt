@@ -1,8 +1,8 @@
 use Rattle.std.proofs.Common.{◌≡◌, ℕ, length, drop, ◌∙◌, sym, ap, subst, arith}
 use Rattle.std.proofs.lemmas.List.Elements.{All-drop}
 use Rattle.array_shape.specs.Places.{data_len}
-use Rattle.array_image.specs.Parts.{AllFit}
-use Rattle.memory_eaw.specs.Log.{IsPiece}
+use Rattle.array_shape.specs.Logged.{AllFit}
+use Rattle.memory_eaw.specs.Log.{IsWritePart}
 use Rattle.memory_eaw.proofs.Parts.{all_fit}
 use Rattle.memory_eaw.proofs.Sound.{sound_read}
 use Rattle.memory_eaw.proofs.eaw.MemoryEaw.apply_from.Goals as goal
@@ -13,4 +13,4 @@ apply_from-requires-clause-fit c =
     let sound = sound_read self.shape self.logs.items c.args.at c.index.result.now self.sound.logs (omega (arith, self.sound.numbers)) c.index.ensures in
     let long : length c.deref_mut.result.now ≡ data_len self.shape = ap length c.deref_mut.ensures.value ∙ self.sound.long in
     subst (λ (n : ℕ). AllFit n (drop c.args.offset c.index.result.now.parts)) (sym long)
-    (all_fit self.shape (drop c.args.offset c.index.result.now.parts) (All-drop (IsPiece self.shape) c.args.offset c.index.result.now.parts sound.placed))
+    (all_fit self.shape (drop c.args.offset c.index.result.now.parts) (All-drop (IsWritePart self.shape) c.args.offset c.index.result.now.parts sound.placed))

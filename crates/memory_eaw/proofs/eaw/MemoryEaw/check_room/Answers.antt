@@ -1,6 +1,6 @@
 use Rattle.std.proofs.Common.{◌≡◌, ◌<◌, length, refl, sym, ◌∙◌, ap, arith, below_more}
-use Rattle.array_shape.specs.Parts.{pieces_of}
-use Rattle.array_image.specs.Parts.{ranges_of}
+use Rattle.array_shape.specs.Parts.{parts_of_write}
+use Rattle.array_shape.specs.Logged.{ranges_of}
 use Rattle.eaw_face.specs.State.{listed, count_on}
 use Rattle.memory_eaw.specs.Log.{Log}
 use Rattle.memory_eaw.specs.Shown.{shown}
@@ -19,7 +19,7 @@ module _ (c : After-count_range-needed) where
       ∙ ap (λ (log : Log). count_on c.args.self.now.shape c.loop-logger.logger (ranges_of log.parts)) (log_is c.args.self.now.logs.items c.args.tid c.from.result c.index-log.result.now lt c.from.ensures c.index-log.ensures)
       ∙ sym (ap (count_on c.args.self.now.shape c.loop-logger.logger) (ranges_are c.args.self.now.shape c.args.self.now.logs.items c.args.self.now.sound.logs c.args.tid lt))
 
-  needed : c.count_range-needed.result ≡ count_on c.args.self.now.shape c.loop-logger.logger (ranges_of (pieces_of c.args.addr c.args.bytes.now))
+  needed : c.count_range-needed.result ≡ count_on c.args.self.now.shape c.loop-logger.logger (ranges_of (parts_of_write c.args.addr c.args.bytes.now))
   needed = c.count_range-needed.ensures ∙ sym (count_on-write c.args.self.now.shape c.loop-logger.logger c.args.addr c.args.bytes.now)
 
 pub returns-then-from-clause-full : goal.returns-then-from-clause-full

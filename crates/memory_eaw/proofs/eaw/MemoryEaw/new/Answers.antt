@@ -1,6 +1,6 @@
 use Rattle.std.proofs.Common.{◌≡◌, ℕ, [], List, ⊎_elim, refl, ◌∙◌, ap}
 use Rattle.std.specs.Option.{option_map}
-use Rattle.array_image.specs.Parts.{ranges_of}
+use Rattle.array_shape.specs.Logged.{ranges_of}
 use Rattle.memory_eaw.specs.Kept.{Kept}
 use Rattle.memory_eaw.specs.Log.{Log, logged, outline}
 use Rattle.memory_eaw.specs.Plain.{LeftSince}

@@ -1,7 +1,7 @@
 use Rattle.std.proofs.Common.{ℕ, List, ◌∙◌, ap, subst}
-use Rattle.pcm_media.specs.Images.{put}
-use Rattle.array_shape.specs.Parts.{pieces_of}
-use Rattle.array_image.specs.Parts.{ranges_of}
+use Rattle.counted.specs.Bytes.{put}
+use Rattle.array_shape.specs.Parts.{parts_of_write}
+use Rattle.array_shape.specs.Logged.{ranges_of}
 use Rattle.eaw_face.specs.State.{listed}
 use Rattle.eaw_face.specs.Causes.{Fit}
 use Rattle.memory_eaw.specs.Plain.{Plain}
@@ -13,7 +13,7 @@ pub returns-clause-does : goal.returns-clause-does
 returns-clause-does c =
     let self = c.args.self.now in
     does_put (plain_of self) (plain_of c.put.new.self) c.args.tid c.args.addr c.args.bytes.now c.in_ok-check_alive.ensures.alive
-    (subst (λ (held : List (ℕ × ℕ)). Fit (shown self) held (ranges_of (pieces_of c.args.addr c.args.bytes.now))) (ap listed c.requires.free) c.in_ok-check_room.ensures.fits)
+    (subst (λ (held : List (ℕ × ℕ)). Fit (shown self) held (ranges_of (parts_of_write c.args.addr c.args.bytes.now))) (ap listed c.requires.free) c.in_ok-check_room.ensures.fits)
     (c.put.ensures ∙ ap with c.in_ok-change.ensures.done.1)
   where
     with : Plain → Plain

@@ -1,7 +1,7 @@
 use Rattle.std.proofs.Common.{◌*◌, ◌<◌, ◌++◌, true, length, sym, ◌∙◌, ap, arith}
 use Rattle.std.proofs.lemmas.List.{length-append}
-use Rattle.array_shape.specs.Parts.{pieces_of}
-use Rattle.array_image.specs.Parts.{ranges_of}
+use Rattle.array_shape.specs.Parts.{parts_of_write}
+use Rattle.array_shape.specs.Logged.{ranges_of}
 use Rattle.eaw_face.specs.State.{listed}
 use Rattle.memory_eaw.specs.Plain.{Plain}
 use Rattle.memory_eaw.specs.Shown.{plain_of, shown}
@@ -15,12 +15,12 @@ use Rattle.memory_eaw.proofs.eaw.MemoryEawEawStore.log_write.Goals as goal
 pub append-requires-clause-room : goal.append-requires-clause-room
 append-requires-clause-room c =
     let self = c.args.self.now in
-    let room = fit_room self.shape (listed ((shown self).ranges c.args.tid)) (ranges_of (pieces_of c.args.addr c.args.bytes.now)) c.in_ok-check_room.ensures.fits in
+    let room = fit_room self.shape (listed ((shown self).ranges c.args.tid)) (ranges_of (parts_of_write c.args.addr c.args.bytes.now)) c.in_ok-check_room.ensures.fits in
     omega (
       arith,
       room,
       log_len_is (plain_of self) self.sound c.args.tid c.in_ok-check_number.ensures.known.1,
-      length-ranges_of (pieces_of c.args.addr c.args.bytes.now),
+      length-ranges_of (parts_of_write c.args.addr c.args.bytes.now),
       ap (λ (p : Plain). length (log_at p.logs c.args.tid).parts) c.in_ok-call.ensures.done.1,
       ap (λ (p : Plain). p.shape.loggers * p.shape.entries) c.in_ok-call.ensures.done.1,
     )
@@ -29,7 +29,7 @@ pub returns-clause-does : goal.returns-clause-does
 returns-clause-does c =
     let self = c.args.self.now in
     does_written (plain_of self) self.sound c.args.tid c.in_ok-check_number.ensures.known.1 c.in_ok-check_number.ensures.known.0 (plain_of c.append.new.self) c.append.result c.args.addr c.args.bytes.now c.in_ok-check_room.ensures.fits
-    (c.append.ensures.logs ∙ ap (λ (p : Plain). relogged c.args.tid true ((log_at p.logs c.args.tid).parts ++ pieces_of c.args.addr c.args.bytes.now) p) c.in_ok-call.ensures.done.1)
+    (c.append.ensures.logs ∙ ap (λ (p : Plain). relogged c.args.tid true ((log_at p.logs c.args.tid).parts ++ parts_of_write c.args.addr c.args.bytes.now) p) c.in_ok-call.ensures.done.1)
 
 pub returns-clause-len : goal.returns-clause-len
 returns-clause-len c =
@@ -41,4 +41,4 @@ returns-clause-len c =
     let small : c.args.tid < new.shape.numbers = omega (arith, ap (λ (p : Plain). p.shape.numbers) c.append.ensures.logs) in
     let parts = parts-relogged (plain_of mid) (plain_of new) c.args.tid true _ there c.append.ensures.logs in
     c.append.ensures.len
-    ∙ sym (log_len_is (plain_of new) new.sound c.args.tid small ∙ ap length parts ∙ length-append (log_at mid.logs.items c.args.tid).parts (pieces_of c.args.addr c.args.bytes.now))
+    ∙ sym (log_len_is (plain_of new) new.sound c.args.tid small ∙ ap length parts ∙ length-append (log_at mid.logs.items c.args.tid).parts (parts_of_write c.args.addr c.args.bytes.now))

@@ -1,6 +1,6 @@
 use Rattle.std.proofs.Common.{◌+◌, ◌<◌, ◌≤◌, length, List, ap, arith}
 use Rattle.std.specs.Vec.{vec_capacity}
-use Rattle.array_image.specs.Parts.{Part, ranges_of}
+use Rattle.array_shape.specs.Logged.{Part, ranges_of}
 use Rattle.eaw_face.specs.State.{range_at}
 use Rattle.memory_eaw.specs.Log.{Log}
 use Rattle.memory_eaw.proofs.Parts.{range_at-part, edited-part}

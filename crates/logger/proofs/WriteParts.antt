@@ -1,12 +1,12 @@
--- The pieces of a write, applied to data, are the write.
+-- The parts of a write, applied to data, are the write.
 use Rattle.std.proofs.Common.{◌≡◌, ℕ, zero, suc, ◌+◌, ◌-◌, ◌≤◌, inl, inr, List, [], ◌∷◌, ◌++◌, length, get_or, take, drop, refl, sym, ◌∙◌, ap, arith}
 use Rattle.std.proofs.lemmas.Bool.{cases_lt}
 use Rattle.std.proofs.lemmas.List.{ext_get_or, get_or_append_left, get_or-append_right, length-append, append-nil, length-take, length-drop, take-append-drop, take_all}
-use Rattle.pcm_media.specs.Images.{put}
-use Rattle.pcm_media.proofs.Puts.{length-put, get_or-put_inside}
+use Rattle.counted.specs.Bytes.{put}
+use Rattle.counted.proofs.Puts.{length-put, get_or-put_inside}
 use Rattle.pcm_media.proofs.Left.{get_or-put_outside}
-use Rattle.array_shape.specs.Parts.{page_left, first_pieces, pieces_of}
-use Rattle.array_image.specs.Parts.{applied}
+use Rattle.array_shape.specs.Parts.{page_left, first_parts_of_write, parts_of_write}
+use Rattle.array_shape.specs.Logged.{applied}
 
 -- two writes, the second behind the first
 pub put-append : (d : List ℕ) (at : ℕ) (xs ys : List ℕ) → at + length xs + length ys ≤ length d → put (put d at xs) (at + length xs) ys ≡ put d at (xs ++ ys)
@@ -37,7 +37,7 @@ put-append d at xs ys fits =
       ]
     ])
 
-first_none : (n addr : ℕ) (bytes : List ℕ) → length bytes ≡ 0 → first_pieces n addr bytes ≡ []
+first_none : (n addr : ℕ) (bytes : List ℕ) → length bytes ≡ 0 → first_parts_of_write n addr bytes ≡ []
 first_none zero addr bytes none = refl
 first_none (suc n) addr [] none = refl
 first_none (suc n) addr (b ∷ bytes) none = absurd (omega arith)
@@ -45,7 +45,7 @@ first_none (suc n) addr (b ∷ bytes) none = absurd (omega arith)
 put_nothing : (d : List ℕ) (at : ℕ) → put d at [] ≡ d
 put_nothing d at = (let here : at + 0 ≡ at = omega arith in λ i. append-nil (take at d) i ++ drop (here i) d) ∙ take-append-drop at d
 
-first_applied : (n addr : ℕ) (bytes d : List ℕ) → length bytes ≤ n → addr + length bytes ≤ length d → applied (first_pieces n addr bytes) d ≡ put d addr bytes
+first_applied : (n addr : ℕ) (bytes d : List ℕ) → length bytes ≤ n → addr + length bytes ≤ length d → applied (first_parts_of_write n addr bytes) d ≡ put d addr bytes
 first_applied zero addr [] d le fits = sym (put_nothing d addr)
 first_applied zero addr (b ∷ bytes) d le fits = absurd (omega arith)
 first_applied (suc n) addr [] d le fits = sym (put_nothing d addr)
@@ -66,6 +66,6 @@ first_applied (suc n) addr (b ∷ bytes) d le fits =
           ∙ ap (put d addr) (take-append-drop (page_left addr) (b ∷ bytes))
     ]
 
-pub applied_pieces : (addr : ℕ) (bytes d : List ℕ) → addr + length bytes ≤ length d → applied (pieces_of addr bytes) d ≡ put d addr bytes
-unfolding pieces_of
-applied_pieces addr bytes d fits = first_applied (length bytes) addr bytes d (omega arith) fits
+pub applied_write_parts : (addr : ℕ) (bytes d : List ℕ) → addr + length bytes ≤ length d → applied (parts_of_write addr bytes) d ≡ put d addr bytes
+unfolding parts_of_write
+applied_write_parts addr bytes d fits = first_applied (length bytes) addr bytes d (omega arith) fits

@@ -1,6 +1,6 @@
--- Parts: pieces of writes into the data, none of them across a page.
+-- Parts of writes with their bytes, as they stand in a log; none of them crosses a page.
 use Rattle.std.specs.Prelude.{ℕ, ◌≡◌, ◌+◌, ◌≤◌, nat_eq, if◌then◌else◌, List, [], ◌∷◌, length}
-use Rattle.pcm_media.specs.Images.{put}
+use Rattle.counted.specs.Bytes.{put}
 use Rattle.array_shape.specs.declared.shape.Shape.{Shape}
 use Rattle.array_shape.specs.Places.{IsPlaced, logger_of, place_of}
 

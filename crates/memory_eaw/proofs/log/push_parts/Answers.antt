@@ -1,7 +1,7 @@
 use Rattle.std.proofs.Common.{refl, sym, ◌∙◌, ap, subst, length, arith, ℕ, List}
 use Rattle.std.proofs.lemmas.List.{length-take}
 use Rattle.memory_eaw.proofs.Pushing.{StandsAt, stands_first, stands_next, stands_last, within_here, fewer}
-use Rattle.memory_eaw.proofs.log.push_pieces.Goals as goal
+use Rattle.memory_eaw.proofs.log.push_parts.Goals as goal
 
 pub loop-part-init : goal.loop-part-init
 loop-part-init c = record {
@@ -11,16 +11,16 @@ loop-part-init c = record {
   capacity = refl;
 }
 
-pub piece_of-piece-requires-clause-from : goal.piece_of-piece-requires-clause-from
-piece_of-piece-requires-clause-from c = (within_here c.args.addr c.args.bytes.now c.args.parts.now.items c.loop-part.parts.items c.in-Some.part c.loop-part.part-iterator c.next.new.self c.in-Some.ensures.steps c.loop-part.invariant.stands).from
+pub part_of_write-piece-requires-clause-from : goal.part_of_write-piece-requires-clause-from
+part_of_write-piece-requires-clause-from c = (within_here c.args.addr c.args.bytes.now c.args.parts.now.items c.loop-part.parts.items c.in-Some.part c.loop-part.part-iterator c.next.new.self c.in-Some.ensures.steps c.loop-part.invariant.stands).from
 
-pub piece_of-piece-requires-clause-to : goal.piece_of-piece-requires-clause-to
-piece_of-piece-requires-clause-to c = (within_here c.args.addr c.args.bytes.now c.args.parts.now.items c.loop-part.parts.items c.in-Some.part c.loop-part.part-iterator c.next.new.self c.in-Some.ensures.steps c.loop-part.invariant.stands).to
+pub part_of_write-piece-requires-clause-to : goal.part_of_write-piece-requires-clause-to
+part_of_write-piece-requires-clause-to c = (within_here c.args.addr c.args.bytes.now c.args.parts.now.items c.loop-part.parts.items c.in-Some.part c.loop-part.part-iterator c.next.new.self c.in-Some.ensures.steps c.loop-part.invariant.stands).to
 
 pub new-requires : goal.new-requires
 new-requires c =
     let within = within_here c.args.addr c.args.bytes.now c.args.parts.now.items c.loop-part.parts.items c.in-Some.part c.loop-part.part-iterator c.next.new.self c.in-Some.ensures.steps c.loop-part.invariant.stands in
-    omega (arith, within.small, ap length c.piece_of-piece.ensures, length-take {A = ℕ})
+    omega (arith, within.small, ap length c.part_of_write-piece.ensures, length-take {A = ℕ})
 
 pub push_reserved-requires : goal.push_reserved-requires
 push_reserved-requires c =
@@ -31,7 +31,7 @@ pub loop-part-preserved : goal.loop-part-preserved
 loop-part-preserved c = record {
   stands = subst (λ items. StandsAt c.args.addr c.args.bytes.now c.args.parts.now.items items c.next.new.self) (sym c.push_reserved.ensures.items)
       (stands_next c.args.addr c.args.bytes.now c.args.parts.now.items c.loop-part.parts.items c.in-Some.part c.loop-part.part-iterator c.next.new.self c.in-Some.ensures.steps c.loop-part.invariant.stands _
-      (c.new.ensures ∙ ap (λ (bs : List ℕ). (c.in-Some.part.addr, bs)) c.piece_of-piece.ensures));
+      (c.new.ensures ∙ ap (λ (bs : List ℕ). (c.in-Some.part.addr, bs)) c.part_of_write-piece.ensures));
   capacity = c.push_reserved.ensures.capacity ∙ c.loop-part.invariant.capacity;
 }
 
