@@ -1,4 +1,5 @@
 use Rattle.std.proofs.Common.{◌≡◌, ◌+◌, ◌≤◌, ℕ, List, [], ◌∷◌, length, refl, sym, ap, subst, ◌∙◌, arith}
+use Rattle.std.specs.Prelude.{is_ok}
 use Rattle.std.proofs.lemmas.Result.{on_ok_weaker}
 use Rattle.counted.specs.Bytes.{put}
 use Rattle.pcm_media.specs.Images.{Content, settled, written, IsOutside, SameOutside}
@@ -37,7 +38,7 @@ returns-clause-any_moment g c = λ told.
     let m = g.M.Media in
     let long : length c.write_array_header.new.out ≡ 512 = omega arith in
     let header = writes_within m.tells ((0, 512) ∷ []) _ _ _ c.write.result (λ i. first_bytes _ i long) c.write.ensures.does in
-    let sure = writes_on m.tells ((0, 512) ∷ []) [] _ _ _ _ c.barrier.result (λ i out. tt) header c.barrier.ensures.does in
+    let sure = writes_on m.tells ((0, 512) ∷ []) [] _ _ _ _ c.barrier.result (ap is_ok c.in_ok-write.was) (λ i out. tt) header c.barrier.ensures.does in
     header_left c.args.shape.now (m.view c.args.media.now) (m.view c.barrier.new.self) (c.requires.sure told) (c.requires.parts told) (sure.time told)
 
 pub returns-clause-does : goal.returns-clause-does
@@ -45,7 +46,7 @@ returns-clause-does g c =
     let m = g.M.Media in
     let long : length c.write_array_header.new.out ≡ 512 = omega arith in
     let header = writes_within m.tells ((0, 512) ∷ []) _ _ _ c.write.result (λ i. first_bytes _ i long) c.write.ensures.does in
-    writes_on m.tells ((0, 512) ∷ []) [] _ _ _ _ c.barrier.result (λ i out. tt) header c.barrier.ensures.does
+    writes_on m.tells ((0, 512) ∷ []) [] _ _ _ _ c.barrier.result (ap is_ok c.in_ok-write.was) (λ i out. tt) header c.barrier.ensures.does
 
 pub returns-clause-fresh : goal.returns-clause-fresh
 returns-clause-fresh g c = λ told.

@@ -1,4 +1,4 @@
-use Rattle.std.proofs.Common.{sym, ap, subst}
+use Rattle.std.proofs.Common.{refl, sym, ap, subst}
 use Rattle.std.proofs.lemmas.Result.{on_ok_weaker}
 use Rattle.pcm_media.specs.Images.{Content}
 use Rattle.pcm_media.proofs.Writing.{writes_on}
@@ -23,8 +23,8 @@ returns-clause-sure g c = λ told. on_ok_weaker c.barrier.result (λ is. ap (λ 
 
 pub returns-clause-does : goal.returns-clause-does
 returns-clause-does g c =
-    let rows = writes_on _ _ _ _ _ _ _ _ (λ i out. out) c.in_ok-write_pages.ensures.does c.in_ok-clear_rows.ensures.does in
-    writes_on _ _ _ _ _ _ _ c.barrier.result (λ i out. tt) rows c.barrier.ensures.does
+    let rows = writes_on _ _ _ _ _ _ _ _ refl (λ i out. out) c.in_ok-write_pages.ensures.does c.in_ok-clear_rows.ensures.does in
+    writes_on _ _ _ _ _ _ _ c.barrier.result refl (λ i out. tt) rows c.barrier.ensures.does
 
 pub returns-in_err-clear_rows-clause-cells : goal.returns-in_err-clear_rows-clause-cells
 returns-in_err-clear_rows-clause-cells g c told = cells_then c.args.shape.now _ _ _ (c.in_ok-write_pages.ensures.cells told) (c.clear_rows.ensures.cells told)
