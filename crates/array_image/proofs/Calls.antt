@@ -25,8 +25,8 @@ module _ (tells : Bool) (all more : List (ℕ × ℕ)) (old mid new : View) (wit
   }
 
   -- one that succeeded
-  pub goes_on : {T E : Type 0} {r : Result T E} → IsOk r → Writes tells more mid new r → SoFar tells all old new
-  goes_on {T} {E} {r} ok call = let done : Result (Unit {0}) (Unit {0}) = Ok tt in calls_on done call (done_cause r ok call.cause)
+  pub goes_on : {T E : Type 0} {r : Result T E} → Writes tells more mid new r → IsOk r → SoFar tells all old new
+  goes_on {T} {E} {r} call ok = let done : Result (Unit {0}) (Unit {0}) = Ok tt in calls_on done call (done_cause r ok call.cause)
     where
       done_cause : (r : Result T E) → IsOk r → HasCause mid.faults new.faults r → (let done : Result (Unit {0}) (Unit {0}) = Ok tt in HasCause mid.faults new.faults done)
       done_cause (Ok x) ok cause = record { later = cause.later; failed = tt; kept = cause.kept }

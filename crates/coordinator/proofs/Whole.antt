@@ -1,7 +1,6 @@
 -- A commit from its phases: what it does, whatever phase it comes to.
 use Rattle.std.proofs.Common.{◌≡◌, ℕ, ◌<◌, Bool, true, false, List, [], length, Result, Ok, Err, sym, subst}
-use Rattle.std.specs.Prelude.{IsTrue, OnErr}
-use Rattle.counted.specs.Causes.{Rose}
+use Rattle.std.specs.Prelude.{IsTrue, IsOk, IsErr}
 use Rattle.counted.proofs.Going.{then}
 use Rattle.pcm_media.specs.Images.{IsOutside, Touched}
 use Rattle.pcm_media.specs.View.{View, LeavesOnly, Writes}
@@ -14,7 +13,7 @@ use Rattle.array_image.specs.Standing.{IsEither, IsClean, SameCells}
 use Rattle.array_image.specs.Marked.{named_parts, IsMaskOf, AreGood}
 use Rattle.coordinator.specs.Between.{body_places, vote_places, commit_places, HaveNames, HaveVotes, IsStaged}
 use Rattle.coordinator.proofs.Between.{prepare_after, votes_after, body_cells_stay, vote_cells_stay}
-use Rattle.array_image.proofs.Calls.{SoFar, ends_with}
+use Rattle.array_image.proofs.Calls.{SoFar, none_yet, goes_on, hands_on, ends_with}
 use Rattle.coordinator.proofs.Committing.{bodies_within, votes_within, parts_within_all, same_cells_then, prepare_law, decide_law, install_law, installed, install_cells, release_law, released}
 
 -- what a commit does up to some phase, whatever it answers there
@@ -36,16 +35,12 @@ pub record Installed (tells : Bool) (shape : Shape) (t : ℕ) (firsts counts : L
   pub does : SoFar tells (places_of shape (named_parts shape old.content.bytes t firsts counts)) old now
   pub applied : IsTrue tells → (now.content.unsettled ≡ []) × (data_of shape now.content.bytes ≡ applied (named_parts shape old.content.bytes t firsts counts) (data_of shape old.content.bytes))
 
-pub succeeded : {T E : Type 0} {r : Result T E} (tells : Bool) (ranges : List (ℕ × ℕ)) (old new : View) → Writes tells ranges old new r → SoFar tells ranges old new
-succeeded tells ranges old new call = record { size = call.size; cause = record { later = call.cause.later; failed = tt }; touched = call.touched; time = call.time }
+pub succeeded : {T E : Type 0} {r : Result T E} (tells : Bool) (ranges : List (ℕ × ℕ)) (old new : View) → Writes tells ranges old new r → IsOk r → SoFar tells ranges old new
+succeeded tells ranges old new call ok = goes_on tells ranges ranges old old new (λ told i out. out) (none_yet tells ranges old) call ok
 
 -- a fault is handed on as it is
-pub handed : {T E U F : Type 0} {e : E} (s : Result U F) (tells : Bool) (ranges : List (ℕ × ℕ)) (old new : View) → (let r : Result T E = Err e in Writes tells ranges old new r) → Writes tells ranges old new s
-handed {T} {E} {U} {F} s tells ranges old new call = record { size = call.size; cause = record { later = call.cause.later; failed = any s }; touched = call.touched; time = call.time }
-  where
-    any : (s : Result U F) → OnErr s (Rose old.faults new.faults)
-    any (Ok x) = tt
-    any (Err e) = call.cause.failed
+pub handed : {T E U F : Type 0} {e : E} (s : Result U F) → IsErr s → (tells : Bool) (ranges : List (ℕ × ℕ)) (old new : View) → (let r : Result T E = Err e in Writes tells ranges old new r) → Writes tells ranges old new s
+handed s err tells ranges old new call = hands_on tells ranges ranges old old new (λ told i out. out) (none_yet tells ranges old) s err call
 
 module _ (tells : Bool) (shape : Shape) (t mask : ℕ) (firsts counts : List ℕ) (small : t < shape.numbers) (is_mask : IsMaskOf shape.loggers counts mask) (base : View)
     (long : IsTrue tells → length base.content.bytes ≡ media_len shape) (clean : IsTrue tells → IsClean shape base.content) (good : IsTrue tells → AreGood shape base.content.bytes t firsts counts) where

@@ -9,7 +9,7 @@ ghost use Rattle.array_image.specs.Marked.{named_parts, IsMaskOf, AreGood};
 ghost use Rattle.coordinator.specs.Between.{commit_places};
 
 use crate::mask::mask_of;
-use crate::phases::{decide, install, prepare, release};
+use crate::phases::{install, prepare, set_votes};
 use array_shape::Shape;
 use counted::Failed;
 use pcm_media::Media;
@@ -75,7 +75,7 @@ fn commit_voters<M: Media>(
     ensures does { Writes M.tells (commit_places shape.now (M.view media.old).content.bytes tid firsts.now counts.now) (M.view media.old) (M.view media.new) result }
 {
     prepare(media, shape, tid, mask, firsts, counts)?;
-    decide(media, shape, tid, counts)?;
+    set_votes(media, shape, tid, counts, true)?;
     install(media, shape, tid, firsts, counts)?;
-    release(media, shape, tid, counts)
+    set_votes(media, shape, tid, counts, false)
 }

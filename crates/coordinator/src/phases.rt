@@ -1,5 +1,5 @@
 // The four phases of a commit: calls at each logger with a count, then a barrier.
-ghost use Rattle.std.specs.Prelude.{◌≡◌, ◌+◌, ◌≤◌, ◌<◌, [], ◌∷◌, ℕ, true, false, length, slice_index, IsTrue, OnOk};
+ghost use Rattle.std.specs.Prelude.{◌≡◌, ◌+◌, ◌≤◌, ◌<◌, [], ◌∷◌, ℕ, length, slice_index, IsTrue, OnOk};
 ghost use Rattle.pcm_media.specs.View.{View, Writes};
 ghost use Rattle.array_shape.specs.Places.{media_len};
 ghost use Rattle.array_shape.specs.Logged.{applied, places_of};
@@ -39,24 +39,25 @@ pub(crate) fn prepare<M: Media>(
     media.barrier()
 }
 
-// The votes are written. Once they all stand, the parts are decided.
-pub(crate) fn decide<M: Media>(
+// The votes are written, or cleared. Once they all stand, the parts are decided.
+pub(crate) fn set_votes<M: Media>(
     media: &mut M,
     shape: &Shape,
     tid: u8,
     counts: &[u16],
+    voted: bool,
 ) -> Result<(), Failed>
     requires tid { tid < shape.now.numbers }
     requires counts { length counts.now ≡ shape.now.loggers }
     requires size { (M.view media.old).size ≡ media_len shape.now }
     ensures does { Writes M.tells (vote_places shape.now tid counts.now) (M.view media.old) (M.view media.new) result }
-    ensures votes { IsTrue M.tells → OnOk result (((M.view media.new).content.unsettled ≡ []) × HaveVotes shape.now tid counts.now true shape.now.loggers (M.view media.new).content.bytes) }
+    ensures votes { IsTrue M.tells → OnOk result (((M.view media.new).content.unsettled ≡ []) × HaveVotes shape.now tid counts.now voted shape.now.loggers (M.view media.new).content.bytes) }
 {
     for number in 0..shape.loggers {
         if counts[usize::from(number)] == 0 {
             continue;
         }
-        Logger::new(*shape, number).vote(media, tid)?;
+        Logger::new(*shape, number).set_vote(media, tid, voted)?;
     }
     media.barrier()
 }
@@ -86,28 +87,6 @@ pub(crate) fn install<M: Media>(
         }
         let logger = Logger::new(*shape, number);
         logger.apply(media, tid, firsts[at], counts[at])?;
-    }
-    media.barrier()
-}
-
-// The votes are cleared.
-pub(crate) fn release<M: Media>(
-    media: &mut M,
-    shape: &Shape,
-    tid: u8,
-    counts: &[u16],
-) -> Result<(), Failed>
-    requires tid { tid < shape.now.numbers }
-    requires counts { length counts.now ≡ shape.now.loggers }
-    requires size { (M.view media.old).size ≡ media_len shape.now }
-    ensures does { Writes M.tells (vote_places shape.now tid counts.now) (M.view media.old) (M.view media.new) result }
-    ensures votes { IsTrue M.tells → OnOk result (((M.view media.new).content.unsettled ≡ []) × HaveVotes shape.now tid counts.now false shape.now.loggers (M.view media.new).content.bytes) }
-{
-    for number in 0..shape.loggers {
-        if counts[usize::from(number)] == 0 {
-            continue;
-        }
-        Logger::new(*shape, number).unvote(media, tid)?;
     }
     media.barrier()
 }

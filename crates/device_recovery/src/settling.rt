@@ -80,7 +80,7 @@ fn clear_number<M: Media>(
             continue;
         }
         let logger = Logger::new(*shape, number);
-        logger.unvote(media, tid)?;
+        logger.set_vote(media, tid, false)?;
     }
     Ok(())
 }

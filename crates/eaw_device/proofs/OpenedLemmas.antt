@@ -55,4 +55,5 @@ module _ (tells : Bool) (old new : View) (shape : Shape) (logs : List Log) (sett
     unlogged = λ t. ap (option_map (parts_in shape new.content.bytes t)) (none_at t (slice_get logs t) refl);
     alive = refl;
     faults = settled.later;
+    calls = settled.calls;
   }

@@ -2,7 +2,7 @@
 ghost use Rattle.std.specs.Prelude.{◌≡◌, ◌+◌, ◌≤◌, ◌<◌, false, IsTrue, IfOk, IfErr, OnOk};
 ghost use Rattle.array_shape.specs.Places.{data_len};
 ghost use Rattle.eaw_face.specs.StoreView.{IsLive};
-ghost use Rattle.eaw_device.specs.Opens.{Attached, AttachCause, AttachLeaves, KeepsData, IsBehind};
+ghost use Rattle.eaw_device.specs.Opens.{Attached, AttachCause, AttachLeaves, KeepsData, OpensWithin, IsBehind};
 ghost use Rattle.eaw_device.specs.Steps.{LogHasCells, RefusesWrite};
 ghost use Rattle.eaw_device.specs.Sound.{IsSound, LacksLog, view_of};
 
@@ -38,6 +38,8 @@ impl<M: Media> Eaw<M> {
         ensures keeps { IfOk result (λ eaw. KeepsData M.tells (M.view media) (M.view eaw.media).moment (M.view eaw.media).left_since) }
         ensures keeps_on_err { IfErr result (λ e. KeepsData M.tells (M.view media) (M.view e.1).moment (M.view e.1).left_since) }
         ensures later { IfErr result (λ e. (M.view media).faults ≤ (M.view e.1).faults) }
+        ensures within { IfErr result (λ e. OpensWithin M.tells (M.view media) (M.view e.1).moment) }
+        ensures early { IfErr result (λ e. e.0 ≡ AttachFault.NoMemory → (M.view e.1).moment ≡ (M.view media).moment + 1) }
     {
         match open_array(alloc, &mut media) {
             Ok((shape, logs)) => Ok(Eaw {

@@ -1,6 +1,6 @@
 -- The parts in cells are written into the data, one cell after another.
 use Rattle.std.proofs.Common.{◌≡◌, ℕ, zero, suc, ◌+◌, ◌-◌, ◌<◌, ◌≤◌, Bool, List, [], ◌∷◌, ◌++◌, Result, length, refl, sym, ◌∙◌, ap, subst, arith}
-use Rattle.std.specs.Prelude.{IsTrue}
+use Rattle.std.specs.Prelude.{IsTrue, IsOk}
 use Rattle.counted.specs.Bytes.{put}
 use Rattle.pcm_media.specs.Images.{IsOutside}
 use Rattle.pcm_media.specs.View.{View, Writes}
@@ -96,15 +96,15 @@ module _ (shape : Shape) (g t first count : ℕ) (tells : Bool) (old : View) whe
       module _ {T E : Type 0} (new : View) (r : Result T E) (does : Writes tells (places_of shape (cell_part (cell_of shape now.content.bytes g t e) ∷ [])) now new r) where
         pub writes_more : Writes tells (places_of shape (parts_from shape old.content.bytes g t first count)) old new r
         writes_more =
-            writes_on tells (places_of shape (parts_from shape old.content.bytes g t first count)) (places_of shape (cell_part (cell_of shape old.content.bytes g t e) ∷ [])) old now new done r one_within so_far.does
+            writes_on tells (places_of shape (parts_from shape old.content.bytes g t first count)) (places_of shape (cell_part (cell_of shape old.content.bytes g t e) ∷ [])) old now new done r refl one_within so_far.does
             (writes_told tells (places_of shape (cell_part (cell_of shape now.content.bytes g t e) ∷ [])) (places_of shape (cell_part (cell_of shape old.content.bytes g t e) ∷ [])) now new r
             (λ told. ap (λ (cell : List ℕ). places_of shape (cell_part cell ∷ [])) (cell_kept told)) does)
 
-        pub applied_more : (IsTrue tells → new.content.bytes ≡ (let part = cell_part (cell_of shape now.content.bytes g t e) in put now.content.bytes (place_of shape part.0) part.1))
+        pub applied_more : IsOk r → (IsTrue tells → new.content.bytes ≡ (let part = cell_part (cell_of shape now.content.bytes g t e) in put now.content.bytes (place_of shape part.0) part.1))
             → AppliedTo shape g t first count tells old new (e + 1)
-        applied_more written = record {
+        applied_more ok written = record {
           written = λ told. written told ∙ (λ i. let part = cell_part (cell_kept told i) in put (so_far.written told i) (place_of shape part.0) part.1) ∙ one_more;
-          does = writes_done tells (places_of shape (parts_from shape old.content.bytes g t first count)) old new r writes_more;
+          does = writes_done tells (places_of shape (parts_from shape old.content.bytes g t first count)) old new r ok writes_more;
         }
 
     -- where all were

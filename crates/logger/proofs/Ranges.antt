@@ -1,6 +1,7 @@
 -- Ranges that are known only where a media tells its bytes.
 use Rattle.std.proofs.Common.{◌≡◌, ℕ, Bool, List, Result, Ok, Err, subst}
-use Rattle.std.specs.Prelude.{IsTrue, OnErr}
+use Rattle.std.specs.Prelude.{IsTrue, IsErr, OnOk, OnErr}
+use Rattle.std.proofs.lemmas.Bool.{false≢true}
 use Rattle.counted.specs.Causes.{Rose}
 use Rattle.pcm_media.specs.Images.{MayLeave, Touched, partly}
 use Rattle.pcm_media.specs.View.{View, LeavesOnly, Writes}
@@ -17,13 +18,18 @@ on_any : {U F : Type 0} (s : Result U F) (P : Type 0) → P → OnErr s P
 on_any (Ok x) P p = tt
 on_any (Err e) P p = p
 
+none_of : {U F : Type 0} (s : Result U F) → IsErr s → (P : Type 0) → OnOk s P
+none_of (Ok x) err P = absurd (false≢true err)
+none_of (Err e) err P = tt
+
 -- what a call that failed has done, under whatever answer it is passed on
-pub writes_failed : {T E U F : Type 0} (tells : Bool) (ranges : List (ℕ × ℕ)) (old new : View) (r : Result T E) (e : E) (s : Result U F) → r ≡ Err e → Writes tells ranges old new r → Writes tells ranges old new s
-writes_failed tells ranges old new r e s is does = record {
+pub writes_failed : {T E U F : Type 0} (tells : Bool) (ranges : List (ℕ × ℕ)) (old new : View) (r : Result T E) (e : E) (s : Result U F) → IsErr s → r ≡ Err e → Writes tells ranges old new r → Writes tells ranges old new s
+writes_failed tells ranges old new r e s err is does = record {
   size = does.size;
   cause = record {
     later = does.cause.later;
     failed = on_any s (Rose old.faults new.faults) (subst (λ r'. OnErr r' (Rose old.faults new.faults)) is does.cause.failed);
+    kept = none_of s err (new.faults ≡ old.faults);
   };
   touched = does.touched;
   time = does.time;

@@ -1,9 +1,10 @@
 -- The parts of a write that go to cells, one after another.
-use Rattle.std.proofs.Common.{◌≡◌, ℕ, zero, suc, ◌+◌, ◌-◌, ◌<◌, ◌≤◌, Bool, true, false, cond, nat_eq, List, [], ◌∷◌, Result, Ok, length, drop, map, inl, inr, refl, sym, ◌∙◌, ap, subst, arith}
-use Rattle.std.specs.Prelude.{filter, All, IsTrue}
-use Rattle.std.proofs.lemmas.Bool.{eq-eqb, ne_eqb, eqb-true, cases_eq}
+use Rattle.std.proofs.Common.{◌≡◌, ℕ, zero, suc, ◌+◌, ◌-◌, ◌<◌, ◌≤◌, Bool, true, false, cond, nat_eq, List, [], ◌∷◌, Result, Ok, Err, length, drop, map, inl, inr, refl, sym, ◌∙◌, ap, subst, arith}
+use Rattle.std.specs.Prelude.{filter, All, IsTrue, IsOk}
+use Rattle.std.proofs.lemmas.Bool.{eq-eqb, ne_eqb, eqb-true, cases_eq, false≢true}
 use Rattle.std.proofs.lemmas.List.{length-map, length-drop, length-take-le}
 use Rattle.std.proofs.lemmas.List.Elements.{All-nil, All-cons, All-head, All-tail}
+use Rattle.counted.specs.Causes.{HasCause}
 use Rattle.counted.specs.declared.Failed.{Failed}
 use Rattle.pcm_media.specs.Images.{IsOutside}
 use Rattle.pcm_media.specs.View.{View, Writes}
@@ -70,8 +71,12 @@ one_cell shape g t e (suc n) k le lt i out = elim (cases_eq k e) [
 ]
 
 -- what was done, where the last call answered well
-pub writes_done : {T E : Type 0} (tells : Bool) (ranges : List (ℕ × ℕ)) (old new : View) (r : Result T E) → Writes tells ranges old new r → Writes tells ranges old new done
-writes_done tells ranges old new r does = record { size = does.size; cause = record { later = does.cause.later; failed = tt }; touched = does.touched; time = does.time }
+pub writes_done : {T E : Type 0} (tells : Bool) (ranges : List (ℕ × ℕ)) (old new : View) (r : Result T E) → IsOk r → Writes tells ranges old new r → Writes tells ranges old new done
+writes_done tells ranges old new r ok does = record { size = does.size; cause = done_cause old.faults new.faults r ok does.cause; touched = does.touched; time = does.time }
+  where
+    done_cause : {T E : Type 0} (before now : ℕ) (r : Result T E) → IsOk r → HasCause before now r → HasCause before now done
+    done_cause before now (Ok x) ok cause = record { later = cause.later; failed = tt; kept = cause.kept }
+    done_cause before now (Err e) ok cause = absurd (false≢true ok)
 
 module _ (shape : Shape) (g t held addr : ℕ) (bytes : List ℕ) (tells : Bool) (old : View) where
   pub stands_first : addr + length bytes ≤ data_len shape → StandsAt shape g t held addr bytes tells old old held (parts_of shape addr (length bytes))
@@ -109,13 +114,13 @@ module _ (shape : Shape) (g t held addr : ℕ) (bytes : List ℕ) (tells : Bool)
     module _ {T E : Type 0} (new : View) (r : Result T E) (is : part.logger ≡ g) (does : Writes tells ((cell_at shape g t e, 528) ∷ []) now new r) where
       pub writes_more : Writes tells (cell_ranges shape g t held (length (write_parts_on shape g addr bytes))) old new r
       writes_more =
-          writes_on tells (cell_ranges shape g t held (length (write_parts_on shape g addr bytes))) ((cell_at shape g t e, 528) ∷ []) old now new done r
+          writes_on tells (cell_ranges shape g t held (length (write_parts_on shape g addr bytes))) ((cell_at shape g t e, 528) ∷ []) old now new done r refl
           (one_cell shape g t held (length (write_parts_on shape g addr bytes)) e stands.from (cell_left is)) stands.does does
 
-      pub stands_next : (piece : List ℕ) → piece ≡ (part_of_write addr bytes part).1
+      pub stands_next : IsOk r → (piece : List ℕ) → piece ≡ (part_of_write addr bytes part).1
           → (IsTrue tells → new.content.bytes ≡ applied (cell_writes shape g t e ((part.addr, piece) ∷ [])) now.content.bytes)
           → StandsAt shape g t held addr bytes tells old new (e + 1) rest
-      stands_next piece write_part_is written =
+      stands_next ok piece write_part_is written =
           let kept = kept_here g part s rest next is in
           record {
             within = within_rest;
@@ -126,7 +131,7 @@ module _ (shape : Shape) (g t held addr : ℕ) (bytes : List ℕ) (tells : Bool)
                 (written told ∙ ap (λ (bs : List ℕ). applied (cell_writes shape g t e ((part.addr, bs) ∷ [])) now.content.bytes) write_part_is)
                 ∙ ap (λ (ps : List Part). applied (cell_writes shape g t e (map (part_of_write addr bytes) ps)) now.content.bytes) (sym kept)
                 ∙ stands.written told;
-            does = writes_done tells (cell_ranges shape g t held (length (write_parts_on shape g addr bytes))) old new r writes_more;
+            does = writes_done tells (cell_ranges shape g t held (length (write_parts_on shape g addr bytes))) old new r ok writes_more;
           }
 
   -- where none is left

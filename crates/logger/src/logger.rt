@@ -7,7 +7,7 @@ use crate::stage_fault::StageFault;
 use array_shape::{HEAD_LEN, PAGE_LEN, Part, Shape};
 use counted::Failed;
 use pcm_media::Media;
-use row_bytes::{Head, Row, VOTED, read_head, write_head, write_row};
+use row_bytes::{Head, Row, read_head, vote_byte, write_head, write_row};
 
 /// One logger of an array. It has a row for each transaction number, the cells of each, and its share of the pages.
 #[derive(Clone, Copy, Debug, PartialEq, Eq)]
@@ -25,7 +25,7 @@ impl Logger {
     ghost use Rattle.pcm_media.specs.View.{Writes};
     ghost use Rattle.array_shape.specs.Places.{media_len, data_len, row_at, cell_at, place_of};
     ghost use Rattle.array_shape.specs.Parts.{parts_on};
-    ghost use Rattle.row_bytes.specs.Written.{row_rest};
+    ghost use Rattle.row_bytes.specs.Written.{row_rest, vote_byte};
     ghost use Rattle.array_shape.specs.Logged.{applied, places_of, IsOwned};
     ghost use Rattle.array_image.specs.Image.{row_of, cell_of, cell_head, cell_part, parts_from, data_of, IsGoodCell};
     ghost use Rattle.logger.specs.Cells.{cell_writes, cell_ranges, in_media, HoldsParts};
@@ -71,36 +71,20 @@ impl Logger {
         media.write(self.shape.row_at(self.number, tid) + 1, &bytes[1..])
     }
 
-    /// Votes for the row of a transaction number.
-    pub fn vote<M: Media>(self, media: &mut M, tid: u8) -> Result<(), Failed>
+    /// Votes for the row of a transaction number, or takes the vote back.
+    pub fn set_vote<M: Media>(self, media: &mut M, tid: u8, voted: bool) -> Result<(), Failed>
         requires size { (M.view media.old).size ≡ media_len self.shape }
         requires tid { tid < self.shape.numbers }
         ensures written { IsTrue M.tells → OnOk result ((M.view media.new).content ≡
-            written (row_at self.shape self.number tid) (0xC3 ∷ []) (M.view media.old).content) }
+            written (row_at self.shape self.number tid) (vote_byte voted ∷ []) (M.view media.old).content) }
         ensures row { IsTrue M.tells → OnOk result (
             row_of self.shape (M.view media.new).content.bytes self.number tid ≡
             (let row = row_of self.shape (M.view media.old).content.bytes self.number tid in
-            record row { voted = true })) }
+            record row { voted = voted })) }
         ensures does { Writes M.tells ((row_at self.shape self.number tid, 1) ∷ [])
             (M.view media.old) (M.view media.new) result }
     {
-        media.write(self.shape.row_at(self.number, tid), &[VOTED])
-    }
-
-    /// Takes the vote for the row of a transaction number back.
-    pub fn unvote<M: Media>(self, media: &mut M, tid: u8) -> Result<(), Failed>
-        requires size { (M.view media.old).size ≡ media_len self.shape }
-        requires tid { tid < self.shape.numbers }
-        ensures written { IsTrue M.tells → OnOk result ((M.view media.new).content ≡
-            written (row_at self.shape self.number tid) (0 ∷ []) (M.view media.old).content) }
-        ensures row { IsTrue M.tells → OnOk result (
-            row_of self.shape (M.view media.new).content.bytes self.number tid ≡
-            (let row = row_of self.shape (M.view media.old).content.bytes self.number tid in
-            record row { voted = false })) }
-        ensures does { Writes M.tells ((row_at self.shape self.number tid, 1) ∷ [])
-            (M.view media.old) (M.view media.new) result }
-    {
-        media.write(self.shape.row_at(self.number, tid), &[0])
+        media.write(self.shape.row_at(self.number, tid), &[vote_byte(voted)])
     }
 
     /// How many cells a write needs here: one for each of its parts that this logger has.

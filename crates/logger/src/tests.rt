@@ -45,12 +45,12 @@ fn rows_and_votes(rt: HostRuntime) -> Result<(), Fail> {
         bytes_at(&rt, &mut media, 11_056)?,
         [0, 3, 2, 0, 1, 1, 0, 0]
     );
-    logger.vote(&mut media, 1)?;
+    logger.set_vote(&mut media, 1, true)?;
     assert_eq!(rt;
         bytes_at(&rt, &mut media, 11_056)?,
         [0xc3, 3, 2, 0, 1, 1, 0, 0]
     );
-    logger.unvote(&mut media, 1)?;
+    logger.set_vote(&mut media, 1, false)?;
     assert_eq!(rt;
         bytes_at(&rt, &mut media, 11_056)?,
         [0, 3, 2, 0, 1, 1, 0, 0]

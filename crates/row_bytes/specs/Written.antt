@@ -1,5 +1,5 @@
 -- The bytes of rows and heads. Numbers are little-endian.
-use Rattle.std.specs.Prelude.{ℕ, List, ◌∷◌, ◌++◌, replicate, if◌then◌else◌}
+use Rattle.std.specs.Prelude.{ℕ, Bool, List, ◌∷◌, ◌++◌, replicate, if◌then◌else◌}
 use Rattle.byteorder.specs.Endian.{little_bytes}
 use Rattle.row_bytes.specs.declared.row.Row.{Row}
 use Rattle.row_bytes.specs.declared.head.Head.{Head}
@@ -8,9 +8,13 @@ use Rattle.row_bytes.specs.declared.head.Head.{Head}
 abbrev pub row_rest : ℕ → ℕ → ℕ → List ℕ
 row_rest mask first count = mask ∷ (little_bytes 2 first ++ little_bytes 2 count ++ replicate 10 0)
 
+-- the first byte of a row
+abbrev pub vote_byte : Bool → ℕ
+vote_byte voted = if voted then 0xC3 else 0
+
 -- the 16 bytes of a row: the vote, and the rest
 abbrev pub row_bytes : Row → List ℕ
-row_bytes row = (if row.voted then 0xC3 else 0) ∷ row_rest row.mask row.first row.count
+row_bytes row = vote_byte row.voted ∷ row_rest row.mask row.first row.count
 
 -- the 16 bytes of a head: the address, the length, zeros
 abbrev pub head_bytes : Head → List ℕ

@@ -9,4 +9,4 @@ mod tests;
 
 pub use head::{Head, read_head, write_head};
 pub use header::{HeaderFault, read_array_header, write_array_header};
-pub use row::{Row, VOTED, read_row, write_row};
+pub use row::{Row, read_row, vote_byte, write_row};

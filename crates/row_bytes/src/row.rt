@@ -1,12 +1,12 @@
 // The row of a transaction number at one logger.
 ghost use Rattle.std.specs.Prelude.{◌≡◌};
 ghost use Rattle.row_bytes.specs.Said.{row_said};
-ghost use Rattle.row_bytes.specs.Written.{row_bytes};
+ghost use Rattle.row_bytes.specs.Written.{row_bytes, vote_byte};
 
 use byteorder::{ByteOrder, LittleEndian};
 
-/// The vote byte of a row that is voted. Any other is not.
-pub const VOTED: u8 = 0xC3;
+// The vote byte of a row that is voted. Any other is not.
+const VOTED: u8 = 0xC3;
 
 /// What the 16 bytes of a row say: one logger's share of a transaction.
 #[derive(Clone, Copy, Debug, PartialEq, Eq)]
@@ -32,6 +32,13 @@ pub fn read_row(bytes: &[u8; 16]) -> Row
     }
 }
 
+/// The vote byte of a row that is voted or not.
+pub fn vote_byte(voted: bool) -> u8
+    ensures { result ≡ vote_byte voted }
+{
+    if voted { VOTED } else { 0 }
+}
+
 /// Writes the bytes of a row.
 pub fn write_row(row: &Row, out: &mut [u8; 16])
     ensures written { out.new ≡ row_bytes row.now }
@@ -44,7 +51,7 @@ pub fn write_row(row: &Row, out: &mut [u8; 16])
         count,
     } = *row;
     out.fill(0);
-    out[0] = if voted { VOTED } else { 0 };
+    out[0] = vote_byte(voted);
     out[1] = mask;
     LittleEndian::write_u16(&mut out[2..], first);
     LittleEndian::write_u16(&mut out[4..], count);

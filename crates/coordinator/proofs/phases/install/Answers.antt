@@ -1,4 +1,4 @@
-use Rattle.std.proofs.Common.{◌≡◌, ℕ, ◌∙◌, sym, ap, subst, length, arith}
+use Rattle.std.proofs.Common.{◌≡◌, ℕ, refl, ◌∙◌, sym, ap, subst, length, arith}
 use Rattle.std.specs.Prelude.{slice_index}
 use Rattle.pcm_media.specs.Images.{IsOutside}
 use Rattle.array_shape.specs.declared.shape.Shape.{Shape}
@@ -38,7 +38,7 @@ returns-in_err-apply-clause-does g c =
     let long : length base ≡ media_len shape = g.met.M.Media.long c.args.media.now told ∙ c.requires.size in
     subst (λ rs. IsOutside rs i) (sym places)
     (parts_within shape c.args.tid c.args.firsts.now c.args.counts.now c.requires.tid base long (c.requires.good told) cur (c.loop-number.invariant.does.touched told).bytes c.loop-number.number (omega arith) i out))
-    c.loop-number.invariant.does c.from_residual.result c.in_err-apply.ensures.does
+    c.loop-number.invariant.does c.from_residual.result c.from_residual.ensures.0 c.in_err-apply.ensures.does
 
 pub loop-number-preserved : goal.loop-number-preserved
 loop-number-preserved g c =
@@ -57,7 +57,7 @@ loop-number-preserved g c =
           let long : length base ≡ media_len shape = g.met.M.Media.long c.args.media.now told ∙ c.requires.size in
           subst (λ rs. IsOutside rs i) (sym places)
           (parts_within shape c.args.tid c.args.firsts.now c.args.counts.now c.requires.tid base long (c.requires.good told) cur (c.loop-number.invariant.does.touched told).bytes c.loop-number.number (omega arith) i out))
-          c.loop-number.invariant.does c.in_ok-apply.ensures.does;
+          c.loop-number.invariant.does c.in_ok-apply.ensures.does refl;
       applied = λ told.
           let long : length base ≡ media_len shape = g.met.M.Media.long c.args.media.now told ∙ c.requires.size in
           let new = (m.view c.apply.new.media).content.bytes in

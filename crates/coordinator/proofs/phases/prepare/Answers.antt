@@ -1,4 +1,4 @@
-use Rattle.std.proofs.Common.{◌≡◌, ℕ, ◌+◌, ◌<◌, ◌∙◌, sym, ap, subst, [], ◌∷◌, arith}
+use Rattle.std.proofs.Common.{◌≡◌, ℕ, refl, ◌+◌, ◌<◌, ◌∙◌, sym, ap, subst, [], ◌∷◌, arith}
 use Rattle.std.specs.Prelude.{slice_index}
 use Rattle.pcm_media.specs.Images.{IsOutside, Touched}
 use Rattle.array_shape.specs.Places.{row_at}
@@ -16,7 +16,7 @@ returns-in_err-put_row-clause-does g c =
     let some : 0 < slice_index c.args.counts.now c.loop-number.number = omega (arith, ap (λ (k : ℕ). slice_index c.args.counts.now k) at, c.if-counts-at-eq0.false) in
     let within = body_within c.args.shape.now c.args.tid c.args.counts.now c.loop-number.number (omega arith) some in
     let same : (row_at c.new-logger.result.shape c.new-logger.result.number c.args.tid + 1, 15) ≡ (row_at c.args.shape.now c.loop-number.number c.args.tid + 1, 15) = (λ i. (row_at (logger.shape i) (logger.number i) c.args.tid + 1, 15)) in
-    hands_on g.M.Media.tells _ _ _ _ _ (λ told i out. subst (λ r. IsOutside (r ∷ []) i) (sym same) (within i out)) c.loop-number.invariant.does c.from_residual.result c.in_err-put_row.ensures.does
+    hands_on g.M.Media.tells _ _ _ _ _ (λ told i out. subst (λ r. IsOutside (r ∷ []) i) (sym same) (within i out)) c.loop-number.invariant.does c.from_residual.result c.from_residual.ensures.0 c.in_err-put_row.ensures.does
 
 pub loop-number-preserved : goal.loop-number-preserved
 loop-number-preserved g c =
@@ -27,7 +27,7 @@ loop-number-preserved g c =
     let same : (row_at c.new-logger.result.shape c.new-logger.result.number c.args.tid + 1, 15) ≡ (row_at c.args.shape.now c.loop-number.number c.args.tid + 1, 15) = (λ i. (row_at (logger.shape i) (logger.number i) c.args.tid + 1, 15)) in
     let bytes = (g.M.Media.view c.put_row.new.media).content.bytes in
     record {
-      does = goes_on g.M.Media.tells _ _ _ _ _ (λ told i out. subst (λ r. IsOutside (r ∷ []) i) (sym same) (within i out)) c.loop-number.invariant.does c.in_ok-put_row.ensures.does;
+      does = goes_on g.M.Media.tells _ _ _ _ _ (λ told i out. subst (λ r. IsOutside (r ∷ []) i) (sym same) (within i out)) c.loop-number.invariant.does c.in_ok-put_row.ensures.does refl;
       names = λ told.
           let touched = subst (λ r. Touched (r ∷ []) (g.M.Media.view c.loop-number.media).content (g.M.Media.view c.put_row.new.media).content) same (c.in_ok-put_row.ensures.does.touched told) in
           let named = subst (λ (k : ℕ). Names (row_of c.args.shape.now bytes c.loop-number.number c.args.tid) c.args.mask (slice_index c.args.firsts.now k) (slice_index c.args.counts.now k)) at

@@ -18,7 +18,7 @@ loop-entry-preserved g c =
     let m = g.M.Media in
     let base = (m.view c.args.media.now).content.bytes in
     record {
-      does = goes_on m.tells [] [] _ _ _ (λ told i out. out) c.loop-entry.invariant.does c.in_ok-head.ensures.does;
+      does = goes_on m.tells [] [] _ _ _ (λ told i out. out) c.loop-entry.invariant.does c.in_ok-head.ensures.does refl;
       good = λ told e from below.
           let head : c.in_ok-head.head ≡ cell_head (cell_of c.args.shape.now base c.args.logger c.args.tid c.loop-entry.entry) =
           c.in_ok-head.ensures.head told ∙ (λ i. cell_head (cell_of c.args.shape.now (same_bytes _ _ (c.loop-entry.invariant.does.touched told) i) c.args.logger c.args.tid c.loop-entry.entry)) in

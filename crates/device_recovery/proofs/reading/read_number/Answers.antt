@@ -1,4 +1,4 @@
-use Rattle.std.proofs.Common.{ℕ, [], ⊎_elim, sym, ◌∙◌, ap, set, arith}
+use Rattle.std.proofs.Common.{refl, ℕ, [], ⊎_elim, sym, ◌∙◌, ap, set, arith}
 use Rattle.std.proofs.lemmas.List.{length-set}
 use Rattle.std.proofs.lemmas.Bool.{cases_eq}
 use Rattle.pcm_media.proofs.Left.{same_bytes}
@@ -17,7 +17,7 @@ loop-logger-preserved g c =
     let long = c.loop-logger.invariant.long in
     record {
       long = length-set rows at row ∙ long;
-      does = goes_on m.tells [] [] _ _ _ (λ told i out. out) c.loop-logger.invariant.does c.in_ok-rows.ensures.does;
+      does = goes_on m.tells [] [] _ _ _ (λ told i out. out) c.loop-logger.invariant.does c.in_ok-rows.ensures.does refl;
       rows = λ told h lt. ⊎_elim
           (λ is.
           ap (λ (k : ℕ). row_in (set rows at row) k c.args.tid) is ∙ row_put rows at c.loop-logger.logger c.args.tid row long c.place.ensures.place c.place.ensures.below
@@ -25,5 +25,6 @@ loop-logger-preserved g c =
           ∙ (λ i. row_of c.args.shape.now (same_bytes _ _ (c.loop-logger.invariant.does.touched told) i) (sym is i) c.args.tid))
           (λ ne. row_kept rows at c.loop-logger.logger c.args.tid row long c.place.ensures.place c.place.ensures.below h c.args.tid (omega arith) (omega arith) (λ same is. ne same) ∙ c.loop-logger.invariant.rows told h (omega arith))
           (cases_eq h c.loop-logger.logger);
+      costs = let one = c.in_ok-rows.ensures.costs.done in omega (arith, one, c.loop-logger.invariant.costs);
       others = λ h t lt ne. row_kept rows at c.loop-logger.logger c.args.tid row long c.place.ensures.place c.place.ensures.below h t lt (omega arith) (λ same is. ne is) ∙ c.loop-logger.invariant.others h t lt ne;
     }

@@ -1,4 +1,6 @@
-use Rattle.std.proofs.Common.{◌≡◌, ℕ, ◌∙◌, [], List, length, sym, ap, subst, arith}
+use Rattle.std.proofs.Common.{refl, ◌≡◌, ℕ, ◌∙◌, [], List, Result, Ok, Err, length, sym, ap, subst, arith}
+use Rattle.std.specs.Prelude.{IsErr}
+use Rattle.std.specs.Result.{IsErrAnd}
 use Rattle.counted.proofs.Going.{then}
 use Rattle.pcm_media.specs.Images.{IsOutside}
 use Rattle.pcm_media.proofs.Left.{same_bytes, left_as_read}
@@ -9,6 +11,8 @@ use Rattle.array_image.specs.Standing.{IsLawful}
 use Rattle.array_image.proofs.Calls.{none_yet, goes_on, hands_on}
 use Rattle.device_recovery.specs.Table.{RowsAre}
 use Rattle.device_recovery.specs.Recovered.{AllGood, HasNoVote, recovered_places, media_answer}
+use Rattle.device_recovery.specs.declared.report.RecoverFault.{RecoverFault}
+use Rattle.device_recovery.specs.declared.report.RecoverFault.TheVariants.{Media}
 use Rattle.device_recovery.proofs.Clearing.{no_vote_settled}
 use Rattle.device_recovery.proofs.Lists.{decided_count, dropped_count, no_vote, no_count}
 use Rattle.device_recovery.proofs.Moments.{clean_from, reading_law, sense_law}
@@ -62,13 +66,18 @@ returns-in_err-settle-clause-any_moment g c told lawful =
     then (reading_law shape old mid lawful (c.in_ok-rows.ensures.does.time told))
     (sense_law shape old mid (m.view c.settle.new.media) same (c.settle.ensures.any_moment told (subst (IsLawful shape) same (lawful old.content.bytes (left_as_read old.content)))))
 
+-- a fault of the media is a failure of it
+media_failed : {T : Type 0} (r : Result T RecoverFault) → IsErrAnd r (λ fault. fault ≡ Media) → IsErr (media_answer r)
+media_failed (Ok report) is = absurd is
+media_failed (Err fault) is = subst (λ e. (let r : Result (Unit {0}) RecoverFault = Err e in IsErr (media_answer r))) (sym is) refl
+
 pub returns-in_err-settle-clause-does : goal.returns-in_err-settle-clause-does
 returns-in_err-settle-clause-does g c =
     let m = g.M.Media in
     let all = recovered_places c.args.shape.now (m.view c.args.media.now).content.bytes in
-    let read = goes_on m.tells all [] _ _ _ (λ told i out. tt) (none_yet m.tells all (m.view c.args.media.now)) c.in_ok-rows.ensures.does in
+    let read = goes_on m.tells all [] _ _ _ (λ told i out. tt) (none_yet m.tells all (m.view c.args.media.now)) c.in_ok-rows.ensures.does refl in
     hands_on m.tells all _ _ _ _ (λ told i out. subst (λ bytes. IsOutside (recovered_places c.args.shape.now bytes) i) (sym (same_bytes _ _ (c.in_ok-rows.ensures.does.touched told))) out)
-    read (media_answer c.from_residual-in_err-settle.result) c.in_err-settle.ensures.does
+    read (media_answer c.from_residual-in_err-settle.result) (media_failed c.from_residual-in_err-settle.result c.from_residual-in_err-settle.ensures.1) c.in_err-settle.ensures.does
 
 pub returns-clause-settled : goal.returns-clause-settled
 returns-clause-settled g c told =
@@ -102,6 +111,16 @@ pub returns-clause-does : goal.returns-clause-does
 returns-clause-does g c =
     let m = g.M.Media in
     let all = recovered_places c.args.shape.now (m.view c.args.media.now).content.bytes in
-    let read = goes_on m.tells all [] _ _ _ (λ told i out. tt) (none_yet m.tells all (m.view c.args.media.now)) c.in_ok-rows.ensures.does in
-    let all_done = goes_on m.tells all _ _ _ _ (λ told i out. subst (λ bytes. IsOutside (recovered_places c.args.shape.now bytes) i) (sym (same_bytes _ _ (c.in_ok-rows.ensures.does.touched told))) out) read c.in_ok-settle.ensures.does in
-    record { size = all_done.size; cause = record { later = all_done.cause.later; failed = tt }; touched = all_done.touched; time = all_done.time }
+    let read = goes_on m.tells all [] _ _ _ (λ told i out. tt) (none_yet m.tells all (m.view c.args.media.now)) c.in_ok-rows.ensures.does refl in
+    let all_done = goes_on m.tells all _ _ _ _ (λ told i out. subst (λ bytes. IsOutside (recovered_places c.args.shape.now bytes) i) (sym (same_bytes _ _ (c.in_ok-rows.ensures.does.touched told))) out) read c.in_ok-settle.ensures.does refl in
+    record { size = all_done.size; cause = record { later = all_done.cause.later; failed = tt; kept = all_done.cause.kept }; touched = all_done.touched; time = all_done.time }
+
+pub returns-in_err-settle-clause-costs : goal.returns-in_err-settle-clause-costs
+returns-in_err-settle-clause-costs g c told none =
+    let zero = no_count c.args.shape.now (g.M.Media.view c.args.media.now).content.bytes c.in_ok-rows.rows (c.in_ok-rows.ensures.rows told) none in
+    absurd (c.if-report-eq0.false (omega (arith, zero.0, zero.1, c.count_rows-report.ensures.decided, c.count_rows-report.ensures.dropped)))
+
+pub returns-clause-costs : goal.returns-clause-costs
+returns-clause-costs g c told none =
+    let zero = no_count c.args.shape.now (g.M.Media.view c.args.media.now).content.bytes c.in_ok-rows.rows (c.in_ok-rows.ensures.rows told) none in
+    absurd (c.if-report-eq0.false (omega (arith, zero.0, zero.1, c.count_rows-report.ensures.decided, c.count_rows-report.ensures.dropped)))

@@ -1,4 +1,4 @@
-use Rattle.std.proofs.Common.{◌≡◌, ◌∙◌, length}
+use Rattle.std.proofs.Common.{refl, ◌≡◌, ◌∙◌, length}
 use Rattle.std.proofs.lemmas.Result.{on_ok_weaker}
 use Rattle.counted.proofs.Going.{then}
 use Rattle.array_shape.specs.Places.{media_len}
@@ -17,7 +17,7 @@ returns-in_err-settle_data-clause-any_moment g c told lawful =
 pub returns-in_err-settle_data-clause-does : goal.returns-in_err-settle_data-clause-does
 returns-in_err-settle_data-clause-does g c =
     let m = g.M.Media in
-    hands_on m.tells _ _ _ _ _ (λ told. data_within c.args.shape.now (m.view c.args.media.now).content.bytes) (none_yet m.tells _ (m.view c.args.media.now)) c.from_residual.result c.in_err-settle_data.ensures.does
+    hands_on m.tells _ _ _ _ _ (λ told. data_within c.args.shape.now (m.view c.args.media.now).content.bytes) (none_yet m.tells _ (m.view c.args.media.now)) c.from_residual.result c.from_residual.ensures.0 c.in_err-settle_data.ensures.does
 
 pub settle_votes-requires-clause-rows : goal.settle_votes-requires-clause-rows
 settle_votes-requires-clause-rows g c told =
@@ -53,7 +53,7 @@ returns-clause-does g c =
     let m = g.M.Media in
     let old = m.view c.args.media.now in
     let all = recovered_places c.args.shape.now old.content.bytes in
-    let data_done = goes_on m.tells all _ _ _ _ (λ told. data_within c.args.shape.now old.content.bytes) (none_yet m.tells all old) c.in_ok-settle_data.ensures.does in
+    let data_done = goes_on m.tells all _ _ _ _ (λ told. data_within c.args.shape.now old.content.bytes) (none_yet m.tells all old) c.in_ok-settle_data.ensures.does refl in
     ends_with m.tells all _ _ _ _ (λ told.
     let long : length old.content.bytes ≡ media_len c.args.shape.now = g.met.M.Media.long c.args.media.now told ∙ c.requires.size in
     both_within c.args.shape.now old long (c.requires.sure told) (c.requires.good told) (m.view c.settle_data.new.media) (c.in_ok-settle_data.ensures.does.touched told) (c.in_ok-settle_data.ensures.applied told))

@@ -1,4 +1,4 @@
-use Rattle.std.proofs.Common.{◌≡◌, ℕ, ◌∙◌, sym, subst, length, arith}
+use Rattle.std.proofs.Common.{refl, ◌≡◌, ℕ, ◌∙◌, sym, subst, length, arith}
 use Rattle.pcm_media.specs.Images.{IsOutside}
 use Rattle.array_shape.specs.declared.shape.Shape.{Shape}
 use Rattle.array_shape.specs.Places.{media_len}
@@ -49,7 +49,7 @@ returns-in_err-apply-clause-does g c =
     let row_is = c.row_in-row.ensures ∙ c.requires.rows told c.loop-number.number (omega arith) in
     subst (λ rs. IsOutside rs i) (sym places)
     (parts_within shape c.args.tid c.requires.tid base long (c.requires.good told) cur (c.loop-number.invariant.does.touched told).bytes c.loop-number.number (omega arith) row row_is so i out))
-    c.loop-number.invariant.does c.from_residual.result c.in_err-apply.ensures.does
+    c.loop-number.invariant.does c.from_residual.result c.from_residual.ensures.0 c.in_err-apply.ensures.does
 
 pub loop-number-preserved : goal.loop-number-preserved
 loop-number-preserved g c =
@@ -68,7 +68,7 @@ loop-number-preserved g c =
           let row_is = c.row_in-row.ensures ∙ c.requires.rows told c.loop-number.number (omega arith) in
           subst (λ rs. IsOutside rs i) (sym places)
           (parts_within shape c.args.tid c.requires.tid base long (c.requires.good told) cur (c.loop-number.invariant.does.touched told).bytes c.loop-number.number (omega arith) row row_is so i out))
-          c.loop-number.invariant.does c.in_ok-apply.ensures.does;
+          c.loop-number.invariant.does c.in_ok-apply.ensures.does refl;
       applied = λ told.
           let long : length base ≡ media_len shape = g.met.M.Media.long c.args.media.now told ∙ c.requires.size in
           let so = sym (number_decided shape base c.args.rows.now c.args.tid (c.requires.rows told) c.loop-number.number (omega arith)) ∙ sym c.if-not-is_decided.ensures in

@@ -1,4 +1,4 @@
-use Rattle.std.proofs.Common.{◌≡◌, ℕ, ◌∙◌, sym, ap, length, arith}
+use Rattle.std.proofs.Common.{refl, ◌≡◌, ℕ, ◌∙◌, sym, ap, length, arith}
 use Rattle.std.proofs.lemmas.Result.{on_ok_weaker}
 use Rattle.array_shape.specs.Places.{media_len}
 use Rattle.array_image.specs.Image.{data_of}
@@ -34,7 +34,7 @@ returns-in_err-apply_number-clause-does g c =
     hands_on m.tells _ _ _ _ _ (λ told.
     let long : length base ≡ media_len shape = g.met.M.Media.long c.args.media.now told ∙ c.requires.size in
     number_within shape base long (c.requires.good told) (m.view c.loop-tid.media).content.bytes (c.loop-tid.invariant.does.touched told).bytes c.loop-tid.tid (omega arith))
-    c.loop-tid.invariant.does c.from_residual.result c.in_err-apply_number.ensures.does
+    c.loop-tid.invariant.does c.from_residual.result c.from_residual.ensures.0 c.in_err-apply_number.ensures.does
 
 pub loop-tid-preserved : goal.loop-tid-preserved
 loop-tid-preserved g c =
@@ -46,7 +46,7 @@ loop-tid-preserved g c =
       does = goes_on m.tells _ _ _ _ _ (λ told.
           let long : length base ≡ media_len shape = g.met.M.Media.long c.args.media.now told ∙ c.requires.size in
           number_within shape base long (c.requires.good told) cur (c.loop-tid.invariant.does.touched told).bytes c.loop-tid.tid (omega arith))
-          c.loop-tid.invariant.does c.in_ok-apply_number.ensures.does;
+          c.loop-tid.invariant.does c.in_ok-apply_number.ensures.does refl;
       applied = λ told.
           let long : length base ≡ media_len shape = g.met.M.Media.long c.args.media.now told ∙ c.requires.size in
           number_applied shape base long (c.requires.good told) cur (c.loop-tid.invariant.does.touched told).bytes c.loop-tid.tid (omega arith) (m.view c.apply_number.new.media).content.bytes (c.loop-tid.invariant.applied told) (c.in_ok-apply_number.ensures.applied told);

@@ -1,4 +1,4 @@
-use Rattle.std.proofs.Common.{ℕ, ⊎_elim, ◌∙◌, ap, arith}
+use Rattle.std.proofs.Common.{refl, ℕ, ⊎_elim, ◌∙◌, ap, arith}
 use Rattle.std.proofs.lemmas.Bool.{cases_eq}
 use Rattle.row_bytes.specs.declared.row.Row.{Row}
 use Rattle.array_image.specs.Image.{row_of}
@@ -11,7 +11,7 @@ returns-in_err-clear_number-clause-does g c =
     let m = g.M.Media in
     hands_on m.tells _ _ _ _ _ (λ told.
     number_votes_within c.args.shape.now (m.view c.args.media.now).content.bytes (m.view c.loop-tid.media).content.bytes c.loop-tid.tid (omega arith) (λ h lt. c.loop-tid.invariant.rest told h c.loop-tid.tid lt (omega arith) (omega arith)))
-    c.loop-tid.invariant.does c.from_residual.result c.in_err-clear_number.ensures.does
+    c.loop-tid.invariant.does c.from_residual.result c.from_residual.ensures.0 c.in_err-clear_number.ensures.does
 
 pub loop-tid-preserved : goal.loop-tid-preserved
 loop-tid-preserved g c =
@@ -22,7 +22,7 @@ loop-tid-preserved g c =
     let new = (m.view c.clear_number.new.media).content.bytes in
     record {
       does = goes_on m.tells _ _ _ _ _ (λ told. number_votes_within shape base cur c.loop-tid.tid (omega arith) (λ h lt. c.loop-tid.invariant.rest told h c.loop-tid.tid lt (omega arith) (omega arith)))
-          c.loop-tid.invariant.does c.in_ok-clear_number.ensures.does;
+          c.loop-tid.invariant.does c.in_ok-clear_number.ensures.does refl;
       cleared = λ told h t lt lt'. ⊎_elim
           (λ is. ap (λ (k : ℕ). (row_of shape new h k).voted) is ∙ c.in_ok-clear_number.ensures.cleared told h lt)
           (λ ne. ap (λ (r : Row). r.voted) (other_number shape cur c.loop-tid.tid t h new (omega arith) (omega arith) ne (c.in_ok-clear_number.ensures.does.touched told).bytes) ∙ c.loop-tid.invariant.cleared told h t lt (omega arith))

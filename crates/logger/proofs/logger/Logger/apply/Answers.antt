@@ -1,5 +1,5 @@
-use Rattle.std.proofs.Common.{◌≡◌, ◌∙◌, length, arith}
-use Rattle.std.specs.Prelude.{IsTrue}
+use Rattle.std.proofs.Common.{◌≡◌, ◌∙◌, ap, length, arith}
+use Rattle.std.specs.Prelude.{IsTrue, is_ok}
 use Rattle.array_shape.specs.Places.{media_len}
 use Rattle.array_shape.specs.Logged.{places_of}
 use Rattle.array_image.specs.Image.{parts_from}
@@ -19,13 +19,13 @@ returns-in_err-apply_cell-clause-does g c =
     let long : IsTrue g.M.Media.tells → length (view c.args.media.now).content.bytes ≡ media_len c.args.self.shape = λ told. g.met.M.Media.long c.args.media.now told ∙ c.requires.size in
     let all = places_of c.args.self.shape (parts_from c.args.self.shape (view c.args.media.now).content.bytes c.args.self.number c.args.tid c.args.first c.args.count) in
     let more = writes_more c.args.self.shape c.args.self.number c.args.tid c.args.first c.args.count g.M.Media.tells (view c.args.media.now) c.args.self.there c.requires.tid c.requires.entries long c.requires.good (view c.loop-entry.media) c.loop-entry.entry (omega arith) (omega arith) c.loop-entry.invariant (view c.apply_cell.new.media) c.apply_cell.result c.apply_cell.ensures.does in
-    writes_failed g.M.Media.tells all (view c.args.media.now) (view c.apply_cell.new.media) c.apply_cell.result c.in_err-apply_cell.field-0.0 c.from_residual.result c.in_err-apply_cell.was more
+    writes_failed g.M.Media.tells all (view c.args.media.now) (view c.apply_cell.new.media) c.apply_cell.result c.in_err-apply_cell.field-0.0 c.from_residual.result c.from_residual.ensures.0 c.in_err-apply_cell.was more
 
 pub loop-entry-preserved : goal.loop-entry-preserved
 loop-entry-preserved g c =
     let view = g.M.Media.view in
     let long : IsTrue g.M.Media.tells → length (view c.args.media.now).content.bytes ≡ media_len c.args.self.shape = λ told. g.met.M.Media.long c.args.media.now told ∙ c.requires.size in
-    applied_more c.args.self.shape c.args.self.number c.args.tid c.args.first c.args.count g.M.Media.tells (view c.args.media.now) c.args.self.there c.requires.tid c.requires.entries long c.requires.good (view c.loop-entry.media) c.loop-entry.entry (omega arith) (omega arith) c.loop-entry.invariant (view c.apply_cell.new.media) c.apply_cell.result c.apply_cell.ensures.does c.in_ok-apply_cell.ensures.written
+    applied_more c.args.self.shape c.args.self.number c.args.tid c.args.first c.args.count g.M.Media.tells (view c.args.media.now) c.args.self.there c.requires.tid c.requires.entries long c.requires.good (view c.loop-entry.media) c.loop-entry.entry (omega arith) (omega arith) c.loop-entry.invariant (view c.apply_cell.new.media) c.apply_cell.result c.apply_cell.ensures.does (ap is_ok c.in_ok-apply_cell.was) c.in_ok-apply_cell.ensures.written
 
 pub returns-clause-data_after : goal.returns-clause-data_after
 returns-clause-data_after g c told =

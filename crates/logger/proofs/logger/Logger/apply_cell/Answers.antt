@@ -1,4 +1,5 @@
 use Rattle.std.proofs.Common.{◌≡◌, ℕ, ◌+◌, ◌-◌, List, [], ◌∷◌, length, take, drop, refl, ◌∙◌, ap, arith}
+use Rattle.std.specs.Prelude.{is_ok}
 use Rattle.std.proofs.lemmas.List.{length-take}
 use Rattle.std.proofs.lemmas.Result.{on_ok_weaker}
 use Rattle.counted.specs.Bytes.{put}
@@ -39,7 +40,7 @@ returns-clause-does g c =
     let place = places_of shape (cell_part (cell_of shape old.content.bytes c.args.self.number c.args.tid c.args.entry) ∷ []) in
     let written : List (ℕ × ℕ) = (c.byte_at.result, length (take (16 + c.from.result - 16) (drop 16 c.in_ok-cell.cell))) ∷ [] in
     let read = writes_within g.M.Media.tells place [] old mid c.read_cell.result (λ i out. tt) c.read_cell.ensures.does in
-    writes_on g.M.Media.tells place place old mid new c.read_cell.result c.write.result (λ i out. out) read
+    writes_on g.M.Media.tells place place old mid new c.read_cell.result c.write.result (ap is_ok c.in_ok-cell.was) (λ i out. out) read
     (writes_told g.M.Media.tells written place mid new c.write.result (λ told.
     let cell = c.in_ok-cell.ensures.cell told in
     let head = c.head_of-head.ensures ∙ ap cell_head cell in

@@ -1,4 +1,5 @@
-use Rattle.std.proofs.Common.{◌+◌, [], ◌∷◌, length, arith}
+use Rattle.std.proofs.Common.{◌+◌, [], ◌∷◌, length, ap, arith}
+use Rattle.std.specs.Prelude.{is_ok}
 use Rattle.pcm_media.proofs.Writing.{writes_on, writes_within}
 use Rattle.array_shape.specs.Places.{cell_at}
 use Rattle.array_image.proofs.Places.{cell_fits_in}
@@ -16,5 +17,5 @@ returns-clause-does g c =
     let cell = (cell_at c.args.self.shape c.args.self.number c.args.tid c.args.entry, 528) ∷ [] in
     let first = writes_within g.M.Media.tells cell ((c.cell_at-at.result, length c.write_head.new.out) ∷ []) (view c.args.media.now) (view c.write.new.self) c.write.result
     (λ i out. ((λ le lt. out.0 (omega arith) (omega arith)), tt)) c.write.ensures.does in
-    writes_on g.M.Media.tells cell ((c.cell_at-at.result + 16, length c.args.bytes.now) ∷ []) (view c.args.media.now) (view c.write.new.self) (view c.write-2.new.self) c.write.result c.write-2.result
+    writes_on g.M.Media.tells cell ((c.cell_at-at.result + 16, length c.args.bytes.now) ∷ []) (view c.args.media.now) (view c.write.new.self) (view c.write-2.new.self) c.write.result c.write-2.result (ap is_ok c.in_ok-write.was)
     (λ i out. ((λ le lt. out.0 (omega arith) (omega arith)), tt)) first c.write-2.ensures.does

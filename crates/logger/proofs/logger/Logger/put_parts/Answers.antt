@@ -1,4 +1,5 @@
 use Rattle.std.proofs.Common.{◌-◌, drop, sym, ◌∙◌, ap, subst, length, arith}
+use Rattle.std.specs.Prelude.{is_ok}
 use Rattle.std.proofs.lemmas.List.{length-take}
 use Rattle.array_shape.specs.Parts.{write_parts_on}
 use Rattle.logger.specs.Cells.{cell_ranges}
@@ -24,12 +25,12 @@ returns-in_err-put_cell-clause-does g c =
     let view = g.M.Media.view in
     let all = cell_ranges c.args.self.shape c.args.self.number c.args.tid c.args.held (length (write_parts_on c.args.self.shape c.args.self.number c.args.addr c.args.bytes.now)) in
     let more = writes_more c.args.self.shape c.args.self.number c.args.tid c.args.held c.args.addr c.args.bytes.now g.M.Media.tells (view c.args.media.now) (view c.loop-part.media) c.loop-part.entry c.in-Some.part c.loop-part.part-iterator c.next.new.self c.in-Some.ensures.steps c.loop-part.invariant (view c.put_cell.new.media) c.put_cell.result c.if-part-self.true c.put_cell.ensures.does in
-    writes_failed g.M.Media.tells all (view c.args.media.now) (view c.put_cell.new.media) c.put_cell.result c.in_err-put_cell.field-0.0 c.from_residual.result c.in_err-put_cell.was more
+    writes_failed g.M.Media.tells all (view c.args.media.now) (view c.put_cell.new.media) c.put_cell.result c.in_err-put_cell.field-0.0 c.from_residual.result c.from_residual.ensures.0 c.in_err-put_cell.was more
 
 pub loop-part-preserved-then-part-self : goal.loop-part-preserved-then-part-self
 loop-part-preserved-then-part-self g c =
     let view = g.M.Media.view in
-    stands_next c.args.self.shape c.args.self.number c.args.tid c.args.held c.args.addr c.args.bytes.now g.M.Media.tells (view c.args.media.now) (view c.loop-part.media) c.loop-part.entry c.in-Some.part c.loop-part.part-iterator c.next.new.self c.in-Some.ensures.steps c.loop-part.invariant (view c.put_cell.new.media) c.put_cell.result c.if-part-self.true c.put_cell.ensures.does c.bytes_of-piece.result.now c.bytes_of-piece.ensures c.in_ok-put_cell.ensures.written
+    stands_next c.args.self.shape c.args.self.number c.args.tid c.args.held c.args.addr c.args.bytes.now g.M.Media.tells (view c.args.media.now) (view c.loop-part.media) c.loop-part.entry c.in-Some.part c.loop-part.part-iterator c.next.new.self c.in-Some.ensures.steps c.loop-part.invariant (view c.put_cell.new.media) c.put_cell.result c.if-part-self.true c.put_cell.ensures.does (ap is_ok c.in_ok-put_cell.was) c.bytes_of-piece.result.now c.bytes_of-piece.ensures c.in_ok-put_cell.ensures.written
 
 pub loop-part-preserved : goal.loop-part-preserved
 loop-part-preserved g c =

@@ -1,4 +1,4 @@
-use Rattle.std.proofs.Common.{◌≡◌, ℕ, false, ◌<◌, ◌∙◌, sym, ap, subst, [], ◌∷◌, arith}
+use Rattle.std.proofs.Common.{◌≡◌, ℕ, refl, ◌<◌, ◌∙◌, sym, ap, subst, [], ◌∷◌, arith}
 use Rattle.std.specs.Prelude.{slice_index}
 use Rattle.std.proofs.lemmas.Result.{on_ok_weaker}
 use Rattle.pcm_media.specs.Images.{IsOutside, Touched}
@@ -8,15 +8,15 @@ use Rattle.array_image.specs.Image.{row_of}
 use Rattle.coordinator.specs.Between.{HaveVotes}
 use Rattle.array_image.proofs.Calls.{goes_on, hands_on, then_barrier, barrier_keeps}
 use Rattle.coordinator.proofs.Calls.{vote_within, votes_more}
-use Rattle.coordinator.proofs.phases.release.Goals as goal
+use Rattle.coordinator.proofs.phases.set_votes.Goals as goal
 
-pub returns-in_err-unvote-clause-does : goal.returns-in_err-unvote-clause-does
-returns-in_err-unvote-clause-does g c =
+pub returns-in_err-set_vote-clause-does : goal.returns-in_err-set_vote-clause-does
+returns-in_err-set_vote-clause-does g c =
     let logger = c.new.ensures in
     let some : 0 < slice_index c.args.counts.now c.loop-number.number = omega (arith, ap (λ (k : ℕ). slice_index c.args.counts.now k) c.from.ensures, c.if-counts-from-eq0.false) in
     let within = vote_within c.args.shape.now c.args.tid c.args.counts.now c.loop-number.number (omega arith) some in
     let same : (row_at c.new.result.shape c.new.result.number c.args.tid, 1) ≡ (row_at c.args.shape.now c.loop-number.number c.args.tid, 1) = (λ i. (row_at (logger.shape i) (logger.number i) c.args.tid, 1)) in
-    hands_on g.M.Media.tells _ _ _ _ _ (λ told i out. subst (λ r. IsOutside (r ∷ []) i) (sym same) (within i out)) c.loop-number.invariant.does c.from_residual.result c.in_err-unvote.ensures.does
+    hands_on g.M.Media.tells _ _ _ _ _ (λ told i out. subst (λ r. IsOutside (r ∷ []) i) (sym same) (within i out)) c.loop-number.invariant.does c.from_residual.result c.from_residual.ensures.0 c.in_err-set_vote.ensures.does
 
 pub loop-number-preserved : goal.loop-number-preserved
 loop-number-preserved g c =
@@ -24,13 +24,13 @@ loop-number-preserved g c =
     let some : 0 < slice_index c.args.counts.now c.loop-number.number = omega (arith, ap (λ (k : ℕ). slice_index c.args.counts.now k) c.from.ensures, c.if-counts-from-eq0.false) in
     let within = vote_within c.args.shape.now c.args.tid c.args.counts.now c.loop-number.number (omega arith) some in
     let same : (row_at c.new.result.shape c.new.result.number c.args.tid, 1) ≡ (row_at c.args.shape.now c.loop-number.number c.args.tid, 1) = (λ i. (row_at (logger.shape i) (logger.number i) c.args.tid, 1)) in
-    let bytes = (g.M.Media.view c.unvote.new.media).content.bytes in
+    let bytes = (g.M.Media.view c.set_vote.new.media).content.bytes in
     record {
-      does = goes_on g.M.Media.tells _ _ _ _ _ (λ told i out. subst (λ r. IsOutside (r ∷ []) i) (sym same) (within i out)) c.loop-number.invariant.does c.in_ok-unvote.ensures.does;
+      does = goes_on g.M.Media.tells _ _ _ _ _ (λ told i out. subst (λ r. IsOutside (r ∷ []) i) (sym same) (within i out)) c.loop-number.invariant.does c.in_ok-set_vote.ensures.does refl;
       votes = λ told.
-          let touched = subst (λ r. Touched (r ∷ []) (g.M.Media.view c.loop-number.media).content (g.M.Media.view c.unvote.new.media).content) same (c.in_ok-unvote.ensures.does.touched told) in
-          let voted = ap (λ (r : Row). r.voted) ((λ i. row_of (sym logger.shape i) bytes (sym logger.number i) c.args.tid) ∙ c.in_ok-unvote.ensures.row told) in
-          votes_more c.args.shape.now c.args.tid c.requires.tid c.args.counts.now c.loop-number.number _ _ false touched (c.loop-number.invariant.votes told) voted;
+          let touched = subst (λ r. Touched (r ∷ []) (g.M.Media.view c.loop-number.media).content (g.M.Media.view c.set_vote.new.media).content) same (c.in_ok-set_vote.ensures.does.touched told) in
+          let voted = ap (λ (r : Row). r.voted) ((λ i. row_of (sym logger.shape i) bytes (sym logger.number i) c.args.tid) ∙ c.in_ok-set_vote.ensures.row told) in
+          votes_more c.args.shape.now c.args.tid c.requires.tid c.args.counts.now c.loop-number.number _ _ c.args.voted touched (c.loop-number.invariant.votes told) voted;
     }
 
 pub returns-clause-does : goal.returns-clause-does
@@ -38,4 +38,4 @@ returns-clause-does g c = then_barrier g.M.Media.tells _ _ _ _ c.barrier.result 
 
 pub returns-clause-votes : goal.returns-clause-votes
 returns-clause-votes g c told =
-    on_ok_weaker c.barrier.result (barrier_keeps (HaveVotes c.args.shape.now c.args.tid c.args.counts.now false c.args.shape.now.loggers) (g.M.Media.view c.loop-number.media).content (g.M.Media.view c.barrier.new.self).content (λ h lt some. c.loop-number.invariant.votes told h (omega arith) some)) (c.barrier.ensures.settled told)
+    on_ok_weaker c.barrier.result (barrier_keeps (HaveVotes c.args.shape.now c.args.tid c.args.counts.now c.args.voted c.args.shape.now.loggers) (g.M.Media.view c.loop-number.media).content (g.M.Media.view c.barrier.new.self).content (λ h lt some. c.loop-number.invariant.votes told h (omega arith) some)) (c.barrier.ensures.settled told)
