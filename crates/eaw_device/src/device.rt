@@ -106,7 +106,7 @@ impl<M: Media> Eaw<M> {
 impl<M: Media> EawStore for Eaw<M> {
     ghost use Rattle.eaw_device.specs.Sound.{view_of};
     ghost use Rattle.eaw_device.specs.Opens.{Opens};
-    ghost use Rattle.eaw_device.specs.Laws.{outlines, placed, beyond, only_now, one_data};
+    ghost use Rattle.eaw_device.specs.Laws.{outlines, placed, beyond, some_now, only_now, one_data};
     ghost use Rattle.array_image.proofs.Data.{length-data_of};
 
     ghost tells = { M.tells };
@@ -124,6 +124,8 @@ impl<M: Media> EawStore for Eaw<M> {
     ghost placed = { λ s t. placed s.shape s.logs.items t (s.sound.kept t) };
 
     ghost beyond = { λ s t past. beyond s.logs.items s.shape t s.sound.many past };
+
+    ghost some_now = { λ s told alive. some_now (M.view s.media) s.shape s.logs.items s.is_dead (λ t image. M.counts_now s.media t image told) };
 
     ghost counts_now = { λ s t image told le left. M.counts_now s.media t image told le (M.only_now s.media image told left) };
 
@@ -230,6 +232,10 @@ impl<M: Media> EawStore for Eaw<M> {
 
     fn held(&self, tid: u8, logger: u8) -> u16 {
         self.logs[usize::from(tid)].held[usize::from(logger)]
+    }
+
+    fn is_dead(&self) -> bool {
+        self.is_dead
     }
 
     fn is_live(&self, tid: u8) -> bool {
