@@ -24,7 +24,6 @@ pub record Does {T : Type 0} (tells : Bool) (Opens : List ℕ → List ℕ → T
   pub shape : new.shape ≡ old.shape
   pub later : old.faults ≤ new.faults
   pub cause : Cause old command new.faults result
-  pub kept : OnOk result (new.faults ≡ old.faults)
   pub done : OnOk result (Becomes tells command old new)
   pub kept : OnOk result (new.faults ≡ old.faults)
   pub dies : IsErrOf result Media → new.is_dead ≡ true
