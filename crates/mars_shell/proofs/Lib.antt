@@ -4,7 +4,6 @@ pub mod RecordLemmas
 pub mod Sound
 pub mod StoreLemmas
 pub mod Stepping
-pub mod PrefixLemmas
 pub mod Calling
 pub mod DamageLemmas
 pub mod FaultLemmas
@@ -12,3 +11,4 @@ pub mod Serving
 pub mod Running
 pub mod Commanding
 pub mod FormatLemmas
+pub mod Answering

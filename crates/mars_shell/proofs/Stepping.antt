@@ -151,6 +151,10 @@ module _ (tells : Bool) (old new : StoreView) (calls : List (Call × Reply)) (ke
         certain = ready.certain;
       }
 
+  -- there is an entry left
+  pub put_fits : HasRoom old (log_write 0 at bytes) → taken_on (limits_of old.shape) own calls < old.shape.entries
+  put_fits has_room = omega (arith, has_room own has_logger, needs_one, taken_is own)
+
   pub put_steps : (base : Table) → IsTrue tells → slot_said bytes ≡ Some (Present key value) → key < slots_of old.shape
       → HasRoom old (log_write 0 at bytes) → Becomes tells (log_write 0 at bytes) old new → IsKept base old (work_of history (Some calls) doubt)
       → Steps base old new (work_of history (Some calls) doubt) (work_of history (Some (calls ++ (Put key value, Fine) ∷ [])) doubt) (Put key value) Fine
@@ -161,9 +165,8 @@ module _ (tells : Bool) (old new : StoreView) (calls : List (Call × Reply)) (ke
       let now : applied (listed (new.state.logs 0)) new.state.bytes ≡ applied ((at, bytes) ∷ []) (applied log old.state.bytes) =
       (λ i. applied (logs i) (same i)) ∙ ap (λ (ps : List Part). applied (log ++ ps) old.state.bytes) (slot_piece (slots_of old.shape) key bytes size)
       ∙ applied-push log (at, bytes) old.state.bytes in
-      let fits : taken_on (limits_of old.shape) own calls < old.shape.entries = omega (arith, has_room own has_logger, needs_one, taken_is own) in
       record {
-        step = inl (fits, (refl, refl));
+        step = inl (put_fits has_room, (refl, refl));
         kept = record {
           stored =
               subst (λ (s : Shape). Holds (slots_of s) (records base history) new.state.bytes) (sym shape)
@@ -178,7 +181,7 @@ module _ (tells : Bool) (old new : StoreView) (calls : List (Call × Reply)) (ke
 
   -- one that found no room
   pub put_refused : (base : Table) (g held more : ℕ) → IsFull old (log_write 0 at bytes) g held more
-      → PutsAt (limits_of old.shape) own calls (state_over base (work_of history (Some calls) doubt)) key value (LogFull g held more) (state_over base (work_of history (Some calls) doubt))
+      → PutsAt own calls (state_over old.shape base (work_of history (Some calls) doubt)) key value (LogFull g held more) (state_over old.shape base (work_of history (Some calls) doubt))
   put_refused base g held more full =
       let first : own ≡ g = elim (cases_eq own g) [
         | inl same ↦ same
@@ -191,10 +194,10 @@ module _ (tells : Bool) (old new : StoreView) (calls : List (Call × Reply)) (ke
 
 -- a commit
 pub commit_steps : (tells : Bool) (base : Table) (old new : StoreView) (history pushed : List Done) (calls : List (Call × Reply)) (doubt : Option Done)
-    → IsTrue tells → new.shape ≡ old.shape → Empties tells old new → pushed ≡ history ++ done_with (state_over base (work_of history (Some calls) doubt)) calls ∷ []
+    → IsTrue tells → new.shape ≡ old.shape → Empties tells old new → pushed ≡ history ++ done_with (state_over old.shape base (work_of history (Some calls) doubt)) calls ∷ []
     → IsKept base old (work_of history (Some calls) doubt) → Steps base old new (work_of history (Some calls) doubt) (work_of pushed None doubt) Commit (Committed (length history + 1))
 commit_steps tells base old new history pushed calls doubt told shape empties is kept =
-    let last = done_with (state_over base (work_of history (Some calls) doubt)) calls in
+    let last = done_with (state_over old.shape base (work_of history (Some calls) doubt)) calls in
     let exact : left_by (records base history) calls ≡ records base pushed = sym (ap (records base) is ∙ records-push base history last) in
     let stored : Holds (slots_of new.shape) (records base pushed) new.state.bytes =
     subst (λ (s : Shape). Holds (slots_of s) (records base pushed) new.state.bytes) (sym shape)
@@ -202,7 +205,7 @@ commit_steps tells base old new history pushed calls doubt told shape empties is
     (subst (λ (t : Table). Holds (slots_of old.shape) t (applied (listed (old.state.logs 0)) old.state.bytes)) exact kept.seen)) in
     let same : applied (listed (new.state.logs 0)) new.state.bytes ≡ new.state.bytes = ap (λ (ps : List Part). applied ps new.state.bytes) (empties.log told) in
     record {
-      step = (refl, ap (λ (h : List Done). state_over base (work_of h None doubt)) is);
+      step = (refl, ap (λ (h : List Done). state_over old.shape base (work_of h None doubt)) is);
       kept = record { stored = stored; seen = subst (λ (b : List ℕ). Holds (slots_of new.shape) (records base pushed) b) (sym same) stored };
     }
 

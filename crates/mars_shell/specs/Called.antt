@@ -1,5 +1,5 @@
 -- What a call does to a session over a store.
-use Rattle.std.specs.Prelude.{ℕ, ◌≡◌, Bool, IsTrue, List, length, Result, Ok, Err, OnOk, IsErrOf}
+use Rattle.std.specs.Prelude.{ℕ, ◌≡◌, Bool, IsTrue, List, length, Result, Ok, Err, OnOk}
 use Rattle.counted.specs.Causes.{Rose}
 use Rattle.array_shape.specs.declared.shape.Shape.{Shape}
 use Rattle.eaw_face.specs.StoreView.{StoreView, LeavesOnly}
@@ -7,7 +7,7 @@ use Rattle.history.specs.Table.{Table}
 use Rattle.history.specs.declared.call.Call.{Call}
 use Rattle.history.specs.declared.call.Reply.{Reply}
 use Rattle.mars_shell.specs.Session.{Step, Breaks}
-use Rattle.mars_shell.specs.Kept.{Work, IsReady, IsKept, Stays, limits_of, slots_of, state_over}
+use Rattle.mars_shell.specs.Kept.{Work, IsReady, IsKept, slots_of, state_over}
 use Rattle.mars_shell.specs.Prefix.{HasPrefix, with_doubt}
 use Rattle.mars_shell.specs.declared.session.Fault.{Fault}
 use Rattle.mars_shell.specs.declared.session.Fault.TheVariants.{Media, NoMemory}
@@ -30,20 +30,25 @@ pub record KeepsPrefix (Opens : Shape → List ℕ → List ℕ → Type 0) (bas
 
 -- A call was answered so, and all is kept.
 pub record Steps (base : Table) (old new : StoreView) (before after : Work) (call : Call) (reply : Reply) : Type 0 where
-  pub step : Step (limits_of old.shape) (state_over base before) call reply (state_over base after)
+  pub step : Step (state_over old.shape base before) call reply (state_over old.shape base after)
   pub kept : IsKept base new after
 
 -- what is kept, by the answer
 abbrev pub Keeps : Table → StoreView → StoreView → Work → Work → Call → Result Reply Fault → Type 0
 Keeps base old new before after call (Ok reply) = Steps base old new before after call reply
 Keeps base old new before after call (Err NoMemory) = after ≡ before
-Keeps base old new before after call (Err Media) = Breaks (state_over base before) call (state_over base after)
+Keeps base old new before after call (Err Media) = Breaks (state_over old.shape base before) call (state_over old.shape base after)
+
+-- the count of faults: it rose where the media failed, and else is as it was
+abbrev pub FaultCause : {T : Type 0} → ℕ → ℕ → Result T Fault → Type 0
+FaultCause old new (Err Media) = Rose old new
+FaultCause old new _ = new ≡ old
 
 -- A call of a session, with this answer. Whatever that is, each image that a loss of power might have left anew opens with the
 -- records of the first transactions, with all of those that were committed before it.
 pub record Called (tells : Bool) (Opens : Shape → List ℕ → List ℕ → Type 0) (call : Call) (old new : StoreView) (before after : Work) (result : Result Reply Fault) : Type 0 where
-  pub stays : Stays old new
+  pub shape : new.shape ≡ old.shape
+  pub cause : FaultCause old.faults new.faults result
   pub ready : OnOk result (IsReady new after)
-  pub media : IsErrOf result Media → Rose old.faults new.faults
   pub keeps : IsTrue tells → (base : Table) → IsKept base old before → Keeps base old new before after call result
   pub prefix : IsTrue tells → (base : Table) → IsKept base old before → LeavesOnly (HasPrefixOf Opens old.shape base after (length before.history)) old new

@@ -9,12 +9,11 @@ use Rattle.array_shape.specs.Numbers.{AreInRange, IsFirstBad}
 use Rattle.array_shape.specs.Places.{HasNumbers, media_len, data_len}
 use Rattle.array_image.specs.Image.{data_of}
 use Rattle.eaw_device.specs.Attaching.{AllOpenWith}
-use Rattle.eaw_device.specs.Fresh.{IsFresh, LeavesAsRead, IsHalfFresh}
+use Rattle.eaw_device.specs.Fresh.{IsFresh, LeavesAsRead, IsHalfFresh, SameCells}
 use Rattle.script_io.specs.Written.{IsWritten}
-use Rattle.mars_shell.specs.Run.{Idle}
 use Rattle.mars_shell.specs.declared.formatting.FormatNumbers.{FormatNumbers}
 use Rattle.mars_shell.specs.declared.status.Status.{Status}
-use Rattle.mars_shell.specs.declared.status.Status.TheVariants.{Good, Usage, TooLong, ReadFault, WriteFault, MediaFault, NoMemory, Damaged, BadRow, NotMars, BadShape}
+use Rattle.mars_shell.specs.declared.status.Status.TheVariants.{Good, WriteFault, MediaFault, BadShape}
 
 -- an array may have these numbers
 abbrev pub CanBe : FormatNumbers → Type 0
@@ -40,11 +39,12 @@ asked_for asked MediaLength given = given
 abbrev pub formatted_line : Shape → List ℕ
 formatted_line shape = codes "formatted " ++ (decimal (media_len shape) ++ 32 ∷ (decimal (data_len shape) ++ 10 ∷ []))
 
--- The shape has the numbers asked for, and the media the length of that. Each image that a loss of power might have left since
--- the entry has a header that could be left at first, or is fresh behind its header.
+-- The shape has the numbers asked for, and the media the length of that. The cells are as they were. Each image that a loss of power
+-- might have left since the entry has a header that could be left at first, or is fresh behind its header.
 pub record IsBegun (asked : FormatNumbers) (shape : Shape) (old new : View) : Type 0 where
   pub numbers : HasAsked asked shape
   pub sized : old.size ≡ media_len shape
+  pub cells : SameCells shape old.content.bytes new.content.bytes
   pub since : (image : List ℕ) → new.left_since old.moment image → IsHalfFresh shape old.content image
 
 -- The media holds a fresh array, and a loss of power leaves that: it opens with its data. The line of it is written, or a front of
@@ -61,19 +61,18 @@ pub record IsFormatted (asked : FormatNumbers) (old new : View) (cut : Bool) (te
 abbrev pub IsOtherLength : FormatNumbers → ℕ → ShapeNumber → ℕ → Type 0
 IsOtherLength asked size which given = (shape : Shape) × HasAsked asked shape × (which ≡ MediaLength) × (given ≡ size) × (size ≡ media_len shape → ⊥)
 
+-- `bad shape` comes exactly where a number is out of range, or the media has another length than they give
+abbrev pub SizeSays : FormatNumbers → ℕ → Status → Type 0
+SizeSays asked size (BadShape which given) = IsFirstWrong asked which given ⊎ IsOtherLength asked size which given
+SizeSays asked size _ = (shape : Shape) × HasAsked asked shape × (size ≡ media_len shape)
+
 -- what was written and done, by the status
 abbrev pub FormatOutcome : FormatNumbers → View → Status → View → Bool → List ℕ → Type 0
 FormatOutcome asked old Good new cut text = (cut ≡ false) × IsFormatted asked old new cut text
 FormatOutcome asked old WriteFault new cut text = (cut ≡ true) × IsFormatted asked old new cut text
 FormatOutcome asked old MediaFault new cut text = (cut ≡ false) × (text ≡ []) × ((shape : Shape) × IsBegun asked shape old new)
-FormatOutcome asked old (BadShape which given) new cut text = Idle old new cut text × (IsFirstWrong asked which given ⊎ IsOtherLength asked old.size which given)
-FormatOutcome asked old Usage new cut text = ⊥
-FormatOutcome asked old TooLong new cut text = ⊥
-FormatOutcome asked old ReadFault new cut text = ⊥
-FormatOutcome asked old NoMemory new cut text = ⊥
-FormatOutcome asked old (Damaged page) new cut text = ⊥
-FormatOutcome asked old (BadRow logger tid) new cut text = ⊥
-FormatOutcome asked old NotMars new cut text = ⊥
+FormatOutcome asked old (BadShape which given) new cut text = (cut ≡ false) × (text ≡ [])
+FormatOutcome asked old _ new cut text = ⊥
 
 -- statuses that come of it
 abbrev pub IsOfFormat : Status → Type 0
@@ -81,10 +80,4 @@ IsOfFormat Good = Unit {0}
 IsOfFormat WriteFault = Unit {0}
 IsOfFormat MediaFault = Unit {0}
 IsOfFormat (BadShape which given) = Unit {0}
-IsOfFormat Usage = ⊥
-IsOfFormat TooLong = ⊥
-IsOfFormat ReadFault = ⊥
-IsOfFormat NoMemory = ⊥
-IsOfFormat (Damaged page) = ⊥
-IsOfFormat (BadRow logger tid) = ⊥
-IsOfFormat NotMars = ⊥
+IsOfFormat _ = ⊥

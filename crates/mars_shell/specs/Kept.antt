@@ -38,9 +38,9 @@ work_of history live doubt = record { history = history; live = live; doubt = do
 abbrev pub work_in : {S : Type 0} → Session S → Work
 work_in session = work_of session.history session.live session.doubt
 
--- the same over the records at the opening
-abbrev pub state_over : Table → Work → State
-state_over base work = record { base = base; history = work.history; live = work.live; doubt = work.doubt }
+-- the same over the records at the opening of an array of this shape
+abbrev pub state_over : Shape → Table → Work → State
+state_over shape base work = record { limits = limits_of shape; base = base; history = work.history; live = work.live; doubt = work.doubt }
 
 -- the key of a call is one of the array's
 abbrev pub FitsCall : ℕ → Call → Type 0
@@ -66,11 +66,6 @@ pub record IsReady (store : StoreView) (work : Work) : Type 0 where
 pub record IsKept (base : Table) (store : StoreView) (work : Work) : Type 0 where
   pub stored : Holds (slots_of store.shape) (records base work.history) store.state.bytes
   pub seen : Holds (slots_of store.shape) (left_by (records base work.history) (calls_of work.live)) (applied (listed (store.state.logs 0)) store.state.bytes)
-
--- of the same shape, and no fault is forgotten
-pub record Stays (old new : StoreView) : Type 0 where
-  pub shape : new.shape ≡ old.shape
-  pub later : old.faults ≤ new.faults
 
 -- The caller's log is empty, and what it had is in the data.
 pub record Empties (tells : Bool) (old new : StoreView) : Type 0 where

@@ -1,97 +1,53 @@
--- Which statuses a whole run ends with, and when.
-use Rattle.eaw_device.specs.declared.fault.AttachFault.{AttachFault}
-use Rattle.eaw_device.specs.declared.fault.AttachFault.TheVariants as opening
+-- What a run leaves on a media that tells its bytes, and what it has written, by its status.
+use Rattle.std.specs.Prelude.{ℕ, ◌≡◌, ◌+◌, ◌≤◌, ◌⊎◌, List, [], Bool, false}
+use Rattle.pcm_media.specs.Images.{Touched}
+use Rattle.pcm_media.specs.View.{View}
+use Rattle.array_shape.specs.declared.shape.Shape.{Shape}
+use Rattle.array_shape.specs.Places.{media_len}
+use Rattle.row_bytes.specs.Header.{HasMark, SaysShape, IsBadIn}
+use Rattle.device_recovery.specs.Recovered.{HasNoVote}
+use Rattle.eaw_device.specs.Opens.{header_of, AllOpen, OpensLike, HasBadRow, HoldsArray, opening_calls}
+use Rattle.script_run.specs.declared.ended.Ended.{Ended}
+use Rattle.script_run.specs.declared.ended.Ended.TheVariants as script
 use Rattle.mars_shell.specs.declared.status.Status.{Status}
-use Rattle.mars_shell.specs.declared.status.Status.TheVariants.{Good, Usage, TooLong, ReadFault, WriteFault, MediaFault, NoMemory, Damaged, BadRow, NotMars, BadShape}
+use Rattle.mars_shell.specs.declared.status.Status.TheVariants.{Good, WriteFault, MediaFault, NoMemory, Damaged, BadRow, NotMars, BadShape}
 
--- Usage comes exactly where the words ask for nothing.
-abbrev pub WordsSay : Type 0 → Status → Type 0
-WordsSay asked Usage = asked → ⊥
-WordsSay asked Good = asked
-WordsSay asked TooLong = asked
-WordsSay asked ReadFault = asked
-WordsSay asked WriteFault = asked
-WordsSay asked MediaFault = asked
-WordsSay asked NoMemory = asked
-WordsSay asked (Damaged page) = asked
-WordsSay asked (BadRow logger tid) = asked
-WordsSay asked NotMars = asked
-WordsSay asked (BadShape which given) = asked
+-- Nothing was told. Where all that a loss of power could leave at first opens, all that it might have left since opens with data
+-- of the former. A media that holds no array, or one with a bad row, is untouched.
+pub record Idle (old new : View) (cut : Bool) (text : List ℕ) : Type 0 where
+  pub uncut : cut ≡ false
+  pub silent : text ≡ []
+  pub keeps : (shape : Shape) → AllOpen shape old.content → (image : List ℕ) → new.left_since old.moment image → OpensLike shape old.content image
+  pub spared : Touched [] old.content new.content ⊎ HoldsArray old
 
--- statuses that come before the media is opened, and only then
-abbrev pub IsEarly : Status → Type 0
-IsEarly Usage = Unit {0}
-IsEarly TooLong = Unit {0}
-IsEarly ReadFault = Unit {0}
-IsEarly Good = ⊥
-IsEarly WriteFault = ⊥
-IsEarly MediaFault = ⊥
-IsEarly NoMemory = ⊥
-IsEarly (Damaged page) = ⊥
-IsEarly (BadRow logger tid) = ⊥
-IsEarly NotMars = ⊥
-IsEarly (BadShape which given) = ⊥
+-- the media holds no array that can be opened, for this cause, and nothing was written to it
+pub record Refuses (Cause : Type 0) (old new : View) (cut : Bool) (text : List ℕ) : Type 0 where
+  pub idle : Idle old new cut text
+  pub untouched : Touched [] old.content new.content
+  pub cause : Cause
 
--- statuses that come while lines are answered
-abbrev pub IsOfLines : Status → Type 0
-IsOfLines Good = Unit {0}
-IsOfLines WriteFault = Unit {0}
-IsOfLines MediaFault = Unit {0}
-IsOfLines NoMemory = Unit {0}
-IsOfLines Usage = ⊥
-IsOfLines TooLong = ⊥
-IsOfLines ReadFault = ⊥
-IsOfLines (Damaged page) = ⊥
-IsOfLines (BadRow logger tid) = ⊥
-IsOfLines NotMars = ⊥
-IsOfLines (BadShape which given) = ⊥
+-- Memory was short before the first line: no call of the media was made, or one, and its header says the shape of an array.
+pub record IsShort (old new : View) (cut : Bool) (text : List ℕ) : Type 0 where
+  pub idle : Idle old new cut text
+  pub untouched : Touched [] old.content new.content
+  pub calls : (new.moment ≡ old.moment) ⊎ ((new.moment ≡ old.moment + 1) × (shape : Shape) × SaysShape (header_of old.content.bytes) shape × (old.size ≡ media_len shape))
 
--- statuses that one line ends the run with
-abbrev pub IsEnding : Status → Type 0
-IsEnding Good = ⊥
-IsEnding WriteFault = Unit {0}
-IsEnding MediaFault = Unit {0}
-IsEnding NoMemory = Unit {0}
-IsEnding Usage = ⊥
-IsEnding TooLong = ⊥
-IsEnding ReadFault = ⊥
-IsEnding (Damaged page) = ⊥
-IsEnding (BadRow logger tid) = ⊥
-IsEnding NotMars = ⊥
-IsEnding (BadShape which given) = ⊥
+-- The media failed before the first line: within the calls of an opening, where no row is voted, and so many that look at the
+-- records.
+pub record Fails (looks : Shape → ℕ) (old new : View) (cut : Bool) (text : List ℕ) : Type 0 where
+  pub idle : Idle old new cut text
+  pub within : (shape : Shape) → SaysShape (header_of old.content.bytes) shape → HasNoVote shape old.content.bytes → new.moment ≤ old.moment + (opening_calls shape + looks shape)
 
--- statuses with which the opening of an array is refused
-abbrev pub IsRefusal : Status → Type 0
-IsRefusal (Damaged page) = Unit {0}
-IsRefusal (BadRow logger tid) = Unit {0}
-IsRefusal NotMars = Unit {0}
-IsRefusal (BadShape which given) = Unit {0}
-IsRefusal Good = ⊥
-IsRefusal Usage = ⊥
-IsRefusal TooLong = ⊥
-IsRefusal ReadFault = ⊥
-IsRefusal WriteFault = ⊥
-IsRefusal MediaFault = ⊥
-IsRefusal NoMemory = ⊥
-
--- statuses that come once an array is opened
-abbrev pub IsOfRecords : Status → Type 0
-IsOfRecords Good = Unit {0}
-IsOfRecords WriteFault = Unit {0}
-IsOfRecords MediaFault = Unit {0}
-IsOfRecords NoMemory = Unit {0}
-IsOfRecords (Damaged page) = Unit {0}
-IsOfRecords Usage = ⊥
-IsOfRecords TooLong = ⊥
-IsOfRecords ReadFault = ⊥
-IsOfRecords (BadRow logger tid) = ⊥
-IsOfRecords NotMars = ⊥
-IsOfRecords (BadShape which given) = ⊥
-
--- the status of an array that is not opened
-abbrev pub status_of : AttachFault → Status
-status_of opening.NotMars = NotMars
-status_of (opening.BadShape bad) = BadShape bad.which bad.given
-status_of (opening.BadRow logger tid) = BadRow logger tid
-status_of opening.Media = MediaFault
-status_of opening.NoMemory = NoMemory
+-- What was written and done, by the status: the work over an array that was opened, or that there was none to open. Broken says
+-- which page may be named as damaged.
+abbrev pub OutcomeOf : (Ended → Type 0) → (ℕ → Type 0) → (Shape → ℕ) → View → Status → View → Bool → List ℕ → Type 0
+OutcomeOf Works Broken looks old Good new cut text = Works script.All
+OutcomeOf Works Broken looks old WriteFault new cut text = Works script.WriteFault
+OutcomeOf Works Broken looks old MediaFault new cut text = Fails looks old new cut text ⊎ Works script.MediaFault
+OutcomeOf Works Broken looks old NoMemory new cut text = IsShort old new cut text ⊎ Works script.NoMemory
+OutcomeOf Works Broken looks old (Damaged page) new cut text = Idle old new cut text × Broken page
+OutcomeOf Works Broken looks old (BadRow logger tid) new cut text = Refuses (HasBadRow old logger tid) old new cut text
+OutcomeOf Works Broken looks old NotMars new cut text = Refuses (512 ≤ old.size → HasMark (header_of old.content.bytes) → ⊥) old new cut text
+OutcomeOf Works Broken looks old (BadShape which given) new cut text =
+    Refuses ((512 ≤ old.size) × HasMark (header_of old.content.bytes) × IsBadIn (header_of old.content.bytes) old.size which given) old new cut text
+OutcomeOf Works Broken looks old _ new cut text = Idle old new cut text

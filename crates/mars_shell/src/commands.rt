@@ -1,16 +1,15 @@
 // A run of raw commands.
-ghost use Rattle.std.specs.Prelude.{◌≡◌, IsTrue};
-ghost use Rattle.counted.specs.Causes.{Rose};
-ghost use Rattle.mars_shell.specs.Commands.{CommandOutcome, script_status};
-ghost use Rattle.mars_shell.specs.Exchange.{Exchange};
-ghost use Rattle.mars_shell.specs.Outcome.{IsEarly, IsRefusal};
+ghost use Rattle.std.specs.Prelude.{◌≡◌, ℕ, List, IsTrue};
+ghost use Rattle.script_io.specs.Written.{Wrote};
+ghost use Rattle.mars_shell.specs.Commands.{CommandOutcome};
+ghost use Rattle.mars_shell.specs.Input.{InputSays};
+ghost use Rattle.mars_shell.specs.Statuses.{Counts, IsEarly, IsRefusal};
 
-use crate::status::{Status, status_of};
-use eaw_device::Eaw;
-use eaw_script::{Ended, answer_commands};
+use crate::opening::open;
+use crate::status::{Status, script_status};
+use eaw_script::answer_commands;
 use outside::{Sink, Source};
 use pcm_media::Media;
-use script_io::{InputFault, read_input};
 use std::alloc::Global;
 
 /// Answers the raw commands of the source over the array that the media holds, whatever its records are.
@@ -23,35 +22,16 @@ pub(crate) fn run_commands<S: Source, K: Sink, M: Media>(
     ensures no_usage { result.0 ≡ Status.Usage → ⊥ }
     ensures early { IsEarly result.0 → (sink.new ≡ sink.old) × (result.1 ≡ media) }
     ensures refused { IsRefusal result.0 → sink.new ≡ sink.old }
-    ensures read_fault { result.0 ≡ Status.ReadFault → Rose (S.faults source.old) (S.faults source.new) }
+    ensures counts { Counts result.0 (S.faults source.old) (S.faults source.new) (K.faults sink.old) (K.faults sink.new) (M.view media).faults (M.view result.1).faults }
     ensures steady { IsTrue (S.steady source.old) → result.0 ≡ Status.ReadFault → ⊥ }
-    ensures write_fault { result.0 ≡ Status.WriteFault → Rose (K.faults sink.old) (K.faults sink.new) }
-    ensures media_fault { result.0 ≡ Status.MediaFault → Rose (M.view media).faults (M.view result.1).faults }
-    ensures ran { IsTrue M.tells → Exchange S.tells (S.left source.old) K.tells (K.written sink.old) (K.written sink.new) (Rose (K.faults sink.old) (K.faults sink.new))
-        (CommandOutcome (M.view media) result.0 (M.view result.1)) }
+    ensures input { IsTrue S.tells → InputSays result.0 (S.left source.old) (S.left source.new) }
+    ensures ran { Wrote K.tells (K.written sink.old) (K.written sink.new) (K.faults sink.old) (K.faults sink.new)
+        (λ cut text. (input : List ℕ) × (IsTrue S.tells → S.left source.old ≡ input) × (IsTrue M.tells → CommandOutcome (M.view media) result.0 (M.view result.1) input cut text)) }
 {
-    let input = match read_input(alloc, source) {
-        Ok(input) => input,
-        Err(InputFault::TooLong) => return (Status::TooLong, media),
-        Err(InputFault::Failed) => return (Status::ReadFault, media),
-        Err(InputFault::NoMemory) => return (Status::NoMemory, media),
+    let (input, store) = match open(alloc, source, media) {
+        Ok(opened) => opened,
+        Err(ended) => return ended,
     };
-    match Eaw::attach(alloc, media) {
-        Ok(mut store) => {
-            let ended = answer_commands(alloc, &input, sink, &mut store);
-            (script_status(ended), store.into_media())
-        }
-        Err((fault, media)) => (status_of(fault), media),
-    }
-}
-
-fn script_status(ended: Ended) -> Status
-    ensures { result ≡ script_status ended }
-{
-    match ended {
-        Ended::All => Status::Good,
-        Ended::WriteFault => Status::WriteFault,
-        Ended::MediaFault => Status::MediaFault,
-        Ended::NoMemory => Status::NoMemory,
-    }
+    let (ended, store) = answer_commands(alloc, &input, sink, store);
+    (script_status(ended), store.into_media())
 }

@@ -1,10 +1,10 @@
 // A fresh array is made on the media, and its lengths are told.
-ghost use Rattle.std.specs.Prelude.{◌≡◌, ◌↔◌, ◌+◌, ◌≤◌, ◌++◌, Bool, List, ℕ, length, take, IsOk, IfOk, IfErr, IsTrue};
-ghost use Rattle.counted.specs.Causes.{Rose};
+ghost use Rattle.std.specs.Prelude.{◌≡◌, ◌↔◌, ◌+◌, ◌≤◌, ◌++◌, length, take, IsOk, IfOk, IfErr, IsTrue};
 ghost use Rattle.array_shape.specs.declared.shape.Shape.{Shape};
 ghost use Rattle.array_shape.specs.Places.{media_len};
-ghost use Rattle.mars_shell.specs.Formats.{CanBe, HasAsked, IsFirstWrong, asked_for, formatted_line, FormatOutcome, IsOfFormat};
-ghost use Rattle.mars_shell.specs.Outcome.{IsRefusal};
+ghost use Rattle.mars_shell.specs.Formats.{CanBe, HasAsked, IsFirstWrong, asked_for, formatted_line, FormatOutcome, IsOfFormat, SizeSays};
+ghost use Rattle.mars_shell.specs.Statuses.{Counts, IsRefusal};
+ghost use Rattle.script_io.specs.Written.{Wrote};
 
 use crate::status::Status;
 use array_shape::{BadShape, Shape, ShapeNumber};
@@ -48,13 +48,11 @@ pub(crate) fn run_format<K: Sink, M: Media>(
     // Where a number or the media's length is wrong, all is left alone. Of an array that was not made nothing is told.
     ensures refused { IsRefusal result.0 → (sink.new ≡ sink.old) × (result.1 ≡ media) }
     ensures untold { result.0 ≡ Status.MediaFault → sink.new ≡ sink.old }
-    // A fault of the sink or the media comes only where its count rose.
-    ensures write_fault { result.0 ≡ Status.WriteFault → Rose (K.faults sink.old) (K.faults sink.new) }
-    ensures media_fault { result.0 ≡ Status.MediaFault → Rose (M.view media).faults (M.view result.1).faults }
+    ensures sized { SizeSays asked.now (M.view media).size result.0 }
+    ensures counts { Counts result.0 0 0 (K.faults sink.old) (K.faults sink.new) (M.view media).faults (M.view result.1).faults }
     // Some text was written, cut short only where the sink failed, and each status has its cause.
-    ensures ran { IsTrue M.tells → (cut : Bool) × (text : List ℕ) × (IsTrue K.tells → K.written sink.new ≡ K.written sink.old ++ text)
-        × (IsTrue cut → Rose (K.faults sink.old) (K.faults sink.new))
-        × FormatOutcome asked.now (M.view media) result.0 (M.view result.1) cut text }
+    ensures ran { Wrote K.tells (K.written sink.old) (K.written sink.new) (K.faults sink.old) (K.faults sink.new)
+        (λ cut text. IsTrue M.tells → FormatOutcome asked.now (M.view media) result.0 (M.view result.1) cut text) }
 {
     let shape = match shape_of(asked) {
         Ok(shape) => shape,

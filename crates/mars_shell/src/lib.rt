@@ -1,14 +1,16 @@
 //! The program over a source, a sink and a media that are handed in.
 #![tactic(auto)]
 
-mod answer;
 mod commands;
 mod damage;
 mod fault;
 mod formatting;
 mod gate;
+mod lines;
 mod live;
+mod opening;
 mod records;
+mod responder;
 mod serve;
 mod session;
 mod status;

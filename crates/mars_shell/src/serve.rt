@@ -1,43 +1,33 @@
-// The work over an array that was just opened.
-ghost use Rattle.std.specs.Prelude.{◌≡◌, ◌≤◌, ◌++◌, Bool, List, ℕ, None, IsTrue};
-ghost use Rattle.counted.specs.Causes.{Rose};
+// The work over an array whose records are sound.
+ghost use Rattle.std.specs.Prelude.{◌≡◌, None, IsTrue};
 ghost use Rattle.eaw_face.specs.Causes.{IsAlive};
-ghost use Rattle.mars_shell.specs.Kept.{Stays};
-ghost use Rattle.mars_shell.specs.Outcome.{IsOfRecords, IsRefusal};
-ghost use Rattle.mars_shell.specs.Served.{Serves};
+ghost use Rattle.script_io.specs.Written.{Wrote};
+ghost use Rattle.script_run.specs.Counts.{Counts};
+ghost use Rattle.mars_shell.specs.Kept.{slots_of};
+ghost use Rattle.mars_shell.specs.Records.{IsSoundData};
+ghost use Rattle.mars_shell.specs.Served.{Served};
 
-use crate::answer::answer_all;
-use crate::damage::first_damage;
 use crate::session::Session;
-use crate::status::Status;
 use eaw_face::EawStore;
 use history::History;
 use outside::Sink;
+use script_run::{Ended, answer_lines};
 use std::alloc::Global;
 
-/// Looks at the records of the store, and answers the lines of the input over them where they are sound.
+/// Answers the lines of the input over the records of a store that are sound, and gives the store back.
 pub fn serve<K: Sink, S: EawStore>(
     alloc: Global,
     input: &[u8],
     sink: &mut K,
-    mut store: S,
-) -> (Status, S)
+    store: S,
+) -> (Ended, S)
     requires alive { IsAlive (S.view store) }
     requires free { (S.view store).ranges 0 ≡ None }
-    ensures serves { (cut : Bool) × (text : List ℕ) × (IsTrue K.tells → K.written sink.new ≡ K.written sink.old ++ text)
-        × (IsTrue cut → Rose (K.faults sink.old) (K.faults sink.new))
-        × (IsTrue S.tells → Serves S.opens (S.view store) input.now result.0 cut text (S.view result.1)) }
-    ensures kind { IsOfRecords result.0 }
-    ensures refused { IsRefusal result.0 → sink.new ≡ sink.old }
-    ensures write_fault { result.0 ≡ Status.WriteFault → Rose (K.faults sink.old) (K.faults sink.new) }
-    ensures media_fault { result.0 ≡ Status.MediaFault → Rose (S.view store).faults (S.view result.1).faults }
-    ensures stays { Stays (S.view store) (S.view result.1) }
+    ensures served { Wrote K.tells (K.written sink.old) (K.written sink.new) (K.faults sink.old) (K.faults sink.new)
+        (λ cut text. IsTrue S.tells → IsSoundData (slots_of (S.view store).shape) (S.view store).state.bytes → Served S.opens (S.view store) input.now result.0 cut text (S.view result.1)) }
+    ensures alive { result.0 ≡ Ended.All → IsAlive (S.view result.1) }
+    ensures counts { Counts result.0 (K.faults sink.old) (K.faults sink.new) (S.view store).faults (S.view result.1).faults }
 {
-    match first_damage(&mut store) {
-        Ok(None) => {}
-        Ok(Some(page)) => return (Status::Damaged { page: page as u32 }, store),
-        Err(_) => return (Status::MediaFault, store),
-    }
     let mut session = Session {
         alloc,
         store,
@@ -45,7 +35,7 @@ pub fn serve<K: Sink, S: EawStore>(
         live: None,
         doubt: None,
     };
-    let status = answer_all(alloc, input, sink, &mut session);
+    let ended = answer_lines(alloc, input, sink, &mut session);
     let Session { store, .. } = session;
-    (status, store)
+    (ended, store)
 }

@@ -1,6 +1,6 @@
 // One caller's session over a store: the history, and the transaction that runs.
-ghost use Rattle.std.specs.Prelude.{◌≡◌, ◌<◌, ◌↔◌, Ok, IsTrue, IfOk, OnOk, OnErr, length};
-ghost use Rattle.counted.specs.Causes.{Rose};
+ghost use Rattle.std.specs.Prelude.{◌≡◌, ◌<◌, ◌↔◌, None, Ok, IsTrue, IfOk, OnOk, OnErr, length};
+ghost use Rattle.counted.specs.Causes.{HasCause};
 ghost use Rattle.array_shape.specs.Logged.{applied};
 ghost use Rattle.eaw_face.specs.Causes.{IsAlive};
 ghost use Rattle.eaw_face.specs.Command.{read};
@@ -10,7 +10,7 @@ ghost use Rattle.eaw_face.specs.StoreView.{LeavesOnly, log_len};
 ghost use Rattle.history.specs.Table.{Table, found};
 ghost use Rattle.history.specs.declared.call.Call.TheVariants.{Begin, Get, Put, Commit};
 ghost use Rattle.mars_shell.specs.Called.{Called, KeepsPrefix};
-ghost use Rattle.mars_shell.specs.Kept.{IsReady, IsKept, Stays, Empties, FitsCall, slots_of, work_in};
+ghost use Rattle.mars_shell.specs.Kept.{IsReady, IsKept, Empties, FitsCall, slots_of, work_in};
 ghost use Rattle.mars_shell.specs.Live.{either, last_put};
 ghost use Rattle.mars_shell.specs.Records.{record_at};
 ghost use Rattle.mars_shell.specs.Session.{puts_of};
@@ -166,6 +166,7 @@ fn look<S: EawStore>(store: &mut S, live: &Live, key: u64) -> Result<Option<Valu
     requires alive { IsAlive (S.view store.old) }
     requires fits { key < slots_of (S.view store.old).shape }
     ensures does { Does S.tells (S.opens (S.view store.old).shape) read (S.view store.old) (S.view store.new) result }
+    ensures unput { OnErr result (last_put (puts_of live.now) key ≡ None) }
     ensures value { IsTrue S.tells → IfOk result (λ value. value ≡ either (last_put (puts_of live.now) key) (record_at (slots_of (S.view store.old).shape) (S.view store.old).state.bytes key)) }
 {
     match live.last_put(key) {
@@ -178,9 +179,10 @@ fn look<S: EawStore>(store: &mut S, live: &Live, key: u64) -> Result<Option<Valu
 fn commit_log<S: EawStore>(store: &mut S, has_parts: bool) -> Result<(), EawFault>
     requires alive { IsAlive (S.view store.old) }
     requires parts { IsTrue has_parts ↔ (0 < log_len (S.view store.old) CALLER) }
-    ensures stays { Stays (S.view store.old) (S.view store.new) }
+    ensures shape { (S.view store.new).shape ≡ (S.view store.old).shape }
     ensures empties { OnOk result (Empties S.tells (S.view store.old) (S.view store.new)) }
-    ensures media { OnErr result (Rose (S.view store.old).faults (S.view store.new).faults) }
+    ensures cause { HasCause (S.view store.old).faults (S.view store.new).faults result }
+    ensures due { OnErr result (0 < log_len (S.view store.old) CALLER) }
     ensures time { IsTrue S.tells → LeavesOnly (IsEither (S.opens (S.view store.old).shape) (S.view store.old).state.bytes
         (applied (listed ((S.view store.old).state.logs CALLER)) (S.view store.old).state.bytes)) (S.view store.old) (S.view store.new) }
 {

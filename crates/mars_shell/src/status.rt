@@ -1,9 +1,10 @@
 ghost use Rattle.std.specs.Prelude.{◌≡◌};
 ghost use Rattle.mars_shell.specs.Fault.{status_number};
-ghost use Rattle.mars_shell.specs.Outcome.{status_of};
+ghost use Rattle.mars_shell.specs.Statuses.{status_of, script_status};
 
 use array_shape::ShapeNumber;
 use eaw_device::AttachFault;
+use script_run::Ended;
 
 /// How a run ended.
 #[derive(Clone, Copy, Debug, PartialEq, Eq)]
@@ -63,5 +64,17 @@ pub(crate) fn status_of(fault: AttachFault) -> Status
         AttachFault::BadRow { logger, tid } => Status::BadRow { logger, tid },
         AttachFault::Media => Status::MediaFault,
         AttachFault::NoMemory => Status::NoMemory,
+    }
+}
+
+// The status of a script that ended so.
+pub(crate) fn script_status(ended: Ended) -> Status
+    ensures { result ≡ script_status ended }
+{
+    match ended {
+        Ended::All => Status::Good,
+        Ended::WriteFault => Status::WriteFault,
+        Ended::MediaFault => Status::MediaFault,
+        Ended::NoMemory => Status::NoMemory,
     }
 }

@@ -1,4 +1,4 @@
-use Rattle.std.proofs.Common.{Option, List, ℕ, ◌+◌, ◌≡◌, length, Ok, ap, subst, sym, ◌∙◌, arith}
+use Rattle.std.proofs.Common.{Option, List, ℕ, ◌+◌, ◌<◌, ◌≡◌, length, Ok, ap, subst, sym, ◌∙◌, arith}
 use Rattle.std.specs.Prelude.{vec_len}
 use Rattle.eaw_face.specs.StoreView.{log_len}
 use Rattle.history.specs.declared.transaction.Done.{Done}
@@ -36,8 +36,8 @@ returns-in-Ok-commit_log g c =
     record {
       called = subst (λ (n : ℕ). Called s.tells s.opens Commit old new (work_of work.history work.live work.doubt) (work_of c.push.new.self c.take.new.self work.doubt) (Ok (Committed n))) (sym count)
           (called_at s.tells s.opens work.history work.doubt _ _ _ _ is (ap (λ (l : Option (List (Call × Reply))). work_of c.push.new.self l work.doubt) c.in-Some.ensures.after)
-          (commit_done s.tells s.opens old new c.in-Some.live work.history c.push.new.self last work.doubt (subst at is c.requires.ready) c.in-Ok-commit_log.ensures.stays
-          (λ i. record { caller = 0; calls = c.split-calls.ensures.calls i; at = count i }) c.in-Ok.ensures.ok c.in-Ok-commit_log.ensures.time c.in-Ok-commit_log.ensures.empties));
+          (commit_done s.tells s.opens old new c.in-Some.live work.history c.push.new.self last work.doubt (subst at is c.requires.ready) c.in-Ok-commit_log.ensures.shape
+          (λ i. record { caller = 0; calls = c.split-calls.ensures.calls i; at = count i }) c.in-Ok.ensures.ok c.in-Ok-commit_log.ensures.time c.in-Ok-commit_log.ensures.empties c.in-Ok-commit_log.ensures.cause.kept));
     }
 
 pub returns : goal.returns
@@ -51,9 +51,11 @@ returns g c =
     let count = ap (λ (h : List Done). length h + 1) c.items.ensures in
     let last : Done = record { caller = 0; calls = c.split-calls.result.0; at = length c.items.result.now + 1 } in
     let rest = popped c.push.new.self work.history c.pop.new.self last c.pop.result c.in-Ok.ensures.ok c.pop.ensures.last c.pop.ensures.empty.0 in
+    let same : log_len old 0 ≡ length (puts_of c.in-Some.live) = ap length (subst at is c.requires.ready).logged ∙ length-slots_put (slots_of old.shape) (puts_of c.in-Some.live) in
+    let some : 0 < length (puts_of c.in-Some.live) = omega (arith, same, c.in-Err-commit_log.ensures.due) in
     let taken = popped_last c.push.new.self work.history c.pop.new.self last c.pop.result c.in-Ok.ensures.ok c.pop.ensures.last c.pop.ensures.empty.0 in
     record {
       called = called_at s.tells s.opens work.history work.doubt _ _ _ _ is (λ i. work_of (rest i) (c.in-Some.ensures.after i) (taken i))
-          (commit_failed s.tells s.opens old new c.in-Some.live work.history c.push.new.self last work.doubt (subst at is c.requires.ready) c.in-Err-commit_log.ensures.stays
-          (λ i. record { caller = 0; calls = c.split-calls.ensures.calls i; at = count i }) c.in-Ok.ensures.ok c.in-Err-commit_log.ensures.time c.in-Err-commit_log.ensures.media);
+          (commit_failed s.tells s.opens old new c.in-Some.live work.history c.push.new.self last work.doubt (subst at is c.requires.ready) c.in-Err-commit_log.ensures.shape
+          (λ i. record { caller = 0; calls = c.split-calls.ensures.calls i; at = count i }) c.in-Ok.ensures.ok c.in-Err-commit_log.ensures.time c.in-Err-commit_log.ensures.cause.failed some);
     }

@@ -14,7 +14,7 @@ returns-in-Err g c =
     let at = λ (l : Option (List (Call × Reply))). IsReady old (work_of work.history l work.doubt) in
     record {
       called = called_at s.tells s.opens work.history work.doubt _ _ _ _ c.in-Some.is refl
-          (get_failed s.tells s.opens old _ c.in-Some.live c.args.key work.history work.doubt (subst at c.in-Some.is c.requires.ready) _ _ c.in-Err.ensures.does);
+          (get_failed s.tells s.opens old _ c.in-Some.live c.args.key work.history work.doubt (subst at c.in-Some.is c.requires.ready) _ _ c.in-Err.ensures.unput c.in-Err.ensures.does);
     }
 
 pub returns-in-Ok-grant_get : goal.returns-in-Ok-grant_get

@@ -1,4 +1,4 @@
--- What a loss of power leaves of a session.
+-- Laws of what a loss of power leaves of a session.
 use Rattle.std.proofs.Common.{◌≡◌, ℕ, ◌+◌, ◌≤◌, ⊎_elim, List, [], ◌∷◌, ◌++◌, length, take, Option, Some, None, refl, sym, ap, subst, ◌∙◌, arith}
 use Rattle.std.proofs.lemmas.List.{length-append, take_all, take_at, take-append-le, append_assoc, append-nil}
 use Rattle.counted.proofs.Going as going
@@ -12,6 +12,7 @@ use Rattle.mars_shell.specs.Records.{Holds}
 use Rattle.mars_shell.specs.Prefix.{HasPrefix, with_doubt}
 use Rattle.mars_shell.specs.Kept.{Work, work_of, slots_of, IsKept}
 use Rattle.mars_shell.specs.Called.{HasPrefixOf, LeavesAll, KeepsPrefix}
+use Rattle.mars_shell.specs.Standing.{Grows}
 
 -- the committed ones come before the one in doubt
 take_certain : (history : List Done) (doubt : Option Done) → take (length history) (with_doubt history doubt) ≡ history
@@ -83,11 +84,6 @@ module _ (Opens : Shape → List ℕ → List ℕ → Type 0) (base : Table) whe
       (λ anew. subst (λ (h : List Done). HasPrefixOf Opens old.shape base after (length h) image) (sym same) anew)
       (time.only old.moment image (omega arith) (counts image left)) in
       subst (λ (s : Shape). HasPrefixOf Opens s base after (length after.history) image) (sym shape) found
-
--- a history that goes on as another did
-pub record Grows (old new : List Done) : Type 0 where
-  pub more : List Done
-  pub is : new ≡ old ++ more
 
 pub grows_none : (history : List Done) → Grows history history
 grows_none history = record { more = []; is = sym (append-nil history) }

@@ -1,0 +1,53 @@
+-- The statuses of a run by their kinds, and the counts of faults that go with each.
+use Rattle.std.specs.Prelude.{ℕ, ◌≡◌}
+use Rattle.counted.specs.Causes.{Rose}
+use Rattle.eaw_device.specs.declared.fault.AttachFault.{AttachFault}
+use Rattle.eaw_device.specs.declared.fault.AttachFault.TheVariants as opening
+use Rattle.script_run.specs.declared.ended.Ended.{Ended}
+use Rattle.script_run.specs.declared.ended.Ended.TheVariants as script
+use Rattle.mars_shell.specs.declared.status.Status.{Status}
+use Rattle.mars_shell.specs.declared.status.Status.TheVariants.{Good, Usage, TooLong, ReadFault, WriteFault, MediaFault, NoMemory, Damaged, BadRow, NotMars, BadShape}
+
+-- they come before the media is touched
+abbrev pub IsEarly : Status → Type 0
+IsEarly Usage = Unit {0}
+IsEarly TooLong = Unit {0}
+IsEarly ReadFault = Unit {0}
+IsEarly _ = ⊥
+
+-- the array on the media, or what there is in place of one, is refused
+abbrev pub IsRefusal : Status → Type 0
+IsRefusal (Damaged page) = Unit {0}
+IsRefusal (BadRow logger tid) = Unit {0}
+IsRefusal NotMars = Unit {0}
+IsRefusal (BadShape which given) = Unit {0}
+IsRefusal _ = ⊥
+
+-- all was done, or memory was short
+abbrev pub IsGoodOrShort : Status → Type 0
+IsGoodOrShort Good = Unit {0}
+IsGoodOrShort NoMemory = Unit {0}
+IsGoodOrShort _ = ⊥
+
+-- the status of a script that ended so
+abbrev pub script_status : Ended → Status
+script_status script.All = Good
+script_status script.WriteFault = WriteFault
+script_status script.MediaFault = MediaFault
+script_status script.NoMemory = NoMemory
+
+-- the status of an array that is not opened
+abbrev pub status_of : AttachFault → Status
+status_of opening.NotMars = NotMars
+status_of (opening.BadShape bad) = BadShape bad.which bad.given
+status_of (opening.BadRow logger tid) = BadRow logger tid
+status_of opening.Media = MediaFault
+status_of opening.NoMemory = NoMemory
+
+-- The counts of faults of the source, the sink and the media, each before and behind: one rose where it ended the run, and else
+-- they are as they were; but a sink may also fail while a fault of the media is told.
+abbrev pub Counts : Status → ℕ → ℕ → ℕ → ℕ → ℕ → ℕ → Type 0
+Counts ReadFault source source' sink sink' media media' = Rose source source' × (sink' ≡ sink) × (media' ≡ media)
+Counts WriteFault source source' sink sink' media media' = (source' ≡ source) × Rose sink sink' × (media' ≡ media)
+Counts MediaFault source source' sink sink' media media' = (source' ≡ source) × Rose media media'
+Counts _ source source' sink sink' media media' = (source' ≡ source) × (sink' ≡ sink) × (media' ≡ media)

@@ -1,0 +1,44 @@
+// A run over records.
+ghost use Rattle.std.specs.Prelude.{◌≡◌, ℕ, List, IsTrue};
+ghost use Rattle.script_io.specs.Written.{Wrote};
+ghost use Rattle.mars_shell.specs.Input.{InputSays};
+ghost use Rattle.mars_shell.specs.Run.{Outcome};
+ghost use Rattle.mars_shell.specs.Statuses.{Counts, IsEarly, IsRefusal};
+
+use crate::damage::first_damage;
+use crate::opening::open;
+use crate::serve::serve;
+use crate::status::{Status, script_status};
+use outside::{Sink, Source};
+use pcm_media::Media;
+use std::alloc::Global;
+
+/// Answers the lines of the source over the array that the media holds, where its records are sound.
+pub(crate) fn run_lines<S: Source, K: Sink, M: Media>(
+    alloc: Global,
+    source: &mut S,
+    sink: &mut K,
+    media: M,
+) -> (Status, M)
+    ensures no_usage { result.0 ≡ Status.Usage → ⊥ }
+    ensures early { IsEarly result.0 → (sink.new ≡ sink.old) × (result.1 ≡ media) }
+    ensures refused { IsRefusal result.0 → sink.new ≡ sink.old }
+    ensures counts { Counts result.0 (S.faults source.old) (S.faults source.new) (K.faults sink.old) (K.faults sink.new) (M.view media).faults (M.view result.1).faults }
+    ensures steady { IsTrue (S.steady source.old) → result.0 ≡ Status.ReadFault → ⊥ }
+    ensures input { IsTrue S.tells → InputSays result.0 (S.left source.old) (S.left source.new) }
+    ensures ran { Wrote K.tells (K.written sink.old) (K.written sink.new) (K.faults sink.old) (K.faults sink.new)
+        (λ cut text. (input : List ℕ) × (IsTrue S.tells → S.left source.old ≡ input) × (IsTrue M.tells → Outcome (M.view media) result.0 (M.view result.1) input cut text)) }
+{
+    let (input, mut store) = match open(alloc, source, media) {
+        Ok(opened) => opened,
+        Err(ended) => return ended,
+    };
+    match first_damage(&mut store) {
+        Ok(None) => {
+            let (ended, store) = serve(alloc, &input, sink, store);
+            (script_status(ended), store.into_media())
+        }
+        Ok(Some(page)) => (Status::Damaged { page: page as u32 }, store.into_media()),
+        Err(_) => (Status::MediaFault, store.into_media()),
+    }
+}
