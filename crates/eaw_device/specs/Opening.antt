@@ -31,5 +31,5 @@ pub record Settled (tells : Bool) (old : View) (shape : Shape) (new : View) : Ty
   pub good : IsTrue tells → AllGood shape old.content.bytes shape.numbers
   pub bytes : IsTrue tells → data_of shape new.content.bytes ≡ settled_data shape old.content.bytes
   pub sure : IsTrue tells → IsSure shape new.content
-  pub later : old.faults ≤ new.faults
+  pub faults : new.faults ≡ old.faults
   pub calls : IsTrue tells → HasNoVote shape old.content.bytes → new.moment ≡ old.moment + opening_calls shape

@@ -64,7 +64,7 @@ pub record Attached (tells : Bool) (media : View) (store : StoreView) : Type 0 w
   pub free : (t : ℕ) → store.ranges t ≡ None
   pub unlogged : (t : ℕ) → store.state.logs t ≡ None
   pub alive : store.is_dead ≡ false
-  pub faults : media.faults ≤ store.faults
+  pub faults : store.faults ≡ media.faults
   pub calls : IsTrue tells → HasNoVote store.shape media.content.bytes → store.moment ≡ media.moment + opening_calls store.shape
 
 -- a decided row is bad, the first one

@@ -24,7 +24,7 @@ returns-in-Ok-settle-clause-settled g c =
       good = λ told. subst (λ b. AllGood shape b shape.numbers) (same_bytes _ _ (read.touched told)) (done.good told);
       bytes = λ told. done.settled told ∙ ap (λ (b : List ℕ). settled_data shape b) (same_bytes _ _ (read.touched told));
       sure = λ told. record { clean = done.clean told; header = done.header told };
-      later = omega (arith, done.later, read.cause.later);
+      faults = done.faults ∙ c.in_ok-shape.ensures.does.cause.kept;
       calls = λ told none. let settled = (done.costs told (subst (λ b. HasNoVote shape b) (sym (same_bytes _ _ (read.touched told))) none)).done in omega (arith, settled, c.in_ok-shape.ensures.costs.done);
     }
 
