@@ -1,7 +1,2 @@
-pub mod Signs
-pub mod Options
-pub mod OptionWords
-pub mod NumberLemmas
-pub mod SettingLemmas
-pub mod WordLemmas
-pub mod OneCommand
+mod NumberLemmas
+mod AskedLemmas
