@@ -12,7 +12,7 @@ use Rattle.eaw_device.specs.Attaching.{AllOpenWith}
 use Rattle.eaw_device.specs.Fresh.{IsFresh, LeavesAsRead, IsHalfFresh}
 use Rattle.script_io.specs.Written.{IsWritten}
 use Rattle.mars_shell.specs.Run.{Idle}
-use Rattle.mars_shell.specs.declared.formatting.FormatNumbers.{FormatNumbers}
+use Rattle.command_words.specs.declared.words.FormatNumbers.{FormatNumbers}
 use Rattle.mars_shell.specs.declared.status.Status.{Status}
 use Rattle.mars_shell.specs.declared.status.Status.TheVariants.{Good, Usage, TooLong, ReadFault, WriteFault, MediaFault, NoMemory, Damaged, BadRow, NotMars, BadShape}
 

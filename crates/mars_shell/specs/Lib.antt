@@ -14,3 +14,4 @@ pub mod Session
 pub mod Transcript
 pub mod Commands
 pub mod Asked
+pub mod Room

@@ -4,7 +4,7 @@ use Rattle.eaw_device.specs.declared.fault.AttachFault.TheVariants as opening
 use Rattle.mars_shell.specs.declared.status.Status.{Status}
 use Rattle.mars_shell.specs.declared.status.Status.TheVariants.{Good, Usage, TooLong, ReadFault, WriteFault, MediaFault, NoMemory, Damaged, BadRow, NotMars, BadShape}
 
--- Usage comes exactly where the words ask for nothing.
+-- Usage comes exactly where the words ask for nothing; where memory is wanting they may not have been read.
 abbrev pub WordsSay : Type 0 → Status → Type 0
 WordsSay asked Usage = asked → ⊥
 WordsSay asked Good = asked
@@ -12,7 +12,7 @@ WordsSay asked TooLong = asked
 WordsSay asked ReadFault = asked
 WordsSay asked WriteFault = asked
 WordsSay asked MediaFault = asked
-WordsSay asked NoMemory = asked
+WordsSay asked NoMemory = Unit {0}
 WordsSay asked (Damaged page) = asked
 WordsSay asked (BadRow logger tid) = asked
 WordsSay asked NotMars = asked

@@ -8,6 +8,7 @@ mod fault;
 mod formatting;
 mod gate;
 mod live;
+mod media_room;
 mod records;
 mod serve;
 mod session;
@@ -15,7 +16,7 @@ mod status;
 mod whole;
 
 pub use fault::fault_text;
-pub use formatting::{FormatNumbers, room_of};
 pub use gate::{Gate, OpenGate, Place};
+pub use media_room::room;
 pub use status::Status;
 pub use whole::run;

@@ -7,11 +7,11 @@ ghost use Rattle.mars_shell.specs.Outcome.{WordsSay, IsEarly, IsRefusal};
 ghost use Rattle.mars_shell.specs.Run.{Outcome};
 
 use crate::commands::run_commands;
-use crate::formatting::{FormatNumbers, run_format};
+use crate::formatting::run_format;
 use crate::gate::Gate;
 use crate::serve::serve;
 use crate::status::{Status, status_of};
-use command_words::{Words, read_words};
+use command_words::{Words, WordsFault, read_words};
 use eaw_device::Eaw;
 use outside::{Sink, Source};
 use pcm_media::Media;
@@ -31,7 +31,7 @@ pub fn run<R: AllocGlobal, S: Source, K: Sink, M: Media, G: Gate>(
     media: M,
     _gate: &G,
 ) -> (Status, M)
-    // Usage comes exactly where the words are those of no command.
+    // Usage comes exactly where the words ask for nothing.
     ensures words { WordsSay (AreAsked (map string_bytes words.now)) result.0 }
     // Other words touch nothing, what ends the run before the media is opened leaves that and the sink alone, and of an
     // array that is not opened nothing is told.
@@ -48,26 +48,12 @@ pub fn run<R: AllocGlobal, S: Source, K: Sink, M: Media, G: Gate>(
     ensures ran { IsTrue M.tells → result.0 ≢ Status.Usage → Exchange S.tells (S.left source.old) K.tells (K.written sink.old) (K.written sink.new)
         (Rose (K.faults sink.old) (K.faults sink.new)) (Done (map string_bytes words.now) (M.view media) result.0 (M.view result.1)) }
 {
-    match read_words(words) {
-        None => (Status::Usage, media),
-        Some(Words::Run) => run_lines(rt.alloc(), source, sink, media),
-        Some(Words::Eaw) => run_commands(rt.alloc(), source, sink, media),
-        Some(
-            Words::Format {
-                loggers,
-                numbers,
-                entries,
-                pages,
-            },
-        ) => {
-            let asked = FormatNumbers {
-                loggers,
-                numbers,
-                entries,
-                pages,
-            };
-            run_format(sink, media, &asked)
-        }
+    match read_words(rt.alloc(), words) {
+        Err(WordsFault::NoCommand) => (Status::Usage, media),
+        Err(WordsFault::NoMemory) => (Status::NoMemory, media),
+        Ok(Words::Run) => run_lines(rt.alloc(), source, sink, media),
+        Ok(Words::Eaw) => run_commands(rt.alloc(), source, sink, media),
+        Ok(Words::Format(numbers)) => run_format(sink, media, &numbers),
     }
 }
 
