@@ -1,7 +1,3 @@
-pub mod Signs
-pub mod Options
-pub mod OptionWords
-pub mod NumberLemmas
-pub mod SettingLemmas
-pub mod WordLemmas
-pub mod OneCommand
+mod NumberLemmas
+pub mod OneAsked
+mod AskedLemmas

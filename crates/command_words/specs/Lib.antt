@@ -1,4 +1,3 @@
 pub mod Reads
-pub mod Commands
-pub mod Settings
-pub mod Shown
+pub mod CommandLine
+pub mod Asked

@@ -1,10 +1,15 @@
-ghost use Rattle.std.specs.Prelude.{map, string_bytes};
-ghost use Rattle.command_words.specs.Reads.{ReadsShown};
-ghost use Rattle.command_words.specs.Commands.{IsCommand, words_of};
-ghost use Rattle.command_words.specs.Shown.{ShowsCommand};
+ghost use Rattle.std.specs.Prelude.{◌≡◌, ◌<◌, ◌^◌, ℕ, List, Some, map, string_bytes, MatchOption, IfOk, IfErr};
+ghost use Rattle.std.specs.Fmt.{decimal};
+ghost use Rattle.clap.specs.Words.{Text, Row, found_of, rows_of, first_of, subcommand_rows_of};
+ghost use Rattle.command_words.specs.Asked.{AsksFor, AskForNothing, Says, GivesNumbers, IsNumber};
 
-use crate::setting::read_settings;
-use crate::word::first_word;
+use crate::command_line::command_line;
+use crate::number::read_number;
+use array_shape::Shape;
+use clap::ArgMatches;
+use clap::error::ErrorKind;
+use std::alloc::Global;
+use thiserror::Error;
 
 /// What the words ask for.
 #[derive(Clone, Copy, Debug, PartialEq, Eq)]
@@ -13,38 +18,96 @@ pub enum Words {
     Run,
     /// To answer raw commands.
     Eaw,
-    /// To make an array of these numbers, whatever was there: loggers, transaction numbers, log entries of each number at each
-    /// logger, and pages of each logger.
-    Format {
-        loggers: u16,
-        numbers: u16,
-        entries: u16,
-        pages: u16,
-    },
+    /// To make an array of these numbers, whatever was there.
+    Format(FormatNumbers),
 }
 
-/// Reads the words behind the image's: `run`, `eaw`, or `format` with its options in any order, each given once at most. None
-/// exactly where they are the words of no command.
-pub fn read_words(words: &[String]) -> Option<Words>
-    ensures { ReadsShown ShowsCommand IsCommand words_of (map string_bytes words.now) result }
+/// The numbers of an array as they are asked for, in range or not.
+#[derive(Clone, Copy, Debug, PartialEq, Eq)]
+pub struct FormatNumbers {
+    /// Loggers.
+    pub loggers: u16,
+    /// Transaction numbers.
+    pub numbers: u16,
+    /// Log entries per transaction number and logger.
+    pub entries: u16,
+    /// Pages of 512 bytes per logger.
+    pub pages: u16,
+}
+
+/// Why words were not read.
+#[derive(Clone, Copy, Debug, PartialEq, Eq, Error)]
+pub enum WordsFault {
+    /// They ask for nothing that the program does.
+    #[error("usage")]
+    NoCommand,
+    #[error("no memory")]
+    NoMemory,
+}
+
+/// Reads the words behind the image's: `run`, `eaw`, or `format` with its options in any order, each given once at most.
+pub fn read_words(alloc: Global, words: &[String]) -> Result<Words, WordsFault>
+    ensures asked { IfOk result (AsksFor (map string_bytes words.now)) }
+    ensures refused { IfErr result (λ fault. fault ≡ WordsFault.NoCommand → AskForNothing (map string_bytes words.now)) }
 {
-    let (first, rest) = first_word(words)?;
-    if first == "format" {
-        let settings = read_settings(rest)?;
-        return Some(Words::Format {
-            loggers: settings.loggers.unwrap_or(4),
-            numbers: settings.numbers.unwrap_or(8),
-            entries: settings.entries.unwrap_or(16),
-            pages: settings.pages.unwrap_or(64),
-        });
+    let Ok(command) = command_line(alloc) else {
+        return Err(WordsFault::NoMemory);
+    };
+    let matches = match command.try_get_matches_from(words) {
+        Ok(matches) => matches,
+        Err(error) if error.kind() == ErrorKind::OutOfMemory => return Err(WordsFault::NoMemory),
+        Err(_) => return Err(WordsFault::NoCommand),
+    };
+    match asked(&matches) {
+        Some(asked) => Ok(asked),
+        None => Err(WordsFault::NoCommand),
     }
-    if !rest.is_empty() {
-        return None;
-    }
-    match first {
+}
+
+// What the subcommand asks for.
+fn asked(matches: &ArgMatches<'_>) -> Option<Words>
+    ensures { MatchOption result
+        ((name : Text) (options : List Row) (asked : Words) → subcommand_rows_of matches.now ≡ Some (name, options) → Says name options asked → ⊥)
+        (λ asked. (name : Text) × (options : List Row) × (subcommand_rows_of matches.now ≡ Some (name, options)) × Says name options asked) }
+{
+    let (name, options) = matches.subcommand()?;
+    match name {
         "run" => Some(Words::Run),
         "eaw" => Some(Words::Eaw),
+        "format" => {
+            let numbers = read_numbers(options)?;
+            Some(Words::Format(numbers))
+        }
         _ => None,
+    }
+}
+
+// The numbers of `format`.
+fn read_numbers(options: &ArgMatches<'_>) -> Option<FormatNumbers>
+    ensures { MatchOption result ((numbers : FormatNumbers) → GivesNumbers (rows_of (found_of options.now)) numbers → ⊥)
+        (GivesNumbers (rows_of (found_of options.now))) }
+{
+    let default = Shape::default();
+    let loggers = number_or(options, "loggers", u16::from(default.loggers))?;
+    let numbers = number_or(options, "numbers", u16::from(default.numbers))?;
+    let entries = number_or(options, "entries", default.entries)?;
+    let pages = number_or(options, "pages", default.pages as u16)?;
+    Some(FormatNumbers {
+        loggers,
+        numbers,
+        entries,
+        pages,
+    })
+}
+
+// The number of an option, or the default where it is not given.
+fn number_or(options: &ArgMatches<'_>, name: &str, default: u16) -> Option<u16>
+    ensures { MatchOption result ((n : ℕ) → IsNumber default (first_of name.now (rows_of (found_of options.now))) n → ⊥)
+        (IsNumber default (first_of name.now (rows_of (found_of options.now)))) }
+{
+    match options.get_str(name) {
+        Some(value) => read_number(value),
+        None => Some(default),
     }
 }
 

@@ -6,7 +6,7 @@ use Rattle.pcm_media.specs.View.{View, LeavesOnly}
 use Rattle.array_shape.specs.declared.shape.Shape.{Shape}
 use Rattle.array_shape.specs.Places.{media_len}
 use Rattle.eaw_device.specs.Fresh.{IsHalfFresh}
-use Rattle.mars_shell.specs.declared.formatting.FormatNumbers.{FormatNumbers}
+use Rattle.command_words.specs.declared.words.FormatNumbers.{FormatNumbers}
 use Rattle.mars_shell.specs.Formats.{HasAsked, IsBegun}
 
 -- what may be left at first has its own header

@@ -1,11 +1,11 @@
 -- What the words of the command line ask for, and what comes of it.
-use Rattle.std.specs.Prelude.{ℕ, ◌≡◌, ◌≤◌, List, length, Bool, IsTrue}
+use Rattle.std.specs.Prelude.{ℕ, ◌≡◌, ◌≤◌, ◌⊎◌, List, length, Bool, IsTrue}
 use Rattle.counted.specs.Causes.{Rose}
 use Rattle.pcm_media.specs.View.{View}
 use Rattle.array_shape.specs.declared.shape.Shape.{Shape}
 use Rattle.array_shape.specs.Places.{media_len}
-use Rattle.command_words.specs.Commands.{Command, IsCommand, words_of}
-use Rattle.command_words.specs.Shown.{ShowsCommand}
+use Rattle.command_words.specs.Asked.{AsksFor, AskForNothing}
+use Rattle.command_words.specs.declared.words.FormatNumbers.{FormatNumbers}
 use Rattle.command_words.specs.declared.words.Words.{Words}
 use Rattle.command_words.specs.declared.words.Words.TheVariants.{Run, Eaw, Format}
 use Rattle.eaw_device.specs.Opens.{IsArray, HoldsArray}
@@ -16,33 +16,23 @@ use Rattle.mars_shell.specs.Kept.{slots_of}
 use Rattle.mars_shell.specs.Records.{IsSoundData}
 use Rattle.mars_shell.specs.Run.{Outcome, data_in}
 use Rattle.mars_shell.specs.Statuses.{IsRefusal, IsGoodOrShort}
-use Rattle.mars_shell.specs.declared.formatting.FormatNumbers.{FormatNumbers}
 use Rattle.mars_shell.specs.declared.status.Status.{Status}
-use Rattle.mars_shell.specs.declared.status.Status.TheVariants.{Usage, MediaFault}
+use Rattle.mars_shell.specs.declared.status.Status.TheVariants.{Usage, MediaFault, NoMemory}
 
--- the numbers of a format
-abbrev pub format_numbers : ℕ → ℕ → ℕ → ℕ → FormatNumbers
-format_numbers loggers numbers entries pages = record { loggers = loggers; numbers = numbers; entries = entries; pages = pages }
-
--- the words are those of a command, which is what is asked for
-abbrev pub AsksFor : List (List ℕ) → Words → Type 0
-AsksFor words asked = (command : Command) × ShowsCommand asked command × IsCommand command × (words ≡ words_of command)
-
-abbrev pub AskForNothing : List (List ℕ) → Type 0
-AskForNothing words = (command : Command) → IsCommand command → words ≡ words_of command → ⊥
-
--- Usage comes exactly where the words ask for nothing. Else they ask for something, of which this holds.
-abbrev pub WordsSay : List (List ℕ) → Status → (Words → Type 0) → Type 0
-WordsSay words Usage Holds = AskForNothing words
-WordsSay words _ Holds = (asked : Words) × AsksFor words asked × Holds asked
+-- Usage comes exactly where the words ask for nothing. Else they ask for something, of which this holds; but where memory was
+-- short they may be unread.
+abbrev pub WordsSay : List (List ℕ) → Status → Type 0 → (Words → Type 0) → Type 0
+WordsSay words Usage Unread Holds = AskForNothing words
+WordsSay words NoMemory Unread Holds = Unread ⊎ ((asked : Words) × AsksFor words asked × Holds asked)
+WordsSay words _ Unread Holds = (asked : Words) × AsksFor words asked × Holds asked
 
 -- of a command that reads input, and of one that does not
 abbrev pub IfReads : Words → Type 0 → Type 0
-IfReads (Format l n e p) Holds = Unit {0}
+IfReads (Format numbers) Holds = Unit {0}
 IfReads _ Holds = Holds
 
 abbrev pub IfFormat : Words → (FormatNumbers → Type 0) → Type 0
-IfFormat (Format l n e p) Holds = Holds (format_numbers l n e p)
+IfFormat (Format numbers) Holds = Holds numbers
 IfFormat _ Holds = Unit {0}
 
 -- A format reads no input. It answers `bad shape` exactly as its numbers and the length of the media say, and leaves the media alone
@@ -57,7 +47,7 @@ pub record Formats (asked : FormatNumbers) (size : ℕ) (status : Status) (Unrea
 abbrev pub OutcomeFor : Words → View → Status → View → List ℕ → Bool → List ℕ → Type 0
 OutcomeFor Run old status new input cut text = Outcome old status new input cut text
 OutcomeFor Eaw old status new input cut text = CommandOutcome old status new input cut text
-OutcomeFor (Format l n e p) old status new input cut text = FormatOutcome (format_numbers l n e p) old status new cut text
+OutcomeFor (Format numbers) old status new input cut text = FormatOutcome numbers old status new cut text
 
 -- What is asked for can be done: the input is within the limit, over an array whose records are sound, or any array for raw
 -- commands; a format has numbers in range and the media the length that they give.
@@ -65,7 +55,7 @@ abbrev pub IsFit : Words → Bool → List ℕ → Bool → View → Type 0
 IsFit Run source_tells input media_tells media = IsTrue source_tells × (length input ≤ input_limit) × IsTrue media_tells
     × ((shape : Shape) × IsArray shape media × IsSoundData (slots_of shape) (data_in shape media))
 IsFit Eaw source_tells input media_tells media = IsTrue source_tells × (length input ≤ input_limit) × IsTrue media_tells × HoldsArray media
-IsFit (Format l n e p) source_tells input media_tells media = (shape : Shape) × HasAsked (format_numbers l n e p) shape × (media.size ≡ media_len shape)
+IsFit (Format numbers) source_tells input media_tells media = (shape : Shape) × HasAsked numbers shape × (media.size ≡ media_len shape)
 
 -- no count rose
 pub record NoneRose (source source' sink sink' media media' : ℕ) : Type 0 where

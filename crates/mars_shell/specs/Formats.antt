@@ -9,9 +9,10 @@ use Rattle.array_shape.specs.Numbers.{AreInRange, IsFirstBad}
 use Rattle.array_shape.specs.Places.{HasNumbers, media_len, data_len}
 use Rattle.array_image.specs.Image.{data_of}
 use Rattle.eaw_device.specs.Attaching.{AllOpenWith}
-use Rattle.eaw_device.specs.Fresh.{IsFresh, LeavesAsRead, IsHalfFresh, SameCells}
+use Rattle.array_image.specs.Standing.{SameCells}
+use Rattle.eaw_device.specs.Fresh.{IsFresh, LeavesAsRead, IsHalfFresh}
 use Rattle.script_io.specs.Written.{IsWritten}
-use Rattle.mars_shell.specs.declared.formatting.FormatNumbers.{FormatNumbers}
+use Rattle.command_words.specs.declared.words.FormatNumbers.{FormatNumbers}
 use Rattle.mars_shell.specs.declared.status.Status.{Status}
 use Rattle.mars_shell.specs.declared.status.Status.TheVariants.{Good, WriteFault, MediaFault, BadShape}
 

@@ -19,3 +19,4 @@ pub mod Commands
 pub mod Formats
 pub mod Asked
 pub mod Fault
+pub mod Room

@@ -1,9 +1,10 @@
 -- What a run over records does on a media that tells its bytes.
-use Rattle.std.specs.Prelude.{ℕ, ◌≡◌, List, ◌++◌, Bool, Contains}
+use Rattle.std.specs.Prelude.{ℕ, ◌≡◌, ◌/◌, List, ◌++◌, Bool, Contains}
 use Rattle.std.specs.List.{concat}
 use Rattle.pcm_media.specs.Images.{MayLeave}
 use Rattle.pcm_media.specs.View.{View}
 use Rattle.array_shape.specs.declared.shape.Shape.{Shape}
+use Rattle.array_shape.specs.Places.{page_count}
 use Rattle.array_image.specs.Decided.{settled_data}
 use Rattle.eaw_device.specs.Opens.{IsArray}
 use Rattle.history.specs.Table.{Table}
@@ -51,6 +52,10 @@ pub record Answers (old : View) (input : List ℕ) (ended : Ended) (new : View) 
   pub prefix_law : PrefixLaw shape old final new
   pub acknowledged : (n : ℕ) → Contains answers (reply_line 0 (Committed n)) → (image : List ℕ) → MayLeave new.content image → Recovers shape final n image
   pub left : ended ≡ All → IsLeft shape new final
+
+-- so many calls of the media look at the records: one for each of their pages, which are half of all
+abbrev pub looking_calls : Shape → ℕ
+looking_calls shape = page_count shape / 2
 
 -- by the status
 abbrev pub Outcome : View → Status → View → List ℕ → Bool → List ℕ → Type 0

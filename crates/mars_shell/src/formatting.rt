@@ -8,27 +8,15 @@ ghost use Rattle.script_io.specs.Written.{Wrote};
 
 use crate::status::Status;
 use array_shape::{BadShape, Shape, ShapeNumber};
+use command_words::FormatNumbers;
 use eaw_device::{FormatFault, format};
 use itoa::Buffer;
 use outside::Sink;
 use pcm_media::Media;
 use script_io::write_whole;
 
-/// The numbers of an array as they are asked for, in range or not.
-#[derive(Clone, Copy, Debug, PartialEq, Eq)]
-pub struct FormatNumbers {
-    /// Loggers.
-    pub loggers: u16,
-    /// Transaction numbers.
-    pub numbers: u16,
-    /// Log entries per transaction number and logger.
-    pub entries: u16,
-    /// Pages of 512 bytes per logger.
-    pub pages: u16,
-}
-
 /// How many bytes the media of such an array has, 0 where a number is out of range.
-pub fn room_of(asked: &FormatNumbers) -> u64
+pub(crate) fn room_of(asked: &FormatNumbers) -> u64
     ensures room { (shape : Shape) → HasAsked asked.now shape → result ≡ media_len shape }
     ensures no_room { ¬ CanBe asked.now → result ≡ 0 }
 {

@@ -8,6 +8,7 @@ mod formatting;
 mod gate;
 mod lines;
 mod live;
+mod media_room;
 mod opening;
 mod records;
 mod responder;
@@ -17,7 +18,7 @@ mod status;
 mod whole;
 
 pub use fault::fault_text;
-pub use formatting::{FormatNumbers, room_of};
 pub use gate::{Gate, OpenGate, Place};
+pub use media_room::room;
 pub use status::Status;
 pub use whole::run;

@@ -7,11 +7,11 @@ ghost use Rattle.mars_shell.specs.Run.{Outcome};
 ghost use Rattle.mars_shell.specs.Statuses.{Counts, IsEarly, IsRefusal, IsGoodOrShort};
 
 use crate::commands::run_commands;
-use crate::formatting::{FormatNumbers, run_format};
+use crate::formatting::run_format;
 use crate::gate::Gate;
 use crate::lines::run_lines;
 use crate::status::Status;
-use command_words::{Words, read_words};
+use command_words::{Words, WordsFault, read_words};
 use outside::{Sink, Source};
 use pcm_media::Media;
 
@@ -28,8 +28,8 @@ pub fn run<R: AllocGlobal, S: Source, K: Sink, M: Media, G: Gate>(
     media: M,
     _gate: &G,
 ) -> (Status, M)
-    // Usage comes exactly where the words are those of no command.
-    ensures words { WordsSay (map string_bytes words.now) result.0 (λ asked. Unit {0}) }
+    // Usage comes exactly where the words ask for nothing.
+    ensures words { WordsSay (map string_bytes words.now) result.0 (Unit {0}) (λ asked. Unit {0}) }
     // Other words touch nothing, what ends the run before the media is opened leaves that and the sink alone, and of an
     // array that is not opened nothing is told.
     ensures usage { result.0 ≡ Status.Usage → (source.new ≡ source.old) × (sink.new ≡ sink.old) × (result.1 ≡ media) }
@@ -39,36 +39,22 @@ pub fn run<R: AllocGlobal, S: Source, K: Sink, M: Media, G: Gate>(
     ensures counts { Counts result.0 (S.faults source.old) (S.faults source.new) (K.faults sink.old) (K.faults sink.new) (M.view media).faults (M.view result.1).faults }
     ensures steady { IsTrue (S.steady source.old) → result.0 ≡ Status.ReadFault → ⊥ }
     // An input is too long exactly where it is; and all of it was read where a command that reads it ends well.
-    ensures input { IsTrue S.tells → WordsSay (map string_bytes words.now) result.0 (λ asked. IfReads asked (InputSays result.0 (S.left source.old) (S.left source.new))) }
-    ensures formats { WordsSay (map string_bytes words.now) result.0 (λ asked. IfFormat asked (λ numbers.
+    ensures input { IsTrue S.tells → WordsSay (map string_bytes words.now) result.0 (Unit {0}) (λ asked. IfReads asked (InputSays result.0 (S.left source.old) (S.left source.new))) }
+    ensures formats { WordsSay (map string_bytes words.now) result.0 ((source.new ≡ source.old) × (sink.new ≡ sink.old) × (result.1 ≡ media)) (λ asked. IfFormat asked (λ numbers.
         Formats numbers (M.view media).size result.0 (source.new ≡ source.old) (sink.new ≡ sink.old) (result.1 ≡ media))) }
     // What the words ask for was done. Each status has its cause. Of a run the text answers the lines of the input one by one, the
     // history is legal, and the prefix law holds of it; of raw commands it answers them by the model.
-    ensures ran { WordsSay (map string_bytes words.now) result.0 (λ asked. Wrote K.tells (K.written sink.old) (K.written sink.new) (K.faults sink.old) (K.faults sink.new)
+    ensures ran { WordsSay (map string_bytes words.now) result.0 ((source.new ≡ source.old) × (sink.new ≡ sink.old) × (result.1 ≡ media)) (λ asked. Wrote K.tells (K.written sink.old) (K.written sink.new) (K.faults sink.old) (K.faults sink.new)
         (λ cut text. (input : List ℕ) × (IsTrue S.tells → S.left source.old ≡ input) × (IsTrue M.tells → OutcomeFor asked (M.view media) result.0 (M.view result.1) input cut text))) }
     // What can be done is done, or memory was short.
-    ensures complete { WordsSay (map string_bytes words.now) result.0 (λ asked. IsFit asked S.tells (S.left source.old) M.tells (M.view media)
+    ensures complete { WordsSay (map string_bytes words.now) result.0 (Unit {0}) (λ asked. IsFit asked S.tells (S.left source.old) M.tells (M.view media)
         → NoneRose (S.faults source.old) (S.faults source.new) (K.faults sink.old) (K.faults sink.new) (M.view media).faults (M.view result.1).faults → IsGoodOrShort result.0) }
 {
-    match read_words(words) {
-        None => (Status::Usage, media),
-        Some(Words::Run) => run_lines(rt.alloc(), source, sink, media),
-        Some(Words::Eaw) => run_commands(rt.alloc(), source, sink, media),
-        Some(
-            Words::Format {
-                loggers,
-                numbers,
-                entries,
-                pages,
-            },
-        ) => {
-            let asked = FormatNumbers {
-                loggers,
-                numbers,
-                entries,
-                pages,
-            };
-            run_format(sink, media, &asked)
-        }
+    match read_words(rt.alloc(), words) {
+        Err(WordsFault::NoCommand) => (Status::Usage, media),
+        Err(WordsFault::NoMemory) => (Status::NoMemory, media),
+        Ok(Words::Run) => run_lines(rt.alloc(), source, sink, media),
+        Ok(Words::Eaw) => run_commands(rt.alloc(), source, sink, media),
+        Ok(Words::Format(numbers)) => run_format(sink, media, &numbers),
     }
 }

@@ -1,5 +1,5 @@
 // A media over a file.
-ghost use Rattle.std.specs.Prelude.{◌≡◌, ◌+◌, ◌≤◌, false, [], ◌∷◌, length, IfOk};
+ghost use Rattle.std.specs.Prelude.{◌≡◌, ◌+◌, ◌≤◌, false, [], ◌∷◌, length, IfOk, IfSome, IsSome};
 ghost use Rattle.counted.specs.Moments.{Ticks};
 ghost use Rattle.pcm_media.specs.View.{Writes};
 ghost use Rattle.media_file.specs.Opened.{next_faults, view_of, IsCall};
@@ -8,8 +8,10 @@ use counted::Failed;
 use pcm_media::Media;
 use std::fs::{File, OpenOptions};
 use std::io;
+use std::io::ErrorKind;
 use std::marker::Model;
 use std::os::unix::fs::FileExt;
+use std::path::Path;
 use std::rt::Files;
 
 /// A media over a file of the system that nobody else changes. It tells no bytes: no contract says what a file gives. It counts
@@ -31,23 +33,29 @@ impl Model for FileMedia {
 }
 
 impl FileMedia {
-    /// Opens the file at this path to read and to write, made anew where it is not there, and lengthens it with zeros to `least`
-    /// bytes where it has fewer. Fails where the system refuses one of these; a file that was made stays.
+    /// Opens the file at `path` to read and to write, and locks it until the media is let go. A file of fewer than `least` bytes
+    /// is lengthened to them with zeros. Where there is none, it is made, and its folder holds it surely before this returns; but
+    /// where `least` is 0 nothing is made, and the answer is None.
+    ///
+    /// Fails where the system refuses one of these, or another program holds the lock: then the file is as it was, or one that
+    /// was made or lengthened here.
     pub fn attach<R: Files<File = File>>(
         rt: &R,
         path: &str,
         least: u64,
-    ) -> Result<FileMedia, Failed>
-        ensures long { IfOk result (λ m. least ≤ m.size) }
-        ensures anew { IfOk result (λ m. m ≡ record { size = m.size; moment = 0; faults = 0 }) }
+    ) -> Result<Option<FileMedia>, Failed>
+        ensures there { 1 ≤ least → IfOk result IsSome }
+        ensures long { IfOk result (λ media. IfSome media (λ m. least ≤ m.size)) }
+        ensures anew { IfOk result (λ media. IfSome media (λ m. m ≡ record { size = m.size; moment = 0; faults = 0 })) }
     {
         match open_at_least(rt, path, least) {
-            Ok((file, size)) => Ok(FileMedia {
+            Ok(None) => Ok(None),
+            Ok(Some((file, size))) => Ok(Some(FileMedia {
                 file,
                 size,
                 moment: 0,
                 faults: 0,
-            }),
+            })),
             Err(_) => Err(Failed),
         }
     }
@@ -73,21 +81,45 @@ impl FileMedia {
     }
 }
 
-// The file, and its length.
-fn open_at_least<R: Files<File = File>>(rt: &R, path: &str, least: u64) -> io::Result<(File, u64)>
-    ensures { IfOk result (λ opened. least ≤ opened.1) }
+// The file, locked, and its length. Nothing of it is changed, nor its length read, before the lock is held.
+fn open_at_least<R: Files<File = File>>(
+    rt: &R,
+    path: &str,
+    least: u64,
+) -> io::Result<Option<(File, u64)>>
+    ensures there { 1 ≤ least → IfOk result IsSome }
+    ensures long { IfOk result (λ opened. IfSome opened (λ o. least ≤ o.1)) }
 {
-    let file = OpenOptions::new()
-        .read(true)
-        .write(true)
-        .create(true)
-        .open(rt, path)?;
+    let file = match options().open(rt, path) {
+        Ok(file) => file,
+        Err(error) if error.kind() == ErrorKind::NotFound && least == 0 => return Ok(None),
+        Err(error) if error.kind() == ErrorKind::NotFound => make(rt, path)?,
+        Err(error) => return Err(error),
+    };
+    file.try_lock()?;
     let size = file.metadata()?.len();
     if size >= least {
-        return Ok((file, size));
+        return Ok(Some((file, size)));
     }
     file.set_len(least)?;
-    Ok((file, least))
+    Ok(Some((file, least)))
+}
+
+fn options() -> OpenOptions {
+    let mut options = OpenOptions::new();
+    options.read(true).write(true);
+    options
+}
+
+// A new file of no bytes. Once its folder is synced, a loss of power leaves it there.
+fn make<R: Files<File = File>>(rt: &R, path: &str) -> io::Result<File> {
+    let file = options().create(true).open(rt, path)?;
+    let folder = match Path::new(path).parent() {
+        Some(folder) if !folder.as_str().is_empty() => folder,
+        _ => Path::new("."),
+    };
+    File::open(rt, folder)?.sync_all()?;
+    Ok(file)
 }
 
 impl Media for FileMedia {

@@ -3,27 +3,29 @@ use std::alloc::{AllocError, Global};
 use std::test::Fail;
 
 // What some words say.
-fn read(alloc: Global, words: &[&str]) -> Result<Option<Words>, AllocError> {
+fn read(alloc: Global, words: &[&str]) -> Result<Result<Words, WordsFault>, AllocError> {
     let mut owned = Vec::new(alloc);
     for word in words {
         owned.push(String::from_str(alloc, word)?)?;
     }
-    Ok(read_words(&owned))
+    Ok(read_words(alloc, &owned))
 }
 
 fn format(loggers: u16, numbers: u16, entries: u16, pages: u16) -> Words {
-    Words::Format {
+    Words::Format(FormatNumbers {
         loggers,
         numbers,
         entries,
         pages,
-    }
+    })
 }
 
 #[test]
 fn words_are_read(rt: HostRuntime) -> Result<(), Fail> {
-    let rows: [(&[&str], Words); 9] = [
+    let rows: [(&[&str], Words); 11] = [
         (&["run"], Words::Run),
+        (&["run", "--"], Words::Run),
+        (&["format", "--pages=8", "--"], format(4, 8, 16, 8)),
         (&["eaw"], Words::Eaw),
         (&["format"], format(4, 8, 16, 64)),
         (&["format", "--loggers", "2"], format(2, 8, 16, 64)),
@@ -56,14 +58,14 @@ fn words_are_read(rt: HostRuntime) -> Result<(), Fail> {
         ),
     ];
     for (words, meaning) in rows {
-        assert_eq!(rt; read(rt.alloc(), words)?, Some(meaning), "{words:?}");
+        assert_eq!(rt; read(rt.alloc(), words)?, Ok(meaning), "{words:?}");
     }
     Ok(())
 }
 
 #[test]
 fn other_words_are_none(rt: HostRuntime) -> Result<(), Fail> {
-    let rows: [&[&str]; 24] = [
+    let rows: [&[&str]; 27] = [
         &[],
         &[""],
         &["walk"],
@@ -72,10 +74,13 @@ fn other_words_are_none(rt: HostRuntime) -> Result<(), Fail> {
         &["--version"],
         &["Run"],
         &["run", "run"],
-        &["run", "--"],
+        &["--", "run"],
+        &["-h"],
+        &["run", "--", "run"],
         &["eaw", "--pages=4"],
         &["format", "--help"],
-        &["format", "--"],
+        &["format", "-h"],
+        &["format", "--", "--pages=4"],
         &["format", "4"],
         &["format", "--logger=4"],
         &["format", "-l", "4"],
@@ -90,7 +95,11 @@ fn other_words_are_none(rt: HostRuntime) -> Result<(), Fail> {
         &["format", "--pages", "4", "--loggers=1", "--pages=4"],
     ];
     for words in rows {
-        assert_eq!(rt; read(rt.alloc(), words)?, None, "{words:?}");
+        assert_eq!(rt;
+            read(rt.alloc(), words)?,
+            Err(WordsFault::NoCommand),
+            "{words:?}"
+        );
     }
     Ok(())
 }

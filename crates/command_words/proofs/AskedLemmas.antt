@@ -1,0 +1,77 @@
+-- What the values of options say, and the subcommand.
+use Rattle.std.proofs.Common.{◌≡◌, ◌<◌, ◌^◌, ℕ, List, Option, Some, None, MatchOption, codes, false, option_map, sym, refl, ap, ap₂, ◌∙◌, arith, rules}
+use Rattle.std.specs.Fmt.{decimal}
+use Rattle.std.specs.Str.{bytes_eq}
+use Rattle.std.proofs.lemmas.Slice.Eq.{bytes_eq-Decides}
+use Rattle.std.proofs.lemmas.Fmt.{decimal_injective}
+use Rattle.clap.specs.Words.{Text, Row, subcommand_rows_of}
+use Rattle.clap.specs.Matches.{subcommand_name_of}
+use Rattle.clap.specs.declared.parser.ArgMatches.{ArgMatches}
+use Rattle.command_words.specs.Reads.{Reads}
+use Rattle.command_words.specs.Asked.{Says, GivesNumbers, IsNumber}
+use Rattle.command_words.specs.declared.words.FormatNumbers.{FormatNumbers}
+use Rattle.command_words.specs.declared.words.Words.{Words}
+use Rattle.command_words.specs.declared.words.Words.TheVariants.{Run, Eaw, Format}
+
+some_is_none : {X : Type 0} {x : X} → Some x ≡ None → ⊥
+some_is_none is = cc is
+
+inner : {X : Type 0} {x y : X} → Some x ≡ Some y → x ≡ y
+inner is = cc is
+
+-- words that differ
+apart : {A : Type 0} (word other : Text) → bytes_eq word other ≡ false → word ≡ other → A
+apart word other differ same = absurd (cc ((bytes_eq-Decides word other).1 same, differ))
+
+-- the value of an option, as it was read
+pub number_read : (default : ℕ) (first : Option Text) (value : Text) (read : Option ℕ) → first ≡ Some value → Reads (λ n. n < 2 ^ 16) decimal value read
+    → MatchOption read ((n : ℕ) → IsNumber default first n → ⊥) (IsNumber default first)
+number_read default first value None is h = rw is (λ n p. h n p.0 p.1)
+number_read default first value (Some n) is h = rw is h
+
+pub number_left : (default : ℕ) (first : Option Text) → first ≡ None → IsNumber default first default
+number_left default first is = rw is refl
+
+-- a number is one
+pub one_number : (default other : ℕ) (first : Option Text) (m n : ℕ) → default ≡ other → IsNumber default first m → IsNumber other first n → m ≡ n
+one_number default other None m n same is are = is ∙ same ∙ sym are
+one_number default other (Some value) m n same is are = decimal_injective m n (omega (arith, is.0)) (omega (arith, are.0)) (sym is.1 ∙ are.1)
+
+pair_is : {X : Type 0} (f : X → Text) (g : X → List Row) (found : Option X) (name : Text) (options : List Row) → Some name ≡ option_map f found
+    → Some options ≡ option_map {T = Text × List Row} (λ p. p.1) (option_map {U = Text × List Row} (λ x. (f x, g x)) found) → option_map {U = Text × List Row} (λ x. (f x, g x)) found ≡ Some (name, options)
+pair_is f g None name options named has = absurd (some_is_none named)
+pair_is f g (Some x) name options named has = ap₂ (λ n o. Some (n, o)) (inner (sym named)) (inner (sym has))
+
+-- the subcommand has this name and these options
+pub met_is : (m : ArgMatches) (name : Text) (options : List Row) → Some name ≡ subcommand_name_of m → Some options ≡ option_map (λ p. p.1) (subcommand_rows_of m)
+    → subcommand_rows_of m ≡ Some (name, options)
+met_is m name options named has = pair_is _ _ _ name options named has
+
+-- two that were met are one
+pub one_met : (met : Option (Text × List Row)) (name other : Text) (options others : List Row) → met ≡ Some (name, options) → met ≡ Some (other, others)
+    → (other ≡ name) × (others ≡ options)
+one_met met name other options others is also =
+    let same : (other, others) ≡ (name, options) = inner (sym also ∙ is) in
+    (ap (λ p. p.0) same, ap (λ p. p.1) same)
+
+-- a `format` with wrong numbers asks for nothing
+pub no_format : (options : List Row) → ((numbers : FormatNumbers) → GivesNumbers options numbers → ⊥) → (asked : Words) → Says (codes "format") options asked → ⊥
+no_format options none Run says = apart (codes "format") (codes "run") refl says
+no_format options none Eaw says = apart (codes "format") (codes "eaw") refl says
+no_format options none (Format numbers) says = none numbers says.1
+
+-- numbers of the same options are the same
+one_format : (options : List Row) (numbers other : FormatNumbers) → GivesNumbers options numbers → GivesNumbers options other → numbers ≡ other
+one_format options numbers other are also = search (rules, one_number)
+
+-- a name and options say one thing
+pub one_asked : (name : Text) (options : List Row) (asked other : Words) → Says name options asked → Says name options other → asked ≡ other
+one_asked name options Run Run says also = refl
+one_asked name options Run Eaw says also = apart (codes "run") (codes "eaw") refl (sym says ∙ also)
+one_asked name options Run (Format numbers) says also = apart (codes "run") (codes "format") refl (sym says ∙ also.0)
+one_asked name options Eaw Run says also = apart (codes "eaw") (codes "run") refl (sym says ∙ also)
+one_asked name options Eaw Eaw says also = refl
+one_asked name options Eaw (Format numbers) says also = apart (codes "eaw") (codes "format") refl (sym says ∙ also.0)
+one_asked name options (Format numbers) Run says also = apart (codes "format") (codes "run") refl (sym says.0 ∙ also)
+one_asked name options (Format numbers) Eaw says also = apart (codes "format") (codes "eaw") refl (sym says.0 ∙ also)
+one_asked name options (Format numbers) (Format other) says also = ap Format (one_format options numbers other says.1 also.1)

@@ -1,0 +1,13 @@
+-- Words ask for one thing at most.
+use Rattle.std.proofs.Common.{◌≡◌, List}
+use Rattle.clap.specs.Words.{Text, subcommand_of}
+use Rattle.command_words.specs.CommandLine.{command_line}
+use Rattle.command_words.specs.Asked.{AsksFor, Says}
+use Rattle.command_words.specs.declared.words.Words.{Words}
+use Rattle.command_words.proofs.AskedLemmas.{one_met, one_asked}
+
+pub one_command : (words : List Text) (asked other : Words) → AsksFor words asked → AsksFor words other → asked ≡ other
+one_command words asked other asks also =
+    let same = one_met (subcommand_of command_line words) also.name asks.name also.options asks.options also.met asks.met in
+    let says : Says also.name also.options asked = rw (same.0, same.1) at asks.says in
+    one_asked also.name also.options asked other says also.says

@@ -1,0 +1,15 @@
+use Rattle.std.proofs.Common.{sym, ◌∙◌}
+use Rattle.clap.specs.Words.{found_of, rows_of, first_of}
+use Rattle.clap.proofs.WalkLemmas.{first_value-rows}
+use Rattle.command_words.proofs.AskedLemmas.{number_read, number_left}
+use Rattle.command_words.proofs.words.number_or.Goals as goal
+
+pub returns-in-Some : goal.returns-in-Some
+returns-in-Some c =
+    let first_is = sym (first_value-rows (found_of c.args.options.now) c.args.name.now) ∙ sym c.in-Some.ensures in
+    number_read c.args.default (first_of c.args.name.now (rows_of (found_of c.args.options.now))) c.in-Some.value.now c.read_number.result first_is c.read_number.ensures
+
+pub returns-in-None : goal.returns-in-None
+returns-in-None c =
+    let first_is = sym (first_value-rows (found_of c.args.options.now) c.args.name.now) ∙ sym c.in-None.ensures in
+    number_left c.args.default (first_of c.args.name.now (rows_of (found_of c.args.options.now))) first_is

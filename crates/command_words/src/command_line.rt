@@ -1,0 +1,41 @@
+// The command line as clap reads it.
+ghost use Rattle.std.specs.Prelude.{◌≡◌, IfOk, false};
+ghost use Rattle.clap.specs.Words.{app_of, shape_of, rule_of};
+ghost use Rattle.clap.specs.declared.builder.Command.TheViews.{out-Command};
+ghost use Rattle.command_words.specs.CommandLine.{command_line, format_shape, option_of};
+
+use clap::{Arg, Command};
+use std::alloc::{AllocError, Global};
+
+/// The commands and their options. There is no help: what is wrong is told in one word.
+pub fn command_line<'a>(alloc: Global) -> Result<Command<'a>, AllocError>
+    ensures { IfOk result (λ command. app_of command ≡ command_line) }
+{
+    Command::new(alloc, "mars")
+        .no_binary_name(true)
+        .disable_help_flag(true)
+        .disable_help_subcommand(true)
+        .subcommand_required(true)
+        .subcommand(Command::new(alloc, "run"))?
+        .subcommand(Command::new(alloc, "eaw"))?
+        .subcommand(format_command(alloc)?)
+}
+
+fn format_command<'a>(alloc: Global) -> Result<Command<'a>, AllocError>
+    ensures shape { IfOk result (λ command. shape_of command ≡ format_shape) }
+    ensures local { IfOk result (λ command. (out-Command command).has_globals ≡ false) }
+{
+    Command::new(alloc, "format")
+        .arg(option(alloc, "loggers"))?
+        .arg(option(alloc, "numbers"))?
+        .arg(option(alloc, "entries"))?
+        .arg(option(alloc, "pages"))
+}
+
+// An option with one value.
+fn option<'a>(alloc: Global, name: &'a str) -> Arg<'a>
+    ensures rule { rule_of result ≡ option_of name.entry.now }
+    ensures local { result.global ≡ false }
+{
+    Arg::new(alloc, name).long(name)
+}
