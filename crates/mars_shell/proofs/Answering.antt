@@ -23,11 +23,11 @@ use Rattle.mars_shell.proofs.AnsweredLemmas.{step_grows}
 use Rattle.mars_shell.proofs.Calling.{breaks_history}
 
 -- what a responder answers
-abbrev pub Reply' : Type 0
-Reply' = Result (Unit {0}) Stop
+abbrev pub Answer : Type 0
+Answer = Result (Unit {0}) Stop
 
 -- what comes of a line over a session, from what comes of it over the records at each opening
-pub from_base : (Opens : Shape → List ℕ → List ℕ → Type 0) (old new : StoreView) (work work' : Work) (n : ℕ) (line text : List ℕ) (result : Reply')
+pub from_base : (Opens : Shape → List ℕ → List ℕ → Type 0) (old new : StoreView) (work work' : Work) (n : ℕ) (line text : List ℕ) (result : Answer)
     → ((base : Table) → IsKept base old work → Answers call_script (Stands new work') (Comes Opens old work (state_over old.shape base work) new work') (state_over old.shape base work) n line text result)
     → (state : State) → Stands old work state → Answers call_script (Stands new work') (Comes Opens old work state new work') state n line text result
 from_base Opens old new work work' n line text result all state stands =
@@ -42,13 +42,13 @@ module _ (Opens : Shape → List ℕ → List ℕ → Type 0) (store : StoreView
   stands = record { is = refl; kept = kept }
 
   -- a line that is passed over, and one that is none
-  pub passed_over : (text : List ℕ) → text ≡ [] → Says 1 (slots_of store.shape) line Nothing → Answers call_script (Stands store work) (Comes Opens store work here store work) here n line text (let r : Reply' = Ok tt in r)
+  pub passed_over : (text : List ℕ) → text ≡ [] → Says 1 (slots_of store.shape) line Nothing → Answers call_script (Stands store work) (Comes Opens store work here store work) here n line text (let r : Answer = Ok tt in r)
   passed_over text is says = (here, (Nothing, says, (is, refl)), stands, comes_none Opens store work here stands only)
 
-  pub refused : (text : List ℕ) → text ≡ bad_line n → Says 1 (slots_of store.shape) line Bad → Answers call_script (Stands store work) (Comes Opens store work here store work) here n line text (let r : Reply' = Ok tt in r)
+  pub refused : (text : List ℕ) → text ≡ bad_line n → Says 1 (slots_of store.shape) line Bad → Answers call_script (Stands store work) (Comes Opens store work here store work) here n line text (let r : Answer = Ok tt in r)
   refused text is says = (here, (Bad, says, (is, refl)), stands, comes_none Opens store work here stands only)
 
-  pub refused_short : (text : List ℕ) → Says 1 (slots_of store.shape) line Bad → Answers call_script (Stands store work) (Comes Opens store work here store work) here n line text (let r : Reply' = Err NoMemory in r)
+  pub refused_short : (text : List ℕ) → Says 1 (slots_of store.shape) line Bad → Answers call_script (Stands store work) (Comes Opens store work here store work) here n line text (let r : Answer = Err NoMemory in r)
   refused_short text says = (here, inr (bad_line n, (Bad, says, (refl, refl))), comes_none Opens store work here stands only)
 
 module _ (Opens : Shape → List ℕ → List ℕ → Type 0) (old new : StoreView) (work work' : Work) (n : ℕ) (line : List ℕ) (base : Table) (shape : new.shape ≡ old.shape)
@@ -64,7 +64,7 @@ module _ (Opens : Shape → List ℕ → List ℕ → Type 0) (old new : StoreVi
 
   -- a call that is answered
   pub told : (text : List ℕ) (reply : Reply) → text ≡ reply_line caller reply → Steps base old new work work' call reply
-      → Answers call_script (Stands new work') (Comes Opens old work before new work') before n line text (let r : Reply' = Ok tt in r)
+      → Answers call_script (Stands new work') (Comes Opens old work before new work') before n line text (let r : Answer = Ok tt in r)
   told text reply is steps = (
     after,
     (Told caller call, says, (reply, steps.step, is)),
@@ -74,17 +74,17 @@ module _ (Opens : Shape → List ℕ → List ℕ → Type 0) (old new : StoreVi
 
   -- there is no memory for its answer
   pub told_short : (text : List ℕ) (reply : Reply) → Steps base old new work work' call reply
-      → Answers call_script (Stands new work') (Comes Opens old work before new work') before n line text (let r : Reply' = Err NoMemory in r)
+      → Answers call_script (Stands new work') (Comes Opens old work before new work') before n line text (let r : Answer = Err NoMemory in r)
   told_short text reply steps = (after, inr (reply_line caller reply, (Told caller call, says, (reply, steps.step, refl))), come (step_grows work.live before call reply after steps.step))
 
   -- the media failed in it
-  pub failed : (text : List ℕ) → Breaks before call after → Answers call_script (Stands new work') (Comes Opens old work before new work') before n line text (let r : Reply' = Err (Media caller) in r)
+  pub failed : (text : List ℕ) → Breaks before call after → Answers call_script (Stands new work') (Comes Opens old work before new work') before n line text (let r : Answer = Err (Media caller) in r)
   failed text breaks =
       let same : work'.history ≡ work.history = breaks_history work.live before call after breaks in
       (after, (call, says, breaks), come (subst (λ (h : List Done). Grows work.history h) (sym same) (grows_none work.history)))
 
   -- there is no memory for the call
-  pub short : (text : List ℕ) → work' ≡ work → Answers call_script (Stands new work') (Comes Opens old work before new work') before n line text (let r : Reply' = Err NoMemory in r)
+  pub short : (text : List ℕ) → work' ≡ work → Answers call_script (Stands new work') (Comes Opens old work before new work') before n line text (let r : Answer = Err NoMemory in r)
   short text is = (
     after,
     inl (ap (state_over old.shape base) is),

@@ -7,8 +7,5 @@ pub mod Stepping
 pub mod Calling
 pub mod DamageLemmas
 pub mod FaultLemmas
-pub mod Serving
-pub mod Running
-pub mod Commanding
 pub mod FormatLemmas
 pub mod Answering
