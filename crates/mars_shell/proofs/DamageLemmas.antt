@@ -77,6 +77,8 @@ module _ (tells : Bool) (Opens : Shape → List ℕ → List ℕ → Type 0) (ol
     later = omega (arith, first.later, second.later);
     cause = causes r second.cause;
     done = finishes r second.done;
+    kept = keeps r second.kept;
+    others = λ u other. second.others u other ∙ first.others u other;
     dies = second.dies;
     time = λ told alive. going.then (first.time told alive) (moved told (second.time told first.done.alive));
   }
@@ -92,6 +94,10 @@ module _ (tells : Bool) (Opens : Shape → List ℕ → List ℕ → Type 0) (ol
       finishes (Ok y) done = record { alive = done.alive; ranges = done.ranges ∙ first.done.ranges; state = λ told. done.state told ∙ first.done.state told }
       finishes (Err e) done = tt
 
+      keeps : (r : Result U EawFault) → OnOk r (new.faults ≡ mid.faults) → OnOk r (new.faults ≡ old.faults)
+      keeps (Ok y) kept = kept ∙ first.kept
+      keeps (Err e) kept = tt
+
       moved : IsTrue tells → LeavesOnly (IsEither (Opens mid.shape) mid.state.bytes mid.state.bytes) mid new → LeavesOnly (IsEither (Opens old.shape) old.state.bytes old.state.bytes) mid new
       moved told time =
           subst (λ (s : Shape). LeavesOnly (IsEither (Opens s) old.state.bytes old.state.bytes) mid new) first.shape
@@ -100,4 +106,4 @@ module _ (tells : Bool) (Opens : Shape → List ℕ → List ℕ → Type 0) (ol
   -- the same of another answer
   pub read_as : (T U : Type 0) (x : T) (y : U) → (let first : Result T EawFault = Ok x in Does tells (Opens old.shape) read old new first)
       → (let last : Result U EawFault = Ok y in Does tells (Opens old.shape) read old new last)
-  read_as T U x y does = record { shape = does.shape; later = does.later; cause = does.cause; done = does.done; dies = λ e. cc; time = does.time }
+  read_as T U x y does = record { shape = does.shape; later = does.later; cause = does.cause; done = does.done; kept = does.kept; others = does.others; dies = λ e. cc; time = does.time }

@@ -9,3 +9,9 @@ pub mod DamageLemmas
 pub mod FaultLemmas
 pub mod FormatLemmas
 pub mod Answering
+pub mod Unopened
+pub mod Serving
+pub mod Acknowledged
+pub mod Running
+pub mod Commanding
+pub mod Statuses

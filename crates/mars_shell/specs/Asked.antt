@@ -57,8 +57,6 @@ IsFit Run source_tells input media_tells media = IsTrue source_tells × (length 
 IsFit Eaw source_tells input media_tells media = IsTrue source_tells × (length input ≤ input_limit) × IsTrue media_tells × HoldsArray media
 IsFit (Format numbers) source_tells input media_tells media = (shape : Shape) × HasAsked numbers shape × (media.size ≡ media_len shape)
 
--- no count rose
-pub record NoneRose (source source' sink sink' media media' : ℕ) : Type 0 where
-  pub source : Rose source source' → ⊥
-  pub sink : Rose sink sink' → ⊥
-  pub media : Rose media media' → ⊥
+-- none of the counts rose, each before and behind
+abbrev pub NoneRose : ℕ → ℕ → ℕ → ℕ → ℕ → ℕ → Type 0
+NoneRose source source' sink sink' media media' = (Rose source source' → ⊥) × (Rose sink sink' → ⊥) × (Rose media media' → ⊥)

@@ -91,7 +91,7 @@ grows_none history = record { more = []; is = sym (append-nil history) }
 pub grows_on : (old mid new : List Done) → Grows old mid → Grows mid new → Grows old new
 grows_on old mid new a b = record { more = a.more ++ b.more; is = b.is ∙ ap (λ (l : List Done). l ++ b.more) a.is ∙ append_assoc old a.more b.more }
 
-grows_longer : (old new : List Done) → Grows old new → length old ≤ length new
+pub grows_longer : (old new : List Done) → Grows old new → length old ≤ length new
 grows_longer old new grows = omega (arith, ap length grows.is, length-append old grows.more)
 
 -- so is the one with the transaction in doubt

@@ -1,5 +1,5 @@
 -- What a run over records does on a media that tells its bytes.
-use Rattle.std.specs.Prelude.{ℕ, ◌≡◌, ◌/◌, List, ◌++◌, Bool, Contains}
+use Rattle.std.specs.Prelude.{ℕ, ◌≡◌, ◌/◌, ◌^◌, ◌<◌, List, ◌++◌, Bool, Contains}
 use Rattle.std.specs.List.{concat}
 use Rattle.pcm_media.specs.Images.{MayLeave}
 use Rattle.pcm_media.specs.View.{View}
@@ -50,7 +50,7 @@ pub record Answers (old : View) (input : List ℕ) (ended : Ended) (new : View) 
   pub answered : Answered call_script (opened (limits_of shape) (records_in shape old)) 1 (lines_of input) ended cut answers rest final
   pub legal : IsLegal final.base final.history
   pub prefix_law : PrefixLaw shape old final new
-  pub acknowledged : (n : ℕ) → Contains answers (reply_line 0 (Committed n)) → (image : List ℕ) → MayLeave new.content image → Recovers shape final n image
+  pub acknowledged : (n : ℕ) → n < 2 ^ 64 → Contains answers (reply_line 0 (Committed n)) → (image : List ℕ) → MayLeave new.content image → Recovers shape final n image
   pub left : ended ≡ All → IsLeft shape new final
 
 -- so many calls of the media look at the records: one for each of their pages, which are half of all

@@ -1,0 +1,159 @@
+-- A run over an array that was opened: its records were looked at, and its lines answered.
+use Rattle.std.proofs.Common.{◌≡◌, ℕ, ◌+◌, ◌<◌, ◌≤◌, ◌^◌, inl, inr, ⊎_elim, List, [], ◌++◌, length, Bool, false, refl, sym, ap, subst, ◌∙◌, arith}
+use Rattle.std.specs.Prelude.{IsTrue, Contains}
+use Rattle.std.proofs.Props.{props}
+use Rattle.pcm_media.specs.Images.{MayLeave}
+use Rattle.pcm_media.specs.View.{View}
+use Rattle.pcm_media.proofs.Left.{left_as_read}
+use Rattle.array_shape.specs.declared.shape.Shape.{Shape}
+use Rattle.array_shape.specs.Numbers.{AreInRange}
+use Rattle.array_shape.specs.Places.{HasNumbers}
+use Rattle.array_image.specs.Image.{data_of}
+use Rattle.array_image.specs.Standing.{IsLawful}
+use Rattle.row_bytes.specs.Header.{SaysShape}
+use Rattle.row_bytes.proofs.Heading.{says_one}
+use Rattle.device_recovery.specs.Recovered.{HasNoVote}
+use Rattle.eaw_face.specs.State.{State as Data}
+use Rattle.eaw_face.specs.StoreView.{StoreView, LeavesOnly}
+use Rattle.eaw_device.specs.Opens.{header_of, Opens, AllOpen, OpensLike, KeepsData, Attached, IsArray, IsBehind}
+use Rattle.history.specs.Table.{Table}
+use Rattle.history.specs.Legal.{records}
+use Rattle.history.specs.declared.call.Reply.TheVariants.{Committed}
+use Rattle.history.specs.declared.transaction.Done.{Done}
+use Rattle.script_io.specs.Lines.{lines_of}
+use Rattle.script_run.specs.Transcript.{Answered}
+use Rattle.script_run.specs.declared.ended.Ended.{Ended}
+use Rattle.script_run.specs.declared.ended.Ended.TheVariants.{All}
+use Rattle.script_text.specs.Replies.{reply_line}
+use Rattle.mars_shell.specs.Called.{HasPrefixOf}
+use Rattle.mars_shell.specs.Kept.{limits_of, slots_of, state_over}
+use Rattle.mars_shell.specs.Lines.{call_script}
+use Rattle.mars_shell.specs.Outcome.{Idle}
+use Rattle.mars_shell.specs.PrefixLaw.{Recovers}
+use Rattle.mars_shell.specs.Records.{records_of, IsSoundData, IsFirstDamaged}
+use Rattle.mars_shell.specs.Run.{data_in, records_in, IsDamaged, Answers}
+use Rattle.mars_shell.specs.Served.{first_state, Served}
+use Rattle.mars_shell.specs.Session.{State, opened}
+use Rattle.mars_shell.proofs.Acknowledged.{committed_kept}
+use Rattle.mars_shell.proofs.AnsweredLemmas.{Answered-keeps}
+use Rattle.mars_shell.proofs.Unopened.{first_like}
+
+in_range_prop : {loggers numbers entries pages : ℕ} → IsProp (AreInRange loggers numbers entries pages)
+in_range_prop = hlevel props
+
+-- a shape is its four numbers
+same_shape : (a b : Shape) → HasNumbers b.loggers b.numbers b.entries b.pages a → a ≡ b
+same_shape a b same =
+    let with_numbers : ℕ → ℕ → ℕ → ℕ → Type 0 = λ l n e p. (r : AreInRange l n e p) → ◌≡◌ {A = Shape} a (record { loggers = l; numbers = n; entries = e; pages = p; in_range = r }) in
+    let own : with_numbers a.loggers a.numbers a.entries a.pages = λ r. ap (λ (q : AreInRange a.loggers a.numbers a.entries a.pages). let s : Shape = record { loggers = a.loggers; numbers = a.numbers; entries = a.entries; pages = a.pages; in_range = q } in s) (in_range_prop a.in_range r) in
+    let moved : with_numbers b.loggers b.numbers b.entries b.pages =
+    subst (λ p. with_numbers b.loggers b.numbers b.entries p) same.pages_are
+    (subst (λ e. with_numbers b.loggers b.numbers e a.pages) same.entries_are
+    (subst (λ n. with_numbers b.loggers n a.entries a.pages) same.numbers_are
+    (subst (λ l. with_numbers l a.numbers a.entries a.pages) same.loggers_are own))) in
+    moved b.in_range
+
+-- a header says one shape
+pub one_shape : (bytes : List ℕ) (a b : Shape) → SaysShape bytes a → SaysShape bytes b → a ≡ b
+one_shape bytes a b says says' = same_shape a b (says_one bytes a b says says')
+
+-- of at least fewer transactions
+fewer : (shape : Shape) (final : State) (least n : ℕ) (image : List ℕ) → n ≤ least → Recovers shape final least image → Recovers shape final n image
+fewer shape final least n image le has = record { bytes = has.bytes; opens = has.opens; count = has.count; at_least = omega (arith, le, has.at_least); at_most = has.at_most; holds = has.holds }
+
+module _ (tells : Bool) (told : IsTrue tells) (old : View) (only_now : (image : List ℕ) → IsTrue tells → old.left_since old.moment image → MayLeave old.content image)
+    (store : StoreView) (attached : Attached tells old store) (keeps : KeepsData tells old store.moment store.left_since) where
+  pub array : IsArray store.shape old
+  array = record { header = attached.shape_is told; sized = attached.sized; good = attached.good told }
+
+  -- what was left at the opening
+  pub at_entry : (shape : Shape) → AllOpen shape old.content → (image : List ℕ) → store.left_since old.moment image → OpensLike shape old.content image
+  at_entry shape all image left = ⊎_elim (first_like tells told old only_now shape all image) (λ like. like) ((keeps told shape all).only old.moment image (omega arith) left)
+
+  -- an image that opens with the data of the array
+  like_data : (shape : Shape) → AllOpen shape old.content → (image : List ℕ) → Opens store.shape image store.state.bytes → OpensLike shape old.content image
+  like_data shape all image opens =
+      let first = all old.content.bytes (left_as_read old.content) in
+      let same : store.shape ≡ shape = one_shape (header_of old.content.bytes) store.shape shape (attached.shape_is told) first.opens.header in
+      let first_opens : Opens store.shape old.content.bytes store.state.bytes = record {
+        header = attached.shape_is told;
+        stands = record { lawful = subst (λ (s : Shape). IsLawful s old.content.bytes) (sym same) first.opens.stands.lawful; gives = sym (attached.bytes told) };
+      } in
+      record {
+        earlier = old.content.bytes;
+        left = left_as_read old.content;
+        bytes = store.state.bytes;
+        was = subst (λ (s : Shape). Opens s old.content.bytes store.state.bytes) same first_opens;
+        now = subst (λ (s : Shape). Opens s image store.state.bytes) same opens;
+      }
+
+  module _ (mid : StoreView) (time : LeavesOnly (λ image. Opens store.shape image store.state.bytes) store mid) where
+    -- the records were looked at
+    looked : (shape : Shape) → AllOpen shape old.content → (image : List ℕ) → mid.left_since old.moment image → OpensLike shape old.content image
+    looked shape all image left = ⊎_elim (at_entry shape all image) (like_data shape all image) (time.only old.moment image (keeps told shape all).later left)
+
+    pub idle_looked : (new : View) → IsBehind tells mid new → Idle old new false []
+    idle_looked new behind = record {
+      uncut = refl;
+      silent = refl;
+      keeps = λ shape all image left. looked shape all image (behind.left old.moment image left);
+      spared = inr (record { shape = store.shape; array = array });
+    }
+
+    pub damaged : (page : ℕ) → IsFirstDamaged (slots_of store.shape) store.state.bytes page → IsDamaged old page
+    damaged page first = record { shape = store.shape; array = array; first = subst (λ (b : List ℕ). IsFirstDamaged (slots_of store.shape) b page) (attached.bytes told) first }
+
+    module _ (shape : mid.shape ≡ store.shape) (same : mid.state ≡ store.state) (sound : IsSoundData (slots_of store.shape) store.state.bytes)
+        (store' : StoreView) (new : View) (behind : IsBehind tells store' new) (counts_now : (t : ℕ) (image : List ℕ) → IsTrue tells → t ≤ new.moment → MayLeave new.content image → new.left_since t image)
+        (input : List ℕ) (ended : Ended) (cut : Bool) (text : List ℕ) (served : Served Opens mid input ended cut text store') (alive : ended ≡ All → store'.is_dead ≡ false) where
+      data_is : mid.state.bytes ≡ data_in store.shape old
+      data_is = ap (λ (d : Data). d.bytes) same ∙ attached.bytes told
+
+      first_is : first_state mid ≡ opened (limits_of store.shape) (records_in store.shape old)
+      first_is = λ i. opened (limits_of (shape i)) (records_of (slots_of (shape i)) (data_is i))
+
+      final_is : served.ran.final ≡ state_over mid.shape (first_state mid).base served.work
+      final_is = served.ran.comes.is
+
+      shape_is : store'.shape ≡ store.shape
+      shape_is = served.ran.comes.shape ∙ shape
+
+      -- in the words of the last state
+      as_final : (s : Shape) (least : ℕ) (image : List ℕ) → HasPrefixOf Opens s (first_state mid).base served.work least image → Recovers s served.ran.final least image
+      as_final s least image has = subst (λ (f : State). Recovers s f least image) (sym final_is) has
+
+      kept_now : (image : List ℕ) → MayLeave new.content image → Recovers store.shape served.ran.final (length served.ran.final.history) image
+      kept_now image left =
+          let now = served.ran.comes.prefix.now image (subst (λ (t : ℕ). store'.left_since t image) behind.moment (behind.left new.moment image (counts_now new.moment image told (omega arith) left))) in
+          subst (λ (f : State). Recovers store.shape served.ran.final (length f.history) image) (sym final_is)
+          (subst (λ (s : Shape). Recovers s served.ran.final (length served.work.history) image) shape_is (as_final store'.shape (length served.work.history) image now))
+
+      pub answers : Answers old input ended new cut text
+      answers = record {
+        shape = store.shape;
+        array = array;
+        sound = subst (IsSoundData (slots_of store.shape)) (attached.bytes told) sound;
+        answers = served.ran.answers;
+        rest = served.ran.rest;
+        text_is = served.ran.text_is;
+        final = served.ran.final;
+        answered = subst (λ (s : State). Answered call_script s 1 (lines_of input) ended cut served.ran.answers served.ran.rest served.ran.final) first_is served.ran.answered;
+        legal = (Answered-keeps (first_state mid) 1 (lines_of input) ended cut served.ran.answers served.ran.rest served.ran.final served.ran.answered (record { legal = tt; right = tt })).legal;
+        prefix_law = record {
+          now = kept_now;
+          since = λ all image left. ⊎_elim (λ was. inl (looked store.shape all image was))
+              (λ anew. inr (subst (λ (s : Shape). Recovers s served.ran.final 0 image) shape (as_final mid.shape 0 image anew)))
+              (served.ran.comes.prefix.since.only old.moment image (later all) (behind.left old.moment image left));
+        };
+        acknowledged = λ n fits has image left. fewer store.shape served.ran.final (length served.ran.final.history) n image
+            (committed_kept (first_state mid) 1 (lines_of input) ended cut served.ran.answers served.ran.rest served.ran.final refl served.ran.answered n fits has) (kept_now image left);
+        left = λ all. record {
+          quiet = subst (λ (s : Shape). HasNoVote s new.content.bytes) shape_is (behind.quiet told (alive all));
+          exact =
+              ap (λ (s : Shape). records_of (slots_of s) (data_of s new.content.bytes)) (sym shape_is) ∙ ap (records_of (slots_of store'.shape)) behind.bytes
+              ∙ (served.ran.stands all).kept.stored.exact ∙ ap (λ (s : State). records served.ran.final.base s.history) (sym (served.ran.stands all).is);
+        };
+      }
+        where
+          later : AllOpen store.shape old.content → old.moment ≤ mid.moment
+          later all = omega (arith, (keeps told store.shape all).later, time.later)

@@ -1,0 +1,70 @@
+-- A run whose array is not opened.
+use Rattle.std.proofs.Common.{◌≡◌, ℕ, ◌+◌, ◌≤◌, ◌⊎◌, inl, inr, ⊎_elim, List, [], Bool, false, refl, sym, ◌∙◌, arith}
+use Rattle.std.specs.Prelude.{IsTrue}
+use Rattle.pcm_media.specs.Images.{MayLeave, Touched}
+use Rattle.pcm_media.specs.View.{View}
+use Rattle.pcm_media.proofs.Left.{touched_by_nothing}
+use Rattle.array_shape.specs.declared.shape.Shape.{Shape}
+use Rattle.eaw_device.specs.Opens.{AllOpen, OpensLike, KeepsData, OpensWithin, AttachCause, AttachLeaves, HoldsArray}
+use Rattle.eaw_device.specs.declared.fault.AttachFault.{AttachFault}
+use Rattle.eaw_device.specs.declared.fault.AttachFault.TheVariants as opening
+use Rattle.script_run.specs.declared.ended.Ended.{Ended}
+use Rattle.mars_shell.specs.Opening.{IsUnopened, Unopened}
+use Rattle.mars_shell.specs.Outcome.{Idle, Fails, OutcomeOf}
+use Rattle.mars_shell.specs.Statuses.{status_of}
+use Rattle.mars_shell.specs.declared.status.Status.{Status}
+use Rattle.mars_shell.specs.declared.status.Status.TheVariants.{Good, Usage, TooLong, ReadFault, WriteFault, MediaFault, NoMemory, Damaged, BadRow, NotMars, BadShape}
+
+module _ (tells : Bool) (told : IsTrue tells) (old : View) (only_now : (image : List ℕ) → IsTrue tells → old.left_since old.moment image → MayLeave old.content image) where
+  -- what may be left at first opens as it does
+  pub first_like : (shape : Shape) → AllOpen shape old.content → (image : List ℕ) → old.left_since old.moment image → OpensLike shape old.content image
+  first_like shape all image left =
+      let may = only_now image told left in
+      let can = all image may in
+      record { earlier = image; left = may; bytes = can.bytes; was = can.opens; now = can.opens }
+
+  -- a media that nothing was done to
+  pub idle_same : Idle old old false []
+  idle_same = record { uncut = refl; silent = refl; keeps = first_like; spared = inl (touched_by_nothing [] old.content) }
+
+  -- one that was not opened
+  idle_kept : (new : View) (fault : AttachFault) → AttachLeaves tells old new fault → KeepsData tells old new.moment new.left_since → Idle old new false []
+  idle_kept new fault leaves keeps = record {
+    uncut = refl;
+    silent = refl;
+    keeps = λ shape all image left. ⊎_elim (first_like shape all image) (λ like. like) ((keeps told shape all).only old.moment image (omega arith) left);
+    spared = spares fault leaves;
+  }
+    where
+      spares : (fault : AttachFault) → AttachLeaves tells old new fault → Touched [] old.content new.content ⊎ HoldsArray old
+      spares opening.NotMars leaves = inl (leaves told)
+      spares (opening.BadShape bad) leaves = inl (leaves told)
+      spares (opening.BadRow logger tid) leaves = inl (leaves told)
+      spares opening.Media leaves = leaves told
+      spares opening.NoMemory leaves = inl (leaves told)
+
+  pub unopened_of : (new : View) (fault : AttachFault) → AttachCause tells old new.faults fault → AttachLeaves tells old new fault → KeepsData tells old new.moment new.left_since
+      → OpensWithin tells old new.moment → (fault ≡ opening.NoMemory → new.moment ≡ old.moment + 1) → Unopened old (status_of fault) new
+  unopened_of new opening.NotMars cause leaves keeps within early = record { idle = idle_kept new opening.NotMars leaves keeps; untouched = leaves told; cause = λ long mark. cause long told mark }
+  unopened_of new (opening.BadShape bad) cause leaves keeps within early =
+      record { idle = idle_kept new (opening.BadShape bad) leaves keeps; untouched = leaves told; cause = (cause.0, (cause.1 told).0, (cause.1 told).1) }
+  unopened_of new (opening.BadRow logger tid) cause leaves keeps within early = record { idle = idle_kept new (opening.BadRow logger tid) leaves keeps; untouched = leaves told; cause = cause told }
+  unopened_of new opening.Media cause leaves keeps within early = inl (record { idle = idle_kept new opening.Media leaves keeps; within = λ shape says quiet. omega (arith, within told shape says quiet) })
+  unopened_of new opening.NoMemory cause leaves keeps within early =
+      inl (record { idle = idle_kept new opening.NoMemory leaves keeps; untouched = leaves told; calls = inr (early refl, (cause told).0, (cause told).1, (cause told).2) })
+
+-- nothing was done, whatever the work is
+pub unopened_as : (Works : Ended → Type 0) (Broken : ℕ → Type 0) (looks : Shape → ℕ) (old : View) (status : Status) (new : View) → IsUnopened status → Unopened old status new → OutcomeOf Works Broken looks old status new false []
+unopened_as Works Broken looks old Good new kind outcome = absurd kind
+unopened_as Works Broken looks old Usage new kind outcome = absurd kind
+unopened_as Works Broken looks old TooLong new kind outcome = outcome
+unopened_as Works Broken looks old ReadFault new kind outcome = outcome
+unopened_as Works Broken looks old WriteFault new kind outcome = absurd kind
+unopened_as Works Broken looks old MediaFault new kind (inl fails) = inl (record { idle = fails.idle; within = λ shape says quiet. omega (arith, fails.within shape says quiet) })
+unopened_as Works Broken looks old MediaFault new kind (inr none) = absurd none
+unopened_as Works Broken looks old NoMemory new kind (inl short) = inl short
+unopened_as Works Broken looks old NoMemory new kind (inr none) = absurd none
+unopened_as Works Broken looks old (Damaged page) new kind outcome = absurd kind
+unopened_as Works Broken looks old (BadRow logger tid) new kind outcome = outcome
+unopened_as Works Broken looks old NotMars new kind outcome = outcome
+unopened_as Works Broken looks old (BadShape which given) new kind outcome = outcome
