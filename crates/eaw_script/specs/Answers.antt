@@ -19,7 +19,7 @@ command_of t (partial offset) = model.partial_abort t offset
 command_of t (atomic addr bytes) = model.atomic_write t addr bytes
 command_of t (edit_log pos at bytes) = model.log_edit t pos at bytes
 command_of t (read_log pos) = model.log_read t
-command_of t (read addr len) = model.read
+command_of t (read addr len) = model.read addr len
 command_of t log_len = model.log_read t
 command_of t (held logger) = model.log_read t
 

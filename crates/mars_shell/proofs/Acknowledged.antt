@@ -3,7 +3,7 @@ use Rattle.std.proofs.Common.{Bool, ◌≡◌, ℕ, ◌+◌, ◌<◌, ◌≤◌,
 use Rattle.std.specs.Prelude.{Contains, codes}
 use Rattle.std.specs.Fmt.{decimal}
 use Rattle.std.proofs.lemmas.Bool.{cases_lt}
-use Rattle.std.proofs.lemmas.Fmt.{decimal_injective, decimal_nonempty}
+use Rattle.std.proofs.lemmas.Fmt.{decimal_injective, decimal_nonempty, decimal_digit}
 use Rattle.std.proofs.lemmas.List.{append_cancel_left, append_cancel_right, append_assoc, get_or_append_left, length-append}
 use Rattle.std.proofs.lemmas.List.Elements.{Contains-append_cases, Contains-push_cases}
 use Rattle.history.specs.Table.{Table, found}
@@ -16,7 +16,6 @@ use Rattle.script_text.specs.Line.{Says}
 use Rattle.script_text.specs.Replies.{reply_text, reply_line, bad_line}
 use Rattle.script_text.specs.declared.line.Line.{Line}
 use Rattle.script_text.specs.declared.line.Line.TheVariants.{Nothing, Told, Bad}
-use Rattle.script_text.proofs.OneLine.{first_digit}
 use Rattle.script_run.specs.Transcript.{Ends, Answered}
 use Rattle.script_run.specs.declared.ended.Ended.{Ended}
 use Rattle.script_run.specs.declared.ended.Ended.TheVariants.{All, WriteFault, MediaFault, NoMemory}
@@ -65,7 +64,8 @@ not_bad n m is =
     let some : 0 < length (decimal 0) = decimal_nonempty 0 (omega arith) in
     let head : get_or (decimal 0 ++ (32 ∷ reply_text (Committed n) ++ 10 ∷ [])) 0 0 ≡ 98 = ap (λ (l : List ℕ). get_or l 0 0) (sym (append_assoc (decimal 0) (32 ∷ reply_text (Committed n)) (10 ∷ [])) ∙ is) in
     let digit = get_or_append_left (decimal 0) (32 ∷ reply_text (Committed n) ++ 10 ∷ []) 0 0 some in
-    ?
+    let zero = ap (λ (l : List ℕ). get_or l 0 0) (decimal_digit 0 (omega arith)) in
+    omega (arith, head, digit, zero)
 
 -- what a call that is answered so has committed
 found_is_no_commit : (o : Option (List ℕ)) (k : ℕ) → Committed k ≡ found o → ⊥

@@ -7,7 +7,7 @@ use Rattle.array_shape.specs.Places.{IsShape}
 use Rattle.array_shape.specs.Logged.{applied}
 use Rattle.eaw_face.specs.State.{listed}
 use Rattle.eaw_face.specs.StoreView.{StoreView, LeavesOnly}
-use Rattle.eaw_face.specs.Command.{read, log_write}
+use Rattle.eaw_face.specs.Command.{log_write}
 use Rattle.eaw_face.specs.Causes.{Cause}
 use Rattle.eaw_face.specs.Does.{Does, IsEither}
 use Rattle.eaw_face.specs.declared.fault.EawFault.{EawFault}
@@ -23,7 +23,7 @@ use Rattle.history.specs.declared.call.Reply.{Reply}
 use Rattle.history.specs.declared.call.Reply.TheVariants.{Fine, LogFull, Committed}
 use Rattle.history.specs.declared.transaction.Done.{Done}
 use Rattle.mars_shell.specs.Live.{either, last_put}
-use Rattle.mars_shell.specs.Records.{slot_at, record_at, Holds}
+use Rattle.mars_shell.specs.Records.{slot_at, record_at, reading, Holds}
 use Rattle.mars_shell.specs.Session.{State, BreaksAt, puts_of}
 use Rattle.mars_shell.specs.Prefix.{with_doubt}
 use Rattle.mars_shell.specs.Kept.{Work, work_of, state_over, slots_of, IsReady, IsKept, Empties}
@@ -42,7 +42,7 @@ module _ (tells : Bool) (Opens : Shape → List ℕ → List ℕ → Type 0) whe
       (subst (λ (w : Work). Called tells Opens call old new (work_of history live' doubt) w result) (sym is') called)
 
   -- why a read of a store that is not dead fails
-  pub read_cause : (T : Type 0) (old : StoreView) (faults : ℕ) (fault : EawFault) → old.is_dead ≡ false → (let r : Result T EawFault = Err fault in Cause old read faults r) → Rose old.faults faults
+  pub read_cause : (T : Type 0) (old : StoreView) (faults : ℕ) (fault : EawFault) → old.is_dead ≡ false → (let r : Result T EawFault = Err fault in Cause old reading faults r) → Rose old.faults faults
   read_cause T old faults (UnknownTid u) alive cause = absurd cause.1
   read_cause T old faults (full_fault g h n) alive cause = absurd cause.2
   read_cause T old faults media_fault alive cause = cause.3
@@ -50,7 +50,7 @@ module _ (tells : Bool) (Opens : Shape → List ℕ → List ℕ → Type 0) whe
 
   module _ (old new : StoreView) (calls : List (Call × Reply)) (key : ℕ) (history : List Done) (doubt : Option Done) (ready : IsReady old (work_of history (Some calls) doubt)) where
     -- a get that read the store, or did not
-    pub get_failed : (T : Type 0) (fault : EawFault) → last_put (puts_of calls) key ≡ None → (let r : Result T EawFault = Err fault in Does tells (Opens old.shape) read old new r)
+    pub get_failed : (T : Type 0) (fault : EawFault) → last_put (puts_of calls) key ≡ None → (let r : Result T EawFault = Err fault in Does tells (Opens old.shape) reading old new r)
         → Called tells Opens (Get key) old new (work_of history (Some calls) doubt) (work_of history (Some calls) doubt) (Err Media)
     get_failed T fault unput does = record {
       shape = does.shape;
@@ -60,7 +60,7 @@ module _ (tells : Bool) (Opens : Shape → List ℕ → List ℕ → Type 0) whe
       prefix = λ told base kept. time_same Opens base old new (work_of history (Some calls) doubt) (work_of history (Some calls) doubt) refl kept (does.time told ready.alive);
     }
 
-    pub get_done : {T : Type 0} (x : T) (value : Option (List ℕ)) (reply : Reply) → (let r : Result T EawFault = Ok x in Does tells (Opens old.shape) read old new r)
+    pub get_done : {T : Type 0} (x : T) (value : Option (List ℕ)) (reply : Reply) → (let r : Result T EawFault = Ok x in Does tells (Opens old.shape) reading old new r)
         → (IsTrue tells → value ≡ either (last_put (puts_of calls) key) (record_at (slots_of old.shape) old.state.bytes key)) → reply ≡ found value → key < slots_of old.shape
         → Called tells Opens (Get key) old new (work_of history (Some calls) doubt) (work_of history (Some (calls ++ (Get key, reply) ∷ [])) doubt) (Ok reply)
     get_done x value reply does is replied lt = record {
@@ -71,7 +71,7 @@ module _ (tells : Bool) (Opens : Shape → List ℕ → List ℕ → Type 0) whe
       prefix = λ told base kept. time_same Opens base old new (work_of history (Some calls) doubt) (work_of history (Some (calls ++ (Get key, reply) ∷ [])) doubt) refl kept (does.time told ready.alive);
     }
 
-    pub get_no_memory : {T : Type 0} (x : T) → (let r : Result T EawFault = Ok x in Does tells (Opens old.shape) read old new r)
+    pub get_no_memory : {T : Type 0} (x : T) → (let r : Result T EawFault = Ok x in Does tells (Opens old.shape) reading old new r)
         → Called tells Opens (Get key) old new (work_of history (Some calls) doubt) (work_of history (Some calls) doubt) (Err NoMemory)
     get_no_memory x does = record {
       shape = does.shape;

@@ -11,6 +11,7 @@ use Rattle.array_shape.specs.Places.{IsShape, page_count}
 use Rattle.eaw_face.specs.State.{State as Data}
 use Rattle.eaw_face.specs.StoreView.{StoreView, LeavesOnly}
 use Rattle.eaw_face.specs.Command.{read}
+use Rattle.mars_shell.specs.Records.{reading}
 use Rattle.eaw_face.specs.Causes.{Cause}
 use Rattle.eaw_face.specs.Does.{Does, Becomes, IsEither}
 use Rattle.eaw_face.specs.declared.fault.EawFault.{EawFault}
@@ -70,9 +71,9 @@ module _ (slots : ℕ) (bytes page : List ℕ) (nth : ℕ) (whole : slots ≡ 8 
 
 -- the store of a read behind another
 module _ (tells : Bool) (Opens : Shape → List ℕ → List ℕ → Type 0) (old mid new : StoreView) where
-  pub read_on : (T U : Type 0) (x : T) (r : Result U EawFault) → (let first : Result T EawFault = Ok x in Does tells (Opens old.shape) read old mid first) → Does tells (Opens mid.shape) read mid new r
-      → Does tells (Opens old.shape) read old new r
-  read_on T U x r first second = record {
+  pub read_on : (T U : Type 0) (at len : ℕ) (x : T) (r : Result U EawFault) → (let first : Result T EawFault = Ok x in Does tells (Opens old.shape) reading old mid first) → Does tells (Opens mid.shape) (read at len) mid new r
+      → Does tells (Opens old.shape) reading old new r
+  read_on T U at len x r first second = record {
     shape = second.shape ∙ first.shape;
     later = omega (arith, first.later, second.later);
     cause = causes r second.cause;
@@ -83,14 +84,14 @@ module _ (tells : Bool) (Opens : Shape → List ℕ → List ℕ → Type 0) (ol
     time = λ told alive. going.then (first.time told alive) (moved told (second.time told first.done.alive));
   }
     where
-      causes : (r : Result U EawFault) → Cause mid read new.faults r → Cause old read new.faults r
+      causes : (r : Result U EawFault) → Cause mid (read at len) new.faults r → Cause old reading new.faults r
       causes (Ok y) cause = first.cause
       causes (Err (UnknownTid u)) cause = absurd cause.1
       causes (Err (LogFull g h n)) cause = absurd cause.2
       causes (Err Media) cause = (first.cause.0, tt, tt, omega (arith, first.later, cause.3))
       causes (Err Dead) cause = absurd (false≢true (sym first.done.alive ∙ cause))
 
-      finishes : (r : Result U EawFault) → OnOk r (Becomes tells read mid new) → OnOk r (Becomes tells read old new)
+      finishes : (r : Result U EawFault) → OnOk r (Becomes tells (read at len) mid new) → OnOk r (Becomes tells reading old new)
       finishes (Ok y) done = record { alive = done.alive; ranges = done.ranges ∙ first.done.ranges; state = λ told. done.state told ∙ first.done.state told }
       finishes (Err e) done = tt
 
@@ -104,6 +105,30 @@ module _ (tells : Bool) (Opens : Shape → List ℕ → List ℕ → Type 0) (ol
           (subst (λ (d : Data). LeavesOnly (IsEither (Opens mid.shape) d.bytes d.bytes) mid new) (first.done.state told) time)
 
   -- the same of another answer
-  pub read_as : (T U : Type 0) (x : T) (y : U) → (let first : Result T EawFault = Ok x in Does tells (Opens old.shape) read old new first)
-      → (let last : Result U EawFault = Ok y in Does tells (Opens old.shape) read old new last)
+  pub read_as : (T U : Type 0) (x : T) (y : U) → (let first : Result T EawFault = Ok x in Does tells (Opens old.shape) reading old new first)
+      → (let last : Result U EawFault = Ok y in Does tells (Opens old.shape) reading old new last)
   read_as T U x y does = record { shape = does.shape; later = does.later; cause = does.cause; done = does.done; kept = does.kept; others = does.others; dies = λ e. cc; time = does.time }
+
+  -- a read is a read, wherever it is
+  pub read_any : (T : Type 0) (at len : ℕ) (r : Result T EawFault) → Does tells (Opens old.shape) (read at len) old new r → Does tells (Opens old.shape) reading old new r
+  read_any T at len r does = record {
+    shape = does.shape;
+    later = does.later;
+    cause = causes r does.cause;
+    done = finishes r does.done;
+    kept = does.kept;
+    others = does.others;
+    dies = does.dies;
+    time = does.time;
+  }
+    where
+      causes : (r : Result T EawFault) → Cause old (read at len) new.faults r → Cause old reading new.faults r
+      causes (Ok y) cause = cause
+      causes (Err (UnknownTid u)) cause = cause
+      causes (Err (LogFull g h n)) cause = cause
+      causes (Err Media) cause = cause
+      causes (Err Dead) cause = cause
+
+      finishes : (r : Result T EawFault) → OnOk r (Becomes tells (read at len) old new) → OnOk r (Becomes tells reading old new)
+      finishes (Ok y) done = record { alive = done.alive; ranges = done.ranges; state = done.state }
+      finishes (Err e) done = tt

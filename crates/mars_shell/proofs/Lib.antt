@@ -12,6 +12,8 @@ pub mod Answering
 pub mod Unopened
 pub mod Serving
 pub mod Acknowledged
+pub mod Looking
 pub mod Running
+pub mod Completing
 pub mod Commanding
 pub mod Statuses

@@ -1,7 +1,8 @@
 -- A run over an array that was opened: its records were looked at, and its lines answered.
-use Rattle.std.proofs.Common.{◌≡◌, ℕ, ◌+◌, ◌<◌, ◌≤◌, ◌^◌, inl, inr, ⊎_elim, List, [], ◌++◌, length, Bool, false, refl, sym, ap, subst, ◌∙◌, arith}
-use Rattle.std.specs.Prelude.{IsTrue, Contains}
+use Rattle.std.proofs.Common.{◌≡◌, ℕ, ◌+◌, ◌<◌, ◌≤◌, ◌^◌, inl, inr, ⊎_elim, List, [], ◌++◌, length, Option, Some, None, Result, Ok, Bool, false, refl, sym, ap, subst, ◌∙◌, arith}
+use Rattle.std.specs.Prelude.{IsTrue, Contains, IfSome, IfNone}
 use Rattle.std.proofs.Props.{props}
+use Rattle.counted.proofs.Going as going
 use Rattle.pcm_media.specs.Images.{MayLeave}
 use Rattle.pcm_media.specs.View.{View}
 use Rattle.pcm_media.proofs.Left.{left_as_read}
@@ -15,7 +16,9 @@ use Rattle.row_bytes.proofs.Heading.{says_one}
 use Rattle.device_recovery.specs.Recovered.{HasNoVote}
 use Rattle.eaw_face.specs.State.{State as Data}
 use Rattle.eaw_face.specs.StoreView.{StoreView, LeavesOnly}
-use Rattle.eaw_device.specs.Opens.{header_of, Opens, AllOpen, OpensLike, KeepsData, Attached, IsArray, IsBehind}
+use Rattle.eaw_face.specs.Does.{Does}
+use Rattle.eaw_face.specs.declared.fault.EawFault.{EawFault}
+use Rattle.eaw_device.specs.Opens.{header_of, Opens, AllOpen, OpensLike, KeepsData, Attached, IsArray, IsBehind, opening_calls}
 use Rattle.history.specs.Table.{Table}
 use Rattle.history.specs.Legal.{records}
 use Rattle.history.specs.declared.call.Reply.TheVariants.{Committed}
@@ -28,9 +31,9 @@ use Rattle.script_text.specs.Replies.{reply_line}
 use Rattle.mars_shell.specs.Called.{HasPrefixOf}
 use Rattle.mars_shell.specs.Kept.{limits_of, slots_of, state_over}
 use Rattle.mars_shell.specs.Lines.{call_script}
-use Rattle.mars_shell.specs.Outcome.{Idle}
+use Rattle.mars_shell.specs.Outcome.{Idle, Fails}
 use Rattle.mars_shell.specs.PrefixLaw.{Recovers}
-use Rattle.mars_shell.specs.Records.{records_of, IsSoundData, IsFirstDamaged}
+use Rattle.mars_shell.specs.Records.{records_of, IsSoundData, IsFirstDamaged, reading}
 use Rattle.mars_shell.specs.Run.{data_in, records_in, IsDamaged, Answers}
 use Rattle.mars_shell.specs.Served.{first_state, Served}
 use Rattle.mars_shell.specs.Session.{State, opened}
@@ -87,7 +90,10 @@ module _ (tells : Bool) (told : IsTrue tells) (old : View) (only_now : (image : 
         now = subst (λ (s : Shape). Opens s image store.state.bytes) same opens;
       }
 
-  module _ (mid : StoreView) (time : LeavesOnly (λ image. Opens store.shape image store.state.bytes) store mid) where
+  module _ (mid : StoreView) (r : Result (Option ℕ) EawFault) (does : Does tells (Opens store.shape) reading store mid r) where
+    time : LeavesOnly (λ image. Opens store.shape image store.state.bytes) store mid
+    time = going.weaker (λ image either. ⊎_elim (λ was. was) (λ now. now) either) (does.time told attached.alive)
+
     -- the records were looked at
     looked : (shape : Shape) → AllOpen shape old.content → (image : List ℕ) → mid.left_since old.moment image → OpensLike shape old.content image
     looked shape all image left = ⊎_elim (at_entry shape all image) (like_data shape all image) (time.only old.moment image (keeps told shape all).later left)
@@ -100,11 +106,36 @@ module _ (tells : Bool) (told : IsTrue tells) (old : View) (only_now : (image : 
       spared = inr (record { shape = store.shape; array = array });
     }
 
-    pub damaged : (page : ℕ) → IsFirstDamaged (slots_of store.shape) store.state.bytes page → IsDamaged old page
-    damaged page first = record { shape = store.shape; array = array; first = subst (λ (b : List ℕ). IsFirstDamaged (slots_of store.shape) b page) (attached.bytes told) first }
+    pub damaged : (o : Option ℕ) (page : ℕ) → o ≡ Some page → IfSome o (IsFirstDamaged (slots_of store.shape) store.state.bytes) → IsDamaged old page
+    damaged o page is found = let first = subst (λ (p : Option ℕ). IfSome p (IsFirstDamaged (slots_of store.shape) store.state.bytes)) is found in record { shape = store.shape; array = array; first = subst (λ (b : List ℕ). IsFirstDamaged (slots_of store.shape) b page) (attached.bytes told) first }
 
-    module _ (shape : mid.shape ≡ store.shape) (same : mid.state ≡ store.state) (sound : IsSoundData (slots_of store.shape) store.state.bytes)
-        (store' : StoreView) (new : View) (behind : IsBehind tells store' new) (counts_now : (t : ℕ) (image : List ℕ) → IsTrue tells → t ≤ new.moment → MayLeave new.content image → new.left_since t image)
+    -- the media failed then
+    pub failed_looking : (looks : Shape → ℕ) (new : View) → IsBehind tells mid new → ((shape : Shape) → shape ≡ store.shape → mid.moment ≤ store.moment + looks shape) → Fails looks old new false []
+    failed_looking looks new behind costs = record {
+      idle = idle_looked new behind;
+      within = λ shape says quiet.
+          let same : shape ≡ store.shape = one_shape (header_of old.content.bytes) shape store.shape says (attached.shape_is told) in
+          let calls = attached.calls told (subst (λ (s : Shape). HasNoVote s old.content.bytes) same quiet) in
+          omega (arith, calls, costs shape same, ap opening_calls same, behind.moment);
+    }
+
+  module _ (mid : StoreView) (o : Option ℕ) (does : Does tells (Opens store.shape) reading store mid (let r : Result (Option ℕ) EawFault = Ok o in r)) (none : o ≡ None)
+      (found : IfNone o (IsSoundData (slots_of store.shape) store.state.bytes)) where
+    shape : mid.shape ≡ store.shape
+    shape = does.shape
+
+    same : mid.state ≡ store.state
+    same = does.done.state told
+
+    sound : IsSoundData (slots_of store.shape) store.state.bytes
+    sound = subst (λ (p : Option ℕ). IfNone p (IsSoundData (slots_of store.shape) store.state.bytes)) none found
+
+    -- the records of the store that was looked at
+    pub sound_behind : IsSoundData (slots_of mid.shape) mid.state.bytes
+    sound_behind =
+        subst (λ (s : Shape). IsSoundData (slots_of s) mid.state.bytes) (sym shape) (subst (λ (d : Data). IsSoundData (slots_of store.shape) d.bytes) (sym same) sound)
+
+    module _ (store' : StoreView) (new : View) (behind : IsBehind tells store' new) (counts_now : (t : ℕ) (image : List ℕ) → IsTrue tells → t ≤ new.moment → MayLeave new.content image → new.left_since t image)
         (input : List ℕ) (ended : Ended) (cut : Bool) (text : List ℕ) (served : Served Opens mid input ended cut text store') (alive : ended ≡ All → store'.is_dead ≡ false) where
       data_is : mid.state.bytes ≡ data_in store.shape old
       data_is = ap (λ (d : Data). d.bytes) same ∙ attached.bytes told
@@ -141,7 +172,7 @@ module _ (tells : Bool) (told : IsTrue tells) (old : View) (only_now : (image : 
         legal = (Answered-keeps (first_state mid) 1 (lines_of input) ended cut served.ran.answers served.ran.rest served.ran.final served.ran.answered (record { legal = tt; right = tt })).legal;
         prefix_law = record {
           now = kept_now;
-          since = λ all image left. ⊎_elim (λ was. inl (looked store.shape all image was))
+          since = λ all image left. ⊎_elim (λ was. inl (looked mid (Ok o) does store.shape all image was))
               (λ anew. inr (subst (λ (s : Shape). Recovers s served.ran.final 0 image) shape (as_final mid.shape 0 image anew)))
               (served.ran.comes.prefix.since.only old.moment image (later all) (behind.left old.moment image left));
         };
@@ -156,4 +187,4 @@ module _ (tells : Bool) (told : IsTrue tells) (old : View) (only_now : (image : 
       }
         where
           later : AllOpen store.shape old.content → old.moment ≤ mid.moment
-          later all = omega (arith, (keeps told store.shape all).later, time.later)
+          later all = omega (arith, (keeps told store.shape all).later, (does.time told attached.alive).later)

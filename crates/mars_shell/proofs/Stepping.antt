@@ -8,7 +8,7 @@ use Rattle.array_shape.specs.Parts.{parts_of_write}
 use Rattle.array_shape.specs.Logged.{Part, applied, ranges_of}
 use Rattle.eaw_face.specs.State.{State as Data, listed, count_on}
 use Rattle.eaw_face.specs.StoreView.{StoreView}
-use Rattle.eaw_face.specs.Command.{read, log_write}
+use Rattle.eaw_face.specs.Command.{log_write}
 use Rattle.eaw_face.specs.Causes.{HasRoom, IsFull}
 use Rattle.eaw_face.specs.Does.{Becomes}
 use Rattle.record_slots.specs.Slots.{slot_said}
@@ -22,7 +22,7 @@ use Rattle.history.specs.declared.call.Reply.{Reply}
 use Rattle.history.specs.declared.call.Reply.TheVariants.{Fine, LogFull, Committed}
 use Rattle.history.specs.declared.transaction.Done.{Done}
 use Rattle.mars_shell.specs.Live.{either, last_put}
-use Rattle.mars_shell.specs.Records.{slot_at, record_at, Holds}
+use Rattle.mars_shell.specs.Records.{slot_at, record_at, reading, Holds}
 use Rattle.mars_shell.specs.Session.{put_by, puts_of, taken_on, PutsAt, done_with}
 use Rattle.mars_shell.specs.Kept.{Work, work_of, state_over, slots_of, limits_of, slots_put, calls_of, IsReady, IsKept, Empties}
 use Rattle.mars_shell.specs.Called.{Steps}
@@ -87,7 +87,7 @@ ready_as old new work next shape alive ranges puts doubt ready = record {
   certain = doubt ∙ ready.certain;
 }
 
-module _ (tells : Bool) (old new : StoreView) (calls : List (Call × Reply)) (key : ℕ) (history : List Done) (doubt : Option Done) (shape : new.shape ≡ old.shape) (became : Becomes tells read old new) where
+module _ (tells : Bool) (old new : StoreView) (calls : List (Call × Reply)) (key : ℕ) (history : List Done) (doubt : Option Done) (shape : new.shape ≡ old.shape) (became : Becomes tells reading old new) where
   -- a get of the running transaction
   pub get_ready : (reply : Reply) → IsReady old (work_of history (Some calls) doubt) → IsReady new (work_of history (Some (calls ++ (Get key, reply) ∷ [])) doubt)
   get_ready reply ready =

@@ -2,6 +2,7 @@
 use Rattle.std.specs.Prelude.{ℕ, zero, suc, ◌+◌, ◌*◌, ◌/◌, ◌<◌, ◌≡◌, nat_eq, if◌then◌else◌, List, length, Option, Some, None}
 use Rattle.std.specs.FinMap.{empty, insert}
 use Rattle.counted.specs.Bytes.{range}
+use Rattle.eaw_face.specs.Command.{Command, read}
 use Rattle.history.specs.Table.{Table}
 use Rattle.record_slots.specs.Slots.{slot_said}
 use Rattle.record_slots.specs.declared.slot.Slot.{Slot}
@@ -61,6 +62,10 @@ pub record IsFirstDamaged (slots : ℕ) (bytes : List ℕ) (page : ℕ) : Type 0
   pub in_page : page_of slots slot ≡ page
   pub damaged : IsSoundSlot slots bytes slot → ⊥
   pub before : (k : ℕ) → k < slots → page_of slots k < page → IsSoundSlot slots bytes k
+
+-- a read of the data, wherever that is: it changes nothing
+abbrev pub reading : Command
+reading = read 0 0
 
 -- data of so many slots that is sound, and has exactly these records
 pub record Holds (slots : ℕ) (table : Table) (bytes : List ℕ) : Type 0 where

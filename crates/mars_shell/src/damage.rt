@@ -1,12 +1,12 @@
 // Whether the record pages are sound.
-ghost use Rattle.std.specs.Prelude.{◌+◌, ◌*◌, ◌^◌, ◌≤◌, ◌<◌, ℕ, IsTrue, IfOk, IfSome, IfNone, MatchBool};
+ghost use Rattle.std.specs.Prelude.{◌+◌, ◌*◌, ◌/◌, ◌^◌, ◌≤◌, ◌<◌, ℕ, IsTrue, IfOk, IfSome, IfNone, MatchBool};
 ghost use Rattle.counted.specs.Bytes.{range};
 ghost use Rattle.eaw_face.specs.Command.{read};
 ghost use Rattle.eaw_face.specs.Does.{Does};
 ghost use Rattle.eaw_face.specs.Causes.{IsAlive};
 ghost use Rattle.record_slots.specs.Slots.{slot_said};
 ghost use Rattle.mars_shell.specs.Kept.{slots_of};
-ghost use Rattle.mars_shell.specs.Records.{IsSoundIn, IsSoundData, IsFirstDamaged};
+ghost use Rattle.mars_shell.specs.Records.{IsSoundIn, IsSoundData, IsFirstDamaged, reading};
 
 use crate::records::slot_count;
 use eaw_face::{EawFault, EawStore};
@@ -20,7 +20,10 @@ const SLOTS_IN_PAGE: u64 = 8;
 /// The first page of records that is not sound, read page by page.
 pub fn first_damage<S: EawStore>(store: &mut S) -> Result<Option<u64>, EawFault>
     requires { IsAlive (S.view store.old) }
-    ensures does { Does S.tells (S.opens (S.view store.old).shape) read (S.view store.old) (S.view store.new) result }
+    ensures does { Does S.tells (S.opens (S.view store.old).shape) reading (S.view store.old) (S.view store.new) result }
+    // It makes no more calls of the media than its reads do.
+    ensures costs { (each : ℕ) → ((page : ℕ) (store : S) → S.calls (read (512 * page) 512) (S.view store) ≤ each)
+        → (S.view store.new).moment ≤ (S.view store.old).moment + each * (slots_of (S.view store.old).shape / 8) }
     ensures sound { IsTrue S.tells → IfOk result (λ damaged. IfNone damaged (IsSoundData (slots_of (S.view store.old).shape) (S.view store.old).state.bytes)) }
     ensures damaged { IsTrue S.tells → IfOk result (λ damaged. IfSome damaged (IsFirstDamaged (slots_of (S.view store.old).shape) (S.view store.old).state.bytes)) }
     ensures bound { IfOk result (λ damaged. IfSome damaged (λ page. page < 65536)) }

@@ -1,10 +1,10 @@
 // The records of a store: the record of key k stands in slot k.
 ghost use Rattle.std.specs.Prelude.{◌≡◌, ◌≢◌, ◌<◌, ◌≤◌, Some, IsTrue, IfOk, IfErr, length};
-ghost use Rattle.eaw_face.specs.Command.{log_write, read};
+ghost use Rattle.eaw_face.specs.Command.{log_write};
 ghost use Rattle.eaw_face.specs.Does.{Does};
 ghost use Rattle.record_slots.specs.Slots.{slot_said, slot_bytes};
 ghost use Rattle.record_slots.specs.declared.slot.Slot.TheVariants.{Present};
-ghost use Rattle.mars_shell.specs.Records.{slot_at, record_at, value_in};
+ghost use Rattle.mars_shell.specs.Records.{slot_at, record_at, reading, value_in};
 ghost use Rattle.mars_shell.specs.Kept.{slots_of};
 
 use array_shape::Shape;
@@ -51,7 +51,7 @@ pub fn put_record<S: EawStore>(store: &mut S, key: u64, value: Value) -> Result<
 /// The committed value of this key, read from its slot.
 pub fn read_record<S: EawStore>(store: &mut S, key: u64) -> Result<Option<Value>, EawFault>
     requires key { key < slots_of (S.view store.old).shape }
-    ensures does { Does S.tells (S.opens (S.view store.old).shape) read (S.view store.old) (S.view store.new) result }
+    ensures does { Does S.tells (S.opens (S.view store.old).shape) reading (S.view store.old) (S.view store.new) result }
     ensures value { IsTrue S.tells → IfOk result (λ found. found ≡ record_at (slots_of (S.view store.old).shape) (S.view store.old).state.bytes key) }
 {
     let mut bytes = [0; SLOT_LEN];

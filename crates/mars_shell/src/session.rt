@@ -3,7 +3,6 @@ ghost use Rattle.std.specs.Prelude.{◌≡◌, ◌<◌, ◌↔◌, None, Ok, IsT
 ghost use Rattle.counted.specs.Causes.{HasCause};
 ghost use Rattle.array_shape.specs.Logged.{applied};
 ghost use Rattle.eaw_face.specs.Causes.{IsAlive};
-ghost use Rattle.eaw_face.specs.Command.{read};
 ghost use Rattle.eaw_face.specs.Does.{Does, IsEither};
 ghost use Rattle.eaw_face.specs.State.{listed};
 ghost use Rattle.eaw_face.specs.StoreView.{LeavesOnly, log_len};
@@ -12,7 +11,7 @@ ghost use Rattle.history.specs.declared.call.Call.TheVariants.{Begin, Get, Put, 
 ghost use Rattle.mars_shell.specs.Called.{Called, KeepsPrefix};
 ghost use Rattle.mars_shell.specs.Kept.{IsReady, IsKept, Empties, FitsCall, slots_of, work_in};
 ghost use Rattle.mars_shell.specs.Live.{either, last_put};
-ghost use Rattle.mars_shell.specs.Records.{record_at};
+ghost use Rattle.mars_shell.specs.Records.{record_at, reading};
 ghost use Rattle.mars_shell.specs.Session.{puts_of};
 
 use crate::live::Live;
@@ -165,7 +164,7 @@ impl<S: EawStore> Session<S> {
 fn look<S: EawStore>(store: &mut S, live: &Live, key: u64) -> Result<Option<Value>, EawFault>
     requires alive { IsAlive (S.view store.old) }
     requires fits { key < slots_of (S.view store.old).shape }
-    ensures does { Does S.tells (S.opens (S.view store.old).shape) read (S.view store.old) (S.view store.new) result }
+    ensures does { Does S.tells (S.opens (S.view store.old).shape) reading (S.view store.old) (S.view store.new) result }
     ensures unput { OnErr result (last_put (puts_of live.now) key ≡ None) }
     ensures value { IsTrue S.tells → IfOk result (λ value. value ≡ either (last_put (puts_of live.now) key) (record_at (slots_of (S.view store.old).shape) (S.view store.old).state.bytes key)) }
 {

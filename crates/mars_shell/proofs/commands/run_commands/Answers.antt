@@ -8,25 +8,38 @@ use Rattle.mars_shell.proofs.Unopened.{unopened_as}
 use Rattle.mars_shell.proofs.commands.run_commands.Goals as goal
 
 pub returns-in-Err-clause-ran : goal.returns-in-Err-clause-ran
-returns-in-Err-clause-ran g c = record {
-  cut = false;
-  text = [];
-  wrote = λ _. sym (append-nil _);
-  counts = refl;
-  holds = (g.S.Source.left c.args.source.now, (λ _. refl), λ told. unopened_as _ _ _ (g.M.Media.view c.args.media) c.in-Err.ended.0 (g.M.Media.view c.in-Err.ended.1) c.in-Err.ensures.kind (c.in-Err.ensures.unopened told));
-}
+returns-in-Err-clause-ran g c =
+    let old = g.M.Media.view c.args.media in
+    let new = g.M.Media.view c.in-Err.ended.1 in
+    let input = g.S.Source.left c.args.source.now in
+    record {
+      cut = false;
+      text = [];
+      wrote = λ _. sym (append-nil _);
+      counts = refl;
+      holds = (input, (λ _. refl), λ told. unopened_as (λ ended. Obeys old input ended new false []) (λ page. ⊥) (λ shape. 0) old c.in-Err.ended.0 new c.in-Err.ensures.kind (c.in-Err.ensures.unopened told));
+    }
 
 pub returns-clause-ran : goal.returns-clause-ran
 returns-clause-ran g c =
     let media = g.M.Media in
     let old = media.view c.args.media in
     let new = media.view c.into_media.result in
-    let ran = c.answer_commands.ensures.ran in
+    let ended = c.answer_commands-ended.result.0 in
+    let said = c.answer_commands-ended.ensures in
     let input = c.in-Ok.opened.0.items in
     record {
-      cut = ran.cut;
-      text = ran.text;
-      wrote = ran.wrote;
-      counts = ran.counts;
-      holds = ?;
+      cut = said.ran.cut;
+      text = said.ran.text;
+      wrote = said.ran.wrote;
+      counts = said.ran.counts;
+      holds = (
+        input,
+        c.in-Ok.ensures.read,
+        λ told.
+            subst (λ (s : Status). CommandOutcome old s new input said.ran.cut said.ran.text) (sym c.script_status.ensures)
+            (outcome_of (λ end. Obeys old input end new said.ran.cut said.ran.text) (λ page. ⊥) (λ shape. 0) old new said.ran.cut said.ran.text ended
+            (obeys media.tells told old (g.met.M.Media.only_now c.args.media) _ c.in-Ok.ensures.attached c.in-Ok.ensures.keeps _ new c.into_media.ensures (g.met.M.Media.counts_now c.into_media.result)
+            input ended said.ran.cut said.ran.text (rw c.deref.ensures.value at (said.ran.holds told)) said.alive)),
+      );
     }

@@ -1,5 +1,6 @@
-use Rattle.std.proofs.Common.{ℕ, ◌*◌, ◌<◌, Result, Ok, IsTrue}
+use Rattle.std.proofs.Common.{ℕ, ◌+◌, ◌*◌, ◌<◌, ◌≤◌, Result, Ok, IsTrue}
 use Rattle.eaw_face.specs.Command.{read}
+use Rattle.mars_shell.specs.Records.{reading}
 use Rattle.eaw_face.specs.Does.{Does}
 use Rattle.eaw_face.specs.declared.fault.EawFault.{EawFault}
 use Rattle.mars_shell.specs.Kept.{slots_of}
@@ -13,6 +14,7 @@ invariant-loop-nth g l =
     let first = s.view l.fn.store in
     let so_far : Result (Unit {0}) EawFault = Ok tt in
     record {
-      does : Does s.tells (s.opens first.shape) read first (s.view l.store) so_far;
+      does : Does s.tells (s.opens first.shape) reading first (s.view l.store) so_far;
+      costs : (each : ℕ) → ((page : ℕ) (store : g.row.S.Denot) → s.calls (read (512 * page) 512) (s.view store) ≤ each) → (s.view l.store).moment ≤ first.moment + each * l.nth;
       sound : IsTrue s.tells → (k : ℕ) → k < 8 * l.nth → IsSoundSlot (slots_of first.shape) first.state.bytes k;
     }

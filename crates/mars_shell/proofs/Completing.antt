@@ -1,0 +1,72 @@
+-- What can be done is done, or memory was short.
+use Rattle.std.proofs.Common.{◌≡◌, ℕ, ◌<◌, ◌≤◌, ⊎_elim, inl, inr, List, length, Bool, refl, sym, ap, subst, ◌∙◌, arith}
+use Rattle.pcm_media.specs.View.{View}
+use Rattle.array_shape.specs.declared.shape.Shape.{Shape}
+use Rattle.array_shape.specs.declared.bad_shape.ShapeNumber.{ShapeNumber}
+use Rattle.array_shape.specs.declared.bad_shape.ShapeNumber.TheVariants.{Loggers, Numbers, Entries, Pages, MediaLength}
+use Rattle.array_shape.specs.Places.{media_len}
+use Rattle.row_bytes.specs.Header.{SaysShape, IsBadIn}
+use Rattle.eaw_device.specs.Opens.{header_of, IsArray, HasBadRow}
+use Rattle.command_words.specs.Asked.{AsksFor}
+use Rattle.command_words.specs.declared.words.Words.{Words}
+use Rattle.script_run.specs.declared.ended.Ended.{Ended}
+use Rattle.script_io.specs.Input.{input_limit}
+use Rattle.mars_shell.specs.Asked.{WordsSay, NoneRose}
+use Rattle.mars_shell.specs.Input.{InputSays}
+use Rattle.mars_shell.specs.Kept.{slots_of}
+use Rattle.mars_shell.specs.Outcome.{OutcomeOf}
+use Rattle.mars_shell.specs.Records.{IsSoundData}
+use Rattle.mars_shell.specs.Run.{data_in, IsDamaged}
+use Rattle.mars_shell.specs.Statuses.{Counts, IsGoodOrShort}
+use Rattle.mars_shell.specs.declared.status.Status.{Status}
+use Rattle.mars_shell.specs.declared.status.Status.TheVariants.{Good, Usage, TooLong, ReadFault, WriteFault, MediaFault, NoMemory, Damaged, BadRow, NotMars, BadShape}
+use Rattle.mars_shell.proofs.Running.{one_shape}
+
+-- what the words ask for, at a status that is not that of other words
+pub words_say : (words : List (List ℕ)) (status : Status) (Unread : Type 0) (Holds : Words → Type 0) (asked : Words) → (status ≡ Usage → ⊥) → AsksFor words asked → Holds asked → WordsSay words status Unread Holds
+words_say words Usage Unread Holds asked other asks holds = absurd (other refl)
+words_say words NoMemory Unread Holds asked other asks holds = inr (asked, asks, holds)
+words_say words Good Unread Holds asked other asks holds = (asked, asks, holds)
+words_say words TooLong Unread Holds asked other asks holds = (asked, asks, holds)
+words_say words ReadFault Unread Holds asked other asks holds = (asked, asks, holds)
+words_say words WriteFault Unread Holds asked other asks holds = (asked, asks, holds)
+words_say words MediaFault Unread Holds asked other asks holds = (asked, asks, holds)
+words_say words (Damaged page) Unread Holds asked other asks holds = (asked, asks, holds)
+words_say words (BadRow logger tid) Unread Holds asked other asks holds = (asked, asks, holds)
+words_say words NotMars Unread Holds asked other asks holds = (asked, asks, holds)
+words_say words (BadShape which given) Unread Holds asked other asks holds = (asked, asks, holds)
+
+-- a header that says a shape is not wrong
+not_bad_in : (bytes : List ℕ) (size : ℕ) (shape : Shape) (which : ShapeNumber) (given : ℕ) → SaysShape bytes shape → size ≡ media_len shape → IsBadIn bytes size which given → ⊥
+not_bad_in bytes size shape Loggers given says sized bad = let r = shape.in_range in bad.0 (omega (arith, r.some_loggers, says.numbers.loggers_are), omega (arith, r.most_loggers, says.numbers.loggers_are))
+not_bad_in bytes size shape Numbers given says sized bad = let r = shape.in_range in bad.1 (omega (arith, r.some_numbers, says.numbers.numbers_are), omega (arith, r.most_numbers, says.numbers.numbers_are))
+not_bad_in bytes size shape Entries given says sized bad = let r = shape.in_range in bad.2 (omega (arith, r.some_entries, says.numbers.entries_are), omega (arith, r.most_entries, says.numbers.entries_are))
+not_bad_in bytes size shape Pages given says sized bad =
+    let r = shape.in_range in bad.3 (omega (arith, r.some_pages, says.numbers.pages_are), omega (arith, r.most_pages, says.numbers.pages_are), omega (arith, r.even_pages, says.numbers.pages_are))
+not_bad_in bytes size shape MediaLength given says sized bad = bad.1.2 (sized ∙ ap media_len (one_shape bytes shape bad.1.0 says bad.1.1))
+
+no_bad_row : (media : View) (shape : Shape) (g t : ℕ) → IsArray shape media → HasBadRow media g t → ⊥
+no_bad_row media shape g t array row =
+    let same : shape ≡ row.shape = one_shape (header_of media.content.bytes) shape row.shape array.header row.header in
+    let own = subst (λ (s : Shape). IsArray s media) same array in
+    row.bad.here.bad (own.good g t row.bad.here.logger row.bad.number row.bad.here.is_decided)
+
+pub no_damage : (media : View) (shape : Shape) (page : ℕ) → IsArray shape media → IsSoundData (slots_of shape) (data_in shape media) → IsDamaged media page → ⊥
+no_damage media shape page array sound is =
+    let same : shape ≡ is.shape = one_shape (header_of media.content.bytes) shape is.shape array.header is.array.header in
+    is.first.damaged (subst (λ (s : Shape). IsSoundData (slots_of s) (data_in s media)) same sound is.first.slot is.first.below)
+
+module _ (Works : Ended → Type 0) (Broken : ℕ → Type 0) (looks : Shape → ℕ) (old new : View) (cut : Bool) (text : List ℕ) (given left : List ℕ) (s s' k k' m m' : ℕ)
+    (short : length given ≤ input_limit) (shape : Shape) (array : IsArray shape old) (whole : (page : ℕ) → Broken page → ⊥) (none : NoneRose s s' k k' m m') where
+  pub complete_of : (status : Status) → (status ≡ Usage → ⊥) → Counts status s s' k k' m m' → InputSays status given left → OutcomeOf Works Broken looks old status new cut text → IsGoodOrShort status
+  complete_of Good other counts input outcome = tt
+  complete_of NoMemory other counts input outcome = tt
+  complete_of Usage other counts input outcome = absurd (other refl)
+  complete_of TooLong other counts input outcome = absurd (omega (arith, short, input))
+  complete_of ReadFault other counts input outcome = absurd (none.0 counts.0)
+  complete_of WriteFault other counts input outcome = absurd (none.1 counts.1)
+  complete_of MediaFault other counts input outcome = absurd (none.2 counts.1)
+  complete_of (Damaged page) other counts input outcome = absurd (whole page outcome.1)
+  complete_of (BadRow logger tid) other counts input outcome = absurd (no_bad_row old shape logger tid array outcome.cause)
+  complete_of NotMars other counts input outcome = absurd (outcome.cause (omega (arith, array.sized)) array.header.has_mark)
+  complete_of (BadShape which bad) other counts input outcome = absurd (not_bad_in (header_of old.content.bytes) old.size shape which bad array.header array.sized outcome.cause.2)
