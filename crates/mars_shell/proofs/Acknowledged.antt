@@ -6,12 +6,11 @@ use Rattle.std.proofs.lemmas.Bool.{cases_lt}
 use Rattle.std.proofs.lemmas.Fmt.{decimal_injective, decimal_nonempty, decimal_digit}
 use Rattle.std.proofs.lemmas.List.{append_cancel_left, append_cancel_right, append_assoc, get_or_append_left, length-append}
 use Rattle.std.proofs.lemmas.List.Elements.{Contains-append_cases, Contains-push_cases}
-use Rattle.history.specs.Table.{Table, found}
+use Rattle.history.specs.Table.{found}
 use Rattle.history.specs.declared.call.Call.{Call}
 use Rattle.history.specs.declared.call.Call.TheVariants.{Begin, Get, Put, Commit}
 use Rattle.history.specs.declared.call.Reply.{Reply}
 use Rattle.history.specs.declared.call.Reply.TheVariants.{Fine, Found, Absent, Committed, NoTransaction, Already, LogFull, Media}
-use Rattle.history.specs.declared.transaction.Done.{Done}
 use Rattle.script_text.specs.Line.{Says}
 use Rattle.script_text.specs.Replies.{reply_text, reply_line, bad_line}
 use Rattle.script_text.specs.declared.line.Line.{Line}
@@ -19,9 +18,8 @@ use Rattle.script_text.specs.declared.line.Line.TheVariants.{Nothing, Told, Bad}
 use Rattle.script_run.specs.Transcript.{Ends, Answered}
 use Rattle.script_run.specs.declared.ended.Ended.{Ended}
 use Rattle.script_run.specs.declared.ended.Ended.TheVariants.{All, WriteFault, MediaFault, NoMemory}
-use Rattle.mars_shell.specs.Lines.{Gives, LineGives, LineStops, call_script}
+use Rattle.mars_shell.specs.Lines.{Gives, call_script}
 use Rattle.mars_shell.specs.Session.{State, Limits, StepAt, done_with}
-use Rattle.mars_shell.specs.Standing.{Grows}
 use Rattle.mars_shell.specs.PrefixLaws.{grows_longer}
 use Rattle.mars_shell.proofs.AnsweredLemmas.{step_grows}
 use Rattle.mars_shell.proofs.Calling.{breaks_history}
@@ -145,8 +143,11 @@ committed_kept old n [] ended cut (answer ∷ answers) rest new one answered m f
 committed_kept old n (bytes ∷ lines) ended cut (answer ∷ answers) rest new one more m fits has = elim (Contains-append_cases (answer ∷ []) answers (reply_line 0 (Committed m)) has) [
   | inl first ↦ elim (Contains-push_cases [] answer (reply_line 0 (Committed m)) first) [
     | inl none ↦ absurd (omega (arith, none.1))
-    | inr same ↦ omega (arith, gives_committed old n bytes more.1.0 m more.0 one fits more.1.1 (subst (λ (text : List ℕ). Gives old n more.1.0 text more.0) same more.1.2),
-          answered_longer more.0 (n + 1) lines ended cut answers rest new more.2)
+    | inr same ↦ omega (
+      arith,
+      gives_committed old n bytes more.1.0 m more.0 one fits more.1.1 (subst (λ (text : List ℕ). Gives old n more.1.0 text more.0) same more.1.2),
+      answered_longer more.0 (n + 1) lines ended cut answers rest new more.2,
+    )
   ]
   | inr later ↦ committed_kept more.0 (n + 1) lines ended cut answers rest new (ap (λ (l : Limits). l.callers) (gives_limits old n more.1.0 answer more.0 more.1.2) ∙ one) more.2 m fits later
 ]

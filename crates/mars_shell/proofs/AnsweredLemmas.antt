@@ -1,5 +1,5 @@
 -- A run over lines keeps a session sound, and its history only grows; what it has told as committed stands in that.
-use Rattle.std.proofs.Common.{Bool, ◌≡◌, ℕ, ◌+◌, ◌≤◌, List, [], ◌∷◌, ◌++◌, Option, Some, None, refl, sym, ap, subst, inl, inr}
+use Rattle.std.proofs.Common.{Bool, ◌≡◌, ℕ, ◌+◌, List, [], ◌∷◌, Option, Some, None, sym, ap, subst, inl, inr}
 use Rattle.history.specs.declared.call.Call.{Call}
 use Rattle.history.specs.declared.call.Call.TheVariants.{Begin, Get, Put, Commit}
 use Rattle.history.specs.declared.call.Reply.{Reply}
@@ -9,7 +9,7 @@ use Rattle.script_text.specs.declared.line.Line.TheVariants.{Nothing, Told, Bad}
 use Rattle.script_run.specs.Transcript.{Ends, Answered}
 use Rattle.script_run.specs.declared.ended.Ended.{Ended}
 use Rattle.script_run.specs.declared.ended.Ended.TheVariants.{All, WriteFault, MediaFault, NoMemory}
-use Rattle.mars_shell.specs.Lines.{Gives, LineGives, LineStops, call_script}
+use Rattle.mars_shell.specs.Lines.{Gives, LineStops, call_script}
 use Rattle.mars_shell.specs.PrefixLaws.{grows_none}
 use Rattle.mars_shell.specs.Session.{State, StepAt, done_with}
 use Rattle.mars_shell.specs.Standing.{Grows}

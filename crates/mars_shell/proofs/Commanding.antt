@@ -1,5 +1,5 @@
 -- A run of raw commands over an array that was opened.
-use Rattle.std.proofs.Common.{◌≡◌, ℕ, ◌≤◌, inl, inr, ⊎_elim, List, Bool, false, refl, sym, ap, subst, ◌∙◌, arith}
+use Rattle.std.proofs.Common.{◌≡◌, ℕ, ◌≤◌, inl, inr, ⊎_elim, List, Bool, false, sym, ap, subst, ◌∙◌, arith}
 use Rattle.std.specs.Prelude.{IsTrue}
 use Rattle.pcm_media.specs.Images.{MayLeave}
 use Rattle.pcm_media.specs.View.{View}
@@ -9,7 +9,7 @@ use Rattle.device_recovery.specs.Recovered.{HasNoVote}
 use Rattle.eaw_face.specs.StoreView.{StoreView}
 use Rattle.eaw_device.specs.Opens.{Opens, KeepsData, Attached, IsBehind}
 use Rattle.eaw_script.specs.Lines.{raw_script}
-use Rattle.eaw_script.specs.Progress.{Progress, MayStand, OpensWith, Shows, Comes, begun}
+use Rattle.eaw_script.specs.Progress.{Progress, Shows, Comes, begun}
 use Rattle.script_io.specs.Lines.{lines_of}
 use Rattle.script_run.specs.Transcript.{Answered, Ran}
 use Rattle.script_run.specs.declared.ended.Ended.{Ended}

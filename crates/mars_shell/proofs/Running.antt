@@ -1,6 +1,6 @@
 -- A run over an array that was opened: its records were looked at, and its lines answered.
-use Rattle.std.proofs.Common.{◌≡◌, ℕ, ◌+◌, ◌<◌, ◌≤◌, ◌^◌, inl, inr, ⊎_elim, List, [], ◌++◌, length, Option, Some, None, Result, Ok, Bool, false, refl, sym, ap, subst, ◌∙◌, arith}
-use Rattle.std.specs.Prelude.{IsTrue, Contains, IfSome, IfNone}
+use Rattle.std.proofs.Common.{◌≡◌, ℕ, ◌+◌, ◌≤◌, inl, inr, ⊎_elim, List, [], length, Option, Some, None, Result, Ok, Bool, false, refl, sym, ap, subst, ◌∙◌, arith}
+use Rattle.std.specs.Prelude.{IsTrue, IfSome, IfNone}
 use Rattle.std.proofs.Props.{props}
 use Rattle.counted.proofs.Going as going
 use Rattle.pcm_media.specs.Images.{MayLeave}
@@ -19,15 +19,11 @@ use Rattle.eaw_face.specs.StoreView.{StoreView, LeavesOnly}
 use Rattle.eaw_face.specs.Does.{Does}
 use Rattle.eaw_face.specs.declared.fault.EawFault.{EawFault}
 use Rattle.eaw_device.specs.Opens.{header_of, Opens, AllOpen, OpensLike, KeepsData, Attached, IsArray, IsBehind, opening_calls}
-use Rattle.history.specs.Table.{Table}
 use Rattle.history.specs.Legal.{records}
-use Rattle.history.specs.declared.call.Reply.TheVariants.{Committed}
-use Rattle.history.specs.declared.transaction.Done.{Done}
 use Rattle.script_io.specs.Lines.{lines_of}
 use Rattle.script_run.specs.Transcript.{Answered}
 use Rattle.script_run.specs.declared.ended.Ended.{Ended}
 use Rattle.script_run.specs.declared.ended.Ended.TheVariants.{All}
-use Rattle.script_text.specs.Replies.{reply_line}
 use Rattle.mars_shell.specs.Called.{HasPrefixOf}
 use Rattle.mars_shell.specs.Kept.{limits_of, slots_of, state_over}
 use Rattle.mars_shell.specs.Lines.{call_script}

@@ -1,11 +1,11 @@
 -- The work over a store whose records are sound.
-use Rattle.std.proofs.Common.{◌≡◌, ℕ, List, [], length, Option, None, refl, sym, ap, ◌∙◌, subst, arith}
+use Rattle.std.proofs.Common.{◌≡◌, ℕ, List, [], length, Option, None, refl, sym, ap, subst, arith}
 use Rattle.std.specs.Option.{option_map}
 use Rattle.array_shape.specs.Places.{data_len}
 use Rattle.array_shape.specs.Logged.{Part, applied, ranges_of}
 use Rattle.eaw_face.specs.State.{listed}
 use Rattle.eaw_face.specs.StoreView.{StoreView}
-use Rattle.mars_shell.specs.Kept.{IsKept, slots_of}
+use Rattle.mars_shell.specs.Kept.{slots_of}
 use Rattle.mars_shell.specs.Records.{Holds, IsSoundData}
 use Rattle.mars_shell.specs.Served.{records_held, no_work, first_state}
 use Rattle.mars_shell.specs.Standing.{Stands}

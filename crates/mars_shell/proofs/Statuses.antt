@@ -1,5 +1,5 @@
 -- The status that a script ends a run with.
-use Rattle.std.proofs.Common.{◌≡◌, ℕ, inr, List, Bool}
+use Rattle.std.proofs.Common.{ℕ, inr, List, Bool}
 use Rattle.pcm_media.specs.View.{View}
 use Rattle.array_shape.specs.declared.shape.Shape.{Shape}
 use Rattle.script_run.specs.declared.ended.Ended.{Ended}

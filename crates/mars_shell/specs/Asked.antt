@@ -15,7 +15,7 @@ use Rattle.mars_shell.specs.Formats.{HasAsked, SizeSays, FormatOutcome}
 use Rattle.mars_shell.specs.Kept.{slots_of}
 use Rattle.mars_shell.specs.Records.{IsSoundData}
 use Rattle.mars_shell.specs.Run.{Outcome, data_in}
-use Rattle.mars_shell.specs.Statuses.{IsRefusal, IsGoodOrShort}
+use Rattle.mars_shell.specs.Statuses.{IsRefusal}
 use Rattle.mars_shell.specs.declared.status.Status.{Status}
 use Rattle.mars_shell.specs.declared.status.Status.TheVariants.{Usage, MediaFault, NoMemory}
 

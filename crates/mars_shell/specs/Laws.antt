@@ -1,5 +1,5 @@
 -- Laws of what a session comes to: by nothing, and by one line behind another.
-use Rattle.std.proofs.Common.{◌≡◌, List, ℕ, None, refl, sym, ap, subst, ◌∙◌}
+use Rattle.std.proofs.Common.{◌≡◌, List, ℕ, None, refl, ap, subst, ◌∙◌}
 use Rattle.array_shape.specs.declared.shape.Shape.{Shape}
 use Rattle.eaw_face.specs.StoreView.{StoreView}
 use Rattle.history.specs.Table.{Table}

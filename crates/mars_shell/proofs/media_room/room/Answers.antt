@@ -1,6 +1,5 @@
 use Rattle.std.proofs.Common.{◌≡◌, refl, map, string_bytes}
-use Rattle.command_words.specs.declared.words.Words.{Words}
-use Rattle.command_words.specs.declared.words.Words.TheVariants.{Run, Eaw, Format}
+use Rattle.command_words.specs.declared.words.Words.TheVariants.{Format}
 use Rattle.command_words.specs.declared.words.FormatNumbers.{FormatNumbers}
 use Rattle.command_words.proofs.OneAsked.{one_command}
 use Rattle.mars_shell.specs.Formats.{HasAsked}

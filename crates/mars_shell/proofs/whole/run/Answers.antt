@@ -1,10 +1,9 @@
-use Rattle.std.proofs.Common.{refl, sym, subst, length, List, ℕ}
+use Rattle.std.proofs.Common.{refl, subst}
 use Rattle.std.specs.Prelude.{map, string_bytes}
 use Rattle.command_words.specs.declared.words.Words.TheVariants.{Run, Eaw, Format}
 use Rattle.mars_shell.specs.Commands.{Obeys}
 use Rattle.mars_shell.specs.Formats.{IsOfFormat}
 use Rattle.mars_shell.specs.Run.{Answers, IsDamaged, looking_calls}
-use Rattle.mars_shell.specs.declared.status.Status.TheVariants.{Usage}
 use Rattle.mars_shell.proofs.Completing.{words_say, no_damage, complete_of}
 use Rattle.mars_shell.proofs.whole.run.Goals as goal
 
@@ -31,9 +30,9 @@ returns-in-Ok-Run-clause-complete g c =
     let said = c.run_lines.ensures in
     words_say (map string_bytes c.args.words.now) c.run_lines.result.0 (Unit {0}) _ Run said.no_usage (rw c.in-Ok-Run.field-0-is at c.in-Ok-Run.ensures.asked)
     (λ fit none.
-        let input = said.ran.holds.0 in
-        complete_of (λ ended. Answers old input ended new said.ran.cut said.ran.text) (IsDamaged old) looking_calls old new said.ran.cut said.ran.text given _ _ _ _ _ _ _
-        fit.1 fit.3.0 fit.3.1 (λ page is. no_damage old fit.3.0 page fit.3.1 fit.3.2 is) none c.run_lines.result.0 said.no_usage said.counts (said.input fit.0) (said.ran.holds.2 fit.2))
+    let input = said.ran.holds.0 in
+    complete_of (λ ended. Answers old input ended new said.ran.cut said.ran.text) (IsDamaged old) looking_calls old new said.ran.cut said.ran.text given _ _ _ _ _ _ _
+    fit.1 fit.3.0 fit.3.1 (λ page is. no_damage old fit.3.0 page fit.3.1 fit.3.2 is) none c.run_lines.result.0 said.no_usage said.counts (said.input fit.0) (said.ran.holds.2 fit.2))
 
 pub returns-in-Ok-Eaw-clause-complete : goal.returns-in-Ok-Eaw-clause-complete
 returns-in-Ok-Eaw-clause-complete g c =
@@ -43,9 +42,9 @@ returns-in-Ok-Eaw-clause-complete g c =
     let said = c.run_commands.ensures in
     words_say (map string_bytes c.args.words.now) c.run_commands.result.0 (Unit {0}) _ Eaw said.no_usage (rw c.in-Ok-Eaw.field-0-is at c.in-Ok-Eaw.ensures.asked)
     (λ fit none.
-        let input = said.ran.holds.0 in
-        complete_of (λ ended. Obeys old input ended new said.ran.cut said.ran.text) (λ page. ⊥) (λ shape. 0) old new said.ran.cut said.ran.text given _ _ _ _ _ _ _
-        fit.1 fit.3.shape fit.3.array (λ page is. is) none c.run_commands.result.0 said.no_usage said.counts (said.input fit.0) (said.ran.holds.2 fit.2))
+    let input = said.ran.holds.0 in
+    complete_of (λ ended. Obeys old input ended new said.ran.cut said.ran.text) (λ page. ⊥) (λ shape. 0) old new said.ran.cut said.ran.text given _ _ _ _ _ _ _
+    fit.1 fit.3.shape fit.3.array (λ page is. is) none c.run_commands.result.0 said.no_usage said.counts (said.input fit.0) (said.ran.holds.2 fit.2))
 
 pub returns-in-Ok-Format-clause-ran : goal.returns-in-Ok-Format-clause-ran
 returns-in-Ok-Format-clause-ran g c =

@@ -1,7 +1,6 @@
 use Rattle.std.proofs.Common.{◌≡◌, ◌++◌, ℕ, Ok, Err, ap, subst, ◌∙◌}
 use Rattle.script_text.specs.Line.{Says}
 use Rattle.script_text.specs.Replies.{reply_line, bad_line}
-use Rattle.script_text.specs.declared.line.Line.{Line}
 use Rattle.script_text.specs.declared.line.Line.TheVariants.{Nothing, Told, Bad}
 use Rattle.script_run.specs.declared.responder.Stop.TheVariants.{Media, NoMemory}
 use Rattle.mars_shell.specs.Kept.{slots_of, work_in}
