@@ -86,6 +86,5 @@ pub record KeepsSense (shape : Shape) (content : Content) (image : List ℕ) : T
 
 -- what the media answered
 abbrev pub media_answer : {T : Type 0} → Result T RecoverFault → Result (Unit {0}) Failed
-media_answer (Ok x) = Ok tt
-media_answer (Err (BadRow logger tid)) = Ok tt
 media_answer (Err Media) = Err record {}
+media_answer _ = Ok tt

@@ -17,8 +17,8 @@ module _ (shape : Shape) (at n : ℕ) (old new : Content) (touched : Touched ((a
   pub page_spares : (p : ℕ) → p < page_count shape → at ≡ place_of shape (512 * p) → n ≡ 512 → SameCells shape old.bytes new.bytes
   page_spares p lt is size g t e lt' below below' = cell_away shape ((at, n) ∷ []) old.bytes new.bytes g t e touched.bytes (λ i from to. (
     (λ le past.
-    let along = place_along shape (512 * p) (i - at) (omega arith) in
-    cell_no_data shape g t e (512 * p + (i - at)) i below below' (omega arith) from to (omega (arith, along, is))),
+        let along = place_along shape (512 * p) (i - at) (omega arith) in
+        cell_no_data shape g t e (512 * p + (i - at)) i below below' (omega arith) from to (omega (arith, along, is))),
     tt,
   ))
 

@@ -23,28 +23,20 @@ recovery_fault recovery.Media = Media
 
 -- the header is wrong, or the media failed
 abbrev pub IsOfHeader : AttachFault → Type 0
-IsOfHeader NotMars = ⊤
-IsOfHeader (BadShape bad) = ⊤
 IsOfHeader (BadRow logger tid) = ⊥
-IsOfHeader Media = ⊤
 IsOfHeader NoMemory = ⊥
+IsOfHeader _ = ⊤
 
 -- a row is bad, or the media failed
 abbrev pub IsOfRecovery : AttachFault → Type 0
-IsOfRecovery NotMars = ⊥
-IsOfRecovery (BadShape bad) = ⊥
 IsOfRecovery (BadRow logger tid) = ⊤
 IsOfRecovery Media = ⊤
-IsOfRecovery NoMemory = ⊥
+IsOfRecovery _ = ⊥
 
 -- what the media answered
 abbrev pub media_answer : {T : Type 0} → Result T AttachFault → Result (Unit {0}) Failed
-media_answer (Ok x) = Ok tt
-media_answer (Err NotMars) = Ok tt
-media_answer (Err (BadShape bad)) = Ok tt
-media_answer (Err (BadRow logger tid)) = Ok tt
 media_answer (Err Media) = Err record {}
-media_answer (Err NoMemory) = Ok tt
+media_answer _ = Ok tt
 
 -- each image that may be left has the header of this shape
 abbrev pub AllSay : Shape → Content → Type 0

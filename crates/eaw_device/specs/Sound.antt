@@ -10,7 +10,7 @@ use Rattle.array_image.specs.Image.{data_of}
 use Rattle.array_image.specs.Standing.{IsClean}
 use Rattle.eaw_face.specs.StoreView.{StoreView, IsLive}
 use Rattle.eaw_face.specs.declared.fault.EawFault.{EawFault}
-use Rattle.eaw_face.specs.declared.fault.EawFault.TheVariants.{UnknownTid, LogFull, Media, Dead}
+use Rattle.eaw_face.specs.declared.fault.EawFault.TheVariants.{UnknownTid, Dead}
 use Rattle.eaw_device.specs.declared.log.Log.{Log}
 use Rattle.eaw_device.specs.Opens.{header_of}
 use Rattle.eaw_device.specs.Logs.{ranges_in, parts_in, IsKept, IsHeld, entries_at}
@@ -49,6 +49,5 @@ view_of media shape logs is_dead = record {
 -- why a number has no log to work on
 abbrev pub LacksLog : StoreView → ℕ → EawFault → Type 0
 LacksLog store t (UnknownTid u) = (store.is_dead ≡ false) × (u ≡ t) × (IsLive store t → ⊥)
-LacksLog store t (LogFull g h n) = ⊥
-LacksLog store t Media = ⊥
 LacksLog store t Dead = store.is_dead ≡ true
+LacksLog store t _ = ⊥

@@ -25,10 +25,8 @@ pub record LacksCells (shape : Shape) (held : List ℕ) (addr len g h n : ℕ) :
 
 -- that is what the refusal of a write says
 abbrev pub SaysFull : Shape → List ℕ → ℕ → ℕ → EawFault → Type 0
-SaysFull shape held addr len (UnknownTid t) = ⊥
 SaysFull shape held addr len (LogFull g h n) = LacksCells shape held addr len g h n
-SaysFull shape held addr len Media = ⊥
-SaysFull shape held addr len Dead = ⊥
+SaysFull shape held addr len _ = ⊥
 
 -- so has the log of number t, of all loggers
 abbrev pub LogHasCells : Shape → List Log → ℕ → ℕ → ℕ → Type 0

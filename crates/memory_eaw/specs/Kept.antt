@@ -41,11 +41,6 @@ called kept = record kept { moment = kept.moment + 1 }
 abbrev pub changed : List ℕ → Kept → Kept
 changed bytes kept = record kept { moment = kept.moment + 1; past = kept.past ++ record { until = kept.moment + 1; bytes = bytes } ∷ []; room = kept.room - 1 }
 
--- the data was this at some time after that moment, before it was changed
-abbrev pub WasBefore : List Version → ℕ → List ℕ → Type 0
-WasBefore [] t image = ⊥
-WasBefore (v ∷ vs) t image = ((t < v.until) × (image ≡ v.bytes)) ⊎ WasBefore vs t image
-
 -- the versions whose moments, and whose bytes one behind another, are these
 abbrev pub versions : ℕ → List ℕ → List ℕ → List Version
 versions size [] past = []

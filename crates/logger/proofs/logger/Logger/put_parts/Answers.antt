@@ -14,8 +14,8 @@ loop-part-init g c =
     let old = g.M.Media.view c.args.media.now in
     record {
       stands = subst (λ left. StandsAt c.args.self.shape c.args.self.number c.args.tid c.args.held c.args.addr c.args.bytes.now g.M.Media.tells old old c.args.held left)
-    (sym (c.into_iter-part-iterator.ensures.into_iter_gives ∙ c.parts-part-items.ensures.parts))
-    (stands_first c.args.self.shape c.args.self.number c.args.tid c.args.held c.args.addr c.args.bytes.now g.M.Media.tells old c.requires.range);
+          (sym (c.into_iter-part-iterator.ensures.into_iter_gives ∙ c.parts-part-items.ensures.parts))
+          (stands_first c.args.self.shape c.args.self.number c.args.tid c.args.held c.args.addr c.args.bytes.now g.M.Media.tells old c.requires.range);
       costs = omega arith;
     }
 
