@@ -1,5 +1,5 @@
 -- What usual words ask for.
-use Rattle.std.proofs.Common.{◌≡◌, ◌<◌, ◌≤◌, ◌^◌, ℕ, zero, suc, false, List, [], ◌∷◌, Option, Some, None, codes, refl, sym, ap, subst, ◌∙◌, arith, get_or, nat_lt, if◌then◌else◌}
+use Rattle.std.proofs.Common.{◌≡◌, ◌<◌, ◌≤◌, ◌^◌, ℕ, zero, suc, false, List, [], ◌∷◌, Option, Some, None, codes, refl, sym, ap, subst, ◌∙◌, arith, drop, get_or, nat_lt, if◌then◌else◌}
 use Rattle.std.specs.Prelude.{fold, slice_get, unwrap_or}
 use Rattle.std.specs.Str.{bytes_eq}
 use Rattle.std.specs.Fmt.{decimal}
@@ -8,12 +8,12 @@ use Rattle.std.proofs.lemmas.Bool.{ne_eqb}
 use Rattle.std.proofs.lemmas.Fmt.{first_decimal, decimal_digit}
 use Rattle.clap.specs.Words.{Text, Rule, Shape, fault_of, subcommand_of, first_of, built}
 use Rattle.clap.specs.Lexer.{long_of, short_of}
-use Rattle.clap.specs.Walk.{Held, Names, Walk, Step, option, idle, next, trailing, arg_by_id, pushed, pending_count, most_values, walked, walk, walk_from, nothing_held, settled, finished, after_step, long_or_other, short_or_plain, option_word, word_met}
+use Rattle.clap.specs.Walk.{Row, Held, Names, Walk, Step, option, idle, next, trailing, arg_by_id, pushed, pending_count, most_values, walked, walk, walk_from, nothing_held, settled, finished, after_step, long_or_other, short_or_plain, option_word, word_met}
 use Rattle.clap.specs.Faults.{turn_fault, walk_fault, step_fault, flag_word_fault, bundle_fault, level_fault, settle_fault, defaults_fault, check_fault}
 use Rattle.clap.specs.Kinds.{Kinds, or_else}
 use Rattle.clap.specs.declared.error.ErrorKind.{ErrorKind}
 use Rattle.clap.specs.declared.error.ErrorKind.TheVariants as kind
-use Rattle.command_words.specs.Usual.{format_words, AreSmall}
+use Rattle.command_words.specs.Usual.{format_words, joined_words, AreSmall}
 use Rattle.command_words.specs.declared.words.FormatNumbers.{FormatNumbers}
 use Rattle.clap.proofs.OnLiterals.{clap_on_literals}
 use Rattle.array_shape.specs.declared.shape.Shape.{Shape as ArrayShape}
@@ -239,6 +239,45 @@ format_asks numbers small =
       name = codes "format";
       options = _;
       met = met (decimal numbers.loggers) (decimal numbers.numbers) (decimal numbers.entries) (decimal numbers.pages) plain_l plain_n plain_e plain_p;
+      says = (
+        refl,
+        record {
+          default = default_array;
+          is_default = record { loggers_are = refl; numbers_are = refl; entries_are = refl; pages_are = refl };
+          loggers = given _ _ _ found.0 small.small_loggers;
+          numbers = given _ _ _ found.1 small.small_numbers;
+          entries = given _ _ _ found.2 small.small_entries;
+          pages = given _ _ _ found.3 small.small_pages;
+        },
+      );
+    }
+
+module _ (numbers : FormatNumbers) where
+  joined_taken : fault_of command_line (joined_words numbers) ≡ []
+  unfolding clap_on_literals
+  joined_taken = refl
+
+  abbrev joined_options : List Row
+  joined_options = finished format_built.rules (walk format_built.rules [] nothing_held (drop 1 (joined_words numbers))).held
+
+  joined_met : subcommand_of command_line (joined_words numbers) ≡ Some (codes "format", joined_options)
+  unfolding clap_on_literals
+  joined_met = refl
+
+  joined_values : (first_of (codes "loggers") joined_options ≡ Some (decimal numbers.loggers)) × (first_of (codes "numbers") joined_options ≡ Some (decimal numbers.numbers))
+      × (first_of (codes "entries") joined_options ≡ Some (decimal numbers.entries)) × (first_of (codes "pages") joined_options ≡ Some (decimal numbers.pages))
+  unfolding clap_on_literals
+  joined_values = (refl, refl, refl, refl)
+
+pub joined_asks : (numbers : FormatNumbers) → AreSmall numbers → AsksFor (joined_words numbers) (Format numbers)
+unfolding default_array
+joined_asks numbers small =
+    let found = joined_values numbers in
+    record {
+      taken = joined_taken numbers;
+      name = codes "format";
+      options = joined_options numbers;
+      met = joined_met numbers;
       says = (
         refl,
         record {

@@ -4,7 +4,7 @@ ghost use Rattle.clap.specs.Words.{Text};
 ghost use Rattle.command_words.specs.declared.words.Words.{Words};
 ghost use Rattle.command_words.specs.declared.words.FormatNumbers.{FormatNumbers};
 ghost use Rattle.command_words.specs.Asked.{AsksFor, AskForNothing};
-ghost use Rattle.command_words.specs.Usual.{format_words, AreSmall};
+ghost use Rattle.command_words.specs.Usual.{format_words, joined_words, AreSmall};
 
 /// Words ask for one thing at most.
 pub fn one_command()
@@ -16,6 +16,7 @@ pub fn usual_words()
     ensures run { AsksFor (codes "run" ∷ []) Words.Run }
     ensures eaw { AsksFor (codes "eaw" ∷ []) Words.Eaw }
     ensures format { (numbers : FormatNumbers) → AreSmall numbers → AsksFor (format_words numbers) (Words.Format numbers) }
+    ensures joined { (numbers : FormatNumbers) → AreSmall numbers → AsksFor (joined_words numbers) (Words.Format numbers) }
     ensures no_word { AskForNothing [] }
     ensures help { AskForNothing (codes "help" ∷ []) }
     ensures help_option { AskForNothing (codes "--help" ∷ []) }
