@@ -1,3 +1,4 @@
 mod NumberLemmas
 pub mod OneAsked
 mod AskedLemmas
+mod UsualWords

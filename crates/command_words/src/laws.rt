@@ -1,10 +1,24 @@
 // Laws of the words.
-ghost use Rattle.std.specs.Prelude.{◌≡◌, List};
+ghost use Rattle.std.specs.Prelude.{◌≡◌, List, [], ◌∷◌, codes};
 ghost use Rattle.clap.specs.Words.{Text};
 ghost use Rattle.command_words.specs.declared.words.Words.{Words};
-ghost use Rattle.command_words.specs.Asked.{AsksFor};
+ghost use Rattle.command_words.specs.declared.words.FormatNumbers.{FormatNumbers};
+ghost use Rattle.command_words.specs.Asked.{AsksFor, AskForNothing};
+ghost use Rattle.command_words.specs.Usual.{format_words, joined_words, AreSmall};
 
 /// Words ask for one thing at most.
 pub fn one_command()
     ensures { (words : List Text) (asked other : Words) → AsksFor words asked → AsksFor words other → asked ≡ other }
+{}
+
+/// What is asked for by usual words, and by none.
+pub fn usual_words()
+    ensures run { AsksFor (codes "run" ∷ []) Words.Run }
+    ensures eaw { AsksFor (codes "eaw" ∷ []) Words.Eaw }
+    ensures format { (numbers : FormatNumbers) → AreSmall numbers → AsksFor (format_words numbers) (Words.Format numbers) }
+    ensures joined { (numbers : FormatNumbers) → AreSmall numbers → AsksFor (joined_words numbers) (Words.Format numbers) }
+    ensures no_word { AskForNothing [] }
+    ensures help { AskForNothing (codes "help" ∷ []) }
+    ensures help_option { AskForNothing (codes "--help" ∷ []) }
+    ensures version_option { AskForNothing (codes "--version" ∷ []) }
 {}

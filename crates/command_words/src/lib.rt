@@ -6,5 +6,5 @@ mod laws;
 mod number;
 mod words;
 
-pub use laws::one_command;
+pub use laws::{one_command, usual_words};
 pub use words::{FormatNumbers, Words, WordsFault, read_words};

@@ -1,8 +1,7 @@
-// The image `-`.
-ghost use Rattle.std.specs.Prelude.{◌≡◌, IfOk};
+// Images in memory.
+ghost use Rattle.std.specs.Prelude.{◌≡◌, [], IfOk};
 ghost use Rattle.array_shape.specs.declared.shape.Shape.{Shape};
-ghost use Rattle.array_shape.specs.Places.{HasNumbers};
-ghost use Rattle.pcm_media.specs.Memory.{content_of};
+ghost use Rattle.pcm_media.specs.Memory.{content_of, fresh_memory};
 ghost use Rattle.eaw_device.specs.Fresh.{IsFresh};
 
 use array_shape::Shape;
@@ -16,9 +15,9 @@ const CALLS: u64 = 1024;
 
 const WRITTEN: u64 = 262_144;
 
-/// A fresh array in memory.
+/// A fresh array of the default numbers in memory.
 pub fn fresh_image(alloc: Global) -> Result<MemoryMedia, NoMemory>
-    ensures fresh { IfOk result (λ media. (shape : Shape) × HasNumbers 4 8 16 64 shape × IsFresh shape (content_of media)) }
+    ensures fresh { IfOk result (λ media. (shape : Shape) × ⟦<Shape as Default>⟧.is_default shape × IsFresh shape (content_of media)) }
 {
     let shape = Shape::default();
     let zeros = vec![in alloc; 0; shape.media_len() as usize]?;
@@ -28,4 +27,11 @@ pub fn fresh_image(alloc: Global) -> Result<MemoryMedia, NoMemory>
         // A media in memory with no call listed fails only where memory for its record does.
         Err(_) => Err(NoMemory),
     }
+}
+
+/// An image of no bytes, which stands for a file that is not there.
+pub fn no_image(alloc: Global) -> Result<MemoryMedia, NoMemory>
+    ensures { IfOk result (λ media. media ≡ fresh_memory [] 0 0) }
+{
+    MemoryMedia::new(alloc, &[], 0, 0)
 }

@@ -1,64 +1,63 @@
 //! The program: it makes the real source, sink and image, and hands them to the whole run.
 #![tactic(auto)]
 
+mod choice;
+mod ending;
 mod image;
-mod room;
 
-use crate::image::fresh_image;
-use crate::room::room;
-use mars_shell::{OpenGate, Status, fault_text, run};
+use crate::choice::{Image, choose};
+use crate::ending::tell;
+use crate::image::{fresh_image, no_image};
+use counted::NoMemory;
+use mars_shell::{OpenGate, Status, run};
 use media_file::FileMedia;
 use outside::{StdSink, StdSource};
-use pcm_media::Media;
+use pcm_media::{Media, MemoryMedia};
 use std::io::ErrorKind;
 use std::process::ExitCode;
 use std::{env, io};
 
 fn main(rt: HostRuntime) -> ExitCode {
     let status = whole(&rt);
-    let mut buf = [0; 64];
-    let len = fault_text(&status, &mut buf);
-    if len > 0 {
-        if let Ok(text) = str::from_utf8(&buf[..len]) {
-            let _ = eprintln!(rt; "mars: {text}");
-        }
-    }
-    ExitCode::from(status.number())
+    let mut errors = StdSink::new(rt.stderr());
+    ExitCode::from(tell(&status, &mut errors))
 }
 
-// The program's own name, the image, and the words of the run.
+// The words are looked at before an image is.
 fn whole(rt: &HostRuntime) -> Status {
     let args = match env::args(rt) {
         Ok(args) => args,
         Err(error) if error.kind() == ErrorKind::OutOfMemory => return Status::NoMemory,
         Err(_) => return Status::Usage,
     };
-    let Ok(args) = args.collect::<Vec<String>>(rt.alloc()) else {
+    let Ok(line) = args.collect::<Vec<String>>(rt.alloc()) else {
         return Status::NoMemory;
     };
-    match args.as_slice() {
-        [_, image, words @ ..] if image.as_str() == "-" => run_in_memory(rt, words),
-        [_, path, words @ ..] => run_on_file(rt, path, words),
-        _ => Status::Usage,
+    match choose(rt.alloc(), &line) {
+        Ok((Image::Memory, words)) => run_in_memory(rt, words, fresh_image(rt.alloc())),
+        Ok((Image::File { path, least }, words)) => run_on_file(rt, words, path, least),
+        Err(status) => status,
     }
 }
 
-// A run over a fresh image that nobody keeps.
-fn run_in_memory(rt: &HostRuntime, words: &[String]) -> Status {
-    match fresh_image(rt.alloc()) {
+// A run over a file. One that is not there, and is not to be made, is an image of no bytes.
+fn run_on_file(rt: &HostRuntime, words: &[String], path: &str, least: u64) -> Status {
+    match FileMedia::attach(rt, path, least) {
+        Ok(Some(media)) => run_over(rt, words, media),
+        Ok(None) => run_in_memory(rt, words, no_image(rt.alloc())),
+        Err(_) => Status::MediaFault,
+    }
+}
+
+// A run over an image that nobody keeps.
+fn run_in_memory(
+    rt: &HostRuntime,
+    words: &[String],
+    image: Result<MemoryMedia, NoMemory>,
+) -> Status {
+    match image {
         Ok(media) => run_over(rt, words, media),
         Err(_) => Status::NoMemory,
-    }
-}
-
-// A run over a file. Words of no command make none.
-fn run_on_file(rt: &HostRuntime, path: &str, words: &[String]) -> Status {
-    let Some(least) = room(words) else {
-        return Status::Usage;
-    };
-    match FileMedia::attach(rt, path, least) {
-        Ok(media) => run_over(rt, words, media),
-        Err(_) => Status::MediaFault,
     }
 }
 

@@ -1,0 +1,292 @@
+-- What usual words ask for.
+use Rattle.std.proofs.Common.{◌≡◌, ◌<◌, ◌≤◌, ◌^◌, ℕ, zero, suc, false, List, [], ◌∷◌, Option, Some, None, codes, refl, sym, ap, subst, ◌∙◌, arith, drop, get_or, nat_lt, if◌then◌else◌}
+use Rattle.std.specs.Prelude.{fold, slice_get, unwrap_or}
+use Rattle.std.specs.Str.{bytes_eq}
+use Rattle.std.specs.Fmt.{decimal}
+use Rattle.std.specs.Option.{option_map_or}
+use Rattle.std.proofs.lemmas.Bool.{ne_eqb}
+use Rattle.std.proofs.lemmas.Fmt.{first_decimal, decimal_digit}
+use Rattle.clap.specs.Words.{Text, Rule, Shape, fault_of, subcommand_of, first_of, built}
+use Rattle.clap.specs.Lexer.{long_of, short_of}
+use Rattle.clap.specs.Walk.{Row, Held, Names, Walk, Step, option, idle, next, trailing, arg_by_id, pushed, pending_count, most_values, walked, walk, walk_from, nothing_held, settled, finished, after_step, long_or_other, short_or_plain, option_word, word_met}
+use Rattle.clap.specs.Faults.{turn_fault, walk_fault, step_fault, flag_word_fault, bundle_fault, level_fault, settle_fault, defaults_fault, check_fault}
+use Rattle.clap.specs.Kinds.{Kinds, or_else}
+use Rattle.clap.specs.declared.error.ErrorKind.{ErrorKind}
+use Rattle.clap.specs.declared.error.ErrorKind.TheVariants as kind
+use Rattle.command_words.specs.Usual.{format_words, joined_words, AreSmall}
+use Rattle.command_words.specs.declared.words.FormatNumbers.{FormatNumbers}
+use Rattle.clap.proofs.OnLiterals.{clap_on_literals}
+use Rattle.array_shape.specs.declared.shape.Shape.{Shape as ArrayShape}
+use Rattle.command_words.specs.CommandLine.{command_line, format_shape, option_of}
+use Rattle.command_words.specs.Asked.{AsksFor, AskForNothing, IsNumber}
+use Rattle.command_words.specs.declared.words.Words.TheVariants.{Run, Eaw, Format}
+
+-- no flag
+record IsPlain (word : Text) : Type 0 where
+  other : bytes_eq word (45 ∷ 45 ∷ []) ≡ false
+  long : long_of word ≡ None
+  short : short_of word ≡ None
+
+plain_of : (word : Text) → 48 ≤ get_or word 0 0 → IsPlain word
+plain_of [] first = absurd (omega (arith, first))
+plain_of (d ∷ ds) first =
+    let differ = ne_eqb d 45 (λ same. omega (arith, first, same)) in
+    record { other = rw differ refl; long = rw differ refl; short = rw differ refl }
+
+plain_decimal : (n : ℕ) → n < 2 ^ 16 → IsPlain (decimal n)
+plain_decimal zero small = subst IsPlain (sym (decimal_digit 0 (omega arith))) (plain_of (48 ∷ []) (omega arith))
+plain_decimal (suc n) small = plain_of (decimal (suc n)) (omega (arith, first_decimal (suc n) (omega arith) (omega (arith, small))))
+
+-- an option waits for its value
+abbrev waits : Held → ℕ → Text → Walk
+waits held position id = record { held = held; waiting = option id; position = position; is_trailing = false; stopped = None }
+
+-- it has it
+abbrev after_value : Held → ℕ → Text → Rule → Text → Walk
+after_value held position id a word = record (waits held position id) {
+  held = pushed id word held;
+  waiting = if nat_lt (pending_count a (pushed id word held).pending) (most_values a) then option id else idle;
+}
+
+module _ (c : List Rule) (names : Names) (held : Held) (position : ℕ) (id : Text) (a : Rule) (word : Text) (is : arg_by_id c id ≡ Some a) (plain : IsPlain word) where
+  met_is : word_met c names false (option id) position word held ≡ ((option_word (Some a) id word held).0, next (option_word (Some a) id word held).1)
+  met_is =
+      ap (λ b. if b then (held, trailing position) else long_or_other c (option id) word (long_of word) held) plain.other
+      ∙ ap (λ l. long_or_other c (option id) word l held) plain.long
+      ∙ ap (λ s. short_or_plain c (option id) word s held) plain.short
+      ∙ ap (λ o. ((option_word o id word held).0, next (option_word o id word held).1)) is
+
+  value_walked : walked c names (waits held position id) word ≡ after_value held position id a word
+  unfolding walked
+  value_walked = ap (λ (m : Held × Step). after_step c word (waits held position id) m.0 m.1) met_is
+
+module _ (s : Shape) (names : Names) (held : Held) (position : ℕ) (id : Text) (a : Rule) (word : Text) (is : arg_by_id s.rules id ≡ Some a) (plain : IsPlain word) where
+  turn_passes : turn_fault s names (waits held position id) word ≡ []
+  turn_passes =
+      let met = word_met s.rules names false (option id) position word held in
+      ap (λ b. or_else (if b then [] else flag_word_fault s.rules s.args_override_self (long_of word) word held) (step_fault s position met.0 met.1)) plain.other
+      ∙ ap (λ l. or_else (flag_word_fault s.rules s.args_override_self l word held) (step_fault s position met.0 met.1)) plain.long
+      ∙ ap (λ f. or_else (option_map_or (λ flags. bundle_fault s.rules s.args_override_self flags held) f []) (step_fault s position met.0 met.1)) plain.short
+      ∙ ap (λ (m : Held × Step). step_fault s position m.0 m.1) (met_is s.rules names held position id a word is plain)
+
+  value_passes : (rest : List Text) → walk_fault s names (waits held position id) (word ∷ rest) ≡ walk_fault s names (after_value held position id a word) rest
+  unfolding walk_fault
+  value_passes rest = ap (λ k. or_else k (walk_fault s names (walked s.rules names (waits held position id) word) rest)) turn_passes
+      ∙ ap (λ w. walk_fault s names w rest) (value_walked s.rules names held position id a word is plain)
+
+run_taken : fault_of command_line (codes "run" ∷ []) ≡ []
+unfolding clap_on_literals
+run_taken = refl
+
+run_met : subcommand_of command_line (codes "run" ∷ []) ≡ Some (codes "run", [])
+unfolding clap_on_literals
+run_met = refl
+
+pub run_asks : AsksFor (codes "run" ∷ []) Run
+run_asks = record { taken = run_taken; name = codes "run"; options = []; met = run_met; says = refl }
+
+eaw_taken : fault_of command_line (codes "eaw" ∷ []) ≡ []
+unfolding clap_on_literals
+eaw_taken = refl
+
+eaw_met : subcommand_of command_line (codes "eaw" ∷ []) ≡ Some (codes "eaw", [])
+unfolding clap_on_literals
+eaw_met = refl
+
+pub eaw_asks : AsksFor (codes "eaw" ∷ []) Eaw
+eaw_asks = record { taken = eaw_taken; name = codes "eaw"; options = []; met = eaw_met; says = refl }
+
+-- there is a fault
+some_fault : {kind : ErrorKind} {kinds : Kinds} → kind ∷ kinds ≡ [] → ⊥
+some_fault is = cc is
+
+none_refused : fault_of command_line [] ≡ kind.MissingSubcommand ∷ []
+unfolding clap_on_literals
+none_refused = refl
+
+pub none_asks : AskForNothing []
+none_asks asked asks = some_fault (sym none_refused ∙ asks.taken)
+
+help_refused : fault_of command_line (codes "help" ∷ []) ≡ kind.UnknownArgument ∷ kind.InvalidSubcommand ∷ []
+unfolding clap_on_literals
+help_refused = refl
+
+pub help_asks : AskForNothing (codes "help" ∷ [])
+help_asks asked asks = some_fault (sym help_refused ∙ asks.taken)
+
+help_option_refused : fault_of command_line (codes "--help" ∷ []) ≡ kind.UnknownArgument ∷ []
+unfolding clap_on_literals
+help_option_refused = refl
+
+pub help_option_asks : AskForNothing (codes "--help" ∷ [])
+help_option_asks asked asks = some_fault (sym help_option_refused ∙ asks.taken)
+
+version_option_refused : fault_of command_line (codes "--version" ∷ []) ≡ kind.UnknownArgument ∷ []
+unfolding clap_on_literals
+version_option_refused = refl
+
+pub version_option_asks : AskForNothing (codes "--version" ∷ [])
+version_option_asks asked asks = some_fault (sym version_option_refused ∙ asks.taken)
+
+-- `format` as it is built, and its options
+abbrev format_built : Shape
+format_built = unwrap_or (slice_get (built command_line).subs 2) format_shape
+
+abbrev rule_of : Text → Rule
+rule_of id = unwrap_or (arg_by_id format_built.rules id) (option_of id)
+
+abbrev step : Walk → Text → Walk
+step = walked format_built.rules []
+
+module _ (l n e p : Text) (plain_l : IsPlain l) (plain_n : IsPlain n) (plain_e : IsPlain e) (plain_p : IsPlain p) where
+  abbrev with_l : Walk
+  with_l = after_value (step (walk_from nothing_held) (codes "--loggers")).held 1 (codes "loggers") (rule_of (codes "loggers")) l
+
+  abbrev with_n : Walk
+  with_n = after_value (step with_l (codes "--numbers")).held 1 (codes "numbers") (rule_of (codes "numbers")) n
+
+  abbrev with_e : Walk
+  with_e = after_value (step with_n (codes "--entries")).held 1 (codes "entries") (rule_of (codes "entries")) e
+
+  abbrev with_p : Walk
+  with_p = after_value (step with_e (codes "--pages")).held 1 (codes "pages") (rule_of (codes "pages")) p
+
+  abbrev last : List Text
+  last = codes "--pages" ∷ p ∷ []
+
+  abbrev later : List Text
+  later = codes "--entries" ∷ e ∷ last
+
+  abbrev behind : List Text
+  behind = codes "--numbers" ∷ n ∷ later
+
+  walk_is : walk format_built.rules [] nothing_held (codes "--loggers" ∷ l ∷ behind) ≡ with_p
+  unfolding clap_on_literals
+  walk_is =
+      ap (λ w. fold step w behind) (value_walked format_built.rules [] (step (walk_from nothing_held) (codes "--loggers")).held 1 (codes "loggers") (rule_of (codes "loggers")) l refl plain_l)
+      ∙ ap (λ w. fold step w later) (value_walked format_built.rules [] (step with_l (codes "--numbers")).held 1 (codes "numbers") (rule_of (codes "numbers")) n refl plain_n)
+      ∙ ap (λ w. fold step w last) (value_walked format_built.rules [] (step with_n (codes "--entries")).held 1 (codes "entries") (rule_of (codes "entries")) e refl plain_e)
+      ∙ value_walked format_built.rules [] (step with_e (codes "--pages")).held 1 (codes "pages") (rule_of (codes "pages")) p refl plain_p
+
+  passes : walk_fault format_built [] (walk_from nothing_held) (codes "--loggers" ∷ l ∷ behind) ≡ []
+  unfolding clap_on_literals
+  passes =
+      value_passes format_built [] (step (walk_from nothing_held) (codes "--loggers")).held 1 (codes "loggers") (rule_of (codes "loggers")) l refl plain_l behind
+      ∙ value_passes format_built [] (step with_l (codes "--numbers")).held 1 (codes "numbers") (rule_of (codes "numbers")) n refl plain_n later
+      ∙ value_passes format_built [] (step with_n (codes "--entries")).held 1 (codes "entries") (rule_of (codes "entries")) e refl plain_e last
+      ∙ value_passes format_built [] (step with_e (codes "--pages")).held 1 (codes "pages") (rule_of (codes "pages")) p refl plain_p []
+
+  -- what stands behind the walk of the subcommand
+  abbrev behind_walk : Walk → Kinds
+  behind_walk w = or_else (settle_fault format_built.rules format_built.args_override_self w.held)
+      (or_else (defaults_fault (settled format_built.rules w.held).rows format_built.rules)
+      (check_fault format_built (finished format_built.rules w.held) false))
+
+  no_more : behind_walk with_p ≡ []
+  unfolding clap_on_literals
+  no_more = refl
+
+  inner_passes : level_fault format_built [] nothing_held (codes "--loggers" ∷ l ∷ behind) false [] ≡ []
+  inner_passes = ap (λ k. or_else k (behind_walk (walk format_built.rules [] nothing_held (codes "--loggers" ∷ l ∷ behind)))) passes ∙ ap behind_walk walk_is ∙ no_more
+
+  taken : fault_of command_line (codes "format" ∷ codes "--loggers" ∷ l ∷ behind) ≡ []
+  unfolding clap_on_literals
+  taken = ap (λ k. or_else k []) inner_passes
+
+  met : subcommand_of command_line (codes "format" ∷ codes "--loggers" ∷ l ∷ behind) ≡ Some (codes "format", finished format_built.rules with_p.held)
+  unfolding clap_on_literals
+  met = ap (λ (w : Walk). Some (codes "format", finished format_built.rules w.held)) walk_is
+
+  -- the values are those that were given
+  values : (first_of (codes "loggers") (finished format_built.rules with_p.held) ≡ Some l) × (first_of (codes "numbers") (finished format_built.rules with_p.held) ≡ Some n)
+      × (first_of (codes "entries") (finished format_built.rules with_p.held) ≡ Some e) × (first_of (codes "pages") (finished format_built.rules with_p.held) ≡ Some p)
+  unfolding clap_on_literals
+  values = (refl, refl, refl, refl)
+
+-- the default array
+default_array : ArrayShape
+default_array = record {
+  loggers = 4;
+  numbers = 8;
+  entries = 16;
+  pages = 64;
+  in_range = record {
+    some_loggers = omega arith;
+    most_loggers = omega arith;
+    some_numbers = omega arith;
+    most_numbers = omega arith;
+    some_entries = omega arith;
+    most_entries = omega arith;
+    some_pages = omega arith;
+    most_pages = omega arith;
+    even_pages = refl;
+  };
+}
+
+given : (default number : ℕ) (first : Option Text) → first ≡ Some (decimal number) → number < 2 ^ 16 → IsNumber default first number
+given default number first is small = rw is (small, refl)
+
+pub format_asks : (numbers : FormatNumbers) → AreSmall numbers → AsksFor (format_words numbers) (Format numbers)
+unfolding default_array
+format_asks numbers small =
+    let plain_l = plain_decimal numbers.loggers small.small_loggers in
+    let plain_n = plain_decimal numbers.numbers small.small_numbers in
+    let plain_e = plain_decimal numbers.entries small.small_entries in
+    let plain_p = plain_decimal numbers.pages small.small_pages in
+    let found = values (decimal numbers.loggers) (decimal numbers.numbers) (decimal numbers.entries) (decimal numbers.pages) plain_l plain_n plain_e plain_p in
+    record {
+      taken = taken (decimal numbers.loggers) (decimal numbers.numbers) (decimal numbers.entries) (decimal numbers.pages) plain_l plain_n plain_e plain_p;
+      name = codes "format";
+      options = _;
+      met = met (decimal numbers.loggers) (decimal numbers.numbers) (decimal numbers.entries) (decimal numbers.pages) plain_l plain_n plain_e plain_p;
+      says = (
+        refl,
+        record {
+          default = default_array;
+          is_default = record { loggers_are = refl; numbers_are = refl; entries_are = refl; pages_are = refl };
+          loggers = given _ _ _ found.0 small.small_loggers;
+          numbers = given _ _ _ found.1 small.small_numbers;
+          entries = given _ _ _ found.2 small.small_entries;
+          pages = given _ _ _ found.3 small.small_pages;
+        },
+      );
+    }
+
+module _ (numbers : FormatNumbers) where
+  joined_taken : fault_of command_line (joined_words numbers) ≡ []
+  unfolding clap_on_literals
+  joined_taken = refl
+
+  abbrev joined_options : List Row
+  joined_options = finished format_built.rules (walk format_built.rules [] nothing_held (drop 1 (joined_words numbers))).held
+
+  joined_met : subcommand_of command_line (joined_words numbers) ≡ Some (codes "format", joined_options)
+  unfolding clap_on_literals
+  joined_met = refl
+
+  joined_values : (first_of (codes "loggers") joined_options ≡ Some (decimal numbers.loggers)) × (first_of (codes "numbers") joined_options ≡ Some (decimal numbers.numbers))
+      × (first_of (codes "entries") joined_options ≡ Some (decimal numbers.entries)) × (first_of (codes "pages") joined_options ≡ Some (decimal numbers.pages))
+  unfolding clap_on_literals
+  joined_values = (refl, refl, refl, refl)
+
+pub joined_asks : (numbers : FormatNumbers) → AreSmall numbers → AsksFor (joined_words numbers) (Format numbers)
+unfolding default_array
+joined_asks numbers small =
+    let found = joined_values numbers in
+    record {
+      taken = joined_taken numbers;
+      name = codes "format";
+      options = joined_options numbers;
+      met = joined_met numbers;
+      says = (
+        refl,
+        record {
+          default = default_array;
+          is_default = record { loggers_are = refl; numbers_are = refl; entries_are = refl; pages_are = refl };
+          loggers = given _ _ _ found.0 small.small_loggers;
+          numbers = given _ _ _ found.1 small.small_numbers;
+          entries = given _ _ _ found.2 small.small_entries;
+          pages = given _ _ _ found.3 small.small_pages;
+        },
+      );
+    }

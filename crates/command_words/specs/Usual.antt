@@ -1,0 +1,22 @@
+-- A usual way to write what is asked for.
+use Rattle.std.specs.Prelude.{◌<◌, ◌^◌, [], ◌∷◌, ◌++◌, List, codes}
+use Rattle.std.specs.Fmt.{decimal}
+use Rattle.clap.specs.Words.{Text}
+use Rattle.command_words.specs.declared.words.FormatNumbers.{FormatNumbers}
+
+-- `format`, with each of its options as two words
+abbrev pub format_words : FormatNumbers → List Text
+format_words numbers = codes "format" ∷ codes "--loggers" ∷ decimal numbers.loggers ∷ codes "--numbers" ∷ decimal numbers.numbers
+    ∷ codes "--entries" ∷ decimal numbers.entries ∷ codes "--pages" ∷ decimal numbers.pages ∷ []
+
+-- the same with each option as one word, in another order
+abbrev pub joined_words : FormatNumbers → List Text
+joined_words numbers = codes "format" ∷ (codes "--pages=" ++ decimal numbers.pages) ∷ (codes "--numbers=" ++ decimal numbers.numbers)
+    ∷ (codes "--loggers=" ++ decimal numbers.loggers) ∷ (codes "--entries=" ++ decimal numbers.entries) ∷ []
+
+-- the numbers fit their type
+pub record AreSmall (numbers : FormatNumbers) : Type 0 where
+  pub small_loggers : numbers.loggers < 2 ^ 16
+  pub small_numbers : numbers.numbers < 2 ^ 16
+  pub small_entries : numbers.entries < 2 ^ 16
+  pub small_pages : numbers.pages < 2 ^ 16
