@@ -25,12 +25,13 @@
 //! | line | says |
 //! |---|---|
 //! | `< TEXT` | a line of what it answers |
-//! | `plain` | it answers as the plain store does, whatever that is |
+//! | `unsaid` | no answers are said. Those of raw commands are the plain store's in any case, where the status is 0 |
 //! | `status N TEXT` | the number that it ends with, and the text told of it; `status 0` where no line says it |
 //! | `or` | the answers and the status above are one way; another follows, and either will do |
 //! | `has AT HEX` | the image has these bytes from AT on |
 //! | `only` | all its other bytes are as they were before the run |
 //! | `unwritten` | no write was asked of the media, and all its bytes are as they were |
+//! | `stops` | of the media no call was made behind the one that failed |
 //! | `calls N` | so many calls were made of the media |
 //! | `call K TEXT` | the K-th of them is `barrier`, `read AT LEN` or `write AT LEN` |
 //! | `then HEX ..` | another run follows over what is left. It is made once for each of these choices: wherever nothing is sure after a loss of power stand these bytes, over and over; `-` is what a read gave. Without any, `-` |

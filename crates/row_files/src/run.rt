@@ -33,8 +33,8 @@ pub struct Trouble {
 #[derive(Drop)]
 pub struct Wanted {
     pub text: Vec<u8>,
-    /// The text is not said, and is what the plain store answers.
-    pub is_plain: bool,
+    /// No text is said.
+    pub is_unsaid: bool,
     /// The number, a space, and the text told of it; the number alone where nothing is told.
     pub status: String,
 }
@@ -53,6 +53,8 @@ pub struct Left {
     /// All other bytes are as before.
     pub is_only: bool,
     pub is_unwritten: bool,
+    /// The call that failed is the last.
+    pub is_stopped: bool,
     pub calls: Option<usize>,
     pub made: Vec<Made>,
 }
@@ -93,6 +95,7 @@ impl Run {
                 has: Vec::new(alloc),
                 is_only: false,
                 is_unwritten: false,
+                is_stopped: false,
                 calls: None,
                 made: Vec::new(alloc),
             },
@@ -111,8 +114,8 @@ impl Run {
             }
             "fail" | "power" => self.trouble = Trouble::read(word, rest)?,
             "or" => self.wanted.push(Wanted::new(alloc)?)?,
-            "plain" | "status" => self.take_wanted(alloc, word, rest)?,
-            "has" | "only" | "unwritten" | "calls" | "call" => self.left.take(alloc, word, rest)?,
+            "unsaid" | "status" => self.take_wanted(alloc, word, rest)?,
+            "has" | "only" | "unwritten" | "stops" | "calls" | "call" => self.left.take(alloc, word, rest)?,
             _ => self.take_text(alloc, word, rest)?,
         }
         Ok(())
@@ -137,8 +140,8 @@ impl Run {
         let Some(way) = self.wanted.last_mut() else {
             return Err(LineFault::Word);
         };
-        if word == "plain" {
-            way.is_plain = true;
+        if word == "unsaid" {
+            way.is_unsaid = true;
         } else {
             way.status = String::from_str(alloc, rest)?;
         }
@@ -152,6 +155,7 @@ impl Left {
             "has" => self.has.push(Placed::read(alloc, rest)?)?,
             "only" => self.is_only = true,
             "unwritten" => self.is_unwritten = true,
+            "stops" => self.is_stopped = true,
             "calls" => self.calls = Some(size(rest)?),
             _ => {
                 let (nth, call) = two_words(rest)?;
@@ -169,7 +173,7 @@ impl Wanted {
     fn new(alloc: Global) -> Result<Wanted, LineFault> {
         Ok(Wanted {
             text: Vec::new(alloc),
-            is_plain: false,
+            is_unsaid: false,
             status: String::from_str(alloc, "0")?,
         })
     }

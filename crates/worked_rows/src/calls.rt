@@ -19,6 +19,9 @@ pub fn compare_calls(alloc: Global, left: &Left, records: &[Record]) -> Result<(
             return Err(RowFault::words(alloc, "a call", made.call.as_str(), was.as_str()));
         }
     }
+    if left.is_stopped && records.iter().rev().skip(1).any(has_failed) {
+        return Err(RowFault::words(alloc, "a call behind the one that failed", "none", "one"));
+    }
     if left.is_unwritten && records.iter().any(is_write) {
         return Err(RowFault::words(alloc, "the media", "unwritten", "written"));
     }
@@ -30,6 +33,10 @@ fn is_write(record: &Record) -> bool {
         Call::Write { at: _, len: _ } => true,
         Call::Read { at: _, len: _ } | Call::Barrier => false,
     }
+}
+
+fn has_failed(record: &Record) -> bool {
+    !record.is_done
 }
 
 // The text of a call, counted from 1.

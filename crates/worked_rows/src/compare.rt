@@ -23,7 +23,7 @@ pub fn compare(alloc: Global, run: &Run, before: &[u8], ran: &Ran) -> Result<(),
 }
 
 fn is_way(way: &Wanted, ran: &Ran) -> bool {
-    let is_text = way.is_plain || way.text.as_slice() == ran.sink.written();
+    let is_text = way.is_unsaid || way.text.as_slice() == ran.sink.written();
     is_text && way.status.as_str() == ran.status.as_str()
 }
 
