@@ -1,4 +1,6 @@
 // The parts of a line.
+ghost use Rattle.std.specs.Prelude.{◌<◌, ◌≤◌, IfOk, vec_len};
+
 use crate::fault::LineFault;
 use std::alloc::Global;
 
@@ -19,13 +21,21 @@ pub fn size(text: &str) -> Result<usize, LineFault> {
     text.parse::<usize>().map_err(|_| LineFault::Number)
 }
 
-/// The first and the last of `A to B`.
-pub fn span(text: &str) -> Result<(u64, u64), LineFault> {
-    if let Some((first, last)) = text.split_once(" to ") {
-        return Ok((number(first)?, number(last)?));
+/// The first and the last of `A to B`, which are one number where no second stands.
+pub fn span(text: &str) -> Result<(u64, u64), LineFault>
+    ensures { IfOk result (λ span. span.0 ≤ span.1) }
+{
+    let (first, last) = match text.split_once(" to ") {
+        Some((first, last)) => (number(first)?, number(last)?),
+        None => {
+            let only = number(text)?;
+            (only, only)
+        }
+    };
+    if last < first {
+        return Err(LineFault::Number);
     }
-    let only = number(text)?;
-    Ok((only, only))
+    Ok((first, last))
 }
 
 pub fn words(alloc: Global, text: &str) -> Result<Vec<String>, LineFault> {
@@ -36,18 +46,26 @@ pub fn words(alloc: Global, text: &str) -> Result<Vec<String>, LineFault> {
     Ok(words)
 }
 
-/// `HEX` or `HEX*N`.
-pub fn bytes(alloc: Global, text: &str) -> Result<Vec<u8>, LineFault> {
+/// `HEX` or `HEX*N`, at least one byte.
+pub fn bytes(alloc: Global, text: &str) -> Result<Vec<u8>, LineFault>
+    ensures { IfOk result (λ bytes. 0 < vec_len bytes) }
+{
     let (digits, times) = match text.split_once('*') {
         Some((digits, times)) => (digits, size(times)?),
         None => (text, 1),
     };
     let once = hex::decode(alloc, digits).map_err(|_| LineFault::Hex)?;
-    Ok(once.repeat(alloc, times)?)
+    let bytes = once.repeat(alloc, times)?;
+    if bytes.is_empty() {
+        return Err(LineFault::Hex);
+    }
+    Ok(bytes)
 }
 
-/// Bytes for what is not sure, as `HEX` or as `-`, which is none.
-pub fn choices(alloc: Global, text: &str) -> Result<Vec<Vec<u8>>, LineFault> {
+/// Bytes for what is not sure, as `HEX` or as `-`, which is none. There is one choice at least.
+pub fn choices(alloc: Global, text: &str) -> Result<Vec<Vec<u8>>, LineFault>
+    ensures { IfOk result (λ choices. 0 < vec_len choices) }
+{
     let mut choices = Vec::new(alloc);
     for word in text.split_whitespace() {
         choices.push(choice(alloc, word)?)?;

@@ -55,12 +55,7 @@ fn take_line<'a>(
 }
 
 // A row of this name that begins with the lines of the head.
-fn row_behind(
-    alloc: Global,
-    head: &[Line],
-    name: &str,
-    number: usize,
-) -> Result<Row, LineFault> {
+fn row_behind(alloc: Global, head: &[Line], name: &str, number: usize) -> Result<Row, LineFault> {
     let mut row = Row::new(alloc, name, number)?;
     for line in head {
         row.take(alloc, line.text)?;

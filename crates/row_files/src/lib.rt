@@ -5,6 +5,7 @@
 //! | line | says |
 //! |---|---|
 //! | `row NAME` | a row begins. The lines above a file's first row stand at the head of each of its rows |
+//! | `wrong WHAT` | the row is wrong, and has to be refused for this; so it shows that the like is looked at |
 //! | `image fresh L T E P` | at first there is what `format` makes of these numbers; 4 8 16 64 where no line says it |
 //! | `image zeros N` | at first there are N zeros |
 //!
@@ -25,12 +26,13 @@
 //! | line | says |
 //! |---|---|
 //! | `< TEXT` | a line of what it answers |
+//! | `front` | at the K-th write that fails only the K - 1 answers before it |
 //! | `unsaid` | no answers are said. Those of raw commands are the plain store's in any case, where the status is 0 |
 //! | `status N TEXT` | the number that it ends with, and the text told of it; `status 0` where no line says it |
 //! | `or` | the answers and the status above are one way; another follows, and either will do |
 //! | `has AT HEX` | the image has these bytes from AT on |
 //! | `only` | all its other bytes are as they were before the run |
-//! | `unwritten` | no write was asked of the media, and all its bytes are as they were |
+//! | `unwritten` | no write was asked of the media |
 //! | `stops` | of the media no call was made behind the one that failed |
 //! | `calls N` | so many calls were made of the media |
 //! | `call K TEXT` | the K-th of them is `barrier`, `read AT LEN` or `write AT LEN` |

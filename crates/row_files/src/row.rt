@@ -13,7 +13,9 @@ pub enum Image {
         entries: u16,
         pages: u32,
     },
-    Zeros { len: usize },
+    Zeros {
+        len: usize,
+    },
 }
 
 /// A row: an image, and runs, each over what the one before it left.
@@ -22,6 +24,8 @@ pub struct Row {
     pub name: String,
     /// The line at which it begins.
     pub line: usize,
+    /// What the row is to be refused for, if it is wrong.
+    pub wrong: Option<String>,
     pub image: Image,
     pub runs: Vec<Run>,
 }
@@ -34,6 +38,7 @@ impl Row {
         Ok(Row {
             name: String::from_str(alloc, name)?,
             line,
+            wrong: None,
             image: Image::Fresh {
                 loggers: 4,
                 numbers: 8,
@@ -48,6 +53,7 @@ impl Row {
     pub fn take(&mut self, alloc: Global, line: &str) -> Result<(), LineFault> {
         let (word, rest) = word_and_rest(line);
         match word {
+            "wrong" => self.wrong = Some(String::from_str(alloc, rest)?),
             "image" => self.image = read_image(rest)?,
             "then" => self.runs.push(Run::new(alloc, choices(alloc, rest)?)?)?,
             _ => match self.runs.last_mut() {

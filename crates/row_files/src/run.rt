@@ -33,6 +33,8 @@ pub struct Trouble {
 #[derive(Drop)]
 pub struct Wanted {
     pub text: Vec<u8>,
+    /// Of the text only the lines before the write that fails.
+    pub is_front: bool,
     /// No text is said.
     pub is_unsaid: bool,
     /// The number, a space, and the text told of it; the number alone where nothing is told.
@@ -114,8 +116,10 @@ impl Run {
             }
             "fail" | "power" => self.trouble = Trouble::read(word, rest)?,
             "or" => self.wanted.push(Wanted::new(alloc)?)?,
-            "unsaid" | "status" => self.take_wanted(alloc, word, rest)?,
-            "has" | "only" | "unwritten" | "stops" | "calls" | "call" => self.left.take(alloc, word, rest)?,
+            "front" | "unsaid" | "status" => self.take_wanted(alloc, word, rest)?,
+            "has" | "only" | "unwritten" | "stops" | "calls" | "call" => self
+                .left
+                .take(alloc, word, rest)?,
             _ => self.take_text(alloc, word, rest)?,
         }
         Ok(())
@@ -140,10 +144,10 @@ impl Run {
         let Some(way) = self.wanted.last_mut() else {
             return Err(LineFault::Word);
         };
-        if word == "unsaid" {
-            way.is_unsaid = true;
-        } else {
-            way.status = String::from_str(alloc, rest)?;
+        match word {
+            "front" => way.is_front = true,
+            "unsaid" => way.is_unsaid = true,
+            _ => way.status = String::from_str(alloc, rest)?,
         }
         Ok(())
     }
@@ -173,6 +177,7 @@ impl Wanted {
     fn new(alloc: Global) -> Result<Wanted, LineFault> {
         Ok(Wanted {
             text: Vec::new(alloc),
+            is_front: false,
             is_unsaid: false,
             status: String::from_str(alloc, "0")?,
         })

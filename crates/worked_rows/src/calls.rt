@@ -20,10 +20,10 @@ pub fn compare_calls(alloc: Global, left: &Left, records: &[Record]) -> Result<(
         }
     }
     if left.is_stopped && records.iter().rev().skip(1).any(has_failed) {
-        return Err(RowFault::words(alloc, "a call behind the one that failed", "none", "one"));
+        return Err(RowFault::words(alloc, "calls behind one that failed", "none", "some"));
     }
     if left.is_unwritten && records.iter().any(is_write) {
-        return Err(RowFault::words(alloc, "the media", "unwritten", "written"));
+        return Err(RowFault::words(alloc, "writes", "none", "some"));
     }
     Ok(())
 }

@@ -5,9 +5,15 @@ use crate::once::Ran;
 use row_files::{Placed, Run, Wanted};
 use std::alloc::Global;
 
-/// Compares what a run over an image came to with what is wanted of it.
-pub fn compare(alloc: Global, run: &Run, before: &[u8], ran: &Ran) -> Result<(), RowFault> {
-    compare_ways(alloc, &run.wanted, ran)?;
+/// Compares what a run over an image, in which the `nth` call may have failed, came to with what is wanted of it.
+pub fn compare(
+    alloc: Global,
+    run: &Run,
+    nth: u64,
+    before: &[u8],
+    ran: &Ran,
+) -> Result<(), RowFault> {
+    compare_ways(alloc, &run.wanted, nth, ran)?;
     let after = ran.media.bytes();
     for placed in &run.left.has {
         compare_bytes(alloc, placed, after)?;
@@ -15,21 +21,40 @@ pub fn compare(alloc: Global, run: &Run, before: &[u8], ran: &Ran) -> Result<(),
     if run.left.is_only {
         compare_others(alloc, &run.left.has, before, after)?;
     }
-    compare_calls(alloc, &run.left, ran.media.calls())?;
-    if run.left.is_unwritten && before != after {
-        return Err(RowFault::words(alloc, "the image", "unwritten", "changed"));
-    }
-    Ok(())
+    compare_calls(alloc, &run.left, ran.media.calls())
 }
 
-fn is_way(way: &Wanted, ran: &Ran) -> bool {
-    let is_text = way.is_unsaid || way.text.as_slice() == ran.sink.written();
-    is_text && way.status.as_str() == ran.status.as_str()
+// The first of the lines, as many as stand before the `nth`.
+fn front(text: &[u8], nth: u64) -> &[u8] {
+    let mut lines: u64 = 1;
+    for (i, byte) in text.iter().enumerate() {
+        if lines >= nth {
+            return &text[..i];
+        }
+        if *byte == b'\n' {
+            lines = lines.saturating_add(1);
+        }
+    }
+    text
+}
+
+fn is_text(way: &Wanted, nth: u64, text: &[u8]) -> bool {
+    if way.is_unsaid {
+        return true;
+    }
+    if way.is_front {
+        return front(&way.text, nth) == text;
+    }
+    way.text.as_slice() == text
+}
+
+fn is_way(way: &Wanted, nth: u64, ran: &Ran) -> bool {
+    way.status.as_str() == ran.status.as_str() && is_text(way, nth, ran.sink.written())
 }
 
 // One of the ways will do.
-fn compare_ways(alloc: Global, ways: &[Wanted], ran: &Ran) -> Result<(), RowFault> {
-    if ways.iter().any(|way| is_way(way, ran)) {
+fn compare_ways(alloc: Global, ways: &[Wanted], nth: u64, ran: &Ran) -> Result<(), RowFault> {
+    if ways.iter().any(|way| is_way(way, nth, ran)) {
         return Ok(());
     }
     let mut wanted = Vec::new(alloc);

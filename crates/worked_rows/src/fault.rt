@@ -15,6 +15,8 @@ pub enum RowFault {
     },
     #[error("no array is like that: {0}")]
     Image(BadShape),
+    #[error("the image has no such place")]
+    Place,
     #[error("the image can't be opened")]
     Opening,
     #[error("no memory")]
@@ -27,6 +29,14 @@ impl RowFault {
         match (shown(alloc, wanted), shown(alloc, was)) {
             (Ok(wanted), Ok(was)) => RowFault::Differs { what, wanted, was },
             _ => RowFault::NoMemory,
+        }
+    }
+
+    /// Whether it is this that is not as the row says.
+    pub fn is_of(&self, wrong: &str) -> bool {
+        match self {
+            RowFault::Differs { what, .. } => *what == wrong,
+            RowFault::Image(_) | RowFault::Place | RowFault::Opening | RowFault::NoMemory => false,
         }
     }
 

@@ -56,17 +56,17 @@ pub fn image_before(
         image.resize(len, 0)?;
     }
     for set in &run.sets {
-        overwrite(&mut image, set);
+        overwrite(&mut image, set)?;
     }
     Ok(image)
 }
 
-// Puts bytes at their place, as far as they lie in the image.
-fn overwrite(image: &mut [u8], set: &Placed) {
-    for (i, byte) in set.bytes.iter().enumerate() {
-        let place = set.at.saturating_add(i);
-        if place < image.len() {
-            image[place] = *byte;
-        }
+// Puts bytes at their place, all of which has to lie in the image.
+fn overwrite(image: &mut [u8], set: &Placed) -> Result<(), RowFault> {
+    let len = set.bytes.len();
+    if set.at > image.len() || image.len() - set.at < len {
+        return Err(RowFault::Place);
     }
+    image[set.at..set.at + len].copy_from_slice(&set.bytes);
+    Ok(())
 }

@@ -11,7 +11,7 @@ mod plain;
 mod rows;
 mod tally;
 
-use crate::tally::run_folder;
+use crate::tally::{Tally, run_folder};
 use anyhow::{Result, ensure};
 use std::env;
 
@@ -22,7 +22,14 @@ fn main(rt: HostRuntime) -> Result<()> {
         None => ".",
     };
     let tally = run_folder(&rt, folder)?;
-    println!(rt; "{} rows passed", tally.passed)?;
-    ensure!(tally.failed == 0, "{} rows failed", tally.failed);
+    let Tally {
+        passed,
+        failed,
+        runs,
+        plain_runs,
+    } = tally;
+    println!(rt; "{runs} runs, {plain_runs} of them over the plain store as well")?;
+    println!(rt; "{passed} rows passed")?;
+    ensure!(failed == 0, "{failed} rows failed");
     Ok(())
 }

@@ -31,7 +31,12 @@ pub fn compare_plain(alloc: Global, run: &Run, before: &[u8], ran: &Ran) -> Resu
     let _ = answer_commands(alloc, &run.input, &mut sink, &mut plain);
     if sink.written() != ran.sink.written() {
         let wanted = sink.written();
-        return Err(RowFault::bytes(alloc, "the plain store's answers", wanted, ran.sink.written()));
+        return Err(RowFault::bytes(
+            alloc,
+            "the plain store's answers",
+            wanted,
+            ran.sink.written(),
+        ));
     }
     let wanted = data_of(alloc, &mut plain)?;
     let was = data_of(alloc, &mut opened(alloc, ran.media.bytes())?)?;

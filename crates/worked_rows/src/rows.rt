@@ -9,30 +9,42 @@ use row_files::{Row, Run, TroubleKind};
 use std::alloc::Global;
 use std::fmt;
 
-/// One way to make a run: what stood where nothing was sure, and which call of its trouble it was.
+/// One way to make a run: what stood where nothing was sure, and at which of its calls the trouble came.
 #[derive(Clone, Copy, Debug, PartialEq, Eq)]
 pub struct Trial {
-    /// The choice's number, from 1.
     choice: usize,
     kind: TroubleKind,
-    nth: u64,
+    pub nth: u64,
 }
 
 impl fmt::Display for Trial {
     fn fmt<W: fmt::Write>(&self, f: &mut fmt::Formatter<W>) -> fmt::Result {
         let Trial { choice, kind, nth } = *self;
-        write!(f, "over choice {choice}, {kind:?} {nth}")
+        let choice = choice.saturating_add(1);
+        match kind {
+            TroubleKind::Nothing => write!(f, "choice {choice}, nothing fails"),
+            TroubleKind::Read => write!(f, "choice {choice}, read {nth} fails"),
+            TroubleKind::Write => write!(f, "choice {choice}, write {nth} fails"),
+            TroubleKind::Media => write!(f, "choice {choice}, call {nth} of the media fails"),
+            TroubleKind::Power => write!(f, "choice {choice}, power is lost after {nth} calls"),
+        }
     }
 }
 
-/// Makes the runs of a row in all its trials. Where one does not come to what the row says, `trials` are those up to it.
-pub fn run_row<R: AllocGlobal>(
-    rt: &R,
-    row: &Row,
-    trials: &mut Vec<Trial>,
-) -> Result<(), RowFault> {
+/// How far a row has come.
+#[derive(Drop)]
+pub struct Progress {
+    /// The trials in which it is, or in which it ended.
+    pub trials: Vec<Trial>,
+    pub runs: u64,
+    /// How many of these runs went over the plain store as well.
+    pub plain_runs: u64,
+}
+
+/// Makes the runs of a row in all its trials, up to one that does not come to what the row says.
+pub fn run_row<R: AllocGlobal>(rt: &R, row: &Row, progress: &mut Progress) -> Result<(), RowFault> {
     let media = first_media(rt.alloc(), row.image)?;
-    follow(rt, &row.runs, &media, trials)
+    follow(rt, &row.runs, &media, progress)
 }
 
 // Makes the first of these runs over what was left, and over what each of its trials leaves the others.
@@ -40,36 +52,39 @@ fn follow<R: AllocGlobal>(
     rt: &R,
     runs: &[Run],
     left: &MemoryMedia,
-    trials: &mut Vec<Trial>,
+    progress: &mut Progress,
 ) -> Result<(), RowFault> {
     let Some((run, later)) = runs.split_first() else {
         return Ok(());
     };
     for trial in &trials_of(rt.alloc(), run)? {
-        trials.push(*trial)?;
-        let media = made(rt, run, left, trial)?;
-        follow(rt, later, &media, trials)?;
-        trials.pop();
+        progress.trials.push(*trial)?;
+        let media = make_trial(rt, run, left, trial, progress)?;
+        follow(rt, later, &media, progress)?;
+        progress.trials.pop();
     }
     Ok(())
 }
 
 // Makes a run in one of its trials, compares what it came to, and gives what it left.
-fn made<R: AllocGlobal>(
+fn make_trial<R: AllocGlobal>(
     rt: &R,
     run: &Run,
     left: &MemoryMedia,
     trial: &Trial,
+    progress: &mut Progress,
 ) -> Result<MemoryMedia, RowFault> {
     let alloc = rt.alloc();
-    let choice = match trial.choice.checked_sub(1).and_then(|i| run.choices.get(i)) {
+    let choice = match run.choices.get(trial.choice) {
         Some(choice) => choice.as_slice(),
         None => &[],
     };
     let before = image_before(alloc, left, choice, run)?;
     let ran = run_once(rt, run, &before, trial.nth)?;
-    compare(alloc, run, &before, &ran)?;
+    progress.runs = progress.runs.saturating_add(1);
+    compare(alloc, run, trial.nth, &before, &ran)?;
     if has_twin(run, &ran) {
+        progress.plain_runs = progress.plain_runs.saturating_add(1);
         compare_plain(alloc, run, &before, &ran)?;
     }
     Ok(ran.media)
@@ -79,7 +94,7 @@ fn made<R: AllocGlobal>(
 fn trials_of(alloc: Global, run: &Run) -> Result<Vec<Trial>, RowFault> {
     let mut trials = Vec::new(alloc);
     for (i, _) in run.choices.iter().enumerate() {
-        push_trials(&mut trials, i.saturating_add(1), run)?;
+        push_trials(&mut trials, i, run)?;
     }
     Ok(trials)
 }

@@ -1,15 +1,19 @@
 // All rows of a folder.
-use crate::rows::run_row;
+use crate::fault::RowFault;
+use crate::rows::{Progress, Trial, run_row};
 use anyhow::{Context, Result};
 use row_files::{Row, read_rows};
 use std::fs;
 use std::rt::Files;
 
-/// How many rows came to what they say, and how many did not.
+/// How many rows came to what they say, how many did not, and how many runs it took.
 #[derive(Clone, Copy, Debug, PartialEq, Eq)]
 pub struct Tally {
     pub passed: u64,
     pub failed: u64,
+    pub runs: u64,
+    /// Runs that went over the plain store as well.
+    pub plain_runs: u64,
 }
 
 /// Runs the rows of each file of a folder whose name ends in `.rows`, in the order of the names.
@@ -20,6 +24,8 @@ where
     let mut tally = Tally {
         passed: 0,
         failed: 0,
+        runs: 0,
+        plain_runs: 0,
     };
     for path in &paths_in(rt, folder)? {
         run_file(rt, path.as_str(), &mut tally)?;
@@ -52,28 +58,51 @@ where
 {
     let text = fs::read_to_string(rt, path).context(format_args!("reading {path}"))?;
     for row in &read_rows(rt.alloc(), path, text.as_str())? {
-        if passes(rt, path, row)? {
+        let mut progress = Progress {
+            trials: Vec::new(rt.alloc()),
+            runs: 0,
+            plain_runs: 0,
+        };
+        let ended = run_row(rt, row, &mut progress);
+        tally.runs = tally.runs.saturating_add(progress.runs);
+        tally.plain_runs = tally.plain_runs.saturating_add(progress.plain_runs);
+        if passes(row, &ended) {
             tally.passed = tally.passed.saturating_add(1);
         } else {
             tally.failed = tally.failed.saturating_add(1);
+            tell(rt, path, row, &progress.trials, &ended)?;
         }
     }
     Ok(())
 }
 
-// Runs a row. Where it does not pass, tells in which of its trials, and why.
-fn passes<R>(rt: &R, path: &str, row: &Row) -> Result<bool>
+// A wrong row passes where it is refused for what it says.
+fn passes(row: &Row, ended: &Result<(), RowFault>) -> bool {
+    match (&row.wrong, ended) {
+        (None, Ok(())) => true,
+        (Some(wrong), Err(fault)) => fault.is_of(wrong.as_str()),
+        (None, Err(_)) | (Some(_), Ok(())) => false,
+    }
+}
+
+// Tells of a row that does not pass: in which of its trials, and why.
+fn tell<R>(
+    rt: &R,
+    path: &str,
+    row: &Row,
+    trials: &[Trial],
+    ended: &Result<(), RowFault>,
+) -> Result<()>
 where
-    R: AllocGlobal + Print,
+    R: Print,
 {
-    let mut trials = Vec::new(rt.alloc());
-    let Err(fault) = run_row(rt, row, &mut trials) else {
-        return Ok(true);
-    };
     println!(rt; "{path}:{}: {}", row.line, row.name)?;
-    for trial in &trials {
+    for trial in trials {
         println!(rt; "  {trial}")?;
     }
-    println!(rt; "  {fault}")?;
-    Ok(false)
+    match ended {
+        Ok(()) => println!(rt; "  is not refused")?,
+        Err(fault) => println!(rt; "  {fault}")?,
+    }
+    Ok(())
 }
