@@ -14,11 +14,17 @@ pub fn two_words(text: &str) -> Result<(&str, &str), LineFault> {
 }
 
 pub fn number(text: &str) -> Result<u64, LineFault> {
-    text.parse::<u64>().map_err(|_| LineFault::Number)
+    match text.parse::<u64>() {
+        Ok(number) => Ok(number),
+        Err(_) => Err(LineFault::Number),
+    }
 }
 
 pub fn size(text: &str) -> Result<usize, LineFault> {
-    text.parse::<usize>().map_err(|_| LineFault::Number)
+    match text.parse::<usize>() {
+        Ok(number) => Ok(number),
+        Err(_) => Err(LineFault::Number),
+    }
 }
 
 /// The first and the last of `A to B`, which are one number where no second stands.
@@ -54,7 +60,9 @@ pub fn bytes(alloc: Global, text: &str) -> Result<Vec<u8>, LineFault>
         Some((digits, times)) => (digits, size(times)?),
         None => (text, 1),
     };
-    let once = hex::decode(alloc, digits).map_err(|_| LineFault::Hex)?;
+    let Ok(once) = hex::decode(alloc, digits) else {
+        return Err(LineFault::Hex);
+    };
     let bytes = once.repeat(alloc, times)?;
     if bytes.is_empty() {
         return Err(LineFault::Hex);

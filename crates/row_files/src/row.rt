@@ -4,7 +4,7 @@ use crate::run::Run;
 use std::alloc::Global;
 
 /// What there is before the first run of a row.
-#[derive(Clone, Copy, Debug, PartialEq, Eq)]
+#[derive(Clone, Copy)]
 pub enum Image {
     /// A fresh array of these numbers.
     Fresh {
@@ -79,11 +79,19 @@ fn read_fresh(text: &str) -> Result<Image, LineFault> {
     for place in numbers.iter_mut() {
         *place = number(words.next().ok_or(LineFault::Image)?)?;
     }
-    let [loggers, tids, entries, pages] = numbers;
+    let [loggers, numbers, entries, pages] = numbers;
+    let (Ok(loggers), Ok(numbers), Ok(entries), Ok(pages)) = (
+        u8::try_from(loggers),
+        u8::try_from(numbers),
+        u16::try_from(entries),
+        u32::try_from(pages),
+    ) else {
+        return Err(LineFault::Number);
+    };
     Ok(Image::Fresh {
-        loggers: u8::try_from(loggers).map_err(|_| LineFault::Number)?,
-        numbers: u8::try_from(tids).map_err(|_| LineFault::Number)?,
-        entries: u16::try_from(entries).map_err(|_| LineFault::Number)?,
-        pages: u32::try_from(pages).map_err(|_| LineFault::Number)?,
+        loggers,
+        numbers,
+        entries,
+        pages,
     })
 }

@@ -1,6 +1,6 @@
 use crate::draws::push_drawn;
 use crate::fault::LineFault;
-use crate::fields::{bytes, number, size, span, two_words, words};
+use crate::fields::{bytes, number, size, span, two_words, word_and_rest, words};
 use crate::texts::push_lines;
 use std::alloc::Global;
 
@@ -12,7 +12,7 @@ pub struct Placed {
 }
 
 /// What goes wrong in a run.
-#[derive(Clone, Copy, Debug, PartialEq, Eq)]
+#[derive(Clone, Copy)]
 pub enum TroubleKind {
     Nothing,
     Read,
@@ -22,7 +22,7 @@ pub enum TroubleKind {
 }
 
 /// What goes wrong, and at which calls: the run is made once for each of them.
-#[derive(Clone, Copy, Debug, PartialEq, Eq)]
+#[derive(Clone, Copy)]
 pub struct Trouble {
     pub kind: TroubleKind,
     pub first: u64,
@@ -37,8 +37,9 @@ pub struct Wanted {
     pub is_front: bool,
     /// No text is said.
     pub is_unsaid: bool,
-    /// The number, a space, and the text told of it; the number alone where nothing is told.
-    pub status: String,
+    /// The number of the status, and the text told of it.
+    pub status: u64,
+    pub fault: String,
 }
 
 /// A call that the media is asked for, as text.
@@ -80,7 +81,7 @@ impl Run {
     /// A run without words and input, of which no answer and status 0 are wanted.
     pub fn new(alloc: Global, choices: Vec<Vec<u8>>) -> Result<Run, LineFault> {
         let mut ways = Vec::new(alloc);
-        ways.push(Wanted::new(alloc)?)?;
+        ways.push(Wanted::new(alloc))?;
         Ok(Run {
             choices,
             len: None,
@@ -115,7 +116,7 @@ impl Run {
                 push_drawn(alloc, &mut self.input, number(count)?, number(seed)?)?;
             }
             "fail" | "power" => self.trouble = Trouble::read(word, rest)?,
-            "or" => self.wanted.push(Wanted::new(alloc)?)?,
+            "or" => self.wanted.push(Wanted::new(alloc))?,
             "front" | "unsaid" | "status" => self.take_wanted(alloc, word, rest)?,
             "has" | "only" | "unwritten" | "stops" | "calls" | "call" => self
                 .left
@@ -147,7 +148,11 @@ impl Run {
         match word {
             "front" => way.is_front = true,
             "unsaid" => way.is_unsaid = true,
-            _ => way.status = String::from_str(alloc, rest)?,
+            _ => {
+                let (status, fault) = word_and_rest(rest);
+                way.status = number(status)?;
+                way.fault = String::from_str(alloc, fault)?;
+            }
         }
         Ok(())
     }
@@ -174,13 +179,14 @@ impl Left {
 }
 
 impl Wanted {
-    fn new(alloc: Global) -> Result<Wanted, LineFault> {
-        Ok(Wanted {
+    fn new(alloc: Global) -> Wanted {
+        Wanted {
             text: Vec::new(alloc),
             is_front: false,
             is_unsaid: false,
-            status: String::from_str(alloc, "0")?,
-        })
+            status: 0,
+            fault: String::new(alloc),
+        }
     }
 }
 

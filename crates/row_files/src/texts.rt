@@ -52,7 +52,9 @@ fn push_escaped(alloc: Global, out: &mut Vec<u8>, text: &str) -> Result<(), Line
     for piece in pieces {
         let digits = piece.strip_prefix('x').ok_or(LineFault::Escape)?;
         let (byte, behind) = digits.split_at_checked(2).ok_or(LineFault::Escape)?;
-        let byte = hex::decode(alloc, byte).map_err(|_| LineFault::Escape)?;
+        let Ok(byte) = hex::decode(alloc, byte) else {
+            return Err(LineFault::Escape);
+        };
         out.extend_from_slice(&byte)?;
         out.extend_from_slice(behind.as_bytes())?;
     }

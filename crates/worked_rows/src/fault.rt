@@ -4,17 +4,12 @@ use std::alloc::{AllocError, AllocFailed, Global};
 use thiserror::Error;
 
 /// Why a row does not pass.
-#[derive(Debug, Drop, Error)]
+#[derive(Clone, Copy, Debug, Error)]
 pub enum RowFault {
-    /// Something is not as the row says.
-    #[error("{what}: wanted {wanted}, was {was}")]
-    Differs {
-        what: &'static str,
-        wanted: String,
-        was: String,
-    },
-    #[error("no array is like that: {0}")]
-    Image(BadShape),
+    #[error("{what}")]
+    Differs { what: &'static str },
+    #[error("there is no such array")]
+    Shape,
     #[error("the image has no such place")]
     Place,
     #[error("the image can't be opened")]
@@ -24,34 +19,13 @@ pub enum RowFault {
 }
 
 impl RowFault {
-    /// Bytes of answers or of an image are not as the row says.
-    pub fn bytes(alloc: Global, what: &'static str, wanted: &[u8], was: &[u8]) -> RowFault {
-        match (shown(alloc, wanted), shown(alloc, was)) {
-            (Ok(wanted), Ok(was)) => RowFault::Differs { what, wanted, was },
-            _ => RowFault::NoMemory,
-        }
-    }
-
     /// Whether it is this that is not as the row says.
-    pub fn is_of(&self, wrong: &str) -> bool {
+    pub fn is_of(self, wrong: &str) -> bool {
         match self {
-            RowFault::Differs { what, .. } => *what == wrong,
-            RowFault::Image(_) | RowFault::Place | RowFault::Opening | RowFault::NoMemory => false,
+            RowFault::Differs { what } => what == wrong,
+            RowFault::Shape | RowFault::Place | RowFault::Opening | RowFault::NoMemory => false,
         }
     }
-
-    /// Something that is told in words is not as the row says.
-    pub fn words(alloc: Global, what: &'static str, wanted: &str, was: &str) -> RowFault {
-        RowFault::bytes(alloc, what, wanted.as_bytes(), was.as_bytes())
-    }
-}
-
-// As many bytes as one wants to read.
-const SHOWN: usize = 2000;
-
-fn shown(alloc: Global, bytes: &[u8]) -> Result<String, AllocError> {
-    let front = &bytes[..bytes.len().min(SHOWN)];
-    format!(in alloc; "\"{}\"", front.escape_ascii())
 }
 
 impl From<NoMemory> for RowFault {
@@ -73,7 +47,46 @@ impl From<AllocError> for RowFault {
 }
 
 impl From<BadShape> for RowFault {
-    fn from(bad: BadShape) -> Self {
-        RowFault::Image(bad)
+    fn from(_: BadShape) -> Self {
+        RowFault::Shape
+    }
+}
+
+/// What a row wants and what there was in its place, for a reader.
+#[derive(Drop)]
+pub struct Report {
+    pub wanted: Vec<u8>,
+    pub was: Vec<u8>,
+}
+
+// As many bytes as one wants to read.
+const SHOWN: usize = 2000;
+
+// Puts bytes into a report, as far as memory reaches.
+fn put(out: &mut Vec<u8>, bytes: &[u8]) {
+    let _ = out.extend_from_slice(&bytes[..bytes.len().min(SHOWN)]);
+}
+
+impl Report {
+    pub fn new(alloc: Global) -> Report {
+        Report {
+            wanted: Vec::new(alloc),
+            was: Vec::new(alloc),
+        }
+    }
+
+    pub fn put_wanted(&mut self, bytes: &[u8]) {
+        put(&mut self.wanted, bytes);
+    }
+
+    pub fn put_was(&mut self, bytes: &[u8]) {
+        put(&mut self.was, bytes);
+    }
+
+    /// The fault that this is not as the row says.
+    pub fn differs(&mut self, what: &'static str, wanted: &[u8], was: &[u8]) -> RowFault {
+        self.put_wanted(wanted);
+        self.put_was(was);
+        RowFault::Differs { what }
     }
 }

@@ -1,11 +1,10 @@
 // One run of a row.
 use crate::fault::RowFault;
 use crate::image::media_of;
-use mars_shell::{OpenGate, Status, fault_text, run};
+use mars_shell::{OpenGate, fault_text, run};
 use outside::{MemorySink, MemorySource};
 use pcm_media::{FusedMedia, MemoryMedia};
 use row_files::{Run, TroubleKind};
-use std::alloc::Global;
 
 // Room for most answers; past it the sink grows.
 const TEXT: u64 = 4096;
@@ -14,7 +13,8 @@ const TEXT: u64 = 4096;
 #[derive(Drop)]
 pub struct Ran {
     /// The number of its status, and the text told of it.
-    pub status: String,
+    pub status: u64,
+    pub fault: Vec<u8>,
     pub sink: MemorySink,
     pub media: MemoryMedia,
 }
@@ -40,19 +40,12 @@ pub fn run_once<R: AllocGlobal>(
     }
     let media = FusedMedia::new(media, passes);
     let (status, media) = run(rt, &asked.words, &mut source, &mut sink, media, &OpenGate);
+    let mut buf = [0; 64];
+    let len = fault_text(&status, &mut buf);
     Ok(Ran {
-        status: told(alloc, &status)?,
+        status: u64::from(status.number()),
+        fault: Vec::from_slice(alloc, &buf[..len])?,
         sink,
         media: media.into_inner(),
     })
-}
-
-// A status as rows say it.
-fn told(alloc: Global, status: &Status) -> Result<String, RowFault> {
-    let mut buf = [0; 64];
-    let len = fault_text(status, &mut buf);
-    let text = String::from_utf8_lossy(alloc, &buf[..len])?;
-    let number = status.number();
-    let told = format!(in alloc; "{number} {text}")?;
-    Ok(String::from_str(alloc, told.trim_end())?)
 }

@@ -1,7 +1,7 @@
 // Raw commands over the plain store.
 ghost use Rattle.std.specs.Prelude.{◌≡◌, false, IfOk};
 
-use crate::fault::RowFault;
+use crate::fault::{Report, RowFault};
 use crate::image::media_of;
 use crate::once::Ran;
 use eaw_device::Eaw;
@@ -18,30 +18,34 @@ const CHANGES: u64 = 4096;
 
 const TEXT: u64 = 4096;
 
-/// Whether a run went over the array to its end.
+/// Whether raw commands were answered to their end.
 pub fn has_twin(run: &Run, ran: &Ran) -> bool {
-    matches!(run.words.as_slice(), [word] if word.as_str() == "eaw") && ran.status.as_str() == "0"
+    match run.words.as_slice() {
+        [word] => ran.status == 0 && word.as_str() == "eaw",
+        _ => false,
+    }
 }
 
 /// Compares a run of raw commands over an image with the same commands over a plain store with that image's data: the answers
 /// and the data behind them are the same.
-pub fn compare_plain(alloc: Global, run: &Run, before: &[u8], ran: &Ran) -> Result<(), RowFault> {
+pub fn compare_plain(
+    alloc: Global,
+    run: &Run,
+    before: &[u8],
+    ran: &Ran,
+    report: &mut Report,
+) -> Result<(), RowFault> {
     let mut plain = plain_store(alloc, before)?;
     let mut sink = MemorySink::new(alloc, TEXT)?;
     let _ = answer_commands(alloc, &run.input, &mut sink, &mut plain);
-    if sink.written() != ran.sink.written() {
-        let wanted = sink.written();
-        return Err(RowFault::bytes(
-            alloc,
-            "the plain store's answers",
-            wanted,
-            ran.sink.written(),
-        ));
+    let was = ran.sink.written();
+    if sink.written() != was {
+        return Err(report.differs("the plain store's answers", sink.written(), was));
     }
     let wanted = data_of(alloc, &mut plain)?;
     let was = data_of(alloc, &mut opened(alloc, ran.media.bytes())?)?;
     if wanted != was {
-        return Err(RowFault::bytes(alloc, "the plain store's data", &wanted, &was));
+        return Err(report.differs("the plain store's data", &wanted, &was));
     }
     Ok(())
 }

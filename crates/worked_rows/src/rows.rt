@@ -1,34 +1,18 @@
 // The runs of a row, one behind the other.
 use crate::compare::compare;
-use crate::fault::RowFault;
+use crate::fault::{Report, RowFault};
 use crate::image::{first_media, image_before};
 use crate::once::run_once;
 use crate::plain::{compare_plain, has_twin};
 use pcm_media::MemoryMedia;
-use row_files::{Row, Run, TroubleKind};
+use row_files::{Row, Run};
 use std::alloc::Global;
-use std::fmt;
 
-/// One way to make a run: what stood where nothing was sure, and at which of its calls the trouble came.
-#[derive(Clone, Copy, Debug, PartialEq, Eq)]
+/// One way to make a run: what stands where nothing is sure, and which of its calls is the one that fails.
+#[derive(Clone, Copy)]
 pub struct Trial {
-    choice: usize,
-    kind: TroubleKind,
+    pub choice: usize,
     pub nth: u64,
-}
-
-impl fmt::Display for Trial {
-    fn fmt<W: fmt::Write>(&self, f: &mut fmt::Formatter<W>) -> fmt::Result {
-        let Trial { choice, kind, nth } = *self;
-        let choice = choice.saturating_add(1);
-        match kind {
-            TroubleKind::Nothing => write!(f, "choice {choice}, nothing fails"),
-            TroubleKind::Read => write!(f, "choice {choice}, read {nth} fails"),
-            TroubleKind::Write => write!(f, "choice {choice}, write {nth} fails"),
-            TroubleKind::Media => write!(f, "choice {choice}, call {nth} of the media fails"),
-            TroubleKind::Power => write!(f, "choice {choice}, power is lost after {nth} calls"),
-        }
-    }
 }
 
 /// How far a row has come.
@@ -39,6 +23,18 @@ pub struct Progress {
     pub runs: u64,
     /// How many of these runs went over the plain store as well.
     pub plain_runs: u64,
+    pub report: Report,
+}
+
+impl Progress {
+    pub fn new(alloc: Global) -> Progress {
+        Progress {
+            trials: Vec::new(alloc),
+            runs: 0,
+            plain_runs: 0,
+            report: Report::new(alloc),
+        }
+    }
 }
 
 /// Makes the runs of a row in all its trials, up to one that does not come to what the row says.
@@ -82,10 +78,10 @@ fn make_trial<R: AllocGlobal>(
     let before = image_before(alloc, left, choice, run)?;
     let ran = run_once(rt, run, &before, trial.nth)?;
     progress.runs = progress.runs.saturating_add(1);
-    compare(alloc, run, trial.nth, &before, &ran)?;
+    compare(alloc, run, trial.nth, &before, &ran, &mut progress.report)?;
     if has_twin(run, &ran) {
         progress.plain_runs = progress.plain_runs.saturating_add(1);
-        compare_plain(alloc, run, &before, &ran)?;
+        compare_plain(alloc, run, &before, &ran, &mut progress.report)?;
     }
     Ok(ran.media)
 }
@@ -93,16 +89,15 @@ fn make_trial<R: AllocGlobal>(
 // All trials of a run.
 fn trials_of(alloc: Global, run: &Run) -> Result<Vec<Trial>, RowFault> {
     let mut trials = Vec::new(alloc);
-    for (i, _) in run.choices.iter().enumerate() {
-        push_trials(&mut trials, i, run)?;
+    for choice in 0..run.choices.len() {
+        push_trials(&mut trials, choice, run)?;
     }
     Ok(trials)
 }
 
 fn push_trials(trials: &mut Vec<Trial>, choice: usize, run: &Run) -> Result<(), RowFault> {
-    let kind = run.trouble.kind;
     for nth in run.trouble.first..=run.trouble.last {
-        trials.push(Trial { choice, kind, nth })?;
+        trials.push(Trial { choice, nth })?;
     }
     Ok(())
 }

@@ -1,13 +1,13 @@
 // All rows of a folder.
 use crate::fault::RowFault;
-use crate::rows::{Progress, Trial, run_row};
-use anyhow::{Context, Result};
+use crate::rows::{Progress, run_row};
+use anyhow::Result;
 use row_files::{Row, read_rows};
 use std::fs;
 use std::rt::Files;
 
 /// How many rows came to what they say, how many did not, and how many runs it took.
-#[derive(Clone, Copy, Debug, PartialEq, Eq)]
+#[derive(Clone, Copy)]
 pub struct Tally {
     pub passed: u64,
     pub failed: u64,
@@ -56,28 +56,31 @@ fn run_file<R>(rt: &R, path: &str, tally: &mut Tally) -> Result<()>
 where
     R: AllocGlobal + Files + Print,
 {
-    let text = fs::read_to_string(rt, path).context(format_args!("reading {path}"))?;
-    for row in &read_rows(rt.alloc(), path, text.as_str())? {
-        let mut progress = Progress {
-            trials: Vec::new(rt.alloc()),
-            runs: 0,
-            plain_runs: 0,
-        };
+    for row in &rows_in(rt, path)? {
+        let mut progress = Progress::new(rt.alloc());
         let ended = run_row(rt, row, &mut progress);
         tally.runs = tally.runs.saturating_add(progress.runs);
         tally.plain_runs = tally.plain_runs.saturating_add(progress.plain_runs);
-        if passes(row, &ended) {
+        if passes(row, ended) {
             tally.passed = tally.passed.saturating_add(1);
         } else {
             tally.failed = tally.failed.saturating_add(1);
-            tell(rt, path, row, &progress.trials, &ended)?;
+            tell(rt, path, row, ended, &progress)?;
         }
     }
     Ok(())
 }
 
+fn rows_in<R>(rt: &R, path: &str) -> Result<Vec<Row>>
+where
+    R: AllocGlobal + Files,
+{
+    let text = fs::read_to_string(rt, path)?;
+    Ok(read_rows(rt.alloc(), path, text.as_str())?)
+}
+
 // A wrong row passes where it is refused for what it says.
-fn passes(row: &Row, ended: &Result<(), RowFault>) -> bool {
+fn passes(row: &Row, ended: Result<(), RowFault>) -> bool {
     match (&row.wrong, ended) {
         (None, Ok(())) => true,
         (Some(wrong), Err(fault)) => fault.is_of(wrong.as_str()),
@@ -85,24 +88,23 @@ fn passes(row: &Row, ended: &Result<(), RowFault>) -> bool {
     }
 }
 
-// Tells of a row that does not pass: in which of its trials, and why.
-fn tell<R>(
-    rt: &R,
+// Tells of a row that does not pass: why, and in which of its trials.
+fn tell(
+    rt: &impl Print,
     path: &str,
     row: &Row,
-    trials: &[Trial],
-    ended: &Result<(), RowFault>,
-) -> Result<()>
-where
-    R: Print,
-{
+    ended: Result<(), RowFault>,
+    progress: &Progress,
+) -> Result<()> {
     println!(rt; "{path}:{}: {}", row.line, row.name)?;
-    for trial in trials {
-        println!(rt; "  {trial}")?;
-    }
     match ended {
-        Ok(()) => println!(rt; "  is not refused")?,
-        Err(fault) => println!(rt; "  {fault}")?,
+        Ok(()) => println!(rt; "    it is not refused")?,
+        Err(fault) => println!(rt; "    {fault}")?,
     }
+    for trial in &progress.trials {
+        println!(rt; "    in choice {}, at call {}", trial.choice, trial.nth)?;
+    }
+    println!(rt; "    wanted: {}", progress.report.wanted.escape_ascii())?;
+    println!(rt; "    was: {}", progress.report.was.escape_ascii())?;
     Ok(())
 }
