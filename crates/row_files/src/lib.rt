@@ -1,0 +1,56 @@
+//! Rows of whole runs, as files say them.
+//!
+//! A file has lines. An empty one, and one that begins with `#`, says nothing. The others begin with a word:
+//!
+//! | line | says |
+//! |---|---|
+//! | `row NAME` | a row begins. The lines above a file's first row stand at the head of each of its rows |
+//! | `wrong WHAT` | the row is wrong, and has to be refused for this; so it shows that the like is looked at |
+//! | `image fresh L T E P` | at first there is what `format` makes of these numbers; 4 8 16 64 where no line says it |
+//! | `image zeros N` | at first there are N zeros |
+//!
+//! A run over the image, and what goes wrong in it. Numbers are counted from 1, and `A to B` may be one number alone:
+//!
+//! | line | says |
+//! |---|---|
+//! | `length N` | before the run the image is cut to N bytes, or lengthened with zeros |
+//! | `set AT HEX` | before the run the image has these bytes from AT on |
+//! | `words WORD ..` | the words of the run; where no line says them there are none |
+//! | `> TEXT` | a line of its input |
+//! | `drawn N SEED` | N lines of raw commands, drawn from a seed |
+//! | `fail read A to B` | one read fails. The run is made once for the A-th read, once for the next, and so on to the B-th. `fail write` and `fail media` are the same of the sink and of the media |
+//! | `power A to B` | power is lost: the media takes A calls, and fails each behind them. Again one run for each number |
+//!
+//! What it comes to:
+//!
+//! | line | says |
+//! |---|---|
+//! | `< TEXT` | a line of what it answers |
+//! | `front` | at the K-th write that fails only the K - 1 answers before it |
+//! | `unsaid` | no answers are said. Those of raw commands are the plain store's in any case, where the status is 0 |
+//! | `status N TEXT` | the number that it ends with, and the text told of it; `status 0` where no line says it |
+//! | `or` | the answers and the status above are one way; another follows, and either will do |
+//! | `has AT HEX` | the image has these bytes from AT on |
+//! | `only` | all its other bytes are as they were before the run |
+//! | `unwritten` | no write was asked of the media |
+//! | `stops` | of the media no call was made behind the one that failed |
+//! | `calls N` | so many calls were made of the media |
+//! | `call K TEXT` | the K-th of them is `barrier`, `read AT LEN` or `write AT LEN` |
+//! | `then HEX ..` | another run follows over what is left. It is made once for each of these choices: wherever nothing is sure after a loss of power stand these bytes, over and over; `-` is what a read gave. Without any, `-` |
+//!
+//! HEX is bytes as digits. `HEX*N` has them N times. In TEXT `\x0d` is a byte, and `{abc*17}` is `abc` 17 times. `>*17 TEXT` is
+//! the line 17 times, and `>| TEXT` the text without a newline; so for `<`.
+#![tactic(auto)]
+
+mod draws;
+mod fault;
+mod fields;
+mod file;
+mod row;
+mod run;
+mod texts;
+
+pub use fault::{LineFault, RowsFault};
+pub use file::read_rows;
+pub use row::{Image, Row};
+pub use run::{Left, Made, Placed, Run, Trouble, TroubleKind, Wanted};

@@ -1,0 +1,111 @@
+// Whether a run came to what its row says.
+use crate::calls::compare_calls;
+use crate::fault::{Report, RowFault};
+use crate::once::Ran;
+use row_files::{Left, Placed, Run, Wanted};
+use std::alloc::Global;
+
+/// Compares what a run over an image, in which the `nth` call may have failed, came to with what is wanted of it.
+pub fn compare(
+    alloc: Global,
+    run: &Run,
+    nth: u64,
+    before: &[u8],
+    ran: &Ran,
+    report: &mut Report,
+) -> Result<(), RowFault> {
+    compare_answers(&run.wanted, nth, ran, report)?;
+    compare_places(&run.left, ran.media.bytes(), report)?;
+    compare_others(&run.left, before, ran.media.bytes(), report)?;
+    compare_calls(alloc, &run.left, ran.media.calls(), report)
+}
+
+// One of the ways will do.
+fn compare_answers(
+    ways: &[Wanted],
+    nth: u64,
+    ran: &Ran,
+    report: &mut Report,
+) -> Result<(), RowFault> {
+    for way in ways {
+        if is_way(way, nth, ran) {
+            return Ok(());
+        }
+        report.put_wanted(&way.text);
+        report.put_wanted(way.fault.as_bytes());
+        report.put_wanted(b" or ");
+    }
+    report.put_was(ran.sink.written());
+    Err(report.differs("answers and status", b"nothing", &ran.fault))
+}
+
+fn is_way(way: &Wanted, nth: u64, ran: &Ran) -> bool {
+    way.status == ran.status
+        && way.fault.as_bytes() == ran.fault.as_slice()
+        && is_text(way, nth, ran.sink.written())
+}
+
+fn is_text(way: &Wanted, nth: u64, text: &[u8]) -> bool {
+    if way.is_unsaid {
+        return true;
+    }
+    if way.is_front {
+        return front(&way.text, nth) == text;
+    }
+    way.text.as_slice() == text
+}
+
+// The first of the lines, as many as stand before the `nth`.
+fn front(text: &[u8], nth: u64) -> &[u8] {
+    let mut line: u64 = 1;
+    for (i, byte) in text.iter().enumerate() {
+        if line >= nth {
+            return &text[..i];
+        }
+        if *byte == b'\n' {
+            line = line.saturating_add(1);
+        }
+    }
+    text
+}
+
+fn compare_places(left: &Left, after: &[u8], report: &mut Report) -> Result<(), RowFault> {
+    for placed in &left.has {
+        let end = placed.at.saturating_add(placed.bytes.len());
+        let was = match after.get(placed.at..end) {
+            Some(was) => was,
+            None => &[],
+        };
+        if was != placed.bytes.as_slice() {
+            return Err(report.differs("bytes", &placed.bytes, was));
+        }
+    }
+    Ok(())
+}
+
+// Where the row says so, all bytes but those that it places are as they were.
+fn compare_others(
+    left: &Left,
+    before: &[u8],
+    after: &[u8],
+    report: &mut Report,
+) -> Result<(), RowFault> {
+    if !left.is_only {
+        return Ok(());
+    }
+    for (at, (old, new)) in before.iter().zip(after).enumerate() {
+        if old != new && !is_placed(&left.has, at) {
+            return Err(report.differs("all else", &before[at..], &after[at..]));
+        }
+    }
+    Ok(())
+}
+
+fn is_placed(has: &[Placed], at: usize) -> bool {
+    for placed in has {
+        if placed.at <= at && at - placed.at < placed.bytes.len() {
+            return true;
+        }
+    }
+    false
+}

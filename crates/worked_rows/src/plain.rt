@@ -1,0 +1,79 @@
+// Raw commands over the plain store.
+ghost use Rattle.std.specs.Prelude.{◌≡◌, false, IfOk};
+
+use crate::fault::{Report, RowFault};
+use crate::image::media_of;
+use crate::once::Ran;
+use eaw_device::Eaw;
+use eaw_face::EawStore;
+use eaw_script::answer_commands;
+use memory_eaw::MemoryEaw;
+use outside::MemorySink;
+use pcm_media::MemoryMedia;
+use row_files::Run;
+use std::alloc::Global;
+
+// Room for as many changes of the data as most scripts make, and for their answers.
+const CHANGES: u64 = 4096;
+
+const TEXT: u64 = 4096;
+
+/// Whether raw commands were answered to their end.
+pub fn has_twin(run: &Run, ran: &Ran) -> bool {
+    match run.words.as_slice() {
+        [word] => ran.status == 0 && word.as_str() == "eaw",
+        _ => false,
+    }
+}
+
+/// Compares a run of raw commands over an image with the same commands over a plain store with that image's data: the answers
+/// and the data behind them are the same.
+pub fn compare_plain(
+    alloc: Global,
+    run: &Run,
+    before: &[u8],
+    ran: &Ran,
+    report: &mut Report,
+) -> Result<(), RowFault> {
+    let mut plain = plain_store(alloc, before)?;
+    let mut sink = MemorySink::new(alloc, TEXT)?;
+    let _ = answer_commands(alloc, &run.input, &mut sink, &mut plain);
+    let was = ran.sink.written();
+    if sink.written() != was {
+        return Err(report.differs("the plain store's answers", sink.written(), was));
+    }
+    let wanted = data_of(alloc, &mut plain)?;
+    let was = data_of(alloc, &mut opened(alloc, ran.media.bytes())?)?;
+    if wanted != was {
+        return Err(report.differs("the plain store's data", &wanted, &was));
+    }
+    Ok(())
+}
+
+fn opened(alloc: Global, image: &[u8]) -> Result<Eaw<MemoryMedia>, RowFault> {
+    match Eaw::attach(alloc, media_of(alloc, image)?) {
+        Ok(store) => Ok(store),
+        Err(_) => Err(RowFault::Opening),
+    }
+}
+
+// A plain store with the data that an image opens with.
+fn plain_store(alloc: Global, image: &[u8]) -> Result<MemoryEaw, RowFault>
+    ensures { IfOk result (λ store. (⟦<MemoryEaw as EawStore>⟧.view store).is_dead ≡ false) }
+{
+    let mut device = opened(alloc, image)?;
+    let shape = device.shape();
+    let bytes = data_of(alloc, &mut device)?;
+    if bytes.len() as u64 != shape.data_len() {
+        return Err(RowFault::Opening);
+    }
+    Ok(MemoryEaw::new(alloc, shape, &bytes, CHANGES)?)
+}
+
+fn data_of<S: EawStore>(alloc: Global, store: &mut S) -> Result<Vec<u8>, RowFault> {
+    let mut bytes = vec![in alloc; 0; store.shape().data_len() as usize]?;
+    match store.read(0, &mut bytes) {
+        Ok(()) => Ok(bytes),
+        Err(_) => Err(RowFault::Opening),
+    }
+}
