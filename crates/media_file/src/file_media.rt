@@ -131,6 +131,8 @@ impl Media for FileMedia {
 
     ghost view = { view_of };
 
+    ghost steady = { λ _ _ _. false };
+
     ghost long = { λ m told. absurd (false≢true told) };
 
     ghost counts_now = { λ m t image told le left. absurd (false≢true told) };

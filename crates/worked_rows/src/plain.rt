@@ -35,9 +35,9 @@ pub fn compare_plain(
     ran: &Ran,
     report: &mut Report,
 ) -> Result<(), RowFault> {
-    let mut plain = plain_store(alloc, before)?;
+    let plain = plain_store(alloc, before)?;
     let mut sink = MemorySink::new(alloc, TEXT)?;
-    let _ = answer_commands(alloc, &run.input, &mut sink, &mut plain);
+    let (_, mut plain) = answer_commands(alloc, &run.input, &mut sink, plain);
     let was = ran.sink.written();
     if sink.written() != was {
         return Err(report.differs("the plain store's answers", sink.written(), was));
