@@ -1,0 +1,16 @@
+pub mod Parts
+pub mod Edit
+pub mod Numbers
+pub mod Writes
+pub mod Views
+pub mod Device
+pub mod Keeping
+pub mod Exact
+pub mod Played
+pub mod Rows
+pub mod Reading
+pub mod Outline
+pub mod Tops
+pub mod Others
+pub mod Ordered
+pub mod Shown

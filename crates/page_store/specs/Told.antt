@@ -1,0 +1,16 @@
+-- A refusal of the store, as pages tell it.
+use Rattle.eaw_face.specs.declared.fault.EawFault.{EawFault}
+use Rattle.eaw_face.specs.declared.fault.EawFault.TheVariants as store
+use Rattle.page_store.specs.declared.fault.PageFault.{PageFault}
+use Rattle.page_store.specs.declared.fault.PageFault.TheVariants.{LogFull, Media, Dead}
+
+-- it is not that of an unknown number
+abbrev pub IsKnown : EawFault → Type 0
+IsKnown (store.UnknownTid t) = ⊥
+IsKnown _ = Unit {0}
+
+abbrev pub told_as : EawFault → PageFault
+told_as (store.UnknownTid t) = Dead
+told_as (store.LogFull g h n) = LogFull g h n
+told_as store.Media = Media
+told_as store.Dead = Dead
