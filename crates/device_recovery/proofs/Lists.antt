@@ -74,9 +74,12 @@ module _ (shape : Shape) (image : List ℕ) (rows : List Row) (are : RowsAre sha
       (λ is_not. omega (arith, none', counted_row shape (λ h u. (row_in rows h u).voted && not (decided_in shape rows h u)) g t lt lt' (and_from (row_in rows g t).voted _ (ap (λ (r : Row). r.voted) (are g t lt lt') ∙ so) (not_from_false (decided_in shape rows g t) is_not))))
       (cases_Bool (decided_in shape rows g t)))
 
+  pub none_decided : HasNoVote shape image → (g t : ℕ) → g < shape.loggers → t < shape.numbers → decided_in shape rows g t ≡ false
+  none_decided none g t lt lt' = not_decided shape.loggers (λ h. row_in rows h t) g (ap (λ (r : Row). r.voted) (are g t lt lt') ∙ none g t lt lt')
+
   pub no_count : HasNoVote shape image → (length (at_rows shape (λ g t. decided_in shape rows g t) row_name) ≡ 0) × (length (at_rows shape (λ g t. (row_in rows g t).voted && not (decided_in shape rows g t)) row_name) ≡ 0)
   no_count none =
       let unvoted : (g t : ℕ) → g < shape.loggers → t < shape.numbers → (row_in rows g t).voted ≡ false = λ g t lt lt'. ap (λ (r : Row). r.voted) (are g t lt lt') ∙ none g t lt lt' in (
-        none_counted shape (λ g t. decided_in shape rows g t) (λ g t lt lt'. not_decided shape.loggers (λ h. row_in rows h t) g (unvoted g t lt lt')),
+        none_counted shape (λ g t. decided_in shape rows g t) (none_decided none),
         none_counted shape (λ g t. (row_in rows g t).voted && not (decided_in shape rows g t)) (λ g t lt lt'. and_left (row_in rows g t).voted _ (unvoted g t lt lt')),
       )

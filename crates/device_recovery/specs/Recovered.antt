@@ -1,5 +1,5 @@
 -- What recovery finds, says and writes.
-use Rattle.std.specs.Prelude.{ℕ, ◌≡◌, ◌<◌, Bool, true, false, ◌&&◌, not, if◌then◌else◌, List, [], ◌∷◌, ◌++◌, length, Result, Ok, Err}
+use Rattle.std.specs.Prelude.{ℕ, ◌≡◌, ◌+◌, ◌*◌, ◌<◌, Bool, true, false, ◌&&◌, not, if◌then◌else◌, List, [], ◌∷◌, ◌++◌, length, Result, Ok, Err}
 use Rattle.counted.specs.declared.Failed.{Failed}
 use Rattle.counted.specs.Bytes.{range}
 use Rattle.pcm_media.specs.Images.{Content, MayLeave}
@@ -52,6 +52,10 @@ dropped_rows shape image = at_rows shape (λ g t. (row_of shape image g t).voted
 -- no row is voted
 abbrev pub HasNoVote : Shape → List ℕ → Type 0
 HasNoVote shape image = (g t : ℕ) → g < shape.loggers → t < shape.numbers → (row_of shape image g t).voted ≡ false
+
+-- so many calls of the media recovery makes where no row is voted: it makes all sure, and reads each row
+abbrev pub quiet_calls : Shape → ℕ
+quiet_calls shape = 1 + shape.loggers * shape.numbers
 
 -- how many of them there are
 pub record Counts (shape : Shape) (image : List ℕ) (report : Report) : Type 0 where

@@ -91,6 +91,7 @@ fn is_bad<M: Media>(
     requires rows { IsTrue M.tells → RowsAre shape.now (M.view media.old).content.bytes shape.now.numbers rows.now }
     ensures none { IsTrue M.tells → IfOk result (λ bad. bad ≡ false → decided shape.now (M.view media.old).content.bytes logger tid ≡ true → IsGoodRow shape.now (M.view media.old).content.bytes logger tid) }
     ensures some { IsTrue M.tells → IfOk result (λ bad. bad ≡ true → (decided shape.now (M.view media.old).content.bytes logger tid ≡ true) × (IsGoodRow shape.now (M.view media.old).content.bytes logger tid → ⊥)) }
+    ensures idle { decided_in shape.now rows.now logger tid ≡ false → (M.view media.new).moment ≡ (M.view media.old).moment }
     ensures fits { IfOk result (λ bad. bad ≡ false → decided_in shape.now rows.now logger tid ≡ true → (row_in rows.now logger tid).first + (row_in rows.now logger tid).count ≤ shape.now.entries) }
     ensures does { Writes M.tells [] (M.view media.old) (M.view media.new) result }
 {
@@ -116,6 +117,7 @@ fn check_number<M: Media>(
     requires rows { IsTrue M.tells → RowsAre shape.now (M.view media.old).content.bytes shape.now.numbers rows.now }
     ensures good { IsTrue M.tells → OnOk result ((g : ℕ) → g < shape.now.loggers → decided shape.now (M.view media.old).content.bytes g tid ≡ true → IsGoodRow shape.now (M.view media.old).content.bytes g tid) }
     ensures bad { IsTrue M.tells → IfErr result (λ fault. (g t : ℕ) → fault ≡ BadRow g t → (t ≡ tid) × IsFirstBadAt shape.now (M.view media.old).content.bytes g tid) }
+    ensures idle { ((g : ℕ) → g < shape.now.loggers → decided_in shape.now rows.now g tid ≡ false) → (M.view media.new).moment ≡ (M.view media.old).moment }
     ensures fits { OnOk result ((g : ℕ) → g < shape.now.loggers → decided_in shape.now rows.now g tid ≡ true → (row_in rows.now g tid).first + (row_in rows.now g tid).count ≤ shape.now.entries) }
     ensures does { Writes M.tells [] (M.view media.old) (M.view media.new) (media_answer result) }
 {
@@ -137,6 +139,7 @@ pub(crate) fn check_rows<M: Media>(
     requires rows { IsTrue M.tells → RowsAre shape.now (M.view media.old).content.bytes shape.now.numbers rows.now }
     ensures good { IsTrue M.tells → OnOk result (AllGood shape.now (M.view media.old).content.bytes shape.now.numbers) }
     ensures bad { IsTrue M.tells → IfErr result (λ fault. (g t : ℕ) → fault ≡ BadRow g t → IsFirstBad shape.now (M.view media.old).content.bytes g t) }
+    ensures idle { ((g t : ℕ) → g < shape.now.loggers → t < shape.now.numbers → decided_in shape.now rows.now g t ≡ false) → (M.view media.new).moment ≡ (M.view media.old).moment }
     ensures fits { OnOk result ((g t : ℕ) → g < shape.now.loggers → t < shape.now.numbers → decided_in shape.now rows.now g t ≡ true → (row_in rows.now g t).first + (row_in rows.now g t).count ≤ shape.now.entries) }
     ensures does { Writes M.tells [] (M.view media.old) (M.view media.new) (media_answer result) }
 {

@@ -1,5 +1,6 @@
 // Recovery of an array.
-ghost use Rattle.std.specs.Prelude.{◌≡◌, ◌+◌, ◌<◌, ◌≤◌, [], ℕ, List, true, IsTrue, IfOk, IfErr, OnOk};
+ghost use Rattle.std.specs.Prelude.{◌≡◌, ◌+◌, ◌<◌, ◌≤◌, ◌⊎◌, [], ℕ, List, true, IsTrue, IfOk, IfErr, OnOk, OnErr};
+ghost use Rattle.counted.specs.Costs.{Costs};
 ghost use Rattle.pcm_media.specs.Images.{MayLeave, IsOutside, Touched};
 ghost use Rattle.pcm_media.specs.View.{View, LeavesOnly, Writes};
 ghost use Rattle.array_shape.specs.Places.{media_len};
@@ -7,7 +8,7 @@ ghost use Rattle.array_image.specs.Image.{data_of};
 ghost use Rattle.array_image.specs.Decided.{settled_data};
 ghost use Rattle.array_image.specs.Standing.{IsLawful, IsClean};
 ghost use Rattle.device_recovery.specs.Table.{row_in, RowsAre, decided_in};
-ghost use Rattle.device_recovery.specs.Recovered.{AllGood, IsFirstBad, HasNoVote, Counts, KeepsSense, SettlesLike, recovered_places, media_answer};
+ghost use Rattle.device_recovery.specs.Recovered.{AllGood, IsFirstBad, HasNoVote, Counts, quiet_calls, KeepsSense, SettlesLike, recovered_places, media_answer};
 ghost use Rattle.device_recovery.specs.declared.report.RecoverFault.TheVariants.{BadRow};
 
 use crate::checking::check_rows;
@@ -24,7 +25,8 @@ use row_bytes::Row;
 /// Makes of what a loss of power left an array at rest: the parts of decided rows go into the data, and every vote is cleared.
 /// It may lose power itself, at any moment, and then leaves what settles to the same.
 ///
-/// Where no row is voted it writes nothing.
+/// Where no row is voted it writes nothing, and makes one call for a barrier and one for each row. Where a decided row is not good
+/// it writes nothing either, whatever it answers.
 pub fn recover<M: Media>(media: &mut M, shape: &Shape) -> Result<Report, RecoverFault>
     requires size { (M.view media.old).size ≡ media_len shape.now }
     // Whatever the bytes were, the data is what they settle to, and no vote is left.
@@ -36,7 +38,9 @@ pub fn recover<M: Media>(media: &mut M, shape: &Shape) -> Result<Report, Recover
     ensures good { IsTrue M.tells → OnOk result (AllGood shape.now (M.view media.old).content.bytes shape.now.numbers) }
     ensures bad { IsTrue M.tells → IfErr result (λ fault. (g t : ℕ) → fault ≡ BadRow g t → IsFirstBad shape.now (M.view media.old).content.bytes g t) }
     ensures unwritten { IsTrue M.tells → IfErr result (λ fault. (g t : ℕ) → fault ≡ BadRow g t → Touched [] (M.view media.old).content (M.view media.new).content) }
+    ensures spared { IsTrue M.tells → OnErr result (Touched [] (M.view media.old).content (M.view media.new).content ⊎ AllGood shape.now (M.view media.old).content.bytes shape.now.numbers) }
     ensures idle { IsTrue M.tells → HasNoVote shape.now (M.view media.old).content.bytes → Touched [] (M.view media.old).content (M.view media.new).content }
+    ensures costs { IsTrue M.tells → HasNoVote shape.now (M.view media.old).content.bytes → Costs (quiet_calls shape.now) (M.view media.old).moment (M.view media.new).moment result }
     ensures any_moment { IsTrue M.tells → ((image : List ℕ) → MayLeave (M.view media.old).content image → IsLawful shape.now image)
         → LeavesOnly (KeepsSense shape.now (M.view media.old).content) (M.view media.old) (M.view media.new) }
     ensures does { Writes M.tells (recovered_places shape.now (M.view media.old).content.bytes) (M.view media.old) (M.view media.new) (media_answer result) }
@@ -58,6 +62,7 @@ fn read_sound<M: Media>(media: &mut M, shape: &Shape) -> Result<[Row; MOST], Rec
     ensures bad { IsTrue M.tells → IfErr result (λ fault. (g t : ℕ) → fault ≡ BadRow g t → IsFirstBad shape.now (M.view media.old).content.bytes g t) }
     ensures fits { IfOk result (λ rows. (g t : ℕ) → g < shape.now.loggers → t < shape.now.numbers → decided_in shape.now rows g t ≡ true → (row_in rows g t).first + (row_in rows g t).count ≤ shape.now.entries) }
     ensures sure { IsTrue M.tells → OnOk result ((i : ℕ) → IsOutside (M.view media.new).content.unsettled i) }
+    ensures costs { IsTrue M.tells → HasNoVote shape.now (M.view media.old).content.bytes → Costs (quiet_calls shape.now) (M.view media.old).moment (M.view media.new).moment result }
     ensures does { Writes M.tells [] (M.view media.old) (M.view media.new) (media_answer result) }
 {
     media.barrier()?;

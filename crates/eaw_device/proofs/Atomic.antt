@@ -92,7 +92,9 @@ module _ (tells : Bool) (Opens : Shape → List ℕ → List ℕ → Type 0) (ol
     later = omega (arith, first.later, second.later);
     cause = (alive, tt, room);
     done = becomes (Ok x) second second.done;
+    kept = second.kept ∙ first.kept;
     dies = λ is. cc;
+    others = λ u other. second.others u other ∙ first.others u other;
     time = time (Ok x) second;
   }
   atomic (Err (UnknownTid u)) second = absurd (second.cause.2 mid_live)
@@ -102,7 +104,9 @@ module _ (tells : Bool) (Opens : Shape → List ℕ → List ℕ → Type 0) (ol
     later = omega (arith, first.later, second.later);
     cause = (alive, tt, room, omega (arith, first.later, second.cause.3));
     done = tt;
+    kept = tt;
     dies = second.dies;
+    others = λ u other. second.others u other ∙ first.others u other;
     time = time (Err Media) second;
   }
   atomic (Err Dead) second = absurd (false≢true (sym mid_alive ∙ second.cause))

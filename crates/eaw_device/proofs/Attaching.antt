@@ -1,5 +1,5 @@
 -- Why an opening was refused, and the header of what it leaves.
-use Rattle.std.proofs.Common.{◌≡◌, ℕ, ◌≤◌, Bool, List, [], Err, Result, refl, sym, ◌∙◌, subst, arith}
+use Rattle.std.proofs.Common.{◌≡◌, ℕ, ◌≤◌, ◌⊎◌, inl, inr, ⊎_elim, Bool, List, [], Err, Result, refl, sym, ◌∙◌, subst, arith}
 use Rattle.std.specs.Prelude.{IsTrue, OnErr}
 use Rattle.counted.specs.Causes.{Rose}
 use Rattle.pcm_media.specs.Images.{Content, IsOutside, Touched}
@@ -13,12 +13,12 @@ use Rattle.array_image.specs.Decided.{all_decided}
 use Rattle.array_image.proofs.Headers.{AreBehind, places_behind, header_stays}
 use Rattle.device_recovery.specs.declared.report.RecoverFault.{RecoverFault}
 use Rattle.device_recovery.specs.declared.report.RecoverFault.TheVariants as recovery
-use Rattle.device_recovery.specs.Recovered.{IsFirstBad, recovered_places, voted_places}
+use Rattle.device_recovery.specs.Recovered.{AllGood, IsFirstBad, recovered_places, voted_places}
 use Rattle.device_recovery.specs.Recovered as recovered
 use Rattle.device_recovery.proofs.Clearing.{votes_away}
 use Rattle.eaw_device.specs.declared.fault.AttachFault.{AttachFault}
 use Rattle.eaw_device.specs.declared.fault.AttachFault.TheVariants.{NotMars, BadShape, BadRow, Media, NoMemory}
-use Rattle.eaw_device.specs.Opens.{header_of, AttachCause, AttachLeaves}
+use Rattle.eaw_device.specs.Opens.{header_of, HoldsArray, AttachCause, AttachLeaves}
 use Rattle.eaw_device.specs.Attaching.{AllSay, recovery_fault}
 
 -- recovery writes behind the header alone
@@ -55,21 +55,36 @@ cause_on tells old mid faults (BadRow g t) size touched later cause = λ told.
       bad = subst (λ b. IsFirstBad found.shape b g t) same found.bad;
     }
 cause_on tells old mid faults Media size touched later cause = omega (arith, cause, later)
-cause_on tells old mid faults NoMemory size touched later cause = tt
+cause_on tells old mid faults NoMemory size touched later cause = λ told.
+    let same = same_bytes old.content mid.content (touched told) in
+    let found = cause told in
+    (found.0, subst (λ b. SaysShape (header_of b) found.0) same found.1, sym size ∙ found.2)
 
 pub reading_leaves : (tells : Bool) (old new : View) (fault : AttachFault) → (IsTrue tells → Touched [] old.content new.content) → AttachLeaves tells old new fault
 reading_leaves tells old new NotMars touched = touched
 reading_leaves tells old new (BadShape bad) touched = touched
 reading_leaves tells old new (BadRow g t) touched = touched
-reading_leaves tells old new Media touched = tt
+reading_leaves tells old new Media touched = λ told. inl (touched told)
 reading_leaves tells old new NoMemory touched = touched
 
-pub leaves_on : (tells : Bool) (old mid new : View) (fault : AttachFault) → (IsTrue tells → Touched [] old.content mid.content) → AttachLeaves tells mid new fault → AttachLeaves tells old new fault
-leaves_on tells old mid new NotMars touched leaves = λ told. touched_after_nothing [] old.content mid.content new.content (touched told) (leaves told)
-leaves_on tells old mid new (BadShape bad) touched leaves = λ told. touched_after_nothing [] old.content mid.content new.content (touched told) (leaves told)
-leaves_on tells old mid new (BadRow g t) touched leaves = λ told. touched_after_nothing [] old.content mid.content new.content (touched told) (leaves told)
-leaves_on tells old mid new Media touched leaves = tt
-leaves_on tells old mid new NoMemory touched leaves = λ told. touched_after_nothing [] old.content mid.content new.content (touched told) (leaves told)
+holds_before : (old mid : View) → mid.size ≡ old.size → Touched [] old.content mid.content → HoldsArray mid → HoldsArray old
+holds_before old mid size touched holds =
+    let same = same_bytes old.content mid.content touched in
+    record {
+      shape = holds.shape;
+      array = record {
+        header = subst (λ b. SaysShape (header_of b) holds.shape) same holds.array.header;
+        sized = sym size ∙ holds.array.sized;
+        good = subst (λ b. AllGood holds.shape b holds.shape.numbers) same holds.array.good;
+      };
+    }
+
+pub leaves_on : (tells : Bool) (old mid new : View) (fault : AttachFault) → mid.size ≡ old.size → (IsTrue tells → Touched [] old.content mid.content) → AttachLeaves tells mid new fault → AttachLeaves tells old new fault
+leaves_on tells old mid new NotMars size touched leaves = λ told. touched_after_nothing [] old.content mid.content new.content (touched told) (leaves told)
+leaves_on tells old mid new (BadShape bad) size touched leaves = λ told. touched_after_nothing [] old.content mid.content new.content (touched told) (leaves told)
+leaves_on tells old mid new (BadRow g t) size touched leaves = λ told. touched_after_nothing [] old.content mid.content new.content (touched told) (leaves told)
+leaves_on tells old mid new Media size touched leaves = λ told. ⊎_elim (λ none. inl (touched_after_nothing [] old.content mid.content new.content (touched told) none)) (λ holds. inr (holds_before old mid size (touched told) holds)) (leaves told)
+leaves_on tells old mid new NoMemory size touched leaves = λ told. touched_after_nothing [] old.content mid.content new.content (touched told) (leaves told)
 
 -- what recovery says of its refusal
 module _ (tells : Bool) (shape : Shape) (old new : View) where
@@ -80,6 +95,8 @@ module _ (tells : Bool) (shape : Shape) (old new : View) where
   refusal_cause T (recovery.BadRow g t) size header bad rose = λ told. record { shape = shape; header = header told; sized = size; bad = bad told g t refl }
   refusal_cause T recovery.Media size header bad rose = rose
 
-  pub refusal_leaves : (fault : RecoverFault) → (IsTrue tells → (g t : ℕ) → fault ≡ recovery.BadRow g t → Touched [] old.content new.content) → AttachLeaves tells old new (recovery_fault fault)
-  refusal_leaves (recovery.BadRow g t) unwritten = λ told. unwritten told g t refl
-  refusal_leaves recovery.Media unwritten = tt
+  pub refusal_leaves : (T : Type 0) (fault : RecoverFault) → old.size ≡ media_len shape → (IsTrue tells → SaysShape (header_of old.content.bytes) shape)
+      → (IsTrue tells → let r : Result T RecoverFault = Err fault in OnErr r (Touched [] old.content new.content ⊎ AllGood shape old.content.bytes shape.numbers))
+      → (IsTrue tells → (g t : ℕ) → fault ≡ recovery.BadRow g t → Touched [] old.content new.content) → AttachLeaves tells old new (recovery_fault fault)
+  refusal_leaves T (recovery.BadRow g t) size header spared unwritten = λ told. unwritten told g t refl
+  refusal_leaves T recovery.Media size header spared unwritten = λ told. ⊎_elim (λ none. inl none) (λ good. inr (record { shape = shape; array = record { header = header told; sized = size; good = good } })) (spared told)

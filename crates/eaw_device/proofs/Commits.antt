@@ -51,11 +51,11 @@ module _ (tells : Bool) (old new : View) (shape : Shape) (logs : List Log) (is_d
     module _ (rose : Rose old.faults new.faults) where
       pub commit_failed : n ≡ 0 → (let failed : Result (Unit {0}) EawFault = Err Media in face.Does tells (Opens shape) (commit t) (view_of old shape logs is_dead) (view_of new shape logs true) failed)
       commit_failed none = failed tells (Opens shape) (commit t) (view_of old shape logs is_dead) (view_of new shape logs true) refl does.does.cause.later
-          (λ told fine. subst (λ (k : ℕ). LeavesOnly (face.IsEither (Opens shape) before (applied (drop k parts) before)) old new) none (time told)) alive live tt rose refl
+          (λ told fine. subst (λ (k : ℕ). LeavesOnly (face.IsEither (Opens shape) before (applied (drop k parts) before)) old new) none (time told)) alive live tt rose refl (λ u other. refl)
 
       pub nested_failed : (offset : ℕ) → n ≡ offset → (let failed : Result (Unit {0}) EawFault = Err Media in face.Does tells (Opens shape) (nested_top t offset) (view_of old shape logs is_dead) (view_of new shape logs true) failed)
       nested_failed offset is = failed tells (Opens shape) (nested_top t offset) (view_of old shape logs is_dead) (view_of new shape logs true) refl does.does.cause.later
-          (λ told fine. subst (λ (k : ℕ). LeavesOnly (face.IsEither (Opens shape) before (applied (drop k parts) before)) old new) is (time told)) alive live tt rose refl
+          (λ told fine. subst (λ (k : ℕ). LeavesOnly (face.IsEither (Opens shape) before (applied (drop k parts) before)) old new) is (time told)) alive live tt rose refl (λ u other. refl)
 
     -- the parts are in the data, and the log is cut
     module _ (clean : IsTrue tells → IsClean shape new.content) (committed : IsTrue tells → data_of shape new.content.bytes ≡ applied (drop n (parts_in shape old.content.bytes t log.entries.items)) before)
@@ -67,10 +67,10 @@ module _ (tells : Bool) (old new : View) (shape : Shape) (logs : List Log) (is_d
       now_bytes : IsTrue tells → data_of shape new.content.bytes ≡ applied (drop n parts) before
       now_bytes told = committed told ∙ ap (λ (ps : List Part). applied (drop n ps) before) its_parts
 
-      pub commit_done : n ≡ 0 → now.is_live ≡ false → (let done : Result (Unit {0}) EawFault = Ok tt in face.Does tells (Opens shape) (commit t) (view_of old shape logs is_dead) (view_of new shape (slice_set logs at now) is_dead) done)
-      commit_done none free = subst (λ (k : ℕ). let done : Result (Unit {0}) EawFault = Ok tt in face.Does tells (Opens shape) (commit t) (view_of old shape logs is_dead) (view_of new shape (slice_set logs k now) is_dead) done) (sym is)
+      pub commit_done : new.faults ≡ old.faults → n ≡ 0 → now.is_live ≡ false → (let done : Result (Unit {0}) EawFault = Ok tt in face.Does tells (Opens shape) (commit t) (view_of old shape logs is_dead) (view_of new shape (slice_set logs at now) is_dead) done)
+      commit_done same none free = subst (λ (k : ℕ). let done : Result (Unit {0}) EawFault = Ok tt in face.Does tells (Opens shape) (commit t) (view_of old shape logs is_dead) (view_of new shape (slice_set logs k now) is_dead) done) (sym is)
           (done tells (Opens shape) (commit t) (view_of old shape logs is_dead) (view_of new shape (slice_set logs t now) is_dead) refl does.does.cause.later
-          (λ told fine. subst (λ (k : ℕ). LeavesOnly (face.IsEither (Opens shape) before (applied (drop k parts) before)) old new) none (time told)) tt alive live tt
+          (λ told fine. subst (λ (k : ℕ). LeavesOnly (face.IsEither (Opens shape) before (applied (drop k parts) before)) old new) none (time told)) tt same alive live tt
           (record {
             alive = alive;
             ranges = freed_ranges tells old new shape logs is_dead sound t log found does.does.size cells now kept n items free;
@@ -80,11 +80,11 @@ module _ (tells : Bool) (old new : View) (shape : Shape) (logs : List Log) (is_d
                 λ i. record { bytes = bytes i; logs = freed i };
           }))
 
-      pub nested_done : (offset : ℕ) → n ≡ offset → now.is_live ≡ true → (let done : Result (Unit {0}) EawFault = Ok tt in face.Does tells (Opens shape) (nested_top t offset) (view_of old shape logs is_dead) (view_of new shape (slice_set logs at now) is_dead) done)
-      nested_done offset same live' = subst (λ (k : ℕ). let done : Result (Unit {0}) EawFault = Ok tt in face.Does tells (Opens shape) (nested_top t k) (view_of old shape logs is_dead) (view_of new shape (slice_set logs at now) is_dead) done) same
+      pub nested_done : new.faults ≡ old.faults → (offset : ℕ) → n ≡ offset → now.is_live ≡ true → (let done : Result (Unit {0}) EawFault = Ok tt in face.Does tells (Opens shape) (nested_top t offset) (view_of old shape logs is_dead) (view_of new shape (slice_set logs at now) is_dead) done)
+      nested_done kept' offset same live' = subst (λ (k : ℕ). let done : Result (Unit {0}) EawFault = Ok tt in face.Does tells (Opens shape) (nested_top t k) (view_of old shape logs is_dead) (view_of new shape (slice_set logs at now) is_dead) done) same
           (subst (λ (k : ℕ). let done : Result (Unit {0}) EawFault = Ok tt in face.Does tells (Opens shape) (nested_top t n) (view_of old shape logs is_dead) (view_of new shape (slice_set logs k now) is_dead) done) (sym is)
           (done tells (Opens shape) (nested_top t n) (view_of old shape logs is_dead) (view_of new shape (slice_set logs t now) is_dead) refl does.does.cause.later
-          (λ told fine. time told) tt alive live tt
+          (λ told fine. time told) tt kept' alive live tt
           (record {
             alive = alive;
             ranges = cut_ranges tells old new shape logs is_dead sound t log found does.does.size cells now kept n items live';
@@ -107,7 +107,7 @@ module _ (tells : Bool) (media : View) (shape : Shape) (logs : List Log) (is_dea
   pub abort_done : now.is_live ≡ false → (let done : Result (Unit {0}) EawFault = Ok tt in face.Does tells (Opens shape) (abort t) (view_of media shape logs is_dead) (view_of media shape (slice_set logs at now) is_dead) done)
   abort_done free = subst (λ (k : ℕ). let done : Result (Unit {0}) EawFault = Ok tt in face.Does tells (Opens shape) (abort t) (view_of media shape logs is_dead) (view_of media shape (slice_set logs k now) is_dead) done) (sym is)
       (done tells (Opens shape) (abort t) (view_of media shape logs is_dead) (view_of media shape (slice_set logs t now) is_dead) refl (omega arith)
-      (λ told fine. stays media.moment media.left_since (face.IsEither (Opens shape) (data_of shape media.content.bytes) (data_of shape media.content.bytes))) tt alive live tt
+      (λ told fine. stays media.moment media.left_since (face.IsEither (Opens shape) (data_of shape media.content.bytes) (data_of shape media.content.bytes))) tt refl alive live tt
       (record {
         alive = alive;
         ranges = freed_ranges tells media media shape logs is_dead sound t log found refl cells now kept n items free;
@@ -118,7 +118,7 @@ module _ (tells : Bool) (media : View) (shape : Shape) (logs : List Log) (is_dea
   pub partial_done : now.is_live ≡ true → (let done : Result (Unit {0}) EawFault = Ok tt in face.Does tells (Opens shape) (partial_abort t n) (view_of media shape logs is_dead) (view_of media shape (slice_set logs at now) is_dead) done)
   partial_done live' = subst (λ (k : ℕ). let done : Result (Unit {0}) EawFault = Ok tt in face.Does tells (Opens shape) (partial_abort t n) (view_of media shape logs is_dead) (view_of media shape (slice_set logs k now) is_dead) done) (sym is)
       (done tells (Opens shape) (partial_abort t n) (view_of media shape logs is_dead) (view_of media shape (slice_set logs t now) is_dead) refl (omega arith)
-      (λ told fine. stays media.moment media.left_since (face.IsEither (Opens shape) (data_of shape media.content.bytes) (data_of shape media.content.bytes))) tt alive live tt
+      (λ told fine. stays media.moment media.left_since (face.IsEither (Opens shape) (data_of shape media.content.bytes) (data_of shape media.content.bytes))) tt refl alive live tt
       (record {
         alive = alive;
         ranges = cut_ranges tells media media shape logs is_dead sound t log found refl cells now kept n items live';

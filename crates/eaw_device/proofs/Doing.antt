@@ -1,14 +1,16 @@
 -- What a command does, from what its calls do.
-use Rattle.std.proofs.Common.{◌≡◌, ℕ, ◌<◌, ◌≤◌, Bool, true, false, List, length, get_or, Result, Ok, Err, refl, sym, ◌∙◌, subst, arith}
+use Rattle.std.proofs.Common.{◌≡◌, ℕ, ◌<◌, ◌≤◌, Bool, true, false, List, length, get_or, Result, Ok, Err, refl, sym, ◌∙◌, ap, subst, arith}
 use Rattle.std.specs.Prelude.{IsTrue, OnErr, IsErrAnd, is_err, slice_get, Some}
 use Rattle.std.proofs.lemmas.Bool.{false≢true}
 use Rattle.counted.specs.Causes.{Rose}
 use Rattle.counted.proofs.Going.{stays}
 use Rattle.pcm_media.specs.View.{View}
 use Rattle.array_shape.specs.declared.shape.Shape.{Shape}
+use Rattle.eaw_face.specs.State.{Logs}
 use Rattle.eaw_face.specs.StoreView.{StoreView, IsLive, LeavesOnly}
 use Rattle.eaw_face.specs.Command.{Command, after}
-use Rattle.eaw_face.specs.Causes.{IsAlive, Knows, HasRoom, Cause}
+use Rattle.eaw_face.specs.Causes.{IsAlive, Knows, IsNumberOf, HasRoom, Cause}
+use Rattle.eaw_face.proofs.Others.{others_after}
 use Rattle.eaw_face.specs.Does.{Becomes, IsEither, Does}
 use Rattle.eaw_face.specs.declared.fault.EawFault.{EawFault}
 use Rattle.eaw_face.specs.declared.fault.EawFault.TheVariants.{Media}
@@ -20,24 +22,28 @@ use Rattle.eaw_device.proofs.Tables.{found_log, live_there}
 module _ (tells : Bool) (Opens : List ℕ → List ℕ → Type 0) (command : Command) (old new : StoreView) (shape : new.shape ≡ old.shape) (later : old.faults ≤ new.faults)
     (time : IsTrue tells → old.is_dead ≡ false → LeavesOnly (IsEither Opens old.state.bytes (after command old.state).bytes) old new) where
   -- a command that is done
-  pub done : {T : Type 0} (x : T) → IsAlive old → Knows old command → HasRoom old command → Becomes tells command old new → (let r : Result T EawFault = Ok x in Does tells Opens command old new r)
-  done x alive knows room becomes = record {
+  pub done : {T : Type 0} (x : T) → new.faults ≡ old.faults → IsAlive old → Knows old command → HasRoom old command → Becomes tells command old new → (let r : Result T EawFault = Ok x in Does tells Opens command old new r)
+  done x kept alive knows room becomes = record {
     shape = shape;
     later = later;
     cause = (alive, knows, room);
     done = becomes;
+    kept = kept;
     dies = λ is. cc;
+    others = λ u other. ap (λ (ranges : Logs (ℕ × ℕ)). ranges u) becomes.ranges ∙ others_after command old.ranges u other;
     time = time;
   }
 
   -- one in which the media failed
-  pub failed : {T : Type 0} → IsAlive old → Knows old command → HasRoom old command → Rose old.faults new.faults → new.is_dead ≡ true → (let r : Result T EawFault = Err Media in Does tells Opens command old new r)
-  failed alive knows room rose dead = record {
+  pub failed : {T : Type 0} → IsAlive old → Knows old command → HasRoom old command → Rose old.faults new.faults → new.is_dead ≡ true → ((u : ℕ) → (IsNumberOf command u → ⊥) → new.ranges u ≡ old.ranges u) → (let r : Result T EawFault = Err Media in Does tells Opens command old new r)
+  failed alive knows room rose dead others = record {
     shape = shape;
     later = later;
     cause = (alive, knows, room, rose);
     done = tt;
+    kept = tt;
     dies = λ is. dead;
+    others = others;
     time = time;
   }
 
@@ -50,7 +56,9 @@ refused {T} tells Opens command store fault cause other (Err e) is = record {
   later = omega arith;
   cause = subst (λ (f : EawFault). let r : Result T EawFault = Err f in Cause store command store.faults r) (sym is) cause;
   done = tt;
+  kept = tt;
   dies = λ dead. absurd (other (sym is ∙ same dead));
+  others = λ u apart. refl;
   time = λ told fine. stays store.moment store.left_since (IsEither Opens store.state.bytes (after command store.state).bytes);
 }
   where

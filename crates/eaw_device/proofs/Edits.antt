@@ -185,7 +185,7 @@ module _ (tells : Bool) (old new : View) (shape : Shape) (logs : List Log) (is_d
   time told fine = cells_time tells shape ranges in_cells within old new r does told (long told) (found.told told).sure (data_of shape old.content.bytes)
 
   pub edit_failed : {U : Type 0} → Rose old.faults new.faults → (let failed : Result U EawFault = Err Media in face.Does tells (Opens shape) (log_edit t pos at bytes) (view_of old shape logs is_dead) (view_of new shape logs true) failed)
-  edit_failed rose = failed tells (Opens shape) (log_edit t pos at bytes) (view_of old shape logs is_dead) (view_of new shape logs true) refl does.cause.later time alive live tt rose refl
+  edit_failed rose = failed tells (Opens shape) (log_edit t pos at bytes) (view_of old shape logs is_dead) (view_of new shape logs true) refl does.cause.later time alive live tt rose refl (λ u other. refl)
 
   -- every other cell
   cell_same : IsTrue tells → (h u f : ℕ) → h < shape.loggers → u < shape.numbers → f < shape.entries → ((h ≡ g) × (u ≡ t) × (f ≡ e.cell) → ⊥) → cell_of shape new.content.bytes h u f ≡ cell_of shape old.content.bytes h u f
@@ -276,8 +276,8 @@ module _ (tells : Bool) (old new : View) (shape : Shape) (logs : List Log) (is_d
           ∙ sym (ap (λ (b : Bool). cond b (Some (edited pos at bytes (listed (option_map (parts_in shape old.content.bytes t) (entries_at logs t))))) (option_map (parts_in shape old.content.bytes u) (entries_at logs u))) (ne_eqb u t ne))
     ]
 
-    pub edit_done : {U : Type 0} (x : U) → (let done : Result U EawFault = Ok x in face.Does tells (Opens shape) (log_edit t pos at bytes) (view_of old shape logs is_dead) (view_of new shape logs is_dead) done)
-    edit_done x = done tells (Opens shape) (log_edit t pos at bytes) (view_of old shape logs is_dead) (view_of new shape logs is_dead) refl does.cause.later time x alive live tt (record {
+    pub edit_done : {U : Type 0} (x : U) → new.faults ≡ old.faults → (let done : Result U EawFault = Ok x in face.Does tells (Opens shape) (log_edit t pos at bytes) (view_of old shape logs is_dead) (view_of new shape logs is_dead) done)
+    edit_done x same' = done tells (Opens shape) (log_edit t pos at bytes) (view_of old shape logs is_dead) (view_of new shape logs is_dead) refl does.cause.later time x same' alive live tt (record {
       alive = alive;
       ranges = refl;
       state = λ told.

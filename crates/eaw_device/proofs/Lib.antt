@@ -1,6 +1,7 @@
 pub mod Attaching
 pub mod Formatting
 pub mod FreshLemmas
+pub mod Spared
 pub mod OpeningLemmas
 pub mod ReadingLemmas
 pub mod Entries

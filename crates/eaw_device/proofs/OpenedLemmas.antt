@@ -54,5 +54,6 @@ module _ (tells : Bool) (old new : View) (shape : Shape) (logs : List Log) (sett
     free = λ t. ap (option_map ranges_in) (none_at t (slice_get logs t) refl);
     unlogged = λ t. ap (option_map (parts_in shape new.content.bytes t)) (none_at t (slice_get logs t) refl);
     alive = refl;
-    faults = settled.later;
+    faults = settled.faults;
+    calls = settled.calls;
   }

@@ -1,6 +1,6 @@
 -- A stage at one logger after another.
-use Rattle.std.proofs.Common.{◌≡◌, ℕ, ◌+◌, ◌<◌, ◌≤◌, Bool, true, false, inl, inr, List, length, Result, Ok, Err, sym, ap, subst, ◌∙◌, arith}
-use Rattle.std.specs.Prelude.{IsTrue, OnOk, IfErr, is_err, slice_index}
+use Rattle.std.proofs.Common.{◌≡◌, ℕ, ◌+◌, ◌<◌, ◌≤◌, Bool, true, false, inl, inr, List, length, Result, Ok, Err, refl, sym, ap, subst, ◌∙◌, arith}
+use Rattle.std.specs.Prelude.{IsTrue, OnOk, IfErr, is_err, IsOk, slice_index}
 use Rattle.std.proofs.lemmas.Bool.{cases_eq, false≢true}
 use Rattle.counted.specs.declared.Failed.{Failed}
 use Rattle.pcm_media.specs.View.{View, Writes}
@@ -46,11 +46,15 @@ module _ (tells : Bool) (shape : Shape) (t : ℕ) (small : t < shape.numbers) (h
       by (Err (Full h k)) is does fault = absurd (let fits = room number there in omega (arith, fault.2))
       by (Err Media) is does fault =
           hands_on tells (staged_places shape t held addr bytes) (cell_ranges shape number t (slice_index held number) (length (write_parts_on shape number addr bytes))) old mid new
-          (λ told. staged_at shape t small held addr bytes room number there) so_far (Err (record {})) does
+          (λ told. staged_at shape t small held addr bytes room number there) so_far (Err (record {})) refl does
 
-  pub stage_goes_on : SoFar tells (staged_places shape t held addr bytes) old new
-  stage_goes_on = goes_on tells (staged_places shape t held addr bytes) (cell_ranges shape number t (slice_index held number) (length (write_parts_on shape number addr bytes))) old mid new
-      (λ told. staged_at shape t small held addr bytes room number there) so_far said.does
+  pub stage_goes_on : is_err r ≡ false → SoFar tells (staged_places shape t held addr bytes) old new
+  stage_goes_on fine = goes_on tells (staged_places shape t held addr bytes) (cell_ranges shape number t (slice_index held number) (length (write_parts_on shape number addr bytes))) old mid new
+      (λ told. staged_at shape t small held addr bytes room number there) so_far said.does (answered r fine)
+    where
+      answered : (s : Result ℕ StageFault) → is_err s ≡ false → IsOk (media_answer s)
+      answered (Ok k) fine = refl
+      answered (Err fault) fine = absurd (false≢true (sym fine))
 
   pub stage_holds : is_err r ≡ false → IsTrue tells → ((g : ℕ) → g < number → HoldsParts shape mid.content.bytes g t (slice_index held g) (write_parts_on shape g addr bytes))
       → (g : ℕ) → g < number + 1 → HoldsParts shape new.content.bytes g t (slice_index held g) (write_parts_on shape g addr bytes)

@@ -93,7 +93,7 @@ module _ (tells : Bool) (old : View) (shape : Shape) (logs : List Log) (is_dead 
           old new r does told (long told) (sound.told told alive).sure (data_of shape old.content.bytes)
 
       pub write_failed : Rose old.faults new.faults → (let failed : Result ℕ EawFault = Err Media in face.Does tells (Opens shape) (log_write t addr bytes) (view_of old shape logs is_dead) (view_of new shape logs true) failed)
-      write_failed rose = failed tells (Opens shape) (log_write t addr bytes) (view_of old shape logs is_dead) (view_of new shape logs true) refl does.cause.later time alive small fits rose refl
+      write_failed rose = failed tells (Opens shape) (log_write t addr bytes) (view_of old shape logs is_dead) (view_of new shape logs true) refl does.cause.later time alive small fits rose refl (λ u other. refl)
 
       module _ (holds : IsTrue tells → (g : ℕ) → g < shape.loggers → HoldsParts shape new.content.bytes g t (slice_index log.held g) (write_parts_on shape g addr bytes))
           (now : Log) (kept' : IsKept shape now) (live : now.is_live ≡ true) (adds : Adds log.entries.items now.entries.items (map (λ (p : Place). (p.addr, p.len)) (parts_of shape addr (length bytes)))) where
@@ -167,9 +167,9 @@ module _ (tells : Bool) (old : View) (shape : Shape) (logs : List Log) (is_dead 
           write_len = ap (λ (k : ℕ). length (listed (option_map ranges_in (entries_at (slice_set logs k now) t)))) is
               ∙ ap length (ranges_there shape (slice_set logs t now) t now (slice_get-set_same logs t now below) kept') ∙ length-ranges_in now.entries.items
 
-          pub write_done : (k : ℕ) → (let done : Result ℕ EawFault = Ok k in face.Does tells (Opens shape) (log_write t addr bytes) (view_of old shape logs is_dead) (view_of new shape (slice_set logs at now) is_dead) done)
-          write_done k = subst (λ (j : ℕ). let done : Result ℕ EawFault = Ok k in face.Does tells (Opens shape) (log_write t addr bytes) (view_of old shape logs is_dead) (view_of new shape (slice_set logs j now) is_dead) done) (sym is)
-              (done tells (Opens shape) (log_write t addr bytes) (view_of old shape logs is_dead) (view_of new shape (slice_set logs t now) is_dead) refl does.cause.later time k alive small fits
+          pub write_done : (k : ℕ) → new.faults ≡ old.faults → (let done : Result ℕ EawFault = Ok k in face.Does tells (Opens shape) (log_write t addr bytes) (view_of old shape logs is_dead) (view_of new shape (slice_set logs at now) is_dead) done)
+          write_done k same' = subst (λ (j : ℕ). let done : Result ℕ EawFault = Ok k in face.Does tells (Opens shape) (log_write t addr bytes) (view_of old shape logs is_dead) (view_of new shape (slice_set logs j now) is_dead) done) (sym is)
+              (done tells (Opens shape) (log_write t addr bytes) (view_of old shape logs is_dead) (view_of new shape (slice_set logs t now) is_dead) refl does.cause.later time k same' alive small fits
               (record {
                 alive = alive;
                 ranges = ranges_set logs t now below _ (ap (option_map ranges_in) (entries_live now live)

@@ -2,20 +2,23 @@
 use Rattle.std.specs.Prelude.{ℕ, ◌≡◌, ◌≤◌, Bool, true, false, List, [], ◌∷◌, length, All, Option, Some, None, slice_get, refl}
 use Rattle.std.specs.Option.{option_map, option_and_then, ForSome}
 use Rattle.std.proofs.Common.{sym, ◌∙◌, ap, subst}
+use Rattle.std.proofs.Math.Nat.{le_refl}
 use Rattle.std.proofs.lemmas.Option.{slice_get_past}
 use Rattle.std.proofs.lemmas.List.Elements.{All-head, All-tail}
 use Rattle.pcm_media.specs.Images.{Content, MayLeave}
+use Rattle.pcm_media.specs.View.{View}
+use Rattle.pcm_media.proofs.Left.{left_as_read}
 use Rattle.array_shape.specs.declared.shape.Shape.{Shape}
 use Rattle.array_shape.specs.Places.{IsPlaced}
 use Rattle.array_shape.specs.Logged.{ranges_of}
 use Rattle.array_image.specs.Image.{data_of}
 use Rattle.array_image.proofs.Standing.{at_rest_stands}
 use Rattle.eaw_face.specs.State.{listed}
-use Rattle.eaw_face.specs.StoreView.{ArePlaced}
+use Rattle.eaw_face.specs.StoreView.{ArePlaced, LeavesSome}
 use Rattle.eaw_device.specs.declared.log.Log.{Log}
 use Rattle.eaw_device.specs.Opens.{Opens}
 use Rattle.eaw_device.specs.Logs.{ranges_in, parts_in, IsKept, IsHeld, entries_of, entries_at}
-use Rattle.eaw_device.specs.Sound.{IsSure, IsTold}
+use Rattle.eaw_device.specs.Sound.{IsSure, IsTold, view_of}
 
 -- ranges that are all placed
 pub are_placed : (shape : Shape) (rs : List (ℕ × ℕ)) → All (λ (r : ℕ × ℕ). IsPlaced shape r.0 r.1) rs → ArePlaced shape rs
@@ -51,6 +54,11 @@ placed shape logs t kept = by (slice_get logs t) kept
 -- beyond the numbers there is no log
 pub beyond : (logs : List Log) (shape : Shape) (t : ℕ) → length logs ≡ shape.numbers → shape.numbers ≤ t → option_map ranges_in (entries_at logs t) ≡ None
 beyond logs shape t many past = ap (λ (o : Option Log). option_map ranges_in (option_and_then entries_of o)) (slice_get_past logs t (subst (λ (n : ℕ). n ≤ t) (sym many) past))
+
+-- what is read may be left now
+pub some_now : (media : View) (shape : Shape) (logs : List Log) (is_dead : Bool)
+    → ((t : ℕ) (image : List ℕ) → t ≤ media.moment → MayLeave media.content image → media.left_since t image) → LeavesSome (view_of media shape logs is_dead)
+some_now media shape logs is_dead counts = record { image = media.content.bytes; left = counts media.moment media.content.bytes (le_refl media.moment) (left_as_read media.content) }
 
 -- what may be left of a sure array opens with its data
 pub only_now : (shape : Shape) (content : Content) (image : List ℕ) → IsSure shape content → MayLeave content image → Opens shape image (data_of shape content.bytes)

@@ -1,5 +1,5 @@
 -- What an opening finds before there is a store.
-use Rattle.std.specs.Prelude.{ℕ, ◌≡◌, ◌≤◌, Bool, false, IsTrue, List, length, slice_get}
+use Rattle.std.specs.Prelude.{ℕ, ◌≡◌, ◌+◌, ◌≤◌, Bool, false, IsTrue, List, length, slice_get}
 use Rattle.std.specs.Option.{ForSome}
 use Rattle.pcm_media.specs.View.{View}
 use Rattle.array_shape.specs.declared.shape.Shape.{Shape}
@@ -7,8 +7,8 @@ use Rattle.array_shape.specs.Places.{media_len}
 use Rattle.row_bytes.specs.Header.{SaysShape}
 use Rattle.array_image.specs.Image.{data_of}
 use Rattle.array_image.specs.Decided.{settled_data}
-use Rattle.device_recovery.specs.Recovered.{AllGood}
-use Rattle.eaw_device.specs.Opens.{header_of}
+use Rattle.device_recovery.specs.Recovered.{AllGood, HasNoVote}
+use Rattle.eaw_device.specs.Opens.{header_of, opening_calls}
 use Rattle.eaw_device.specs.Sound.{IsSure}
 use Rattle.eaw_device.specs.Logs.{IsKept}
 use Rattle.eaw_device.specs.declared.log.Log.{Log}
@@ -31,4 +31,5 @@ pub record Settled (tells : Bool) (old : View) (shape : Shape) (new : View) : Ty
   pub good : IsTrue tells → AllGood shape old.content.bytes shape.numbers
   pub bytes : IsTrue tells → data_of shape new.content.bytes ≡ settled_data shape old.content.bytes
   pub sure : IsTrue tells → IsSure shape new.content
-  pub later : old.faults ≤ new.faults
+  pub faults : new.faults ≡ old.faults
+  pub calls : IsTrue tells → HasNoVote shape old.content.bytes → new.moment ≡ old.moment + opening_calls shape

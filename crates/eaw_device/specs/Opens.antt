@@ -1,5 +1,5 @@
 -- What an image of an array opens with, and what an opening finds.
-use Rattle.std.specs.Prelude.{ℕ, ◌≡◌, ◌≤◌, Bool, false, IsTrue, List, [], None}
+use Rattle.std.specs.Prelude.{ℕ, ◌≡◌, ◌+◌, ◌*◌, ◌≤◌, ◌⊎◌, Bool, false, IsTrue, List, [], None}
 use Rattle.counted.specs.Causes.{Rose}
 use Rattle.counted.specs.Moments.{Elapses}
 use Rattle.counted.specs.Bytes.{range}
@@ -47,6 +47,14 @@ pub record OpensLike (shape : Shape) (content : Content) (image : List ℕ) : Ty
 abbrev pub KeepsData : Bool → View → ℕ → (ℕ → List ℕ → Type 0) → Type 0
 KeepsData tells media now since = IsTrue tells → (shape : Shape) → AllOpen shape media.content → Elapses media.moment now media.left_since since (OpensLike shape media.content)
 
+-- so many calls of the media an opening makes where no row is voted: it reads the header, makes all sure, and reads each row
+abbrev pub opening_calls : Shape → ℕ
+opening_calls shape = 2 + shape.loggers * shape.numbers
+
+-- from this media to this moment an opening made at most so many, where the header says a shape and no row is voted
+abbrev pub OpensWithin : Bool → View → ℕ → Type 0
+OpensWithin tells media now = IsTrue tells → (shape : Shape) → SaysShape (header_of media.content.bytes) shape → HasNoVote shape media.content.bytes → now ≤ media.moment + opening_calls shape
+
 -- A store over the media: of the shape that its header says, with the data that it settles to, and no number is live.
 pub record Attached (tells : Bool) (media : View) (store : StoreView) : Type 0 where
   pub shape_is : IsTrue tells → SaysShape (header_of media.content.bytes) store.shape
@@ -56,7 +64,8 @@ pub record Attached (tells : Bool) (media : View) (store : StoreView) : Type 0 w
   pub free : (t : ℕ) → store.ranges t ≡ None
   pub unlogged : (t : ℕ) → store.state.logs t ≡ None
   pub alive : store.is_dead ≡ false
-  pub faults : media.faults ≤ store.faults
+  pub faults : store.faults ≡ media.faults
+  pub calls : IsTrue tells → HasNoVote store.shape media.content.bytes → store.moment ≡ media.moment + opening_calls store.shape
 
 -- a decided row is bad, the first one
 pub record HasBadRow (media : View) (g t : ℕ) : Type 0 where
@@ -71,15 +80,23 @@ AttachCause tells media faults NotMars = 512 ≤ media.size → IsTrue tells →
 AttachCause tells media faults (BadShape bad) = (512 ≤ media.size) × (IsTrue tells → HasMark (header_of media.content.bytes) × IsBadIn (header_of media.content.bytes) media.size bad.which bad.given)
 AttachCause tells media faults (BadRow g t) = IsTrue tells → HasBadRow media g t
 AttachCause tells media faults Media = Rose media.faults faults
-AttachCause tells media faults NoMemory = Unit {0}
+AttachCause tells media faults NoMemory = IsTrue tells → (shape : Shape) × SaysShape (header_of media.content.bytes) shape × (media.size ≡ media_len shape)
 
--- but where the media failed, nothing was written
+-- The media holds an array: its header says this shape, it has the length of that, and each decided row is good.
+pub record IsArray (shape : Shape) (media : View) : Type 0 where
+  pub header : SaysShape (header_of media.content.bytes) shape
+  pub sized : media.size ≡ media_len shape
+  pub good : AllGood shape media.content.bytes shape.numbers
+
+-- of some shape
+pub record HoldsArray (media : View) : Type 0 where
+  pub shape : Shape
+  pub array : IsArray shape media
+
+-- Nothing was written. Only where the media failed while an array was settled, some of that was done.
 abbrev pub AttachLeaves : Bool → View → View → AttachFault → Type 0
-AttachLeaves tells old new NotMars = IsTrue tells → Touched [] old.content new.content
-AttachLeaves tells old new (BadShape bad) = IsTrue tells → Touched [] old.content new.content
-AttachLeaves tells old new (BadRow g t) = IsTrue tells → Touched [] old.content new.content
-AttachLeaves tells old new Media = Unit {0}
-AttachLeaves tells old new NoMemory = IsTrue tells → Touched [] old.content new.content
+AttachLeaves tells old new Media = IsTrue tells → Touched [] old.content new.content ⊎ HoldsArray old
+AttachLeaves tells old new _ = IsTrue tells → Touched [] old.content new.content
 
 -- The media behind a store: its data, its moments and faults are the store's; while that was not dead, no row is voted.
 pub record IsBehind (tells : Bool) (store : StoreView) (media : View) : Type 0 where

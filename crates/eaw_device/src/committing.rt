@@ -1,5 +1,5 @@
 // A commit of what a log has from a position on.
-ghost use Rattle.std.specs.Prelude.{◌≡◌, ◌+◌, ◌-◌, ◌≤◌, ◌<◌, ℕ, Ok, drop, length, slice_index, IsTrue, OnOk};
+ghost use Rattle.std.specs.Prelude.{◌≡◌, ◌+◌, ◌-◌, ◌≤◌, ◌<◌, ℕ, Ok, drop, length, slice_index, IsTrue, OnOk, OnErr};
 ghost use Rattle.pcm_media.specs.View.{LeavesOnly};
 ghost use Rattle.array_shape.specs.Places.{media_len};
 ghost use Rattle.array_shape.specs.Logged.{applied};
@@ -36,6 +36,7 @@ pub(crate) fn commit_log<M: Media>(
         applied (drop offset (parts_in shape.now (M.view media.old).content.bytes tid log.now.entries.items)) (data_of shape.now (M.view media.old).content.bytes)) }
     ensures cells { IsTrue M.tells → SameCells shape.now (M.view media.old).content.bytes (M.view media.new).content.bytes }
     ensures does { WritesBehind M.tells (M.view media.old) (M.view media.new) result }
+    ensures due { OnErr result (offset < length log.now.entries.items) }
     ensures idle { length log.now.entries.items ≡ offset → media.new ≡ media.old }
 {
     let firsts = log.counts_of_first(shape, offset);

@@ -1,8 +1,8 @@
 // The commands, over all loggers.
-ghost use Rattle.std.specs.Prelude.{◌≡◌, ◌+◌, ◌≤◌, ◌<◌, false, IsTrue, IfOk, IfErr, OnOk};
+ghost use Rattle.std.specs.Prelude.{◌≡◌, ◌≢◌, ◌+◌, ◌≤◌, ◌<◌, false, IsTrue, IfOk, IfErr, OnOk};
 ghost use Rattle.array_shape.specs.Places.{data_len};
 ghost use Rattle.eaw_face.specs.StoreView.{IsLive};
-ghost use Rattle.eaw_device.specs.Opens.{Attached, AttachCause, AttachLeaves, KeepsData, IsBehind};
+ghost use Rattle.eaw_device.specs.Opens.{Attached, AttachCause, AttachLeaves, KeepsData, OpensWithin, IsBehind};
 ghost use Rattle.eaw_device.specs.Steps.{LogHasCells, RefusesWrite};
 ghost use Rattle.eaw_device.specs.Sound.{IsSound, LacksLog, view_of};
 
@@ -38,6 +38,9 @@ impl<M: Media> Eaw<M> {
         ensures keeps { IfOk result (λ eaw. KeepsData M.tells (M.view media) (M.view eaw.media).moment (M.view eaw.media).left_since) }
         ensures keeps_on_err { IfErr result (λ e. KeepsData M.tells (M.view media) (M.view e.1).moment (M.view e.1).left_since) }
         ensures later { IfErr result (λ e. (M.view media).faults ≤ (M.view e.1).faults) }
+        ensures kept { IfErr result (λ e. e.0 ≢ AttachFault.Media → (M.view e.1).faults ≡ (M.view media).faults) }
+        ensures within { IfErr result (λ e. OpensWithin M.tells (M.view media) (M.view e.1).moment) }
+        ensures early { IfErr result (λ e. e.0 ≡ AttachFault.NoMemory → (M.view e.1).moment ≡ (M.view media).moment + 1) }
     {
         match open_array(alloc, &mut media) {
             Ok((shape, logs)) => Ok(Eaw {
@@ -104,7 +107,7 @@ impl<M: Media> Eaw<M> {
 impl<M: Media> EawStore for Eaw<M> {
     ghost use Rattle.eaw_device.specs.Sound.{view_of};
     ghost use Rattle.eaw_device.specs.Opens.{Opens};
-    ghost use Rattle.eaw_device.specs.Laws.{outlines, placed, beyond, only_now, one_data};
+    ghost use Rattle.eaw_device.specs.Laws.{outlines, placed, beyond, some_now, only_now, one_data};
     ghost use Rattle.array_image.proofs.Data.{length-data_of};
 
     ghost tells = { M.tells };
@@ -122,6 +125,8 @@ impl<M: Media> EawStore for Eaw<M> {
     ghost placed = { λ s t. placed s.shape s.logs.items t (s.sound.kept t) };
 
     ghost beyond = { λ s t past. beyond s.logs.items s.shape t s.sound.many past };
+
+    ghost some_now = { λ s told alive. some_now (M.view s.media) s.shape s.logs.items s.is_dead (λ t image. M.counts_now s.media t image told) };
 
     ghost counts_now = { λ s t image told le left. M.counts_now s.media t image told le (M.only_now s.media image told left) };
 
@@ -228,6 +233,10 @@ impl<M: Media> EawStore for Eaw<M> {
 
     fn held(&self, tid: u8, logger: u8) -> u16 {
         self.logs[usize::from(tid)].held[usize::from(logger)]
+    }
+
+    fn is_dead(&self) -> bool {
+        self.is_dead
     }
 
     fn is_live(&self, tid: u8) -> bool {

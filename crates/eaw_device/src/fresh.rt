@@ -5,6 +5,7 @@ ghost use Rattle.counted.specs.Bytes.{range};
 ghost use Rattle.pcm_media.specs.View.{Writes, LeavesOnly};
 ghost use Rattle.array_shape.specs.Places.{media_len, row_at, page_count};
 ghost use Rattle.array_image.specs.Image.{data_of};
+ghost use Rattle.array_image.specs.Standing.{SameCells};
 ghost use Rattle.eaw_device.specs.Attaching.{AllOpenWith};
 ghost use Rattle.eaw_device.specs.Fresh.{IsFresh, LeavesAsRead, IsHalfFresh, HasParts, HasPages, HasRows, behind_header, fresh_page, super_page, empty_index, IsWrongLength};
 
@@ -25,13 +26,14 @@ pub enum FormatFault {
 }
 
 /// Writes a fresh array of this shape: rows and pages, and behind a barrier the header. Where it is broken off, the header is
-/// an old one, or all behind it is fresh. The cells are left as they are.
+/// an old one, or all behind it is fresh. The cells are left as they are, whatever it answers.
 pub fn format<M: Media>(media: &mut M, shape: &Shape) -> Result<(), FormatFault>
     // Whatever a loss of power leaves then is the fresh array, and opens.
     ensures fresh { IsTrue M.tells → OnOk result (IsFresh shape.now (M.view media.new).content) }
     ensures sure { IsTrue M.tells → OnOk result (LeavesAsRead (M.view media.new).content) }
     ensures opens { IsTrue M.tells → OnOk result (AllOpenWith shape.now (M.view media.new).content (data_of shape.now (M.view media.new).content.bytes)) }
     ensures any_moment { IsTrue M.tells → LeavesOnly (IsHalfFresh shape.now (M.view media.old).content) (M.view media.old) (M.view media.new) }
+    ensures cells { IsTrue M.tells → SameCells shape.now (M.view media.old).content.bytes (M.view media.new).content.bytes }
     ensures sized { OnOk result ((M.view media.old).size ≡ media_len shape.now) }
     ensures bad_shape { IfErr result (IsWrongLength shape.now (M.view media.old).size) }
     ensures untouched { IfErr result (λ fault. fault ≢ FormatFault.Media → media.new ≡ media.old) }
@@ -56,6 +58,7 @@ fn write_array<M: Media>(media: &mut M, shape: &Shape) -> Result<(), Failed>
     requires size { (M.view media.old).size ≡ media_len shape.now }
     ensures fresh { IsTrue M.tells → OnOk result (IsFresh shape.now (M.view media.new).content) }
     ensures any_moment { IsTrue M.tells → LeavesOnly (IsHalfFresh shape.now (M.view media.old).content) (M.view media.old) (M.view media.new) }
+    ensures cells { IsTrue M.tells → SameCells shape.now (M.view media.old).content.bytes (M.view media.new).content.bytes }
     ensures does { Writes M.tells ((0, media_len shape.now) ∷ []) (M.view media.old) (M.view media.new) result }
 {
     write_parts(media, shape)?;
@@ -67,6 +70,7 @@ fn write_parts<M: Media>(media: &mut M, shape: &Shape) -> Result<(), Failed>
     requires size { (M.view media.old).size ≡ media_len shape.now }
     ensures parts { IsTrue M.tells → OnOk result (HasParts shape.now (M.view media.new).content.bytes) }
     ensures sure { IsTrue M.tells → OnOk result ((M.view media.new).content.unsettled ≡ []) }
+    ensures cells { IsTrue M.tells → SameCells shape.now (M.view media.old).content.bytes (M.view media.new).content.bytes }
     ensures does { Writes M.tells (behind_header shape.now) (M.view media.old) (M.view media.new) result }
 {
     write_pages(media, shape)?;
@@ -81,6 +85,7 @@ fn write_header<M: Media>(media: &mut M, shape: &Shape) -> Result<(), Failed>
     requires sure { IsTrue M.tells → (M.view media.old).content.unsettled ≡ [] }
     ensures fresh { IsTrue M.tells → OnOk result (IsFresh shape.now (M.view media.new).content) }
     ensures any_moment { IsTrue M.tells → LeavesOnly (HasParts shape.now) (M.view media.old) (M.view media.new) }
+    ensures cells { IsTrue M.tells → SameCells shape.now (M.view media.old).content.bytes (M.view media.new).content.bytes }
     ensures does { Writes M.tells ((0, 512) ∷ []) (M.view media.old) (M.view media.new) result }
 {
     let mut header = [0; 512];
@@ -92,6 +97,7 @@ fn write_header<M: Media>(media: &mut M, shape: &Shape) -> Result<(), Failed>
 fn write_pages<M: Media>(media: &mut M, shape: &Shape) -> Result<(), Failed>
     requires size { (M.view media.old).size ≡ media_len shape.now }
     ensures pages { IsTrue M.tells → OnOk result (HasPages shape.now (page_count shape.now) (M.view media.new).content.bytes) }
+    ensures cells { IsTrue M.tells → SameCells shape.now (M.view media.old).content.bytes (M.view media.new).content.bytes }
     ensures does { Writes M.tells (behind_header shape.now) (M.view media.old) (M.view media.new) result }
 {
     for page in 0..shape.page_count() {
@@ -104,6 +110,7 @@ fn clear_rows<M: Media>(media: &mut M, shape: &Shape) -> Result<(), Failed>
     requires size { (M.view media.old).size ≡ media_len shape.now }
     ensures rows { IsTrue M.tells → OnOk result (HasRows shape.now shape.now.loggers (M.view media.new).content.bytes) }
     ensures pages { IsTrue M.tells → OnOk result (data_of shape.now (M.view media.new).content.bytes ≡ data_of shape.now (M.view media.old).content.bytes) }
+    ensures cells { IsTrue M.tells → SameCells shape.now (M.view media.old).content.bytes (M.view media.new).content.bytes }
     ensures does { Writes M.tells (behind_header shape.now) (M.view media.old) (M.view media.new) result }
 {
     let zeros = [0; 1024];
@@ -116,6 +123,7 @@ fn fill_rows<M: Media>(media: &mut M, shape: &Shape, zeros: &[u8]) -> Result<(),
     requires zeros { zeros.now ≡ replicate (16 * shape.now.numbers) 0 }
     ensures rows { IsTrue M.tells → OnOk result (HasRows shape.now shape.now.loggers (M.view media.new).content.bytes) }
     ensures pages { IsTrue M.tells → OnOk result (data_of shape.now (M.view media.new).content.bytes ≡ data_of shape.now (M.view media.old).content.bytes) }
+    ensures cells { IsTrue M.tells → SameCells shape.now (M.view media.old).content.bytes (M.view media.new).content.bytes }
     ensures does { Writes M.tells (behind_header shape.now) (M.view media.old) (M.view media.new) result }
 {
     for logger in 0..shape.loggers {

@@ -1,6 +1,6 @@
 // An opening: the header, memory for the tables, recovery.
-ghost use Rattle.std.specs.Prelude.{◌≡◌, ◌≤◌, IsTrue, IfOk, IfErr};
-ghost use Rattle.eaw_device.specs.Opens.{AttachCause, AttachLeaves, KeepsData};
+ghost use Rattle.std.specs.Prelude.{◌≡◌, ◌≢◌, ◌+◌, ◌≤◌, IsTrue, IfOk, IfErr, OnErr};
+ghost use Rattle.eaw_device.specs.Opens.{AttachCause, AttachLeaves, KeepsData, OpensWithin};
 ghost use Rattle.eaw_device.specs.Opening.{AreFree, Settled};
 
 use crate::attach::{read_header, settle};
@@ -22,6 +22,9 @@ pub(crate) fn open_array<M: Media>(
     ensures unwritten { IfErr result (AttachLeaves M.tells (M.view media.old) (M.view media.new)) }
     ensures keeps { KeepsData M.tells (M.view media.old) (M.view media.new).moment (M.view media.new).left_since }
     ensures later { (M.view media.old).faults ≤ (M.view media.new).faults }
+    ensures kept { IfErr result (λ fault. fault ≢ AttachFault.Media → (M.view media.new).faults ≡ (M.view media.old).faults) }
+    ensures within { OnErr result (OpensWithin M.tells (M.view media.old) (M.view media.new).moment) }
+    ensures early { IfErr result (λ fault. fault ≡ AttachFault.NoMemory → (M.view media.new).moment ≡ (M.view media.old).moment + 1) }
 {
     let shape = read_header(media)?;
     let logs = match free_logs(alloc, &shape) {

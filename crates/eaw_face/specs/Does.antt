@@ -2,7 +2,7 @@
 use Rattle.std.specs.Prelude.{ℕ, ◌≡◌, ◌⊎◌, ◌≤◌, Bool, true, false, IsTrue, List, Result, OnOk, IsErrOf}
 use Rattle.eaw_face.specs.StoreView.{StoreView, LeavesOnly}
 use Rattle.eaw_face.specs.Command.{Command, after, ranges_after}
-use Rattle.eaw_face.specs.Causes.{Cause}
+use Rattle.eaw_face.specs.Causes.{Cause, IsNumberOf}
 use Rattle.eaw_face.specs.declared.fault.EawFault.{EawFault}
 use Rattle.eaw_face.specs.declared.fault.EawFault.TheVariants.{Media}
 
@@ -17,12 +17,15 @@ abbrev pub IsEither : (List ℕ → List ℕ → Type 0) → List ℕ → List �
 IsEither Opens before after image = Opens image before ⊎ Opens image after
 
 -- A command of a store, of which an image that a loss of power leaves is opened so. Each answer has its cause; an Ok is the model's
--- command; a fault of the media leaves the store dead; and whatever the answer, at each moment of a store that was not dead a
--- loss of power leaves what it might have left before, or an image that opens with the data before the command or after it.
+-- command, and hides no fault; a fault of the media leaves the store dead; and whatever the answer, other numbers have logged what
+-- they had, and at each moment of a store that was not dead a loss of power leaves what it might have left before, or an image
+-- that opens with the data before the command or after it.
 pub record Does {T : Type 0} (tells : Bool) (Opens : List ℕ → List ℕ → Type 0) (command : Command) (old new : StoreView) (result : Result T EawFault) : Type 0 where
   pub shape : new.shape ≡ old.shape
   pub later : old.faults ≤ new.faults
   pub cause : Cause old command new.faults result
   pub done : OnOk result (Becomes tells command old new)
+  pub kept : OnOk result (new.faults ≡ old.faults)
   pub dies : IsErrOf result Media → new.is_dead ≡ true
+  pub others : (u : ℕ) → (IsNumberOf command u → ⊥) → new.ranges u ≡ old.ranges u
   pub time : IsTrue tells → old.is_dead ≡ false → LeavesOnly (IsEither Opens old.state.bytes (after command old.state).bytes) old new

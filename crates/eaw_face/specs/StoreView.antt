@@ -30,6 +30,11 @@ pub record IsLive (store : StoreView) (t : ℕ) : Type 0 where
 abbrev pub LeavesOnly : (List ℕ → Type 0) → StoreView → StoreView → Type 0
 LeavesOnly P old new = Elapses old.moment new.moment old.left_since new.left_since P
 
+-- some image may be left now
+pub record LeavesSome (store : StoreView) : Type 0 where
+  pub image : List ℕ
+  pub left : store.left_since store.moment image
+
 -- each range lies within one page of the data, and is not empty
 abbrev pub ArePlaced : Shape → List (ℕ × ℕ) → Type 0
 ArePlaced shape [] = Unit {0}

@@ -1,5 +1,5 @@
 // The commands, as the layers above see them.
-ghost use Rattle.std.specs.Prelude.{◌≡◌, ◌≢◌, ◌+◌, ◌≤◌, ◌<◌, true, false, Bool, List, ℕ, take, drop, length, Option, None, is_some, IsTrue, IfOk, IfErr, OnOk, OnErr};
+ghost use Rattle.std.specs.Prelude.{◌≡◌, ◌≢◌, ◌+◌, ◌≤◌, ◌<◌, true, false, Bool, List, ℕ, take, drop, length, Option, None, is_some, IsTrue, IfOk, IfErr, OnOk, OnErr, IsErrOf};
 ghost use Rattle.std.specs.Option.{option_map};
 ghost use Rattle.counted.specs.Bytes.{range};
 ghost use Rattle.array_shape.specs.declared.shape.Shape.{Shape};
@@ -7,7 +7,7 @@ ghost use Rattle.array_shape.specs.Places.{data_len, IsShape};
 ghost use Rattle.array_shape.specs.Logged.{ranges_of};
 ghost use Rattle.eaw_face.specs.State.{listed, range_at, part_at, count_on};
 ghost use Rattle.eaw_face.specs.Command.{log_write, log_edit, commit, abort, nested_top, partial_abort, atomic_write, log_read, read};
-ghost use Rattle.eaw_face.specs.StoreView.{StoreView, IsLive, ArePlaced, log_len};
+ghost use Rattle.eaw_face.specs.StoreView.{StoreView, IsLive, ArePlaced, LeavesSome, log_len};
 ghost use Rattle.eaw_face.specs.Does.{Does};
 
 use crate::fault::EawFault;
@@ -47,12 +47,14 @@ pub trait EawStore {
     /// Commit: writes all that the number has logged into the data at once, and frees the number.
     fn commit(&mut self, tid: u8) -> Result<(), EawFault>
         ensures does { Does tells (opens (view self.old).shape) (commit tid) (view self.old) (view self.new) result }
+        ensures due { IsErrOf result EawFault.Media → 0 < log_len (view self.old) tid }
         ensures idle { log_len (view self.old) tid ≡ 0 → (view self.new).moment ≡ (view self.old).moment }
         ensures refused { IfErr result (λ fault. fault ≢ EawFault.Media → self.new ≡ self.old) };
 
     /// Abort: drops all that the number has logged, and frees the number.
     fn abort(&mut self, tid: u8) -> Result<(), EawFault>
         ensures does { Does tells (opens (view self.old).shape) (abort tid) (view self.old) (view self.new) result }
+        ensures due { IsErrOf result EawFault.Media → ⊥ }
         ensures idle { (view self.new).moment ≡ (view self.old).moment }
         ensures refused { OnErr result (self.new ≡ self.old) };
 
@@ -61,6 +63,7 @@ pub trait EawStore {
     fn nested_top(&mut self, tid: u8, offset: u32) -> Result<(), EawFault>
         requires { offset ≤ log_len (view self.old) tid }
         ensures does { Does tells (opens (view self.old).shape) (nested_top tid offset) (view self.old) (view self.new) result }
+        ensures due { IsErrOf result EawFault.Media → offset < log_len (view self.old) tid }
         ensures idle { log_len (view self.old) tid ≡ offset → (view self.new).moment ≡ (view self.old).moment }
         ensures refused { IfErr result (λ fault. fault ≢ EawFault.Media → self.new ≡ self.old) };
 
@@ -68,6 +71,7 @@ pub trait EawStore {
     fn partial_abort(&mut self, tid: u8, offset: u32) -> Result<(), EawFault>
         requires { offset ≤ log_len (view self.old) tid }
         ensures does { Does tells (opens (view self.old).shape) (partial_abort tid offset) (view self.old) (view self.new) result }
+        ensures due { IsErrOf result EawFault.Media → ⊥ }
         ensures idle { (view self.new).moment ≡ (view self.old).moment }
         ensures refused { OnErr result (self.new ≡ self.old) };
 
@@ -86,7 +90,8 @@ pub trait EawStore {
         ensures does { Does tells (opens (view self.old).shape) (log_read tid) (view self.old) (view self.new) result }
         ensures part { IfOk result (λ part. part ≡ range_at (listed ((view self.old).ranges tid)) pos) }
         ensures bytes { IsTrue tells → IfOk result (λ part. take part.1 buf.new ≡ (part_at (listed ((view self.old).state.logs tid)) pos).1) }
-        ensures refused { IfErr result (λ fault. fault ≢ EawFault.Media → self.new ≡ self.old) };
+        ensures refused { IfErr result (λ fault. fault ≢ EawFault.Media → self.new ≡ self.old) }
+        ensures unread { IfErr result (λ fault. fault ≢ EawFault.Media → buf.new ≡ buf.old) };
 
     /// Replaces bytes within the part at a position of the log, from this place in it on.
     fn log_edit(&mut self, tid: u8, pos: u32, at: u32, bytes: &[u8]) -> Result<(), EawFault>
@@ -100,7 +105,8 @@ pub trait EawStore {
         requires { addr + length buf.old ≤ data_len (view self.old).shape }
         ensures does { Does tells (opens (view self.old).shape) read (view self.old) (view self.new) result }
         ensures bytes { IsTrue tells → OnOk result (buf.new ≡ range (view self.old).state.bytes addr (length buf.old)) }
-        ensures refused { IfErr result (λ fault. fault ≢ EawFault.Media → self.new ≡ self.old) };
+        ensures refused { IfErr result (λ fault. fault ≢ EawFault.Media → self.new ≡ self.old) }
+        ensures unread { IfErr result (λ fault. fault ≢ EawFault.Media → buf.new ≡ buf.old) };
 
     /// How many parts the number has logged, 0 where it is not live.
     fn log_len(&self, tid: u8) -> u32
@@ -112,6 +118,10 @@ pub trait EawStore {
         requires tid { tid < (view self.now).shape.numbers }
         requires logger { logger < (view self.now).shape.loggers }
         ensures { result ≡ count_on (view self.now).shape logger (listed ((view self.now).ranges tid)) };
+
+    /// Whether an earlier call has met a fault of the media.
+    fn is_dead(&self) -> bool
+        ensures { result ≡ (view self.now).is_dead };
 
     fn is_live(&self, tid: u8) -> bool
         requires { tid < (view self.now).shape.numbers }
@@ -137,6 +147,9 @@ pub trait EawStore {
 
     /// Beyond the array's numbers none is live.
     ghost beyond: { (s : Self) (t : ℕ) → (view s).shape.numbers ≤ t → (view s).ranges t ≡ None };
+
+    /// While it is not dead, something may be left now.
+    ghost some_now: { (s : Self) → IsTrue tells → (view s).is_dead ≡ false → LeavesSome (view s) };
 
     /// What may be left now is left since each moment up to now.
     ghost counts_now: { (s : Self) (t : ℕ) (image : List ℕ) → IsTrue tells → t ≤ (view s).moment → (view s).left_since (view s).moment image → (view s).left_since t image };

@@ -10,6 +10,7 @@ use Rattle.eaw_face.specs.Command.{Command, log_write, log_edit, after, ranges_a
 use Rattle.eaw_face.specs.Causes.{IsAlive, Knows, HasRoom}
 use Rattle.eaw_face.specs.Does.{Becomes, Does, IsEither}
 use Rattle.eaw_face.specs.declared.fault.EawFault.{EawFault}
+use Rattle.eaw_face.proofs.Others.{others_after}
 use Rattle.memory_eaw.specs.Log.{Log, log_of, logged, outline}
 use Rattle.memory_eaw.specs.Plain.{Plain, IsData, view_of, IsSound}
 use Rattle.memory_eaw.specs.Steps.{log_at}
@@ -27,9 +28,18 @@ done = Ok tt
 abbrev pub May : StoreView → Command → Type 0
 May store command = IsAlive store × Knows store command × HasRoom store command
 
-pub does_done : {T : Type 0} (x : T) (old new : Plain) (command : Command) → May (view_of old) command → new.shape ≡ old.shape → old.kept.faults ≤ new.kept.faults → Becomes true command (view_of old) (view_of new)
+pub does_done : {T : Type 0} (x : T) (old new : Plain) (command : Command) → May (view_of old) command → new.shape ≡ old.shape → new.kept.faults ≡ old.kept.faults → Becomes true command (view_of old) (view_of new)
     → LeavesOnly (IsEither IsData old.bytes (after command (view_of old).state).bytes) (view_of old) (view_of new) → Does true IsData command (view_of old) (view_of new) (answer x)
-does_done x old new command may shape faults becomes time = record { shape = shape; later = faults; cause = may; done = becomes; dies = λ is. absurd (cc is); time = λ told alive. time }
+does_done x old new command may shape faults becomes time = record {
+  shape = shape;
+  later = omega (arith, faults);
+  cause = may;
+  done = becomes;
+  kept = faults;
+  dies = λ is. absurd (cc is);
+  others = λ u other. ap (λ (ranges : Logs (ℕ × ℕ)). ranges u) becomes.ranges ∙ others_after command (view_of old).ranges u other;
+  time = λ told alive. time;
+}
 
 -- data and logs are as they were
 pub becomes_same : (old new : Plain) (command : Command) → new.is_dead ≡ false → new.bytes ≡ old.bytes → new.logs ≡ old.logs → ranges_after command (view_of old).ranges ≡ (view_of old).ranges → after command (view_of old).state ≡ (view_of old).state

@@ -6,10 +6,10 @@ use Rattle.std.proofs.lemmas.List.Elements.{All-head, All-tail}
 use Rattle.array_shape.specs.declared.shape.Shape.{Shape}
 use Rattle.array_shape.specs.Logged.{Part, ranges_of}
 use Rattle.eaw_face.specs.State.{listed}
-use Rattle.eaw_face.specs.StoreView.{ArePlaced}
+use Rattle.eaw_face.specs.StoreView.{ArePlaced, LeavesSome}
 use Rattle.memory_eaw.specs.Kept.{Version}
 use Rattle.memory_eaw.specs.Log.{Log, IsWritePart, IsSoundLog, logged, outline}
-use Rattle.memory_eaw.specs.Plain.{Plain, WasBefore, LeftSince, IsData, IsSound}
+use Rattle.memory_eaw.specs.Plain.{Plain, WasBefore, LeftSince, IsData, view_of, IsSound}
 
 logged-past : (logs : List Log) (t : ℕ) → length logs ≤ t → logged logs t ≡ None
 logged-past [] t le = refl
@@ -39,6 +39,10 @@ was_none (v ∷ past) now image stamped was = ⊎_elim
     (λ here. omega (arith, here.0, All-head (λ w. w.until ≤ now) v past stamped))
     (λ later. was_none past now image (All-tail (λ w. w.until ≤ now) v past stamped) later)
     was
+
+-- the data as it is may be left now
+pub some_now : (plain : Plain) → LeavesSome (view_of plain)
+some_now plain = record { image = plain.bytes; left = inl refl }
 
 module _ (plain : Plain) (sound : IsSound plain) where
   -- each part lies within one page, and beyond the array's numbers none is live

@@ -1,5 +1,5 @@
 // An array in memory.
-ghost use Rattle.std.specs.Prelude.{ℕ, ◌≡◌, ◌≢◌, ◌+◌, ◌*◌, ◌^◌, ◌≤◌, ◌<◌, true, false, [], ◌∷◌, ◌++◌, length, take, drop, replicate, IfOk, IfErr, OnOk, OnErr};
+ghost use Rattle.std.specs.Prelude.{ℕ, ◌≡◌, ◌≢◌, ◌+◌, ◌*◌, ◌^◌, ◌≤◌, ◌<◌, true, false, [], ◌∷◌, ◌++◌, length, take, drop, replicate, IfOk, IfErr, OnOk, OnErr, IsErrOf};
 ghost use Rattle.counted.specs.Bytes.{put, range};
 ghost use Rattle.array_shape.specs.Places.{data_len};
 ghost use Rattle.array_shape.specs.Parts.{parts_of_write};
@@ -269,7 +269,7 @@ impl EawStore for MemoryEaw {
     ghost use Rattle.std.proofs.Common.{sym, ◌∙◌};
     ghost use Rattle.memory_eaw.specs.Plain.{IsData};
     ghost use Rattle.memory_eaw.specs.Shown.{plain_of, shown, kept_of};
-    ghost use Rattle.memory_eaw.specs.Laws.{beyond_in, placed_in, counts_now, only_now};
+    ghost use Rattle.memory_eaw.specs.Laws.{beyond_in, placed_in, some_now, counts_now, only_now};
 
     ghost tells = { true };
 
@@ -286,6 +286,8 @@ impl EawStore for MemoryEaw {
     ghost placed = { λ s t. placed_in (plain_of s) s.sound t };
 
     ghost beyond = { λ s t le. beyond_in (plain_of s) s.sound t le };
+
+    ghost some_now = { λ s told alive. some_now (plain_of s) };
 
     ghost counts_now = { λ s t image told le left. counts_now (plain_of s) s.sound t image le left };
 
@@ -313,6 +315,7 @@ impl EawStore for MemoryEaw {
 
     fn commit(&mut self, tid: u8) -> Result<(), EawFault>
         ensures does { Does true IsData (commit tid) (shown self.old) (shown self.new) result }
+        ensures due { IsErrOf result EawFault.Media → 0 < log_len (shown self.old) tid }
         ensures idle { log_len (shown self.old) tid ≡ 0 → (shown self.new).moment ≡ (shown self.old).moment }
         ensures refused { IfErr result (λ fault. fault ≢ EawFault.Media → self.new ≡ self.old) }
         ensures calls { Counts (commit tid) (shown self.old) (kept_of self.old) (kept_of self.new) result }
@@ -325,6 +328,7 @@ impl EawStore for MemoryEaw {
 
     fn abort(&mut self, tid: u8) -> Result<(), EawFault>
         ensures does { Does true IsData (abort tid) (shown self.old) (shown self.new) result }
+        ensures due { IsErrOf result EawFault.Media → ⊥ }
         ensures idle { (shown self.new).moment ≡ (shown self.old).moment }
         ensures refused { OnErr result (self.new ≡ self.old) }
         ensures calls { Counts (abort tid) (shown self.old) (kept_of self.old) (kept_of self.new) result }
@@ -337,6 +341,7 @@ impl EawStore for MemoryEaw {
     fn nested_top(&mut self, tid: u8, offset: u32) -> Result<(), EawFault>
         requires { offset ≤ log_len (shown self.old) tid }
         ensures does { Does true IsData (nested_top tid offset) (shown self.old) (shown self.new) result }
+        ensures due { IsErrOf result EawFault.Media → offset < log_len (shown self.old) tid }
         ensures idle { log_len (shown self.old) tid ≡ offset → (shown self.new).moment ≡ (shown self.old).moment }
         ensures refused { IfErr result (λ fault. fault ≢ EawFault.Media → self.new ≡ self.old) }
         ensures calls { Counts (nested_top tid offset) (shown self.old) (kept_of self.old) (kept_of self.new) result }
@@ -351,6 +356,7 @@ impl EawStore for MemoryEaw {
     fn partial_abort(&mut self, tid: u8, offset: u32) -> Result<(), EawFault>
         requires { offset ≤ log_len (shown self.old) tid }
         ensures does { Does true IsData (partial_abort tid offset) (shown self.old) (shown self.new) result }
+        ensures due { IsErrOf result EawFault.Media → ⊥ }
         ensures idle { (shown self.new).moment ≡ (shown self.old).moment }
         ensures refused { OnErr result (self.new ≡ self.old) }
         ensures calls { Counts (partial_abort tid offset) (shown self.old) (kept_of self.old) (kept_of self.new) result }
@@ -382,6 +388,7 @@ impl EawStore for MemoryEaw {
         ensures part { IfOk result (λ part. part ≡ range_at (listed ((shown self.old).ranges tid)) pos) }
         ensures bytes { IfOk result (λ part. take part.1 buf.new ≡ (part_at (listed ((shown self.old).state.logs tid)) pos).1) }
         ensures refused { IfErr result (λ fault. fault ≢ EawFault.Media → self.new ≡ self.old) }
+        ensures unread { IfErr result (λ fault. fault ≢ EawFault.Media → buf.new ≡ buf.old) }
         ensures calls { Counts (log_read tid) (shown self.old) (kept_of self.old) (kept_of self.new) result }
     {
         self.check_live(tid)?;
@@ -408,6 +415,7 @@ impl EawStore for MemoryEaw {
         ensures does { Does true IsData read (shown self.old) (shown self.new) result }
         ensures bytes { OnOk result (buf.new ≡ range (shown self.old).state.bytes addr (length buf.old)) }
         ensures refused { IfErr result (λ fault. fault ≢ EawFault.Media → self.new ≡ self.old) }
+        ensures unread { IfErr result (λ fault. fault ≢ EawFault.Media → buf.new ≡ buf.old) }
         ensures calls { Counts read (shown self.old) (kept_of self.old) (kept_of self.new) result }
     {
         self.check_alive()?;
@@ -422,6 +430,10 @@ impl EawStore for MemoryEaw {
 
     fn held(&self, tid: u8, logger: u8) -> u16 {
         self.logs[usize::from(tid)].count_on(self.shape, logger)
+    }
+
+    fn is_dead(&self) -> bool {
+        self.is_dead
     }
 
     fn is_live(&self, tid: u8) -> bool {

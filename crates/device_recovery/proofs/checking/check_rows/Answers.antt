@@ -1,11 +1,11 @@
-use Rattle.std.proofs.Common.{refl, ◌≡◌, ◌+◌, ◌≤◌, true, [], ⊎_elim, sym, subst, arith}
+use Rattle.std.proofs.Common.{refl, ◌≡◌, ◌+◌, ◌≤◌, true, [], ⊎_elim, sym, ◌∙◌, subst, arith}
 use Rattle.std.proofs.lemmas.Bool.{cases_eq}
 use Rattle.std.proofs.lemmas.Result.{err_from_is_err_and}
 use Rattle.pcm_media.proofs.Left.{same_bytes}
 use Rattle.array_image.specs.Decided.{decided}
 use Rattle.array_image.specs.Standing.{IsGoodRow}
 use Rattle.array_image.proofs.Calls.{goes_on}
-use Rattle.device_recovery.specs.Table.{row_in, decided_in}
+use Rattle.device_recovery.specs.Table.{row_in, RowsAre, decided_in}
 use Rattle.device_recovery.specs.Recovered.{AllGood, IsFirstBadAt}
 use Rattle.device_recovery.proofs.checking.check_rows.Goals as goal
 
@@ -35,8 +35,14 @@ loop-tid-preserved g c =
           (subst (λ image. decided shape image h c.loop-tid.tid ≡ true → IsGoodRow shape image h c.loop-tid.tid) (same_bytes _ _ (c.loop-tid.invariant.does.touched told)) (c.in_ok-check_number.ensures.good told h lt)))
           (λ ne. c.loop-tid.invariant.good told h t lt (omega arith))
           (cases_eq t c.loop-tid.tid);
+      idle = λ none. c.in_ok-check_number.ensures.idle (λ h lt. none h c.loop-tid.tid lt (omega arith)) ∙ c.loop-tid.invariant.idle none;
       fits = λ h t lt lt'. ⊎_elim
           (λ is. subst (λ k. decided_in shape c.args.rows.now h k ≡ true → (row_in c.args.rows.now h k).first + (row_in c.args.rows.now h k).count ≤ shape.entries) (sym is) (c.in_ok-check_number.ensures.fits h lt))
           (λ ne. c.loop-tid.invariant.fits h t lt (omega arith))
           (cases_eq t c.loop-tid.tid);
     }
+
+pub check_number-requires-clause-rows : goal.check_number-requires-clause-rows
+check_number-requires-clause-rows g c told =
+    let shape = c.args.shape.now in
+    subst (λ image. RowsAre shape image shape.numbers c.args.rows.now) (sym (same_bytes _ _ (c.loop-tid.invariant.does.touched told))) (c.requires.rows told)

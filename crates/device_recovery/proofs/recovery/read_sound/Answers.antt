@@ -1,9 +1,11 @@
-use Rattle.std.proofs.Common.{◌∙◌, sym, ap, subst}
+use Rattle.std.proofs.Common.{◌∙◌, sym, ap, subst, arith}
 use Rattle.std.proofs.lemmas.Result.{err_from_is_err_and}
 use Rattle.pcm_media.specs.Images.{Content}
 use Rattle.pcm_media.proofs.Left.{same_bytes}
 use Rattle.device_recovery.specs.Table.{RowsAre}
 use Rattle.device_recovery.specs.Recovered.{AllGood, IsFirstBad}
+use Rattle.counted.proofs.Costing.{costs_all}
+use Rattle.device_recovery.proofs.Lists.{none_decided}
 use Rattle.device_recovery.proofs.Moments.{none_unsettled}
 use Rattle.device_recovery.proofs.recovery.read_sound.Goals as goal
 
@@ -24,3 +26,15 @@ pub returns-clause-sure : goal.returns-clause-sure
 returns-clause-sure g c told i =
     let settled = ap (λ (c : Content). c.unsettled) (c.in_ok-barrier.ensures.settled told) in
     (c.in_ok-check_rows.ensures.does.touched told).unsettled i tt ((c.in_ok-rows.ensures.does.touched told).unsettled i tt (none_unsettled (g.M.Media.view c.barrier.new.self).content settled i))
+
+pub returns-in_err-check_rows-clause-costs : goal.returns-in_err-check_rows-clause-costs
+returns-in_err-check_rows-clause-costs g c told none =
+    let read = c.in_ok-rows.ensures.costs.done in
+    let looked = c.check_rows.ensures.idle (none_decided c.args.shape.now (g.M.Media.view c.args.media.now).content.bytes c.in_ok-rows.rows (subst (λ bytes. RowsAre c.args.shape.now bytes c.args.shape.now.numbers c.in_ok-rows.rows) (same_bytes _ _ (c.in_ok-barrier.ensures.does.touched told)) (c.in_ok-rows.ensures.rows told)) none) in
+    costs_all _ _ _ _ (omega (arith, c.in_ok-barrier.ensures.ticks.next, c.in_ok-barrier.ensures.ticks.last, read, looked))
+
+pub returns-clause-costs : goal.returns-clause-costs
+returns-clause-costs g c told none =
+    let read = c.in_ok-rows.ensures.costs.done in
+    let looked = c.check_rows.ensures.idle (none_decided c.args.shape.now (g.M.Media.view c.args.media.now).content.bytes c.in_ok-rows.rows (subst (λ bytes. RowsAre c.args.shape.now bytes c.args.shape.now.numbers c.in_ok-rows.rows) (same_bytes _ _ (c.in_ok-barrier.ensures.does.touched told)) (c.in_ok-rows.ensures.rows told)) none) in
+    costs_all _ _ _ _ (omega (arith, c.in_ok-barrier.ensures.ticks.next, c.in_ok-barrier.ensures.ticks.last, read, looked))

@@ -114,3 +114,13 @@ returns-clause-does g c =
     let read = goes_on m.tells all [] _ _ _ (λ told i out. tt) (none_yet m.tells all (m.view c.args.media.now)) c.in_ok-rows.ensures.does refl in
     let all_done = goes_on m.tells all _ _ _ _ (λ told i out. subst (λ bytes. IsOutside (recovered_places c.args.shape.now bytes) i) (sym (same_bytes _ _ (c.in_ok-rows.ensures.does.touched told))) out) read c.in_ok-settle.ensures.does refl in
     record { size = all_done.size; cause = record { later = all_done.cause.later; failed = tt; kept = all_done.cause.kept }; touched = all_done.touched; time = all_done.time }
+
+pub returns-in_err-settle-clause-costs : goal.returns-in_err-settle-clause-costs
+returns-in_err-settle-clause-costs g c told none =
+    let zero = no_count c.args.shape.now (g.M.Media.view c.args.media.now).content.bytes c.in_ok-rows.rows (c.in_ok-rows.ensures.rows told) none in
+    absurd (c.if-report-eq0.false (omega (arith, zero.0, zero.1, c.count_rows-report.ensures.decided, c.count_rows-report.ensures.dropped)))
+
+pub returns-clause-costs : goal.returns-clause-costs
+returns-clause-costs g c told none =
+    let zero = no_count c.args.shape.now (g.M.Media.view c.args.media.now).content.bytes c.in_ok-rows.rows (c.in_ok-rows.ensures.rows told) none in
+    absurd (c.if-report-eq0.false (omega (arith, zero.0, zero.1, c.count_rows-report.ensures.decided, c.count_rows-report.ensures.dropped)))

@@ -1,4 +1,5 @@
 use Rattle.std.proofs.lemmas.Result.{err_from_is_err_and}
+use Rattle.counted.proofs.Costing.{costs_all}
 use Rattle.device_recovery.specs.declared.report.Report.{Report}
 use Rattle.eaw_device.proofs.OpeningLemmas.{settling_keeps}
 use Rattle.eaw_device.proofs.Attaching.{recovered_says, refusal_cause, refusal_leaves}
@@ -18,7 +19,7 @@ returns-in_err-recover-clause-unwritten g c =
     let m = g.M.Media in
     let p = err_from_is_err_and c.from_residual.result c.from_residual.ensures.1 in
     rw (p.1, p.2)
-    (refusal_leaves m.tells c.args.shape.now (m.view c.args.media.now) (m.view c.recover.new.media) c.in_err-recover.field-0.0 c.in_err-recover.ensures.unwritten)
+    (refusal_leaves m.tells c.args.shape.now (m.view c.args.media.now) (m.view c.recover.new.media) Report c.in_err-recover.field-0.0 c.requires.size c.requires.header c.in_err-recover.ensures.spared c.in_err-recover.ensures.unwritten)
 
 pub returns-in_err-recover-clause-keeps : goal.returns-in_err-recover-clause-keeps
 returns-in_err-recover-clause-keeps g c =
@@ -34,3 +35,6 @@ pub returns-clause-keeps : goal.returns-clause-keeps
 returns-clause-keeps g c =
     let m = g.M.Media in
     settling_keeps m.tells c.args.shape.now (m.view c.args.media.now) (m.view c.recover.new.media) c.requires.header c.recover.ensures.any_moment
+
+pub returns-clause-costs : goal.returns-clause-costs
+returns-clause-costs g c told none = costs_all _ _ _ _ (c.in_ok-recover.ensures.costs told none).done

@@ -1,5 +1,7 @@
-use Rattle.std.proofs.Common.{◌≡◌, ℕ, ◌-◌, ◌<◌, List, length, take, drop, sym, ◌∙◌, ap, subst, arith}
-use Rattle.std.specs.Prelude.{slice_index, OnOk, IsTrue}
+use Rattle.std.proofs.Common.{◌≡◌, ℕ, ◌-◌, ◌<◌, ◌≤◌, inl, inr, Result, Ok, Err, List, length, take, drop, sym, ◌∙◌, ap, subst, arith}
+use Rattle.std.specs.Prelude.{slice_index, OnOk, OnErr, IsTrue}
+use Rattle.std.proofs.lemmas.Bool.{cases_lt}
+use Rattle.counted.specs.declared.Failed.{Failed}
 use Rattle.std.proofs.lemmas.List.{get_or-take, take_all}
 use Rattle.pcm_media.specs.View.{LeavesOnly}
 use Rattle.array_shape.specs.Logged.{applied}
@@ -60,6 +62,13 @@ module _ (g : Over) (c : goal.After-commit_from g) where
       named_applied c.args.shape.now bytes c.args.tid c.args.log.now c.requires.kept (c.requires.held told) c.args.offset _ _
       (firsts_are c.args.shape.now c.args.log.now c.args.offset c.from-loggers.result c.from-loggers.ensures c.counts_of_first-firsts.result c.counts_behind-counts.result c.counts_of_first-firsts.ensures.counts c.counts_behind-counts.ensures.counts) (counts_are c.args.shape.now c.args.log.now c.args.offset c.from-loggers.result c.from-loggers.ensures c.counts_of_first-firsts.result c.counts_behind-counts.result c.counts_of_first-firsts.ensures.counts c.counts_behind-counts.ensures.counts) (data_of c.args.shape.now bytes) (g.met.M.Media.long c.args.media.now told ∙ c.requires.size) c.requires.tid (length-data_of c.args.shape.now bytes)
 
+due_from : (r : Result (Unit {0}) Failed) (offset len : ℕ) → offset ≤ len → (len ≡ offset → r ≡ Ok tt) → OnErr r (offset < len)
+due_from (Ok x) offset len le none = tt
+due_from (Err e) offset len le none = elim (cases_lt offset len) [
+  | inl lt ↦ lt
+  | inr ge ↦ absurd (let is = none (omega arith) in cc)
+]
+
 pub returns-clause-any_moment : goal.returns-clause-any_moment
 returns-clause-any_moment g c = λ told.
     let old = g.M.Media.view c.args.media.now in
@@ -78,3 +87,7 @@ returns-clause-does g c = record {
 
 pub returns-clause-idle : goal.returns-clause-idle
 returns-clause-idle g c = λ all. (c.commit_from.ensures.idle (none_left c.args.shape.now c.args.log.now c.args.offset c.from-loggers.result c.from-loggers.ensures c.counts_of_first-firsts.result c.counts_behind-counts.result c.counts_of_first-firsts.ensures.counts c.counts_behind-counts.ensures.counts c.requires.kept all)).1
+
+pub returns-clause-due : goal.returns-clause-due
+returns-clause-due g c = due_from c.commit_from.result c.args.offset (length c.args.log.now.entries.items) c.requires.offset
+    (λ all. (c.commit_from.ensures.idle (none_left c.args.shape.now c.args.log.now c.args.offset c.from-loggers.result c.from-loggers.ensures c.counts_of_first-firsts.result c.counts_behind-counts.result c.counts_of_first-firsts.ensures.counts c.counts_behind-counts.ensures.counts c.requires.kept all)).0)

@@ -3,6 +3,7 @@ use Rattle.std.specs.Prelude.{IsTrue}
 use Rattle.counted.specs.declared.Failed.{Failed}
 use Rattle.pcm_media.specs.View.{Writes}
 use Rattle.array_image.specs.Image.{data_of}
+use Rattle.array_image.specs.Standing.{SameCells}
 use Rattle.eaw_device.specs.Fresh.{HasRows, behind_header}
 use Rattle.eaw_device.proofs.fresh.fill_rows.Given as goal
 
@@ -12,5 +13,6 @@ invariant-loop-logger g l =
     record {
       rows : IsTrue m.tells → HasRows l.shape l.logger (m.view l.media).content.bytes;
       data_same : IsTrue m.tells → data_of l.shape (m.view l.media).content.bytes ≡ data_of l.shape (m.view l.fn.media).content.bytes;
+      cells : IsTrue m.tells → SameCells l.shape (m.view l.fn.media).content.bytes (m.view l.media).content.bytes;
       does : let done : Result (Unit {0}) Failed = Ok tt in Writes m.tells (behind_header l.shape) (m.view l.fn.media) (m.view l.media) done;
     }

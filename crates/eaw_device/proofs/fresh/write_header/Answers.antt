@@ -1,4 +1,5 @@
 use Rattle.std.proofs.Common.{◌≡◌, ◌+◌, ◌≤◌, ℕ, List, [], ◌∷◌, length, refl, sym, ap, subst, ◌∙◌, arith}
+use Rattle.std.specs.Prelude.{is_ok}
 use Rattle.std.proofs.lemmas.Result.{on_ok_weaker}
 use Rattle.counted.specs.Bytes.{put}
 use Rattle.pcm_media.specs.Images.{Content, settled, written, IsOutside, SameOutside}
@@ -11,6 +12,7 @@ use Rattle.row_bytes.specs.Header.{header_bytes}
 use Rattle.eaw_device.specs.Fresh.{HasParts, IsFresh}
 use Rattle.eaw_device.proofs.FreshLemmas.{header_parts}
 use Rattle.eaw_device.proofs.Formatting.{header_left}
+use Rattle.eaw_device.proofs.Spared.{cells_then, header_spares, none_spares}
 use Rattle.eaw_device.proofs.fresh.write_header.Goals as goal
 
 first_bytes : (n i : ℕ) → n ≡ 512 → IsOutside ((0, 512) ∷ []) i → IsOutside ((0, n) ∷ []) i
@@ -36,7 +38,7 @@ returns-clause-any_moment g c = λ told.
     let m = g.M.Media in
     let long : length c.write_array_header.new.out ≡ 512 = omega arith in
     let header = writes_within m.tells ((0, 512) ∷ []) _ _ _ c.write.result (λ i. first_bytes _ i long) c.write.ensures.does in
-    let sure = writes_on m.tells ((0, 512) ∷ []) [] _ _ _ _ c.barrier.result (λ i out. tt) header c.barrier.ensures.does in
+    let sure = writes_on m.tells ((0, 512) ∷ []) [] _ _ _ _ c.barrier.result (ap is_ok c.in_ok-write.was) (λ i out. tt) header c.barrier.ensures.does in
     header_left c.args.shape.now (m.view c.args.media.now) (m.view c.barrier.new.self) (c.requires.sure told) (c.requires.parts told) (sure.time told)
 
 pub returns-clause-does : goal.returns-clause-does
@@ -44,7 +46,7 @@ returns-clause-does g c =
     let m = g.M.Media in
     let long : length c.write_array_header.new.out ≡ 512 = omega arith in
     let header = writes_within m.tells ((0, 512) ∷ []) _ _ _ c.write.result (λ i. first_bytes _ i long) c.write.ensures.does in
-    writes_on m.tells ((0, 512) ∷ []) [] _ _ _ _ c.barrier.result (λ i out. tt) header c.barrier.ensures.does
+    writes_on m.tells ((0, 512) ∷ []) [] _ _ _ _ c.barrier.result (ap is_ok c.in_ok-write.was) (λ i out. tt) header c.barrier.ensures.does
 
 pub returns-clause-fresh : goal.returns-clause-fresh
 returns-clause-fresh g c = λ told.
@@ -56,3 +58,14 @@ returns-clause-fresh g c = λ told.
     let long : length header ≡ 512 = omega arith in
     let fresh = fresh_with shape old header sized long c.write_array_header.ensures.written (c.requires.parts told) in
     on_ok_weaker c.barrier.result (λ is. subst (IsFresh shape) (sym (is ∙ ap settled (c.in_ok-write.ensures.written told))) fresh) (c.barrier.ensures.settled told)
+
+pub returns-in_err-write-clause-cells : goal.returns-in_err-write-clause-cells
+returns-in_err-write-clause-cells g c told =
+    let long : length c.write_array_header.new.out ≡ 512 = omega arith in
+    header_spares c.args.shape.now _ _ _ _ (c.write.ensures.does.touched told) refl long
+
+pub returns-clause-cells : goal.returns-clause-cells
+returns-clause-cells g c told =
+    let shape = c.args.shape.now in
+    let long : length c.write_array_header.new.out ≡ 512 = omega arith in
+    cells_then shape _ _ _ (header_spares shape _ _ _ _ (c.in_ok-write.ensures.does.touched told) refl long) (none_spares shape _ _ (c.barrier.ensures.does.touched told))

@@ -2,9 +2,9 @@ use Rattle.std.proofs.Common.{◌∙◌, sym, ap, subst, ℕ, List, arith}
 use Rattle.pcm_media.proofs.Left.{same_bytes}
 use Rattle.row_bytes.specs.Header.{SaysShape}
 use Rattle.array_image.specs.Decided.{settled_data}
-use Rattle.device_recovery.specs.Recovered.{AllGood}
-use Rattle.eaw_device.specs.Opens.{header_of}
-use Rattle.eaw_device.proofs.OpeningLemmas.{reading_keeps, keeps_then}
+use Rattle.device_recovery.specs.Recovered.{AllGood, HasNoVote}
+use Rattle.eaw_device.specs.Opens.{header_of, opening_calls}
+use Rattle.eaw_device.proofs.OpeningLemmas.{one_shape, reading_keeps, keeps_then}
 use Rattle.eaw_device.proofs.Attaching.{cause_on, leaves_on}
 use Rattle.eaw_device.proofs.opening.open_array.Goals as goal
 
@@ -24,7 +24,8 @@ returns-in-Ok-settle-clause-settled g c =
       good = λ told. subst (λ b. AllGood shape b shape.numbers) (same_bytes _ _ (read.touched told)) (done.good told);
       bytes = λ told. done.settled told ∙ ap (λ (b : List ℕ). settled_data shape b) (same_bytes _ _ (read.touched told));
       sure = λ told. record { clean = done.clean told; header = done.header told };
-      later = omega (arith, done.later, read.cause.later);
+      faults = done.faults ∙ c.in_ok-shape.ensures.does.cause.kept;
+      calls = λ told none. let settled = (done.costs told (subst (λ b. HasNoVote shape b) (sym (same_bytes _ _ (read.touched told))) none)).done in omega (arith, settled, c.in_ok-shape.ensures.costs.done);
     }
 
 pub returns-in-Ok-settle-clause-keeps : goal.returns-in-Ok-settle-clause-keeps
@@ -48,4 +49,17 @@ returns-in-Err-settle-clause-cause g c =
 pub returns-in-Err-settle-clause-unwritten : goal.returns-in-Err-settle-clause-unwritten
 returns-in-Err-settle-clause-unwritten g c =
     let m = g.M.Media in
-    leaves_on m.tells (m.view c.args.media.now) (m.view c.read_header.new.media) (m.view c.settle.new.media) c.in-Err-settle.fault c.read_header.ensures.does.touched c.in-Err-settle.ensures.unwritten
+    leaves_on m.tells (m.view c.args.media.now) (m.view c.read_header.new.media) (m.view c.settle.new.media) c.in-Err-settle.fault c.read_header.ensures.does.size c.read_header.ensures.does.touched c.in-Err-settle.ensures.unwritten
+
+pub returns-in-Err-clause-cause : goal.returns-in-Err-clause-cause
+returns-in-Err-clause-cause g c = λ told. (c.in_ok-shape.shape, c.in_ok-shape.ensures.shape told, c.in_ok-shape.ensures.sized)
+
+pub returns-in-Err-settle-clause-within : goal.returns-in-Err-settle-clause-within
+returns-in-Err-settle-clause-within g c told other says none =
+    let m = g.M.Media in
+    let old = (m.view c.args.media.now).content.bytes in
+    let shape = c.in_ok-shape.shape in
+    let is = one_shape (header_of old) other shape says (c.in_ok-shape.ensures.shape told) in
+    let quiet = subst (λ b. HasNoVote shape b) (sym (same_bytes _ _ (c.read_header.ensures.does.touched told))) (subst (λ s. HasNoVote s old) is none) in
+    let settled = (c.settle.ensures.costs told quiet).most in
+    omega (arith, settled, c.in_ok-shape.ensures.costs.done, ap opening_calls is)

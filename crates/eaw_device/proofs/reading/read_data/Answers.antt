@@ -1,4 +1,4 @@
-use Rattle.std.proofs.Common.{◌∙◌, sym, ap, length, arith}
+use Rattle.std.proofs.Common.{refl, ◌∙◌, sym, ap, length, arith}
 use Rattle.array_image.specs.Image.{data_of}
 use Rattle.array_image.proofs.Data.{length-data_of}
 use Rattle.array_image.proofs.Calls.{goes_on}
@@ -26,7 +26,7 @@ loop-part-preserved g c =
     let at = c.loop-part.invariant.reads in
     let part = c.in-Some.part in
     record {
-      does = goes_on m.tells _ _ _ _ _ (λ told i out. tt) c.loop-part.invariant.does c.in_ok-read.ensures.does;
+      does = goes_on m.tells _ _ _ _ _ (λ told i out. tt) c.loop-part.invariant.does c.in_ok-read.ensures.does refl;
       reads = reads_one shape c.args.addr (length c.args.buf.now) (data_of shape base.bytes) m.tells c.loop-part.buf c.loop-part.part-iterator c.next.new.self part c.in-Some.ensures.steps at c.loop-part.auto.buf
           now.bytes (λ told. g.met.M.Media.long c.loop-part.media told ∙ c.loop-part.invariant.does.size ∙ c.requires.size)
           (λ told. ap (data_of shape) (sym (same_bytes base now (c.loop-part.invariant.does.touched told))))

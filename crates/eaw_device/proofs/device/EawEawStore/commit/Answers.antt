@@ -1,4 +1,4 @@
-use Rattle.std.proofs.Common.{◌∙◌, sym, refl}
+use Rattle.std.proofs.Common.{◌∙◌, sym, refl, arith}
 use Rattle.eaw_device.proofs.StagedCalls.{when_ok}
 use Rattle.eaw_device.proofs.Doing.{Found, found, when_err}
 use Rattle.eaw_device.proofs.Commits.{its_len, commit_failed, commit_sound, commit_done}
@@ -65,7 +65,7 @@ returns-clause-does g c =
     commit_done m.tells (m.view s.media) (m.view c.commit_log.new.media) s.shape s.logs.items s.is_dead s.sound c.in_ok-at.ensures.alive c.args.tid c.in_ok-at.ensures.live c.index.result.now there
     0 c.commit_log.result said.does (λ told. g.met.M.Media.long s.media told ∙ s.sound.sized) said.any_moment
     (λ told. when_ok c.commit_log.result fine (said.clean told)) (λ told. when_ok c.commit_log.result fine (said.committed told)) said.cells c.clear.new.self c.clear.ensures.kept c.clear.ensures.entries c.in_ok-at.at c.in_ok-at.ensures.at
-    refl c.clear.ensures.free
+    (when_ok c.commit_log.result fine said.does.does.cause.kept) refl c.clear.ensures.free
 
 pub returns-clause-idle : goal.returns-clause-idle
 returns-clause-idle g c = λ none.
@@ -75,3 +75,12 @@ returns-clause-idle g c = λ none.
     let len = its_len m.tells (m.view s.media) (m.view c.commit_log.new.media) s.shape s.logs.items s.is_dead s.sound c.in_ok-at.ensures.alive c.args.tid c.in_ok-at.ensures.live c.index.result.now there in
     let same = c.commit_log.ensures.idle (sym len ∙ none) in
     cc
+
+pub returns-then-is_err-clause-due : goal.returns-then-is_err-clause-due
+returns-then-is_err-clause-due g c = λ broke.
+    let m = g.M.Media in
+    let s = c.args.self.now in
+    let there = found m.tells (m.view s.media) s.shape s.logs.items s.is_dead s.sound c.in_ok-at.ensures.alive c.args.tid c.in_ok-at.at c.index.result.now c.in_ok-at.ensures.at c.in_ok-at.ensures.live c.index.ensures in
+    let len = its_len m.tells (m.view s.media) (m.view c.commit_log.new.media) s.shape s.logs.items s.is_dead s.sound c.in_ok-at.ensures.alive c.args.tid c.in_ok-at.ensures.live c.index.result.now there in
+    let due = when_err c.commit_log.result (sym c.is_err.ensures.value ∙ c.if-is_err.true) c.commit_log.ensures.due in
+    omega (arith, due, len)

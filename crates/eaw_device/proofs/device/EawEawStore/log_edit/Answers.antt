@@ -86,7 +86,7 @@ returns-in-Ok-clause-does g c =
     let inner : c.args.at + length c.args.bytes.now ≤ e.len = omega (arith, c.requires.within c.in_ok-number.ensures.live, ap (λ (r : ℕ × ℕ). r.1) range) in
     edit_done m.tells (m.view s.media) (m.view c.edit.new.media) s.shape s.logs.items s.is_dead s.sound c.in_ok-number.ensures.alive c.args.tid c.in_ok-number.ensures.live
     c.index.result.now there c.args.pos e lt c.index-entry.ensures c.args.at c.args.bytes.now inner (omega (arith, page.page)) c.new-logger.result.shape c.new-logger.ensures.shape c.new-logger.result.number (c.new-logger.ensures.number ∙ c.place.ensures.logger)
-    _ c.in-Ok.ensures.does (λ told. g.met.M.Media.long s.media told ∙ s.sound.sized) c.in-Ok.ensures.cell tt
+    _ c.in-Ok.ensures.does (λ told. g.met.M.Media.long s.media told ∙ s.sound.sized) c.in-Ok.ensures.cell tt c.in-Ok.ensures.does.cause.kept
 
 pub returns-in-Err-clause-does : goal.returns-in-Err-clause-does
 returns-in-Err-clause-does g c =

@@ -47,7 +47,7 @@ returns-in-Ok-clause-does g c =
     let m = g.M.Media in
     let s = c.args.self.now in
     log_read_done m.tells (m.view s.media) (m.view c.read_entry.new.media) s.shape s.logs.items s.is_dead s.sound c.in_ok-at.ensures.alive _ c.in-Ok.ensures.does (λ told. g.met.M.Media.long s.media told ∙ s.sound.sized)
-    c.args.tid c.in_ok-at.ensures.live (c.index-entry.result.now.addr, c.index-entry.result.now.len)
+    c.args.tid c.in_ok-at.ensures.live (c.index-entry.result.now.addr, c.index-entry.result.now.len) c.in-Ok.ensures.does.cause.kept
 
 pub returns-in-Ok-clause-part : goal.returns-in-Ok-clause-part
 returns-in-Ok-clause-part g c =

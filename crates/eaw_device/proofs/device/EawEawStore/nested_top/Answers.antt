@@ -70,7 +70,7 @@ returns-clause-does g c =
     nested_done m.tells (m.view s.media) (m.view c.commit_log.new.media) s.shape s.logs.items s.is_dead s.sound c.in_ok-at.ensures.alive c.args.tid c.in_ok-at.ensures.live c.index.result.now there
     c.args.offset c.commit_log.result said.does (λ told. g.met.M.Media.long s.media told ∙ s.sound.sized) said.any_moment
     (λ told. when_ok c.commit_log.result fine (said.clean told)) (λ told. when_ok c.commit_log.result fine (said.committed told)) said.cells c.truncate.new.self c.truncate.ensures.kept (c.truncate.ensures.entries ∙ ap (λ (l : Log). take c.args.offset l.entries.items) same) c.in_ok-at.at c.in_ok-at.ensures.at
-    c.args.offset refl (c.truncate.ensures.live ∙ again.live)
+    (when_ok c.commit_log.result fine said.does.does.cause.kept) c.args.offset refl (c.truncate.ensures.live ∙ again.live)
 
 pub returns-clause-idle : goal.returns-clause-idle
 returns-clause-idle g c = λ none.
@@ -94,3 +94,12 @@ truncate-requires-clause-len g c =
     let s = c.args.self.now in
     let again = found m.tells (m.view s.media) s.shape s.logs.items s.is_dead s.sound c.in_ok-at.ensures.alive c.args.tid c.in_ok-at.at c.index_mut.result.now c.in_ok-at.ensures.at c.in_ok-at.ensures.live c.index_mut.ensures.value in
     omega (arith, c.requires, its_len m.tells (m.view s.media) (m.view s.media) s.shape s.logs.items s.is_dead s.sound c.in_ok-at.ensures.alive c.args.tid c.in_ok-at.ensures.live c.index_mut.result.now again)
+
+pub returns-then-is_err-clause-due : goal.returns-then-is_err-clause-due
+returns-then-is_err-clause-due g c = λ broke.
+    let m = g.M.Media in
+    let s = c.args.self.now in
+    let there = found m.tells (m.view s.media) s.shape s.logs.items s.is_dead s.sound c.in_ok-at.ensures.alive c.args.tid c.in_ok-at.at c.index.result.now c.in_ok-at.ensures.at c.in_ok-at.ensures.live c.index.ensures in
+    let len = its_len m.tells (m.view s.media) (m.view c.commit_log.new.media) s.shape s.logs.items s.is_dead s.sound c.in_ok-at.ensures.alive c.args.tid c.in_ok-at.ensures.live c.index.result.now there in
+    let due = when_err c.commit_log.result (sym c.is_err.ensures.value ∙ c.if-is_err.true) c.commit_log.ensures.due in
+    omega (arith, due, len)

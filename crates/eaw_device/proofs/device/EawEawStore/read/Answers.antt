@@ -12,7 +12,7 @@ pub returns-in-Ok-clause-does : goal.returns-in-Ok-clause-does
 returns-in-Ok-clause-does g c =
     let m = g.M.Media in
     let s = c.args.self.now in
-    read_done m.tells (m.view s.media) (m.view c.read_data.new.media) s.shape s.logs.items s.is_dead s.sound c.if-self.false _ c.in-Ok.ensures.does (λ told. g.met.M.Media.long s.media told ∙ s.sound.sized) tt
+    read_done m.tells (m.view s.media) (m.view c.read_data.new.media) s.shape s.logs.items s.is_dead s.sound c.if-self.false _ c.in-Ok.ensures.does (λ told. g.met.M.Media.long s.media told ∙ s.sound.sized) tt c.in-Ok.ensures.does.cause.kept
 
 pub returns-in-Err-clause-does : goal.returns-in-Err-clause-does
 returns-in-Err-clause-does g c =

@@ -51,3 +51,8 @@ returns-clause-calls c =
     let known = c.in_ok-check_live.ensures.live.1 in
     counts_nested (plain_of self) self.sound c.args.tid known.small c.in_ok-check_live.ensures.live.0 known c.truncate.new.self.journal c.args.offset c.in_ok-commit_from.ensures.done.0
     (ap (λ (p : Plain). p.kept) c.truncate.ensures ∙ ap (λ (p : Plain). p.kept) c.in_ok-commit_from.ensures.done.1)
+
+pub returns-in_err-commit_from-clause-due : goal.returns-in_err-commit_from-clause-due
+returns-in_err-commit_from-clause-due c =
+    let self = c.args.self.now in
+    λ broke. omega (arith, c.in_err-commit_from.ensures.failed.1, log_len_is (plain_of self) self.sound c.args.tid c.in_ok-check_live.ensures.live.1.small)
