@@ -31,10 +31,6 @@ pub trait EawStore {
     fn shape(&self) -> Shape
         ensures { result ≡ (view self.now).shape };
 
-    /// Whether an earlier call has met a fault of the media.
-    fn is_dead(&self) -> bool
-        ensures { result ≡ (view self.now).is_dead };
-
     /// LogWrite: logs a write of these bytes at this address, and makes a free number live. Gives how many parts the number has
     /// logged now.
     fn log_write(&mut self, tid: u8, addr: u64, bytes: &[u8]) -> Result<u32, EawFault>

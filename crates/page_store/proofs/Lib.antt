@@ -14,3 +14,4 @@ pub mod Tops
 pub mod Others
 pub mod Ordered
 pub mod Shown
+pub mod Lifting

@@ -1,5 +1,5 @@
 -- What a call of pages does, and when each answer comes.
-use Rattle.std.specs.Prelude.{ℕ, ◌≡◌, ◌<◌, ◌⊎◌, Bool, true, false, IsTrue, List, [], ◌∷◌, length, Option, None, IsSome, Result, Ok, Err, OnOk, IsErrOf}
+use Rattle.std.specs.Prelude.{ℕ, ◌≡◌, ◌<◌, ◌⊎◌, Bool, true, false, IsTrue, List, [], ◌∷◌, length, Option, Some, None, Result, Ok, Err, OnOk, OnErr, IsErrOf}
 use Rattle.counted.specs.Causes.{Rose}
 use Rattle.eaw_face.specs.State.{listed}
 use Rattle.eaw_face.specs.StoreView.{StoreView, LeavesOnly}
@@ -7,7 +7,7 @@ use Rattle.eaw_face.specs.Causes.{IsAlive, Fit, IsFirstFull}
 use Rattle.eaw_face.specs.Does.{IsEither}
 use Rattle.page_store.specs.Edit.{edit_pos}
 use Rattle.page_store.specs.Outline.{outline_after, floor_in}
-use Rattle.page_store.specs.Command.{PageCommand, write_as, save, after}
+use Rattle.page_store.specs.Command.{PageCommand, write_as, save, after, number_of}
 use Rattle.page_store.specs.Shown.{PagesView, outline_of, state_of}
 use Rattle.page_store.specs.declared.fault.PageFault.{PageFault}
 use Rattle.page_store.specs.declared.fault.PageFault.TheVariants.{LogFull, SavesFull, Media, Dead, Damaged}
@@ -48,12 +48,15 @@ pub record Becomes (tells : Bool) (command : PageCommand) (old new : PagesView) 
   pub state : IsTrue tells → state_of new ≡ after command (state_of old)
 
 -- A call of pages over a store, of which an image that a loss of power leaves is opened so. Each answer has its cause; an Ok is the
--- model's command; a fault of the media leaves the store dead; and whatever the answer, at each moment a loss of power leaves what it
--- might have left before, or an image that opens with the data before the command or after it.
+-- model's command, and hides no fault; a refusal leaves saves and tops; a fault of the media leaves the store dead; and whatever the
+-- answer, other numbers keep what they have logged, and at each moment of a store that was not dead a loss of power leaves what it might
+-- have left before, or an image that opens with the data before the command or after it.
 pub record Does {T : Type 0} (tells : Bool) (Opens : List ℕ → List ℕ → Type 0) (command : PageCommand) (old new : PagesView) (result : Result T PageFault) : Type 0 where
   pub shape : new.store.shape ≡ old.store.shape
   pub cause : Cause old command new.store.faults result
-  pub counted : OnOk result (new.store.faults ≡ old.store.faults)
+  pub kept : OnOk result (new.store.faults ≡ old.store.faults)
   pub done : OnOk result (Becomes tells command old new)
+  pub marks : OnErr result ((new.counts ≡ old.counts) × (new.top ≡ old.top))
   pub dies : IsErrOf result Media → new.store.is_dead ≡ true
+  pub others : (u : ℕ) → (number_of command ≡ Some u → ⊥) → new.store.ranges u ≡ old.store.ranges u
   pub time : IsTrue tells → old.store.is_dead ≡ false → LeavesOnly (IsEither Opens old.store.state.bytes (after command (state_of old)).store.bytes) old.store new.store
