@@ -15,3 +15,4 @@ pub mod Others
 pub mod Ordered
 pub mod Shown
 pub mod Lifting
+pub mod Editing

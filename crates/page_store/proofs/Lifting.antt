@@ -22,18 +22,11 @@ use Rattle.page_store.specs.Outline.{Outline, outline_after}
 use Rattle.page_store.specs.Kept.{IsOrdered, IsAllowed}
 use Rattle.page_store.specs.Does.{Does, Becomes, Cause, HasRoom, IsFull}
 use Rattle.page_store.specs.Shown.{PagesView, outline_of, state_of}
-use Rattle.page_store.specs.Told.{IsKnown, told_as}
+use Rattle.page_store.specs.Told.{IsKnown, told_as, TellsAs}
 use Rattle.page_store.specs.declared.fault.PageFault.{PageFault}
 use Rattle.page_store.specs.declared.fault.PageFault.TheVariants.{LogFull, SavesFull, Media, Dead, Damaged}
 use Rattle.page_store.proofs.Device.{device_does, device_does_ranges}
 use Rattle.page_store.proofs.Shown.{IsTold, outlined, kept, state_after}
-
--- an answer of the store as pages tell it
-abbrev pub TellsAs : {T U : Type 0} → Result T EawFault → Result U PageFault → Type 0
-TellsAs (Ok x) (Ok y) = Unit {0}
-TellsAs (Err f) (Err p) = IsKnown f × (p ≡ told_as f)
-TellsAs (Ok x) (Err p) = ⊥
-TellsAs (Err f) (Ok y) = ⊥
 
 -- What is known of a command of pages and of the command of the store that it makes.
 pub record Makes (tells : Bool) (c : PageCommand) (d : Command) (old : PagesView) : Type 0 where
@@ -80,10 +73,10 @@ module _ (tells : Bool) (Opens : List ℕ → List ℕ → Type 0) (c : PageComm
   dies_of fault.Dead known is = absurd (subst NotMedia is tt)
 
   lifted_kept : {T U : Type 0} (r : Result T EawFault) (s : Result U PageFault) → TellsAs r s → OnOk r (new.store.faults ≡ old.store.faults) → OnOk s (new.store.faults ≡ old.store.faults)
-  lifted_kept (Ok x) (Ok y) same kept = kept
-  lifted_kept (Ok x) (Err p) same kept = absurd same
-  lifted_kept (Err f) (Ok y) same kept = absurd same
-  lifted_kept (Err f) (Err p) same kept = tt
+  lifted_kept (Ok x) (Ok y) same as_it_was = as_it_was
+  lifted_kept (Ok x) (Err p) same as_it_was = absurd same
+  lifted_kept (Err f) (Ok y) same as_it_was = absurd same
+  lifted_kept (Err f) (Err p) same as_it_was = tt
 
   lifted_dies : {T U : Type 0} (r : Result T EawFault) (s : Result U PageFault) → TellsAs r s → (IsErrOf r fault.Media → new.store.is_dead ≡ true) → IsErrOf s Media → new.store.is_dead ≡ true
   lifted_dies (Ok x) (Ok y) same dies is = absurd (IfErr-at_err (λ q. ⊥) is tt)

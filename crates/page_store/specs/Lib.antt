@@ -12,3 +12,4 @@ pub mod Does
 pub mod Invariant
 pub mod Told
 pub mod Fits
+pub mod Reads

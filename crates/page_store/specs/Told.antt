@@ -1,4 +1,5 @@
 -- A refusal of the store, as pages tell it.
+use Rattle.std.specs.Prelude.{◌≡◌, Result, Ok, Err}
 use Rattle.eaw_face.specs.declared.fault.EawFault.{EawFault}
 use Rattle.eaw_face.specs.declared.fault.EawFault.TheVariants as store
 use Rattle.page_store.specs.declared.fault.PageFault.{PageFault}
@@ -14,3 +15,9 @@ told_as (store.UnknownTid t) = Dead
 told_as (store.LogFull g h n) = LogFull g h n
 told_as store.Media = Media
 told_as store.Dead = Dead
+
+-- an answer of the store as pages tell it
+abbrev pub TellsAs : {T U : Type 0} → Result T EawFault → Result U PageFault → Type 0
+TellsAs (Ok x) (Ok y) = Unit {0}
+TellsAs (Err f) (Err p) = IsKnown f × (p ≡ told_as f)
+TellsAs _ _ = ⊥

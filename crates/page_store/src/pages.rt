@@ -1,17 +1,20 @@
 // Pages over a store of editable atomic writes.
-ghost use Rattle.std.specs.Prelude.{◌≡◌, ◌≢◌, ◌+◌, ◌^◌, ◌<◌, ◌≤◌, None, Some, is_some, filter, if◌then◌else◌, IsTrue, IfOk, IfErr, OnErr, OnOk, length};
-ghost use Rattle.counted.specs.Bytes.{range};
+ghost use Rattle.std.specs.Prelude.{◌≡◌, ◌≢◌, ◌↔◌, ◌+◌, ◌^◌, ◌<◌, ◌≤◌, ℕ, List, None, Some, is_some, filter, if◌then◌else◌, IsTrue, IfOk, IfErr, OnErr, OnOk, length};
+ghost use Rattle.counted.specs.Bytes.{put, range};
+ghost use Rattle.array_shape.specs.Places.{data_len};
+ghost use Rattle.array_shape.specs.Logged.{applied};
 ghost use Rattle.eaw_face.specs.Causes.{IsAlive};
 ghost use Rattle.eaw_face.specs.Command.{commit, abort};
 ghost use Rattle.eaw_face.specs.Does.{Does as DoesStore};
-ghost use Rattle.eaw_face.specs.State.{listed};
+ghost use Rattle.eaw_face.specs.State.{listed, part_at};
 ghost use Rattle.eaw_face.specs.StoreView.{log_len};
 ghost use Rattle.page_store.specs.Command.{write_as, save, back, top_begin, top_end, end, read_as, read};
 ghost use Rattle.page_store.specs.Does.{Becomes, Does};
-ghost use Rattle.page_store.specs.Edit.{edit_pos};
+ghost use Rattle.page_store.specs.Edit.{edit_pos, meet};
 ghost use Rattle.page_store.specs.Fits.{FitAll, LacksRoom, is_page_on};
+ghost use Rattle.page_store.specs.Reads.{Reads};
 ghost use Rattle.page_store.specs.Shown.{IsInPage, IsUnmarked, address, counts_in, top_in, pages_of, state_of};
-ghost use Rattle.page_store.specs.Told.{IsKnown, told_as};
+ghost use Rattle.page_store.specs.Told.{IsKnown, TellsAs, told_as};
 ghost use Rattle.page_store.specs.State.{view_of};
 
 use crate::fault::PageFault;
@@ -95,10 +98,7 @@ impl<S: EawStore> Pages<S> {
         ensures bytes { IsTrue S.tells → OnOk result (buf.new ≡ range (S.view self.old.store).state.bytes (address page at) (length buf.old)) }
         ensures refused { IfErr result (λ fault. fault ≢ PageFault.Media → self.new ≡ self.old) }
     {
-        match self.store.read(address(page, at), buf) {
-            Ok(()) => Ok(()),
-            Err(fault) => Err(page_fault(fault)),
-        }
+        told(self.store.read(address(page, at), buf))
     }
 
     /// Reads what the number sees within a page: the data with the number's own parts written.
@@ -111,18 +111,7 @@ impl<S: EawStore> Pages<S> {
             range (view_of tid (state_of (pages_of (S.view self.old.store) self.old))) (address page at) (length buf.old)) }
         ensures refused { IfErr result (λ fault. fault ≢ PageFault.Media → self.new ≡ self.old) }
     {
-        let addr = address(page, at);
-        match self.store.read(addr, buf) {
-            Ok(()) => {}
-            Err(fault) => return Err(page_fault(fault)),
-        }
-        for pos in 0..self.store.log_len(tid) {
-            match lay_part(&mut self.store, tid, pos, addr, buf) {
-                Ok(()) => {}
-                Err(fault) => return Err(page_fault(fault)),
-            }
-        }
-        Ok(())
+        told(read_seen(&mut self.store, tid, address(page, at), buf))
     }
 
     /// Writes bytes within a page as the number: they are in its view at once, and in the data once it commits. A part that it has
@@ -139,14 +128,8 @@ impl<S: EawStore> Pages<S> {
         let addr = address(page, at);
         let floor = self.marks[usize::from(tid)].floor();
         match edited_part(&self.store, tid, floor, addr, bytes.len() as u64) {
-            Some(pos) => match self.store.log_edit(tid, pos, 0, bytes) {
-                Ok(()) => Ok(()),
-                Err(fault) => Err(page_fault(fault)),
-            },
-            None => match self.store.log_write(tid, addr, bytes) {
-                Ok(_) => Ok(()),
-                Err(fault) => Err(page_fault(fault)),
-            },
+            Some(pos) => told(self.store.log_edit(tid, pos, 0, bytes)),
+            None => told(self.store.log_write(tid, addr, bytes)),
         }
     }
 
@@ -189,10 +172,7 @@ impl<S: EawStore> Pages<S> {
         }
         let count = self.marks[usize::from(tid)].at_save(n);
         if self.store.is_live(tid) {
-            match self.store.partial_abort(tid, count) {
-                Ok(()) => {}
-                Err(fault) => return Err(page_fault(fault)),
-            }
+            told(self.store.partial_abort(tid, count))?;
         }
         self.marks[usize::from(tid)].cut(n);
         Ok(())
@@ -226,10 +206,7 @@ impl<S: EawStore> Pages<S> {
             return Err(PageFault::Dead);
         }
         if self.store.is_live(tid) {
-            match self.store.nested_top(tid, mark) {
-                Ok(()) => {}
-                Err(fault) => return Err(page_fault(fault)),
-            }
+            told(self.store.nested_top(tid, mark))?;
         }
         self.marks[usize::from(tid)].end_top();
         Ok(())
@@ -248,10 +225,7 @@ impl<S: EawStore> Pages<S> {
             return Err(PageFault::Dead);
         }
         if self.store.is_live(tid) {
-            match end_number(&mut self.store, tid, commits) {
-                Ok(()) => {}
-                Err(fault) => return Err(page_fault(fault)),
-            }
+            told(end_number(&mut self.store, tid, commits))?;
         }
         self.marks[usize::from(tid)].cut(0);
         Ok(())
@@ -309,7 +283,17 @@ fn address(page: u32, at: u32) -> u64
     512 * u64::from(page) + u64::from(at)
 }
 
-// A refusal of the store, as pages tell it. The store is asked for live numbers alone.
+// An answer of the store, as pages tell it. The store is asked for live numbers alone.
+fn told<T: Drop>(answer: Result<T, EawFault>) -> Result<(), PageFault>
+    requires { IfErr answer IsKnown }
+    ensures { TellsAs answer result }
+{
+    match answer {
+        Ok(_) => Ok(()),
+        Err(fault) => Err(page_fault(fault)),
+    }
+}
+
 fn page_fault(fault: EawFault) -> PageFault
     requires { IsKnown fault }
     ensures { result ≡ told_as fault }
@@ -330,6 +314,27 @@ fn page_fault(fault: EawFault) -> PageFault
     }
 }
 
+// Reads what the number sees: the data, and over it each part that meets the range.
+fn read_seen<S: EawStore>(
+    store: &mut S,
+    tid: u8,
+    addr: u64,
+    buf: &mut [u8],
+) -> Result<(), EawFault>
+    requires tid { tid < (S.view store.old).shape.numbers }
+    requires inside { addr + length buf.old ≤ data_len (S.view store.old).shape }
+    ensures does { Reads S.tells (S.opens (S.view store.old).shape) (S.view store.old) (S.view store.new) result }
+    ensures bytes { IsTrue S.tells → OnOk result (buf.new ≡
+        range (applied (listed ((S.view store.old).state.logs tid)) (S.view store.old).state.bytes) addr (length buf.old)) }
+    ensures refused { IfErr result (λ fault. fault ≢ EawFault.Media → store.new ≡ store.old) }
+{
+    store.read(addr, buf)?;
+    for pos in 0..store.log_len(tid) {
+        lay_part(store, tid, pos, addr, buf)?;
+    }
+    Ok(())
+}
+
 // Lays the part at a position of the number's log over bytes that were read from an address on, where it meets them.
 fn lay_part<S: EawStore>(
     store: &mut S,
@@ -340,6 +345,12 @@ fn lay_part<S: EawStore>(
 ) -> Result<(), EawFault>
     requires tid { tid < (S.view store.old).shape.numbers }
     requires pos { pos < log_len (S.view store.old) tid }
+    requires alive { IsAlive (S.view store.old) }
+    requires inside { addr + length buf.old ≤ data_len (S.view store.old).shape }
+    ensures does { Reads S.tells (S.opens (S.view store.old).shape) (S.view store.old) (S.view store.new) result }
+    ensures laid { IsTrue S.tells → (bytes : List ℕ) → length bytes ≡ data_len (S.view store.old).shape → buf.old ≡ range bytes addr (length buf.old)
+        → OnOk result (buf.new ≡ (let part = part_at (listed ((S.view store.old).state.logs tid)) pos in range (put bytes part.0 part.1) addr (length buf.old))) }
+    ensures refused { IfErr result (λ fault. fault ≢ EawFault.Media → store.new ≡ store.old) }
 {
     let (start, len) = store.part_range(tid, pos);
     let end = addr + buf.len() as u64;
@@ -362,19 +373,36 @@ fn lay_part<S: EawStore>(
 fn edited_part<S: EawStore>(store: &S, tid: u8, floor: u32, addr: u64, len: u64) -> Option<u32>
     requires tid { tid < (S.view store.now).shape.numbers }
     requires some { 0 < len }
+    requires inside { addr + len ≤ data_len (S.view store.now).shape }
     ensures { result ≡ edit_pos floor (addr, len) (listed ((S.view store.now).ranges tid)) }
 {
     for pos in (floor..store.log_len(tid)).rev() {
         let (start, count) = store.part_range(tid, pos);
         let count = u64::from(count);
-        if start == addr && count == len {
+        if is_same(start, count, addr, len) {
             return Some(pos);
         }
-        if start < addr + len && addr < start + count {
+        if meet(addr, len, start, count) {
             return None;
         }
     }
     None
+}
+
+// Two ranges are one.
+fn is_same(start: u64, count: u64, addr: u64, len: u64) -> bool
+    ensures { IsTrue result ↔ ((start ≡ addr) × (count ≡ len)) }
+{
+    start == addr && count == len
+}
+
+// Two ranges share a byte.
+fn meet(addr: u64, len: u64, start: u64, count: u64) -> bool
+    requires first { addr + len < 2 ^ 64 }
+    requires second { start + count < 2 ^ 64 }
+    ensures { result ≡ meet (addr, len) (start, count) }
+{
+    addr < start + count && start < addr + len
 }
 
 // Commits or aborts a live number.
