@@ -16,3 +16,4 @@ pub mod Ordered
 pub mod Shown
 pub mod Lifting
 pub mod Editing
+pub mod Marking

@@ -3,7 +3,7 @@ use Rattle.std.proofs.Common.{◌≡◌, ℕ, ◌<◌, ◌≤◌, Bool, true, fa
 use Rattle.std.specs.Prelude.{Option, Some, None, IsTrue, IsSome, IfSome, OnOk, OnErr, IsErrOf}
 use Rattle.std.proofs.lemmas.Result.{IfErr-at_err}
 use Rattle.counted.specs.Causes.{Rose}
-use Rattle.counted.proofs.Going.{weaker}
+use Rattle.counted.proofs.Going.{stays, weaker}
 use Rattle.array_shape.specs.declared.shape.Shape.{Shape}
 use Rattle.array_shape.specs.Parts.{parts_of_write}
 use Rattle.array_shape.specs.Logged.{Part, ranges_of}
@@ -119,3 +119,56 @@ module _ (tells : Bool) (Opens : List ℕ → List ℕ → Type 0) (c : PageComm
         (λ image either. ⊎_elim (λ before. inl before) (λ after'. inr (subst (λ (st : State). Opens image st.bytes) (data_after tell alive) after')) either)
         (does.time tell alive);
   }
+
+-- A command that makes none of the store, and leaves it as it is.
+module _ (tells : Bool) (Opens : List ℕ → List ℕ → Type 0) (c : PageCommand) (old new : PagesView) (device_is : device c (outline_of old) ≡ None) (alive : old.store.is_dead ≡ false)
+    (allowed : IsAllowed old.store.shape c (outline_of old)) (ordered : IsOrdered (outline_of old)) (told : IsTrue tells → IsTold old.store)
+    (same : new.store ≡ old.store) (counts : new.counts ≡ (outline_after c (outline_of old)).counts) (top : new.top ≡ (outline_after c (outline_of old)).top) where
+  still_out : outline_of new ≡ outline_after c (outline_of old)
+  still_out = λ i. record {
+    ranges = (ap (λ (st : StoreView). st.ranges) same ∙ ap (λ (o : Option Command). ranges_done o old.store.ranges) (sym device_is) ∙ sym (device_does_ranges old.store.shape c (outline_of old) allowed)) i;
+    counts = counts i;
+    top = top i;
+  }
+
+  still_data : IsTrue tells → new.store.state ≡ (after c (state_of old)).store
+  still_data tell =
+      let out = outlined old (told tell) ordered in
+      ap (λ (st : StoreView). st.state) same
+      ∙ ap (λ (o : Option Command). done o old.store.state) (sym device_is)
+      ∙ ap (λ (o : Outline). done (device c o) old.store.state) (sym out)
+      ∙ sym (device_does old.store.shape c (state_of old) (kept old (told tell) ordered) (subst (λ o. IsAllowed old.store.shape c o) (sym out) allowed))
+
+  pub still_becomes : Becomes tells c old new
+  still_becomes = record {
+    alive = ap (λ (st : StoreView). st.is_dead) same ∙ alive;
+    outline = still_out;
+    state = λ tell. state_after old (told tell) ordered c new allowed (still_data tell) still_out;
+  }
+
+  pub still : {U : Type 0} (y : U) → HasRoom old c → (let s : Result U PageFault = Ok y in Does tells Opens c old new s)
+  still y room = record {
+    shape = ap (λ (st : StoreView). st.shape) same;
+    cause = (alive, room);
+    kept = ap (λ (st : StoreView). st.faults) same;
+    done = still_becomes;
+    marks = tt;
+    dies = λ is. absurd (IfErr-at_err (λ q. ⊥) is tt);
+    others = λ u ne. ap (λ (st : StoreView). st.ranges u) same;
+    time = λ tell living. subst (λ (st : StoreView). LeavesOnly (does_store.IsEither Opens old.store.state.bytes (after c (state_of old)).store.bytes) old.store st) (sym same)
+        (stays old.store.moment old.store.left_since _);
+  }
+
+-- a refusal that changes nothing
+pub unchanged : {U : Type 0} (tells : Bool) (Opens : List ℕ → List ℕ → Type 0) (c : PageCommand) (old : PagesView) (p : PageFault) → (p ≡ Media → ⊥)
+    → (let s : Result U PageFault = Err p in Cause old c old.store.faults s) → (let s : Result U PageFault = Err p in Does tells Opens c old old s)
+unchanged tells Opens c old p other cause = record {
+  shape = refl;
+  cause = cause;
+  kept = tt;
+  done = tt;
+  marks = (refl, refl);
+  dies = λ is. absurd (other (IfErr-at_err (λ q. p ≡ q) is refl));
+  others = λ u ne. refl;
+  time = λ tell living. stays old.store.moment old.store.left_since _;
+}

@@ -1,5 +1,6 @@
 // What a number has saved, and its open top action.
-ghost use Rattle.std.specs.Prelude.{◌≡◌, ◌==◌, ◌-◌, ◌<◌, ◌≤◌, [], ◌∷◌, ◌++◌, length, take, slice_index_or, None, Some};
+ghost use Rattle.std.specs.Prelude.{◌≡◌, ◌-◌, ◌<◌, ◌≤◌, [], ◌∷◌, ◌++◌, length, take, slice_index_or, None, Some};
+ghost use Rattle.std.specs.Bool.{OnTrue, OnFalse};
 ghost use Rattle.page_store.specs.Marked.{floor_at};
 
 use arrayvec::ArrayVec;
@@ -45,7 +46,8 @@ impl Marks {
     }
 
     pub fn is_full(&self) -> bool
-        ensures { result ≡ (length self.now.counts == 32) }
+        ensures full { OnTrue result (length self.now.counts ≡ 32) }
+        ensures room { OnFalse result (length self.now.counts < 32) }
     {
         self.saves.is_full()
     }
