@@ -1,6 +1,8 @@
 -- A command of the store, told as the command of pages that makes it.
 use Rattle.std.proofs.Common.{◌≡◌, ℕ, ◌<◌, ◌≤◌, Bool, true, false, inl, inr, ⊎_elim, List, [], ◌∷◌, length, Result, Ok, Err, refl, sym, ◌∙◌, ap, subst}
-use Rattle.std.specs.Prelude.{Option, Some, None, IsTrue, IsSome, IfSome, OnOk, OnErr, IsErrOf}
+use Rattle.std.specs.Prelude.{Option, Some, None, IsTrue, IsSome, IfSome, OnOk, OnErr, IsErrOf, IsOk}
+use Rattle.std.specs.Option.{option_map}
+use Rattle.std.proofs.lemmas.Bool.{false≢true}
 use Rattle.std.proofs.lemmas.Result.{IfErr-at_err}
 use Rattle.counted.specs.Causes.{Rose}
 use Rattle.counted.proofs.Going.{stays, weaker}
@@ -17,12 +19,12 @@ use Rattle.eaw_face.specs.declared.fault.EawFault.{EawFault}
 use Rattle.eaw_face.specs.declared.fault.EawFault.TheVariants as fault
 use Rattle.page_store.specs.State.{PagesState}
 use Rattle.page_store.specs.Command.{PageCommand, after, number_of}
-use Rattle.page_store.specs.Device.{device, done, ranges_done}
+use Rattle.page_store.specs.Device.{device, done, ranges_done, if_live}
 use Rattle.page_store.specs.Outline.{Outline, outline_after}
 use Rattle.page_store.specs.Kept.{IsOrdered, IsAllowed}
 use Rattle.page_store.specs.Does.{Does, Becomes, Cause, HasRoom, IsFull}
 use Rattle.page_store.specs.Shown.{PagesView, outline_of, state_of}
-use Rattle.page_store.specs.Told.{IsKnown, told_as, TellsAs}
+use Rattle.page_store.specs.Told.{IsKnown, told_as, TellsAs, DoesWhereLive}
 use Rattle.page_store.specs.declared.fault.PageFault.{PageFault}
 use Rattle.page_store.specs.declared.fault.PageFault.TheVariants.{LogFull, SavesFull, Media, Dead, Damaged}
 use Rattle.page_store.proofs.Device.{device_does, device_does_ranges}
@@ -172,3 +174,35 @@ unchanged tells Opens c old p other cause = record {
   others = λ u ne. refl;
   time = λ tell living. stays old.store.moment old.store.left_since _;
 }
+
+-- A command that makes one of the store where its number is live, and none where it is not.
+module _ (tells : Bool) (Opens : List ℕ → List ℕ → Type 0) (c : PageCommand) (d : Command) (t : ℕ) (old new : PagesView)
+    (device_is : device c (outline_of old) ≡ if_live (outline_of old) t d)
+    (alive : old.store.is_dead ≡ false) (allowed : IsAllowed old.store.shape c (outline_of old)) (ordered : IsOrdered (outline_of old)) (told : IsTrue tells → IsTold old.store)
+    (room : HasRoom old c) (full : (g h n : ℕ) → causes.IsFull old.store d g h n → IsFull old c g h n)
+    (number : (u : ℕ) → (number_of c ≡ Some u → ⊥) → causes.IsNumberOf d u → ⊥) where
+  makes_live : (log : List (ℕ × ℕ)) → old.store.ranges t ≡ Some log → Makes tells c d old
+  makes_live log is = record {
+    device_is = device_is ∙ ap (option_map (λ ranges. d)) is;
+    allowed = λ living. allowed;
+    ordered = λ living. ordered;
+    told = λ tell living. told tell;
+    room = λ has. room;
+    full = full;
+    number = number;
+  }
+
+  pub live_does : {same : Type 0} (r : Result (Unit {0}) PageFault) → DoesWhereLive (old.store.ranges t) same tells Opens d old.store new.store r
+      → (same → new.store ≡ old.store)
+      → OnOk r ((new.counts ≡ (outline_after c (outline_of old)).counts) × (new.top ≡ (outline_after c (outline_of old)).top))
+      → OnErr r ((new.counts ≡ old.counts) × (new.top ≡ old.top)) → Does tells Opens c old new r
+  live_does {same} r does stays_as marks left = go (old.store.ranges t) refl does
+    where
+      at_none : old.store.ranges t ≡ None → (r : Result (Unit {0}) PageFault) → IsOk r → new.store ≡ old.store
+          → OnOk r ((new.counts ≡ (outline_after c (outline_of old)).counts) × (new.top ≡ (outline_after c (outline_of old)).top)) → Does tells Opens c old new r
+      at_none none (Ok y) ok is marks = still tells Opens c old new (device_is ∙ ap (option_map (λ ranges. d)) none) alive allowed ordered told is marks.0 marks.1 y room
+      at_none none (Err p) ok is marks = absurd (false≢true ok)
+
+      go : (log : Option (List (ℕ × ℕ))) → old.store.ranges t ≡ log → DoesWhereLive log same tells Opens d old.store new.store r → Does tells Opens c old new r
+      go None is does = at_none is r does.1 (stays_as does.0) marks
+      go (Some log) is does = lifted tells Opens c d old new (makes_live log is) does.0 r does.1 does.2 marks left

@@ -1,11 +1,10 @@
 // Pages over a store of editable atomic writes.
-ghost use Rattle.std.specs.Prelude.{◌≡◌, ◌≢◌, ◌↔◌, ◌+◌, ◌^◌, ◌<◌, ◌≤◌, ℕ, List, None, Some, is_some, filter, if◌then◌else◌, IsTrue, IfOk, IfErr, OnErr, OnOk, length};
+ghost use Rattle.std.specs.Prelude.{◌≡◌, ◌≢◌, ◌↔◌, ◌+◌, ◌^◌, ◌<◌, ◌≤◌, ℕ, List, None, Some, is_some, filter, if◌then◌else◌, IsTrue, IsOk, IfOk, IfErr, OnErr, OnOk, length};
 ghost use Rattle.counted.specs.Bytes.{put, range};
 ghost use Rattle.array_shape.specs.Places.{data_len};
 ghost use Rattle.array_shape.specs.Logged.{applied};
 ghost use Rattle.eaw_face.specs.Causes.{IsAlive};
-ghost use Rattle.eaw_face.specs.Command.{commit, abort};
-ghost use Rattle.eaw_face.specs.Does.{Does as DoesStore};
+ghost use Rattle.eaw_face.specs.Command.{commit, abort, nested_top, partial_abort};
 ghost use Rattle.eaw_face.specs.State.{listed, part_at};
 ghost use Rattle.eaw_face.specs.StoreView.{log_len};
 ghost use Rattle.page_store.specs.Command.{write_as, save, back, top_begin, top_end, end, read_as, read};
@@ -14,7 +13,7 @@ ghost use Rattle.page_store.specs.Edit.{edit_pos, meet};
 ghost use Rattle.page_store.specs.Fits.{FitAll, LacksRoom, is_page_on};
 ghost use Rattle.page_store.specs.Reads.{Reads};
 ghost use Rattle.page_store.specs.Shown.{IsInPage, IsUnmarked, address, counts_in, top_in, pages_of, state_of};
-ghost use Rattle.page_store.specs.Told.{IsKnown, TellsAs, told_as};
+ghost use Rattle.page_store.specs.Told.{IsKnown, TellsAs, DoesWhereLive, told_as};
 ghost use Rattle.page_store.specs.State.{view_of};
 
 use crate::fault::PageFault;
@@ -171,9 +170,7 @@ impl<S: EawStore> Pages<S> {
             return Err(PageFault::Dead);
         }
         let count = self.marks[usize::from(tid)].at_save(n);
-        if self.store.is_live(tid) {
-            told(self.store.partial_abort(tid, count))?;
-        }
+        drop_from(&mut self.store, tid, count)?;
         self.marks[usize::from(tid)].cut(n);
         Ok(())
     }
@@ -205,9 +202,7 @@ impl<S: EawStore> Pages<S> {
         if self.store.is_dead() {
             return Err(PageFault::Dead);
         }
-        if self.store.is_live(tid) {
-            told(self.store.nested_top(tid, mark))?;
-        }
+        commit_from(&mut self.store, tid, mark)?;
         self.marks[usize::from(tid)].end_top();
         Ok(())
     }
@@ -224,9 +219,7 @@ impl<S: EawStore> Pages<S> {
         if self.store.is_dead() {
             return Err(PageFault::Dead);
         }
-        if self.store.is_live(tid) {
-            told(end_number(&mut self.store, tid, commits))?;
-        }
+        end_number(&mut self.store, tid, commits)?;
         self.marks[usize::from(tid)].cut(0);
         Ok(())
     }
@@ -405,11 +398,56 @@ fn meet(addr: u64, len: u64, start: u64, count: u64) -> bool
     addr < start + count && start < addr + len
 }
 
-// Commits or aborts a live number.
-fn end_number<S: EawStore>(store: &mut S, tid: u8, commits: bool) -> Result<(), EawFault>
-    ensures does { DoesStore S.tells (S.opens (S.view store.old).shape) (if commits then commit tid else abort tid) (S.view store.old) (S.view store.new) result }
+// Drops the parts of a live number from an offset on.
+fn drop_from<S: EawStore>(store: &mut S, tid: u8, offset: u32) -> Result<(), PageFault>
+    requires tid { tid < (S.view store.old).shape.numbers }
+    requires alive { IsAlive (S.view store.old) }
+    requires offset { offset ≤ log_len (S.view store.old) tid }
+    ensures does { DoesWhereLive ((S.view store.old).ranges tid) (store.new ≡ store.old) S.tells (S.opens (S.view store.old).shape) (partial_abort tid offset)
+        (S.view store.old) (S.view store.new) result }
+    ensures refused { IfErr result (λ fault. fault ≢ PageFault.Media → store.new ≡ store.old) }
+    ensures idle { (S.view store.new).moment ≡ (S.view store.old).moment }
+    ensures done { IsOk result }
 {
-    if commits { store.commit(tid) } else { store.abort(tid) }
+    if !store.is_live(tid) {
+        return Ok(());
+    }
+    told(store.partial_abort(tid, offset))
+}
+
+// Commits the parts of a live number from an offset on.
+fn commit_from<S: EawStore>(store: &mut S, tid: u8, offset: u32) -> Result<(), PageFault>
+    requires tid { tid < (S.view store.old).shape.numbers }
+    requires alive { IsAlive (S.view store.old) }
+    requires offset { offset ≤ log_len (S.view store.old) tid }
+    ensures does { DoesWhereLive ((S.view store.old).ranges tid) (store.new ≡ store.old) S.tells (S.opens (S.view store.old).shape) (nested_top tid offset)
+        (S.view store.old) (S.view store.new) result }
+    ensures refused { IfErr result (λ fault. fault ≢ PageFault.Media → store.new ≡ store.old) }
+    ensures idle { log_len (S.view store.old) tid ≡ offset → (S.view store.new).moment ≡ (S.view store.old).moment }
+{
+    if !store.is_live(tid) {
+        return Ok(());
+    }
+    told(store.nested_top(tid, offset))
+}
+
+// Commits a live number, or aborts it.
+fn end_number<S: EawStore>(store: &mut S, tid: u8, commits: bool) -> Result<(), PageFault>
+    requires tid { tid < (S.view store.old).shape.numbers }
+    requires alive { IsAlive (S.view store.old) }
+    ensures does { DoesWhereLive ((S.view store.old).ranges tid) (store.new ≡ store.old) S.tells (S.opens (S.view store.old).shape) (if commits then commit tid else abort tid)
+        (S.view store.old) (S.view store.new) result }
+    ensures refused { IfErr result (λ fault. fault ≢ PageFault.Media → store.new ≡ store.old) }
+    ensures idle { log_len (S.view store.old) tid ≡ 0 → (S.view store.new).moment ≡ (S.view store.old).moment }
+{
+    if !store.is_live(tid) {
+        return Ok(());
+    }
+    if commits {
+        told(store.commit(tid))
+    } else {
+        told(store.abort(tid))
+    }
 }
 
 // How many of the pages this logger has: they are dealt to the loggers by turns.
