@@ -17,3 +17,4 @@ pub mod Shown
 pub mod Lifting
 pub mod Editing
 pub mod Marking
+pub mod Writing

@@ -28,7 +28,12 @@ use Rattle.page_store.specs.Told.{IsKnown, told_as, TellsAs, DoesWhereLive}
 use Rattle.page_store.specs.declared.fault.PageFault.{PageFault}
 use Rattle.page_store.specs.declared.fault.PageFault.TheVariants.{LogFull, SavesFull, Media, Dead, Damaged}
 use Rattle.page_store.proofs.Device.{device_does, device_does_ranges}
+use Rattle.page_store.proofs.Ordered.{ordered_after}
 use Rattle.page_store.proofs.Shown.{IsTold, outlined, kept, state_after}
+
+abbrev IsMedia : EawFault → Type 0
+IsMedia fault.Media = Unit {0}
+IsMedia _ = ⊥
 
 -- What is known of a command of pages and of the command of the store that it makes.
 pub record Makes (tells : Bool) (c : PageCommand) (d : Command) (old : PagesView) : Type 0 where
@@ -121,6 +126,28 @@ module _ (tells : Bool) (Opens : List ℕ → List ℕ → Type 0) (c : PageComm
         (λ image either. ⊎_elim (λ before. inl before) (λ after'. inr (subst (λ (st : State). Opens image st.bytes) (data_after tell alive) after')) either)
         (does.time tell alive);
   }
+
+  -- counts stay ordered, whatever the answer, where the command changes no marks
+  pub ordered_now : {T : Type 0} (r : Result T EawFault) → does_store.Does tells Opens d old.store new.store r
+      → ((f : EawFault) → r ≡ Err f → (f ≡ fault.Media → ⊥) → new.store ≡ old.store)
+      → new.counts ≡ old.counts → new.top ≡ old.top
+      → old.counts ≡ (outline_after c (outline_of old)).counts → old.top ≡ (outline_after c (outline_of old)).top
+      → new.store.is_dead ≡ false → IsOrdered (outline_of new)
+  ordered_now (Ok x) does same counts top counts' top' living =
+      let alive = does.cause.0 in
+      subst IsOrdered (sym (becomes alive does.done (counts ∙ counts') (top ∙ top')).outline) (ordered_after old.store.shape (outline_of old) (makes.ordered alive) c (makes.allowed alive))
+  ordered_now {T} (Err f) does same counts top counts' top' living = go f refl
+    where
+      here : new.store ≡ old.store → IsOrdered (outline_of new)
+      here is =
+          let out : outline_of old ≡ outline_of new = λ i. record { ranges = (sym is i).ranges; counts = sym counts i; top = sym top i } in
+          subst IsOrdered out (makes.ordered (ap (λ (st : StoreView). st.is_dead) (sym is) ∙ living))
+
+      go : (e : EawFault) → f ≡ e → IsOrdered (outline_of new)
+      go fault.Media is = absurd (false≢true (sym living ∙ does.dies (ap Err is)))
+      go (fault.UnknownTid t) is = here (same f refl (λ media. subst IsMedia (sym media ∙ is) tt))
+      go (fault.LogFull g h n) is = here (same f refl (λ media. subst IsMedia (sym media ∙ is) tt))
+      go fault.Dead is = here (same f refl (λ media. subst IsMedia (sym media ∙ is) tt))
 
 -- A command that makes none of the store, and leaves it as it is.
 module _ (tells : Bool) (Opens : List ℕ → List ℕ → Type 0) (c : PageCommand) (old new : PagesView) (device_is : device c (outline_of old) ≡ None) (alive : old.store.is_dead ≡ false)
