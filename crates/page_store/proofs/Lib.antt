@@ -18,3 +18,4 @@ pub mod Lifting
 pub mod Editing
 pub mod Marking
 pub mod Writing
+pub mod ReadCalls
