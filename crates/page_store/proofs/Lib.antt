@@ -19,3 +19,4 @@ pub mod Editing
 pub mod Marking
 pub mod Writing
 pub mod ReadCalls
+pub mod Laying

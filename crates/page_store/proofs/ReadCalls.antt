@@ -14,9 +14,9 @@ use Rattle.eaw_face.specs.Does as store
 use Rattle.eaw_face.specs.declared.fault.EawFault.{EawFault}
 use Rattle.eaw_face.specs.declared.fault.EawFault.TheVariants as fault
 use Rattle.page_store.specs.State.{PagesState}
-use Rattle.page_store.specs.Command.{PageCommand, after, number_of}
+use Rattle.page_store.specs.Command.{PageCommand, after}
 use Rattle.page_store.specs.Outline.{Outline, outline_after}
-use Rattle.page_store.specs.Does.{Does, Cause, HasRoom, Becomes}
+use Rattle.page_store.specs.Does.{Does, Cause, HasRoom, Becomes, named_by}
 use Rattle.page_store.specs.Reads.{Reads, IsRead, ReadCause}
 use Rattle.page_store.specs.Shown.{PagesView, outline_of, state_of}
 use Rattle.page_store.specs.Told.{IsKnown, told_as, TellsAs}
@@ -28,7 +28,7 @@ NotMedia Media = ⊥
 NotMedia _ = Unit {0}
 
 -- a command of the store that reads, of a number that is live
-module _ (tells : Bool) (Opens : List ℕ → List ℕ → Type 0) (d : Command) (old new : StoreView)
+module _ (tells : Bool) (Opens : List ℕ → List ℕ → Type 0) (t : ℕ) (d : Command) (old new : StoreView)
     (same : (s : State) → model.after d s ≡ s) (same_ranges : (rs : Logs (ℕ × ℕ)) → model.ranges_after d rs ≡ rs)
     (knows : causes.Knows old d) (room : (g h n : ℕ) → causes.IsFull old d g h n → ⊥) where
   cause_of : {T : Type 0} (r : Result T EawFault) → causes.Cause old d new.faults r → ReadCause old new.faults r
@@ -45,7 +45,7 @@ module _ (tells : Bool) (Opens : List ℕ → List ℕ → Type 0) (d : Command)
   done_of (Ok x) is = is_read is
   done_of (Err f) is = tt
 
-  pub reads_of : {T : Type 0} → ((u : ℕ) → new.ranges u ≡ old.ranges u) → (r : Result T EawFault) → store.Does tells Opens d old new r → Reads tells Opens old new r
+  pub reads_of : {T : Type 0} → ((u : ℕ) → (u ≡ t → ⊥) → new.ranges u ≡ old.ranges u) → (r : Result T EawFault) → store.Does tells Opens d old new r → Reads tells Opens t old new r
   reads_of others r does = record {
     shape = does.shape;
     cause = cause_of r does.cause;
@@ -57,7 +57,7 @@ module _ (tells : Bool) (Opens : List ℕ → List ℕ → Type 0) (d : Command)
   }
 
 -- one read that succeeded, and others
-module _ {T : Type 0} (tells : Bool) (Opens : List ℕ → List ℕ → Type 0) (old mid new : StoreView) (r : Result T EawFault) (ok : IsOk r) (first : Reads tells Opens old mid r) where
+module _ {T : Type 0} (tells : Bool) (Opens : List ℕ → List ℕ → Type 0) (t : ℕ) (old mid new : StoreView) (r : Result T EawFault) (ok : IsOk r) (first : Reads tells Opens t old mid r) where
   done_first : (r : Result T EawFault) → IsOk r → OnOk r (IsRead tells old mid) → IsRead tells old mid
   done_first (Ok x) ok is = is
   done_first (Err f) ok is = absurd (false≢true ok)
@@ -89,34 +89,66 @@ module _ {T : Type 0} (tells : Bool) (Opens : List ℕ → List ℕ → Type 0) 
   kept_on (Ok x) is = is ∙ kept_first r ok first.kept
   kept_on (Err f) is = tt
 
-  pub reads_on : {U : Type 0} (s : Result U EawFault) → Reads tells Opens mid new s → Reads tells Opens old new s
+  pub reads_on : {U : Type 0} (s : Result U EawFault) → Reads tells Opens t mid new s → Reads tells Opens t old new s
   reads_on s more = record {
     shape = more.shape ∙ first.shape;
     cause = cause_on s more.cause;
     kept = kept_on s more.kept;
     done = done_on s more.done;
     dies = more.dies;
-    others = λ u. more.others u ∙ first.others u;
+    others = λ u ne. more.others u ne ∙ first.others u ne;
     time = λ tell alive. then (first.time tell alive)
         (weaker (λ image opens. subst (λ (st : State). Opens image st.bytes) ((done_first r ok first.done).state tell) opens) (more.time tell (done_first r ok first.done).alive));
   }
 
+-- a fault of a read, handed on
+pub reads_err : {T U : Type 0} (tells : Bool) (Opens : List ℕ → List ℕ → Type 0) (t : ℕ) (old new : StoreView) (f : EawFault)
+    → (let r : Result T EawFault = Err f in Reads tells Opens t old new r) → (let s : Result U EawFault = Err f in Reads tells Opens t old new s)
+reads_err {T} {U} tells Opens t old new f reads = record {
+  shape = reads.shape;
+  cause = cause f reads.cause;
+  kept = tt;
+  done = tt;
+  dies = λ is. reads.dies (ap Err (IfErr-at_err (λ q. f ≡ q) is refl));
+  others = reads.others;
+  time = reads.time;
+}
+  where
+    cause : (f : EawFault) → (let r : Result T EawFault = Err f in ReadCause old new.faults r) → (let s : Result U EawFault = Err f in ReadCause old new.faults s)
+    cause (fault.UnknownTid t) is = is
+    cause (fault.LogFull g h n) is = is
+    cause fault.Media is = is
+    cause fault.Dead is = is
+
+-- one that succeeded, with another answer
+pub reads_ok : {T U : Type 0} {x : T} (tells : Bool) (Opens : List ℕ → List ℕ → Type 0) (t : ℕ) (old new : StoreView) (y : U)
+    → (let r : Result T EawFault = Ok x in Reads tells Opens t old new r) → (let s : Result U EawFault = Ok y in Reads tells Opens t old new s)
+reads_ok tells Opens t old new y reads = record {
+  shape = reads.shape;
+  cause = reads.cause;
+  kept = reads.kept;
+  done = reads.done;
+  dies = λ is. absurd (IfErr-at_err (λ q. ⊥) is tt);
+  others = reads.others;
+  time = reads.time;
+}
+
 -- nothing was read
-pub reads_none : {T : Type 0} (tells : Bool) (Opens : List ℕ → List ℕ → Type 0) (old : StoreView) (x : T) → old.is_dead ≡ false → (let r : Result T EawFault = Ok x in Reads tells Opens old old r)
-reads_none tells Opens old x alive = record {
+pub reads_none : {T : Type 0} (tells : Bool) (Opens : List ℕ → List ℕ → Type 0) (t : ℕ) (old : StoreView) (x : T) → old.is_dead ≡ false → (let r : Result T EawFault = Ok x in Reads tells Opens t old old r)
+reads_none tells Opens t old x alive = record {
   shape = refl;
   cause = alive;
   kept = refl;
   done = record { alive = alive; ranges = refl; state = λ tell. refl };
   dies = λ is. absurd (IfErr-at_err (λ q. ⊥) is tt);
-  others = λ u. refl;
+  others = λ u ne. refl;
   time = λ tell living. record { later = omega arith; keeps = λ t image le left. left; only = λ t image le left. inl left };
 }
 
 -- As a command of pages that changes nothing.
-module _ (tells : Bool) (Opens : List ℕ → List ℕ → Type 0) (c : PageCommand) (old new : PagesView)
+module _ (tells : Bool) (Opens : List ℕ → List ℕ → Type 0) (t : ℕ) (c : PageCommand) (old new : PagesView)
     (same : (s : PagesState) → after c s ≡ s) (same_outline : (o : Outline) → outline_after c o ≡ o) (room : HasRoom old c)
-    (counts : new.counts ≡ old.counts) (top : new.top ≡ old.top) where
+    (counts : new.counts ≡ old.counts) (top : new.top ≡ old.top) (number : (u : ℕ) → (named_by c ≡ Some u → ⊥) → new.store.ranges u ≡ old.store.ranges u) where
   page_cause : {T U : Type 0} (r : Result T EawFault) (s : Result U PageFault) → TellsAs r s → ReadCause old.store new.store.faults r → Cause old c new.store.faults s
   page_cause (Ok x) (Ok y) as_told cause = (cause, room)
   page_cause (Ok x) (Err p) as_told cause = absurd as_told
@@ -164,7 +196,7 @@ module _ (tells : Bool) (Opens : List ℕ → List ℕ → Type 0) (c : PageComm
   any (Ok x) = tt
   any (Err e) = (counts, top)
 
-  pub page_read : {T U : Type 0} (r : Result T EawFault) (s : Result U PageFault) → TellsAs r s → Reads tells Opens old.store new.store r → Does tells Opens c old new s
+  pub page_read : {T U : Type 0} (r : Result T EawFault) (s : Result U PageFault) → TellsAs r s → Reads tells Opens t old.store new.store r → Does tells Opens c old new s
   page_read r s as_told reads = record {
     shape = reads.shape;
     cause = page_cause r s as_told reads.cause;
@@ -172,6 +204,6 @@ module _ (tells : Bool) (Opens : List ℕ → List ℕ → Type 0) (c : PageComm
     done = page_done r s as_told reads.done;
     marks = any s;
     dies = page_dies r s as_told reads.dies;
-    others = λ u ne. reads.others u;
+    others = number;
     time = λ tell alive. weaker (λ image opens. inl opens) (reads.time tell alive);
   }

@@ -43,7 +43,7 @@ saved_lengths : (log : List Part) (saved : List (List Part)) → ((i : ℕ) → 
 saved_lengths log [] fronts = refl
 saved_lengths log (l ∷ ls) fronts = λ i. fronts 0 (omega arith) i ∷ saved_lengths log ls (λ k lt. fronts (suc k) (omega arith)) i
 
-placed_parts : (shape : Shape) (log : List Part) → ArePlaced shape (ranges_of log) → AllPlaced shape log
+pub placed_parts : (shape : Shape) (log : List Part) → ArePlaced shape (ranges_of log) → AllPlaced shape log
 placed_parts shape [] placed = tt
 placed_parts shape (p ∷ ps) placed = (placed.0, placed_parts shape ps placed.1)
 

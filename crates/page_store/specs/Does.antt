@@ -7,7 +7,7 @@ use Rattle.eaw_face.specs.Causes.{IsAlive, Fit, IsFirstFull}
 use Rattle.eaw_face.specs.Does.{IsEither}
 use Rattle.page_store.specs.Edit.{edit_pos}
 use Rattle.page_store.specs.Outline.{outline_after, floor_in}
-use Rattle.page_store.specs.Command.{PageCommand, write_as, save, after, number_of}
+use Rattle.page_store.specs.Command.{PageCommand, write_as, save, read_as, after, number_of}
 use Rattle.page_store.specs.Shown.{PagesView, outline_of, state_of}
 use Rattle.page_store.specs.declared.fault.PageFault.{PageFault}
 use Rattle.page_store.specs.declared.fault.PageFault.TheVariants.{LogFull, SavesFull, Media, Dead, Damaged}
@@ -47,6 +47,11 @@ pub record Becomes (tells : Bool) (command : PageCommand) (old new : PagesView) 
   pub outline : outline_of new ≡ outline_after command (outline_of old)
   pub state : IsTrue tells → state_of new ≡ after command (state_of old)
 
+-- the number that a command names
+abbrev pub named_by : PageCommand → Option ℕ
+named_by (read_as t) = Some t
+named_by command = number_of command
+
 -- A call of pages over a store, of which an image that a loss of power leaves is opened so. Each answer has its cause; an Ok is the
 -- model's command, and hides no fault; a refusal leaves saves and tops; a fault of the media leaves the store dead; and whatever the
 -- answer, other numbers keep what they have logged, and at each moment of a store that was not dead a loss of power leaves what it might
@@ -58,5 +63,5 @@ pub record Does {T : Type 0} (tells : Bool) (Opens : List ℕ → List ℕ → T
   pub done : OnOk result (Becomes tells command old new)
   pub marks : OnErr result ((new.counts ≡ old.counts) × (new.top ≡ old.top))
   pub dies : IsErrOf result Media → new.store.is_dead ≡ true
-  pub others : (u : ℕ) → (number_of command ≡ Some u → ⊥) → new.store.ranges u ≡ old.store.ranges u
+  pub others : (u : ℕ) → (named_by command ≡ Some u → ⊥) → new.store.ranges u ≡ old.store.ranges u
   pub time : IsTrue tells → old.store.is_dead ≡ false → LeavesOnly (IsEither Opens old.store.state.bytes (after command (state_of old)).store.bytes) old.store new.store

@@ -18,12 +18,12 @@ ReadCause old faults (Err Dead) = old.is_dead ≡ true
 ReadCause old faults (Err Media) = (old.is_dead ≡ false) × Rose old.faults faults
 ReadCause old faults _ = ⊥
 
--- Reads of data and logs: at each moment a loss of power leaves what it might have left before, or an image that opens with the data.
-pub record Reads {T : Type 0} (tells : Bool) (Opens : List ℕ → List ℕ → Type 0) (old new : StoreView) (result : Result T EawFault) : Type 0 where
+-- Reads of data and of the log of number t: at each moment a loss of power leaves what it might have left before, or an image that opens with the data.
+pub record Reads {T : Type 0} (tells : Bool) (Opens : List ℕ → List ℕ → Type 0) (t : ℕ) (old new : StoreView) (result : Result T EawFault) : Type 0 where
   pub shape : new.shape ≡ old.shape
   pub cause : ReadCause old new.faults result
   pub kept : OnOk result (new.faults ≡ old.faults)
   pub done : OnOk result (IsRead tells old new)
   pub dies : IsErrOf result Media → new.is_dead ≡ true
-  pub others : (u : ℕ) → new.ranges u ≡ old.ranges u
+  pub others : (u : ℕ) → (u ≡ t → ⊥) → new.ranges u ≡ old.ranges u
   pub time : IsTrue tells → old.is_dead ≡ false → LeavesOnly (λ image. Opens image old.state.bytes) old new

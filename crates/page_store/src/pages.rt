@@ -316,14 +316,20 @@ fn read_seen<S: EawStore>(
 ) -> Result<(), EawFault>
     requires tid { tid < (S.view store.old).shape.numbers }
     requires inside { addr + length buf.old ≤ data_len (S.view store.old).shape }
-    ensures does { Reads S.tells (S.opens (S.view store.old).shape) (S.view store.old) (S.view store.new) result }
+    ensures does { Reads S.tells (S.opens (S.view store.old).shape) tid (S.view store.old) (S.view store.new) result }
     ensures bytes { IsTrue S.tells → OnOk result (buf.new ≡
         range (applied (listed ((S.view store.old).state.logs tid)) (S.view store.old).state.bytes) addr (length buf.old)) }
     ensures refused { IfErr result (λ fault. fault ≢ EawFault.Media → store.new ≡ store.old) }
 {
-    store.read(addr, buf)?;
+    match store.read(addr, buf) {
+        Ok(()) => {}
+        Err(fault) => return Err(fault),
+    }
     for pos in 0..store.log_len(tid) {
-        lay_part(store, tid, pos, addr, buf)?;
+        match lay_part(store, tid, pos, addr, buf) {
+            Ok(()) => {}
+            Err(fault) => return Err(fault),
+        }
     }
     Ok(())
 }
@@ -340,7 +346,7 @@ fn lay_part<S: EawStore>(
     requires pos { pos < log_len (S.view store.old) tid }
     requires alive { IsAlive (S.view store.old) }
     requires inside { addr + length buf.old ≤ data_len (S.view store.old).shape }
-    ensures does { Reads S.tells (S.opens (S.view store.old).shape) (S.view store.old) (S.view store.new) result }
+    ensures does { Reads S.tells (S.opens (S.view store.old).shape) tid (S.view store.old) (S.view store.new) result }
     ensures laid { IsTrue S.tells → (bytes : List ℕ) → length bytes ≡ data_len (S.view store.old).shape → buf.old ≡ range bytes addr (length buf.old)
         → OnOk result (buf.new ≡ (let part = part_at (listed ((S.view store.old).state.logs tid)) pos in range (put bytes part.0 part.1) addr (length buf.old))) }
     ensures refused { IfErr result (λ fault. fault ≢ EawFault.Media → store.new ≡ store.old) }
@@ -353,12 +359,22 @@ fn lay_part<S: EawStore>(
         return Ok(());
     }
     let mut part = [0; 512];
-    store.log_read(tid, pos, &mut part)?;
+    match store.log_read(tid, pos, &mut part) {
+        Ok(_) => {}
+        Err(fault) => return Err(fault),
+    }
     let from = (first - start) as usize;
     let to = (last - start) as usize;
-    let at = (first - addr) as usize;
-    buf[at..at + (to - from)].copy_from_slice(&part[from..to]);
+    overwrite(buf, (first - addr) as usize, &part[from..to]);
     Ok(())
+}
+
+// Puts these bytes at a place.
+fn overwrite(bytes: &mut [u8], at: usize, more: &[u8])
+    requires { at + length more.now ≤ length bytes.old }
+    ensures { bytes.new ≡ put bytes.old at more.now }
+{
+    bytes[at..at + more.len()].copy_from_slice(more);
 }
 
 // The part that a write of this range edits: from the floor on, of just this range, and met by no later one. The last part that the
