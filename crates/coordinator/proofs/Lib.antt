@@ -5,3 +5,4 @@ pub mod Applying
 pub mod Committing
 pub mod Whole
 pub mod Header
+pub mod Costing

@@ -1,5 +1,6 @@
 // A commit: the rows, the votes, the parts into the data, the votes cleared, each behind a barrier.
-ghost use Rattle.std.specs.Prelude.{◌≡◌, ◌+◌, ◌≤◌, ◌<◌, ℕ, Ok, length, slice_index, IsTrue, OnOk};
+ghost use Rattle.std.specs.Prelude.{◌≡◌, ◌+◌, ◌*◌, ◌≤◌, ◌<◌, ℕ, Ok, length, slice_index, sum, IsTrue, OnOk};
+ghost use Rattle.counted.specs.Costs.{Costs};
 ghost use Rattle.pcm_media.specs.View.{View, LeavesOnly, Writes};
 ghost use Rattle.array_shape.specs.Places.{media_len};
 ghost use Rattle.array_shape.specs.Logged.{applied};
@@ -7,6 +8,7 @@ ghost use Rattle.array_image.specs.Image.{data_of};
 ghost use Rattle.array_image.specs.Standing.{IsEither, IsClean, SameCells};
 ghost use Rattle.array_image.specs.Marked.{named_parts, IsMaskOf, AreGood};
 ghost use Rattle.coordinator.specs.Between.{commit_places};
+ghost use Rattle.coordinator.specs.Costs.{voters, commit_calls};
 
 use crate::mask::mask_of;
 use crate::phases::{install, prepare, set_votes};
@@ -39,6 +41,7 @@ pub fn commit_from<M: Media>(
     ensures committed { IsTrue M.tells → OnOk result (data_of shape.now (M.view media.new).content.bytes ≡
         applied (named_parts shape.now (M.view media.old).content.bytes tid firsts.now counts.now) (data_of shape.now (M.view media.old).content.bytes)) }
     ensures cells { IsTrue M.tells → SameCells shape.now (M.view media.old).content.bytes (M.view media.new).content.bytes }
+    ensures costs { Costs M.tells (commit_calls counts.now) (M.view media.old).moment (M.view media.new).moment result }
     ensures does { Writes M.tells (commit_places shape.now (M.view media.old).content.bytes tid firsts.now counts.now) (M.view media.old) (M.view media.new) result }
     ensures idle { ((g : ℕ) → g < shape.now.loggers → slice_index counts.now g ≡ 0) → (result ≡ Ok tt) × (media.new ≡ media.old) }
 {
@@ -72,6 +75,7 @@ fn commit_voters<M: Media>(
     ensures committed { IsTrue M.tells → OnOk result (IsClean shape.now (M.view media.new).content × (data_of shape.now (M.view media.new).content.bytes ≡
         applied (named_parts shape.now (M.view media.old).content.bytes tid firsts.now counts.now) (data_of shape.now (M.view media.old).content.bytes))) }
     ensures cells { IsTrue M.tells → SameCells shape.now (M.view media.old).content.bytes (M.view media.new).content.bytes }
+    ensures costs { Costs M.tells (3 * voters counts.now + 2 * sum counts.now + 4) (M.view media.old).moment (M.view media.new).moment result }
     ensures does { Writes M.tells (commit_places shape.now (M.view media.old).content.bytes tid firsts.now counts.now) (M.view media.old) (M.view media.new) result }
 {
     prepare(media, shape, tid, mask, firsts, counts)?;

@@ -1,5 +1,5 @@
 // Reads the rows of an array.
-ghost use Rattle.std.specs.Prelude.{◌≡◌, ◌≢◌, ◌+◌, ◌*◌, ◌<◌, ◌≤◌, [], ℕ, IsTrue, IfOk, OnOk};
+ghost use Rattle.std.specs.Prelude.{◌≡◌, ◌≢◌, ◌+◌, ◌*◌, ◌<◌, ◌≤◌, [], ℕ, true, IsTrue, IfOk, OnOk};
 ghost use Rattle.counted.specs.Costs.{Costs};
 ghost use Rattle.pcm_media.specs.View.{Writes};
 ghost use Rattle.array_shape.specs.Places.{media_len};
@@ -24,7 +24,7 @@ fn read_one<M: Media>(media: &mut M, shape: &Shape, logger: u8, tid: u8) -> Resu
     requires tid { tid < shape.now.numbers }
     requires size { (M.view media.old).size ≡ media_len shape.now }
     ensures row { IsTrue M.tells → IfOk result (λ row. row ≡ row_of shape.now (M.view media.old).content.bytes logger tid) }
-    ensures costs { Costs 1 (M.view media.old).moment (M.view media.new).moment result }
+    ensures costs { Costs true 1 (M.view media.old).moment (M.view media.new).moment result }
     ensures does { Writes M.tells [] (M.view media.old) (M.view media.new) result }
 {
     let mut bytes = [0; 16];
@@ -43,7 +43,7 @@ fn read_number<M: Media>(
     requires size { (M.view media.old).size ≡ media_len shape.now }
     ensures rows { IsTrue M.tells → OnOk result ((g : ℕ) → g < shape.now.loggers → row_in rows.new g tid ≡ row_of shape.now (M.view media.old).content.bytes g tid) }
     ensures others { (g t : ℕ) → g < 8 → t ≢ tid → row_in rows.new g t ≡ row_in rows.old g t }
-    ensures costs { Costs shape.now.loggers (M.view media.old).moment (M.view media.new).moment result }
+    ensures costs { Costs true shape.now.loggers (M.view media.old).moment (M.view media.new).moment result }
     ensures does { Writes M.tells [] (M.view media.old) (M.view media.new) result }
 {
     for logger in 0..shape.loggers {
@@ -56,7 +56,7 @@ fn read_number<M: Media>(
 pub(crate) fn read_rows<M: Media>(media: &mut M, shape: &Shape) -> Result<[Row; MOST], Failed>
     requires size { (M.view media.old).size ≡ media_len shape.now }
     ensures rows { IsTrue M.tells → IfOk result (RowsAre shape.now (M.view media.old).content.bytes shape.now.numbers) }
-    ensures costs { Costs (shape.now.loggers * shape.now.numbers) (M.view media.old).moment (M.view media.new).moment result }
+    ensures costs { Costs true (shape.now.loggers * shape.now.numbers) (M.view media.old).moment (M.view media.new).moment result }
     ensures does { Writes M.tells [] (M.view media.old) (M.view media.new) result }
 {
     let mut rows = [NO_ROW; MOST];

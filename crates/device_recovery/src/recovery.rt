@@ -40,7 +40,7 @@ pub fn recover<M: Media>(media: &mut M, shape: &Shape) -> Result<Report, Recover
     ensures unwritten { IsTrue M.tells → IfErr result (λ fault. (g t : ℕ) → fault ≡ BadRow g t → Touched [] (M.view media.old).content (M.view media.new).content) }
     ensures spared { IsTrue M.tells → OnErr result (Touched [] (M.view media.old).content (M.view media.new).content ⊎ AllGood shape.now (M.view media.old).content.bytes shape.now.numbers) }
     ensures idle { IsTrue M.tells → HasNoVote shape.now (M.view media.old).content.bytes → Touched [] (M.view media.old).content (M.view media.new).content }
-    ensures costs { IsTrue M.tells → HasNoVote shape.now (M.view media.old).content.bytes → Costs (quiet_calls shape.now) (M.view media.old).moment (M.view media.new).moment result }
+    ensures costs { IsTrue M.tells → HasNoVote shape.now (M.view media.old).content.bytes → Costs true (quiet_calls shape.now) (M.view media.old).moment (M.view media.new).moment result }
     ensures any_moment { IsTrue M.tells → ((image : List ℕ) → MayLeave (M.view media.old).content image → IsLawful shape.now image)
         → LeavesOnly (KeepsSense shape.now (M.view media.old).content) (M.view media.old) (M.view media.new) }
     ensures does { Writes M.tells (recovered_places shape.now (M.view media.old).content.bytes) (M.view media.old) (M.view media.new) (media_answer result) }
@@ -62,7 +62,7 @@ fn read_sound<M: Media>(media: &mut M, shape: &Shape) -> Result<[Row; MOST], Rec
     ensures bad { IsTrue M.tells → IfErr result (λ fault. (g t : ℕ) → fault ≡ BadRow g t → IsFirstBad shape.now (M.view media.old).content.bytes g t) }
     ensures fits { IfOk result (λ rows. (g t : ℕ) → g < shape.now.loggers → t < shape.now.numbers → decided_in shape.now rows g t ≡ true → (row_in rows g t).first + (row_in rows g t).count ≤ shape.now.entries) }
     ensures sure { IsTrue M.tells → OnOk result ((i : ℕ) → IsOutside (M.view media.new).content.unsettled i) }
-    ensures costs { IsTrue M.tells → HasNoVote shape.now (M.view media.old).content.bytes → Costs (quiet_calls shape.now) (M.view media.old).moment (M.view media.new).moment result }
+    ensures costs { IsTrue M.tells → HasNoVote shape.now (M.view media.old).content.bytes → Costs true (quiet_calls shape.now) (M.view media.old).moment (M.view media.new).moment result }
     ensures does { Writes M.tells [] (M.view media.old) (M.view media.new) (media_answer result) }
 {
     media.barrier()?;

@@ -55,6 +55,11 @@ module _ (tells : Bool) (Opens : Shape → List ℕ → List ℕ → Type 0) (ol
   room : Fit old [] (ranges_of (parts_of_write addr bytes))
   room = subst (λ (log : Option (List (ℕ × ℕ))). Fit old (listed log) (ranges_of (parts_of_write addr bytes))) free first.cause.2
 
+  pub mid_ranges : listed (mid.ranges t) ≡ ranges_of (parts_of_write addr bytes)
+  mid_ranges =
+      ap (λ (ranges : Logs (ℕ × ℕ)). listed (ranges t)) first.done.ranges ∙ ap listed (with_here old.ranges t (Some (listed (old.ranges t) ++ ranges_of (parts_of_write addr bytes))))
+      ∙ ap (λ (log : Option (List (ℕ × ℕ))). listed log ++ ranges_of (parts_of_write addr bytes)) free
+
   mid_log : IsTrue tells → mid.state.logs t ≡ Some (parts_of_write addr bytes)
   mid_log told =
       ap (λ (s : State). s.logs t) (first.done.state told) ∙ with_here old.state.logs t (Some (listed (old.state.logs t) ++ parts_of_write addr bytes))

@@ -9,6 +9,7 @@ use Rattle.array_shape.specs.Places.{logger_of, IsShape}
 use Rattle.eaw_face.specs.State.{is_range_on, count_on}
 use Rattle.eaw_device.specs.declared.log.Entry.{Entry}
 use Rattle.eaw_device.specs.Logs.{ranges_in, cells_on}
+use Rattle.eaw_device.proofs.Dealt.{below_few, below_all}
 
 -- numbers one after another
 pub numbers_split : (xs ys : List ℕ) (a n : ℕ) → xs ++ ys ≡ range_with_len a n
@@ -78,48 +79,9 @@ module _ (shape : Shape) where
       one true same = ap suc same
       one false same = same
 
-  -- how many entries are at the loggers below k
-  below : ℕ → List Entry → ℕ
-  below k [] = 0
-  below k (e ∷ es) = cond (nat_lt (logger_of shape e.addr) k) 1 0 + below k es
-
-  below_one : (k : ℕ) (l : ℕ) → cond (nat_lt l (k + 1)) 1 0 ≡ cond (nat_lt l k) 1 0 + cond (nat_eq l k) 1 0
-  below_one k l = elim (cases_eq l k) [
-    | inl is ↦ (λ i. cond (lt-ltb l (k + 1) (omega arith) i) 1 0) ∙ sym (λ i. cond (le-ltb l k (omega arith) i) 1 0 + cond (eq-eqb l k is i) 1 0)
-    | inr ne ↦ elim (cases_lt l k) [
-      | inl lt ↦ (λ i. cond (lt-ltb l (k + 1) (omega arith) i) 1 0) ∙ sym (λ i. cond (lt-ltb l k lt i) 1 0 + cond (ne_eqb l k ne i) 1 0)
-      | inr le ↦ (λ i. cond (le-ltb l (k + 1) (omega arith) i) 1 0) ∙ sym (λ i. cond (le-ltb l k le i) 1 0 + cond (ne_eqb l k ne i) 1 0)
-    ]
-  ]
-
-  length-cells_on : (k : ℕ) (e : Entry) (es : List Entry) → length (cells_on shape k (e ∷ es)) ≡ cond (nat_eq (logger_of shape e.addr) k) 1 0 + length (cells_on shape k es)
-  length-cells_on k e es = one (nat_eq (logger_of shape e.addr) k)
-    where
-      one : (on : Bool) → length (cond on (e.cell ∷ cells_on shape k es) (cells_on shape k es)) ≡ cond on 1 0 + length (cells_on shape k es)
-      one true = omega arith
-      one false = omega arith
-
-  below_more : (k : ℕ) (es : List Entry) → below (k + 1) es ≡ below k es + length (cells_on shape k es)
-  unfolding below
-  below_more k [] = omega arith
-  below_more k (e ∷ es) = omega (arith, below_one k (logger_of shape e.addr), length-cells_on k e es, below_more k es)
-
-  below_none : (es : List Entry) → below 0 es ≡ 0
-  unfolding below
-  below_none [] = refl
-  below_none (e ∷ es) = (λ i. cond (le-ltb (logger_of shape e.addr) 0 (omega arith) i) 1 0 + below_none es i) ∙ omega arith
-
-  below_few : (es : List Entry) (most k : ℕ) → ((g : ℕ) → g < k → length (cells_on shape g es) ≤ most) → below k es ≤ k * most
-  below_few es most zero few = omega (arith, below_none es)
-  below_few es most (suc k) few =
-      let one : suc k ≡ k + 1 = omega arith in
-      omega (arith, ap (λ (n : ℕ). below n es) one, below_more k es, below_few es most k (λ g lt. few g (omega arith)), few k (omega arith))
-
-  below_all : (es : List Entry) → IsShape shape → below shape.loggers es ≡ length es
-  unfolding below
-  below_all [] shaped = refl
-  below_all (e ∷ es) shaped = (λ i. cond (lt-ltb (logger_of shape e.addr) shape.loggers (logger_small shape e.addr shaped) i) 1 0 + below_all es shaped i) ∙ omega arith
-
   -- where no logger has more than so many, all have so many times the loggers at most
   pub few_entries : (es : List Entry) → IsShape shape → ((g : ℕ) → g < shape.loggers → length (cells_on shape g es) ≤ shape.entries) → length es ≤ shape.loggers * shape.entries
-  few_entries es shaped few = omega (arith, below_all es shaped, below_few es shape.entries shape.loggers few)
+  few_entries es shaped few =
+      let all = below_all (λ (r : ℕ × ℕ). logger_of shape r.0) (ranges_in es) shape.loggers (λ r. logger_small shape r.0 shaped) in
+      let most = below_few (λ (r : ℕ × ℕ). logger_of shape r.0) (ranges_in es) shape.entries shape.loggers (λ g lt. omega (arith, count_on-ranges_in g es, few g lt)) in
+      omega (arith, all, most, length-ranges_in es)

@@ -4,7 +4,9 @@ pub mod FreshLemmas
 pub mod Spared
 pub mod OpeningLemmas
 pub mod ReadingLemmas
+pub mod Dealt
 pub mod Entries
+pub mod Costing
 pub mod Keeping
 pub mod LogParts
 pub mod Staged

@@ -6,3 +6,4 @@ pub mod Steps
 pub mod Sound
 pub mod Laws
 pub mod Opening
+pub mod Costs

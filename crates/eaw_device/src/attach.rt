@@ -1,5 +1,5 @@
 // The steps of an opening, on the media alone.
-ghost use Rattle.std.specs.Prelude.{◌≡◌, ◌≢◌, ◌≤◌, [], IsTrue, IfOk, IfErr, OnOk};
+ghost use Rattle.std.specs.Prelude.{◌≡◌, ◌≢◌, ◌≤◌, [], true, IsTrue, IfOk, IfErr, OnOk};
 ghost use Rattle.counted.specs.Costs.{Costs};
 ghost use Rattle.pcm_media.specs.View.{Writes};
 ghost use Rattle.array_shape.specs.Places.{media_len};
@@ -24,7 +24,7 @@ pub(crate) fn read_header<M: Media>(media: &mut M) -> Result<Shape, AttachFault>
     ensures cause { IfErr result (AttachCause M.tells (M.view media.old) (M.view media.new).faults) }
     ensures kept { IfErr result (λ fault. fault ≢ AttachFault.Media → (M.view media.new).faults ≡ (M.view media.old).faults) }
     ensures fault { IfErr result IsOfHeader }
-    ensures costs { Costs 1 (M.view media.old).moment (M.view media.new).moment result }
+    ensures costs { Costs true 1 (M.view media.old).moment (M.view media.new).moment result }
     ensures does { Writes M.tells [] (M.view media.old) (M.view media.new) (media_answer result) }
 {
     if media.len() < 512 {
@@ -46,7 +46,7 @@ pub(crate) fn settle<M: Media>(media: &mut M, shape: &Shape) -> Result<(), Attac
     ensures cause { IfErr result (AttachCause M.tells (M.view media.old) (M.view media.new).faults) }
     ensures fault { IfErr result IsOfRecovery }
     ensures unwritten { IfErr result (AttachLeaves M.tells (M.view media.old) (M.view media.new)) }
-    ensures costs { IsTrue M.tells → HasNoVote shape.now (M.view media.old).content.bytes → Costs (quiet_calls shape.now) (M.view media.old).moment (M.view media.new).moment result }
+    ensures costs { IsTrue M.tells → HasNoVote shape.now (M.view media.old).content.bytes → Costs true (quiet_calls shape.now) (M.view media.old).moment (M.view media.new).moment result }
     ensures keeps { KeepsData M.tells (M.view media.old) (M.view media.new).moment (M.view media.new).left_since }
     ensures size { (M.view media.new).size ≡ (M.view media.old).size }
     ensures faults { OnOk result ((M.view media.new).faults ≡ (M.view media.old).faults) }

@@ -1,12 +1,15 @@
 // A commit of what a log has from a position on.
 ghost use Rattle.std.specs.Prelude.{◌≡◌, ◌+◌, ◌-◌, ◌≤◌, ◌<◌, ℕ, Ok, drop, length, slice_index, IsTrue, OnOk, OnErr};
+ghost use Rattle.counted.specs.Costs.{Costs};
 ghost use Rattle.pcm_media.specs.View.{LeavesOnly};
 ghost use Rattle.array_shape.specs.Places.{media_len};
 ghost use Rattle.array_shape.specs.Logged.{applied};
 ghost use Rattle.array_image.specs.Image.{data_of};
 ghost use Rattle.array_image.specs.Standing.{IsEither, IsClean, SameCells};
-ghost use Rattle.eaw_device.specs.Logs.{parts_in, IsKept, IsHeld};
+ghost use Rattle.eaw_device.specs.Logs.{ranges_in, parts_in, IsKept, IsHeld};
+ghost use Rattle.coordinator.specs.Costs.{commit_calls};
 ghost use Rattle.eaw_device.specs.Steps.{WritesBehind};
+ghost use Rattle.eaw_device.specs.Costs.{counts_of};
 
 use crate::log::Log;
 use array_shape::Shape;
@@ -36,6 +39,7 @@ pub(crate) fn commit_log<M: Media>(
         applied (drop offset (parts_in shape.now (M.view media.old).content.bytes tid log.now.entries.items)) (data_of shape.now (M.view media.old).content.bytes)) }
     ensures cells { IsTrue M.tells → SameCells shape.now (M.view media.old).content.bytes (M.view media.new).content.bytes }
     ensures does { WritesBehind M.tells (M.view media.old) (M.view media.new) result }
+    ensures costs { Costs M.tells (commit_calls (counts_of shape.now (drop offset (ranges_in log.now.entries.items)))) (M.view media.old).moment (M.view media.new).moment result }
     ensures due { OnErr result (offset < length log.now.entries.items) }
     ensures idle { length log.now.entries.items ≡ offset → media.new ≡ media.old }
 {

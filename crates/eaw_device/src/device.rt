@@ -107,6 +107,7 @@ impl<M: Media> Eaw<M> {
 impl<M: Media> EawStore for Eaw<M> {
     ghost use Rattle.eaw_device.specs.Sound.{view_of};
     ghost use Rattle.eaw_device.specs.Opens.{Opens};
+    ghost use Rattle.eaw_device.specs.Costs.{calls_of};
     ghost use Rattle.eaw_device.specs.Laws.{outlines, placed, beyond, some_now, only_now, one_data};
     ghost use Rattle.array_image.proofs.Data.{length-data_of};
 
@@ -115,6 +116,8 @@ impl<M: Media> EawStore for Eaw<M> {
     ghost view = { λ s. view_of (M.view s.media) s.shape s.logs.items s.is_dead };
 
     ghost opens = { Opens };
+
+    ghost calls = { calls_of };
 
     ghost shaped = { λ s. s.sound.shaped };
 

@@ -1,8 +1,9 @@
 // The parts of a write, put into cells at all loggers.
-ghost use Rattle.std.specs.Prelude.{◌≡◌, ◌+◌, ◌≤◌, ◌<◌, ℕ, length, slice_index, IsTrue, IfErr, OnOk};
+ghost use Rattle.std.specs.Prelude.{◌≡◌, ◌+◌, ◌*◌, ◌≤◌, ◌<◌, ℕ, true, length, slice_index, IsTrue, IfErr, OnOk};
+ghost use Rattle.counted.specs.Costs.{Costs};
 ghost use Rattle.pcm_media.specs.View.{Writes};
 ghost use Rattle.array_shape.specs.Places.{media_len, data_len};
-ghost use Rattle.array_shape.specs.Parts.{write_parts_on};
+ghost use Rattle.array_shape.specs.Parts.{parts_of_write, write_parts_on};
 ghost use Rattle.logger.specs.Cells.{HoldsParts};
 ghost use Rattle.eaw_device.specs.Logs.{IsKept};
 ghost use Rattle.eaw_device.specs.Steps.{HasCells, SaysFull, staged_places};
@@ -51,6 +52,7 @@ pub(crate) fn stage_all<M: Media>(
     requires size { (M.view media.old).size ≡ media_len shape.now }
     ensures holds { IsTrue M.tells → OnOk result ((g : ℕ) → g < shape.now.loggers →
         HoldsParts shape.now (M.view media.new).content.bytes g tid (slice_index log.now.held g) (write_parts_on shape.now g addr bytes.now)) }
+    ensures costs { Costs true (2 * length (parts_of_write addr bytes.now)) (M.view media.old).moment (M.view media.new).moment result }
     ensures does { Writes M.tells (staged_places shape.now tid log.now.held addr bytes.now) (M.view media.old) (M.view media.new) result }
 {
     for number in 0..shape.loggers {

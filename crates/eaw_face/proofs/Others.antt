@@ -18,4 +18,4 @@ others_after (nested_top t offset) ranges u other = with_log_other ranges t _ u 
 others_after (partial_abort t offset) ranges u other = with_log_other ranges t _ u other
 others_after (atomic_write t addr bytes) ranges u other = refl
 others_after (log_read t) ranges u other = refl
-others_after read ranges u other = refl
+others_after (read addr len) ranges u other = refl

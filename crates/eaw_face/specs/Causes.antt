@@ -23,7 +23,7 @@ Knows store (nested_top t offset) = IsLive store t
 Knows store (partial_abort t offset) = IsLive store t
 Knows store (atomic_write t addr bytes) = Unit {0}
 Knows store (log_read t) = IsLive store t
-Knows store read = Unit {0}
+Knows store (read addr len) = Unit {0}
 
 -- the number that a command names to the store
 abbrev pub IsNumberOf : Command → ℕ → Type 0
@@ -35,7 +35,7 @@ IsNumberOf (nested_top t offset) u = u ≡ t
 IsNumberOf (partial_abort t offset) u = u ≡ t
 IsNumberOf (atomic_write t addr bytes) u = u ≡ t
 IsNumberOf (log_read t) u = u ≡ t
-IsNumberOf read u = ⊥
+IsNumberOf (read addr len) u = ⊥
 
 -- behind these parts each logger has room for its share of those
 abbrev pub Fit : StoreView → List (ℕ × ℕ) → List (ℕ × ℕ) → Type 0
@@ -43,14 +43,8 @@ Fit store held needed = (g : ℕ) → g < store.shape.loggers → count_on store
 
 abbrev pub HasRoom : StoreView → Command → Type 0
 HasRoom store (log_write t addr bytes) = Fit store (listed (store.ranges t)) (ranges_of (parts_of_write addr bytes))
-HasRoom store (log_edit t pos at bytes) = Unit {0}
-HasRoom store (commit t) = Unit {0}
-HasRoom store (abort t) = Unit {0}
-HasRoom store (nested_top t offset) = Unit {0}
-HasRoom store (partial_abort t offset) = Unit {0}
 HasRoom store (atomic_write t addr bytes) = Fit store [] (ranges_of (parts_of_write addr bytes))
-HasRoom store (log_read t) = Unit {0}
-HasRoom store read = Unit {0}
+HasRoom store _ = Unit {0}
 
 -- logger g is the first that has no room: it holds so many parts, and as many more are needed
 pub record IsFirstFull (store : StoreView) (held needed : List (ℕ × ℕ)) (g h n : ℕ) : Type 0 where
@@ -62,14 +56,8 @@ pub record IsFirstFull (store : StoreView) (held needed : List (ℕ × ℕ)) (g 
 
 abbrev pub IsFull : StoreView → Command → ℕ → ℕ → ℕ → Type 0
 IsFull store (log_write t addr bytes) g h n = IsFirstFull store (listed (store.ranges t)) (ranges_of (parts_of_write addr bytes)) g h n
-IsFull store (log_edit t pos at bytes) g h n = ⊥
-IsFull store (commit t) g h n = ⊥
-IsFull store (abort t) g h n = ⊥
-IsFull store (nested_top t offset) g h n = ⊥
-IsFull store (partial_abort t offset) g h n = ⊥
 IsFull store (atomic_write t addr bytes) g h n = IsFirstFull store [] (ranges_of (parts_of_write addr bytes)) g h n
-IsFull store (log_read t) g h n = ⊥
-IsFull store read g h n = ⊥
+IsFull store _ g h n = ⊥
 
 -- the answer to a command, where so many faults are counted behind it
 abbrev pub Cause : {T : Type 0} → StoreView → Command → ℕ → Result T EawFault → Type 0

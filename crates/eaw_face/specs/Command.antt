@@ -16,7 +16,7 @@ pub data Command : Type 0 where
   partial_abort : (t offset : ℕ) → Command
   atomic_write : (t addr : ℕ) (bytes : List ℕ) → Command
   log_read : (t : ℕ) → Command
-  read : Command
+  read : (addr len : ℕ) → Command
 
 -- the data and the logs after a command that was done
 abbrev pub after : Command → State → State
@@ -28,7 +28,7 @@ after (nested_top t offset) s = record { bytes = applied (drop offset (listed (s
 after (partial_abort t offset) s = record { bytes = s.bytes; logs = with_log s.logs t (Some (take offset (listed (s.logs t)))) }
 after (atomic_write t addr bytes) s = record { bytes = put s.bytes addr bytes; logs = s.logs }
 after (log_read t) s = s
-after read s = s
+after (read addr len) s = s
 
 -- where the logged parts lie after it: that much is known of a store that does not tell its bytes
 abbrev pub ranges_after : Command → Logs (ℕ × ℕ) → Logs (ℕ × ℕ)
@@ -40,4 +40,4 @@ ranges_after (nested_top t offset) ranges = with_log ranges t (Some (take offset
 ranges_after (partial_abort t offset) ranges = with_log ranges t (Some (take offset (listed (ranges t))))
 ranges_after (atomic_write t addr bytes) ranges = ranges
 ranges_after (log_read t) ranges = ranges
-ranges_after read ranges = ranges
+ranges_after (read addr len) ranges = ranges

@@ -2,11 +2,12 @@
 ghost use Rattle.std.specs.Prelude.{◌≡◌, ◌≢◌, ◌+◌, ◌≤◌, ◌<◌, true, false, Bool, List, ℕ, take, drop, length, Option, None, is_some, IsTrue, IfOk, IfErr, OnOk, OnErr, IsErrOf};
 ghost use Rattle.std.specs.Option.{option_map};
 ghost use Rattle.counted.specs.Bytes.{range};
+ghost use Rattle.counted.specs.Costs.{Costs};
 ghost use Rattle.array_shape.specs.declared.shape.Shape.{Shape};
 ghost use Rattle.array_shape.specs.Places.{data_len, IsShape};
 ghost use Rattle.array_shape.specs.Logged.{ranges_of};
 ghost use Rattle.eaw_face.specs.State.{listed, range_at, part_at, count_on};
-ghost use Rattle.eaw_face.specs.Command.{log_write, log_edit, commit, abort, nested_top, partial_abort, atomic_write, log_read, read};
+ghost use Rattle.eaw_face.specs.Command.{Command, log_write, log_edit, commit, abort, nested_top, partial_abort, atomic_write, log_read, read};
 ghost use Rattle.eaw_face.specs.StoreView.{StoreView, IsLive, ArePlaced, LeavesSome, log_len};
 ghost use Rattle.eaw_face.specs.Does.{Does};
 
@@ -28,6 +29,9 @@ pub trait EawStore {
     /// An image that a loss of power left can be opened as an array of this shape, with this data.
     ghost opens: { Shape → List ℕ → List ℕ → Type 0 };
 
+    /// How many calls of its media a command costs where it is done; it makes no more than these otherwise.
+    ghost calls: { Command → StoreView → ℕ };
+
     fn shape(&self) -> Shape
         ensures { result ≡ (view self.now).shape };
 
@@ -38,6 +42,7 @@ pub trait EawStore {
         requires inside { addr + length bytes.now ≤ data_len (view self.old).shape }
         ensures does { Does tells (opens (view self.old).shape) (log_write tid addr bytes.now) (view self.old) (view self.new) result }
         ensures len { IfOk result (λ n. n ≡ log_len (view self.new) tid) }
+        ensures costs { Costs tells (calls (log_write tid addr bytes.now) (view self.old)) (view self.old).moment (view self.new).moment result }
         ensures refused { IfErr result (λ fault. fault ≢ EawFault.Media → self.new ≡ self.old) };
 
     /// Commit: writes all that the number has logged into the data at once, and frees the number.
@@ -45,6 +50,7 @@ pub trait EawStore {
         ensures does { Does tells (opens (view self.old).shape) (commit tid) (view self.old) (view self.new) result }
         ensures due { IsErrOf result EawFault.Media → 0 < log_len (view self.old) tid }
         ensures idle { log_len (view self.old) tid ≡ 0 → (view self.new).moment ≡ (view self.old).moment }
+        ensures costs { Costs tells (calls (commit tid) (view self.old)) (view self.old).moment (view self.new).moment result }
         ensures refused { IfErr result (λ fault. fault ≢ EawFault.Media → self.new ≡ self.old) };
 
     /// Abort: drops all that the number has logged, and frees the number.
@@ -52,6 +58,7 @@ pub trait EawStore {
         ensures does { Does tells (opens (view self.old).shape) (abort tid) (view self.old) (view self.new) result }
         ensures due { IsErrOf result EawFault.Media → ⊥ }
         ensures idle { (view self.new).moment ≡ (view self.old).moment }
+        ensures costs { Costs tells (calls (abort tid) (view self.old)) (view self.old).moment (view self.new).moment result }
         ensures refused { OnErr result (self.new ≡ self.old) };
 
     /// NestedTopAction: commits the parts from this offset of the log on, which then stay whatever becomes of the rest. The
@@ -61,6 +68,7 @@ pub trait EawStore {
         ensures does { Does tells (opens (view self.old).shape) (nested_top tid offset) (view self.old) (view self.new) result }
         ensures due { IsErrOf result EawFault.Media → offset < log_len (view self.old) tid }
         ensures idle { log_len (view self.old) tid ≡ offset → (view self.new).moment ≡ (view self.old).moment }
+        ensures costs { Costs tells (calls (nested_top tid offset) (view self.old)) (view self.old).moment (view self.new).moment result }
         ensures refused { IfErr result (λ fault. fault ≢ EawFault.Media → self.new ≡ self.old) };
 
     /// PartialAbort: drops the parts from this offset of the log on. The number stays live.
@@ -69,6 +77,7 @@ pub trait EawStore {
         ensures does { Does tells (opens (view self.old).shape) (partial_abort tid offset) (view self.old) (view self.new) result }
         ensures due { IsErrOf result EawFault.Media → ⊥ }
         ensures idle { (view self.new).moment ≡ (view self.old).moment }
+        ensures costs { Costs tells (calls (partial_abort tid offset) (view self.old)) (view self.old).moment (view self.new).moment result }
         ensures refused { OnErr result (self.new ≡ self.old) };
 
     /// AtomicWrite: a transaction of one write, under a number that is free and is free again behind it.
@@ -78,6 +87,7 @@ pub trait EawStore {
         requires tid { tid < (view self.old).shape.numbers }
         requires free { (view self.old).ranges tid ≡ None }
         ensures does { Does tells (opens (view self.old).shape) (atomic_write tid addr bytes.now) (view self.old) (view self.new) result }
+        ensures costs { Costs tells (calls (atomic_write tid addr bytes.now) (view self.old)) (view self.old).moment (view self.new).moment result }
         ensures refused { IfErr result (λ fault. fault ≢ EawFault.Media → self.new ≡ self.old) };
 
     /// Reads the part at a position of the log: its bytes go to the front of the buffer. Gives its address and its length.
@@ -86,6 +96,7 @@ pub trait EawStore {
         ensures does { Does tells (opens (view self.old).shape) (log_read tid) (view self.old) (view self.new) result }
         ensures part { IfOk result (λ part. part ≡ range_at (listed ((view self.old).ranges tid)) pos) }
         ensures bytes { IsTrue tells → IfOk result (λ part. take part.1 buf.new ≡ (part_at (listed ((view self.old).state.logs tid)) pos).1) }
+        ensures costs { Costs tells (calls (log_read tid) (view self.old)) (view self.old).moment (view self.new).moment result }
         ensures refused { IfErr result (λ fault. fault ≢ EawFault.Media → self.new ≡ self.old) }
         ensures unread { IfErr result (λ fault. fault ≢ EawFault.Media → buf.new ≡ buf.old) };
 
@@ -94,13 +105,15 @@ pub trait EawStore {
         requires pos { IsLive (view self.old) tid → pos < log_len (view self.old) tid }
         requires within { IsLive (view self.old) tid → at + length bytes.now ≤ (range_at (listed ((view self.old).ranges tid)) pos).1 }
         ensures does { Does tells (opens (view self.old).shape) (log_edit tid pos at bytes.now) (view self.old) (view self.new) result }
+        ensures costs { Costs tells (calls (log_edit tid pos at bytes.now) (view self.old)) (view self.old).moment (view self.new).moment result }
         ensures refused { IfErr result (λ fault. fault ≢ EawFault.Media → self.new ≡ self.old) };
 
     /// Reads committed data from this address on, as many bytes as the buffer has.
     fn read(&mut self, addr: u64, buf: &mut [u8]) -> Result<(), EawFault>
         requires { addr + length buf.old ≤ data_len (view self.old).shape }
-        ensures does { Does tells (opens (view self.old).shape) read (view self.old) (view self.new) result }
+        ensures does { Does tells (opens (view self.old).shape) (read addr (length buf.old)) (view self.old) (view self.new) result }
         ensures bytes { IsTrue tells → OnOk result (buf.new ≡ range (view self.old).state.bytes addr (length buf.old)) }
+        ensures costs { Costs tells (calls (read addr (length buf.old)) (view self.old)) (view self.old).moment (view self.new).moment result }
         ensures refused { IfErr result (λ fault. fault ≢ EawFault.Media → self.new ≡ self.old) }
         ensures unread { IfErr result (λ fault. fault ≢ EawFault.Media → buf.new ≡ buf.old) };
 

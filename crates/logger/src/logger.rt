@@ -18,9 +18,10 @@ pub struct Logger {
 }
 
 impl Logger {
-    ghost use Rattle.std.specs.Prelude.{◌≡◌, ◌↔◌, ◌+◌, ◌≤◌, ◌<◌, ℕ, [], ◌∷◌, drop, length, true, false};
+    ghost use Rattle.std.specs.Prelude.{◌≡◌, ◌↔◌, ◌+◌, ◌*◌, ◌≤◌, ◌<◌, ℕ, [], ◌∷◌, drop, length, true, false};
     ghost use Rattle.std.specs.Prelude.{IsTrue, IfOk, OnOk, IfErr, OnErr};
     ghost use Rattle.counted.specs.Bytes.{put};
+    ghost use Rattle.counted.specs.Costs.{Costs};
     ghost use Rattle.pcm_media.specs.Images.{written};
     ghost use Rattle.pcm_media.specs.View.{Writes};
     ghost use Rattle.array_shape.specs.Places.{media_len, data_len, row_at, cell_at, place_of};
@@ -57,6 +58,7 @@ impl Logger {
             row_of self.shape (M.view media.new).content.bytes self.number tid ≡
             (let row = row_of self.shape (M.view media.old).content.bytes self.number tid in
             record row { mask = mask; first = first; count = count })) }
+        ensures costs { Costs true 1 (M.view media.old).moment (M.view media.new).moment result }
         ensures does { Writes M.tells ((row_at self.shape self.number tid + 1, 15) ∷ [])
             (M.view media.old) (M.view media.new) result }
     {
@@ -81,6 +83,7 @@ impl Logger {
             row_of self.shape (M.view media.new).content.bytes self.number tid ≡
             (let row = row_of self.shape (M.view media.old).content.bytes self.number tid in
             record row { voted = voted })) }
+        ensures costs { Costs true 1 (M.view media.old).moment (M.view media.new).moment result }
         ensures does { Writes M.tells ((row_at self.shape self.number tid, 1) ∷ [])
             (M.view media.old) (M.view media.new) result }
     {
@@ -125,6 +128,7 @@ impl Logger {
             (M.view media.old).content.bytes) }
         ensures holds { IsTrue M.tells → OnOk result (
             HoldsParts self.shape (M.view media.new).content.bytes self.number tid held (write_parts_here self addr bytes.now)) }
+        ensures costs { Costs true (2 * length (write_parts_here self addr bytes.now)) (M.view media.old).moment (M.view media.new).moment result }
         ensures does { Writes M.tells
             (cell_ranges self.shape self.number tid held (length (write_parts_here self addr bytes.now)))
             (M.view media.old) (M.view media.new) (media_answer result) }
@@ -155,6 +159,7 @@ impl Logger {
         ensures cell { IsTrue M.tells → OnOk result (
             cell_of self.shape (M.view media.new).content.bytes self.number tid entry ≡
             put (cell_of self.shape (M.view media.old).content.bytes self.number tid entry) (16 + at) bytes.now) }
+        ensures costs { Costs true 1 (M.view media.old).moment (M.view media.new).moment result }
         ensures does { Writes M.tells ((cell_at self.shape self.number tid entry + 16 + at, length bytes.now) ∷ [])
             (M.view media.old) (M.view media.new) result }
     {
@@ -178,6 +183,7 @@ impl Logger {
         ensures bytes { IsTrue M.tells → OnOk result (buf.new ≡
             drop 16 (cell_of self.shape (M.view media.old).content.bytes self.number tid entry)) }
         ensures unread { OnErr result (buf.new ≡ buf.old) }
+        ensures costs { Costs true 1 (M.view media.old).moment (M.view media.new).moment result }
         ensures does { Writes M.tells [] (M.view media.old) (M.view media.new) result }
     {
         let cell = self.read_cell(media, tid, entry)?;
@@ -206,6 +212,7 @@ impl Logger {
         ensures data_after { IsTrue M.tells → OnOk result (data_of self.shape (M.view media.new).content.bytes ≡
             (let old = (M.view media.old).content.bytes in
             applied (parts_from self.shape old self.number tid first count) (data_of self.shape old))) }
+        ensures costs { Costs M.tells (2 * count) (M.view media.old).moment (M.view media.new).moment result }
         ensures does { Writes M.tells
             (places_of self.shape (parts_from self.shape (M.view media.old).content.bytes self.number tid first count))
             (M.view media.old) (M.view media.new) result }
@@ -232,6 +239,7 @@ impl Logger {
         ensures written { IsTrue M.tells → OnOk result ((M.view media.new).content.bytes ≡
             applied (cell_writes self.shape self.number tid held (write_parts_here self addr bytes.now))
             (M.view media.old).content.bytes) }
+        ensures costs { Costs true (2 * length (write_parts_here self addr bytes.now)) (M.view media.old).moment (M.view media.new).moment result }
         ensures does { Writes M.tells
             (cell_ranges self.shape self.number tid held (length (write_parts_here self addr bytes.now)))
             (M.view media.old) (M.view media.new) result }
@@ -262,6 +270,7 @@ impl Logger {
         ensures written { IsTrue M.tells → OnOk result ((M.view media.new).content.bytes ≡
             applied (cell_writes self.shape self.number tid entry ((addr, bytes.now) ∷ []))
             (M.view media.old).content.bytes) }
+        ensures costs { Costs true 2 (M.view media.old).moment (M.view media.new).moment result }
         ensures does { Writes M.tells ((cell_at self.shape self.number tid entry, 528) ∷ [])
             (M.view media.old) (M.view media.new) result }
     {
@@ -282,6 +291,7 @@ impl Logger {
         requires entry { entry < self.shape.entries }
         ensures cell { IsTrue M.tells → IfOk result (λ cell. cell ≡
             cell_of self.shape (M.view media.old).content.bytes self.number tid entry) }
+        ensures costs { Costs true 1 (M.view media.old).moment (M.view media.new).moment result }
         ensures does { Writes M.tells [] (M.view media.old) (M.view media.new) result }
     {
         let mut cell = [0; 528];
@@ -298,6 +308,7 @@ impl Logger {
         ensures written { IsTrue M.tells → OnOk result ((M.view media.new).content.bytes ≡
             (let part = cell_part (cell_of self.shape (M.view media.old).content.bytes self.number tid entry) in
             put (M.view media.old).content.bytes (place_of self.shape part.0) part.1)) }
+        ensures costs { Costs M.tells 2 (M.view media.old).moment (M.view media.new).moment result }
         ensures does { Writes M.tells
             (let cell = cell_of self.shape (M.view media.old).content.bytes self.number tid entry in
             places_of self.shape (cell_part cell ∷ []))

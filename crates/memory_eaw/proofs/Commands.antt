@@ -1,5 +1,5 @@
 -- Each command that is done, from the steps that it takes.
-use Rattle.std.proofs.Common.{◌≡◌, ℕ, ◌+◌, ◌<◌, ◌≤◌, inr, Bool, true, false, List, [], ◌∷◌, ◌++◌, length, set, take, drop, refl, sym, ◌∙◌, ap, arith}
+use Rattle.std.proofs.Common.{◌≡◌, ℕ, ◌+◌, ◌<◌, ◌≤◌, min, inr, Bool, true, false, List, [], ◌∷◌, ◌++◌, length, set, take, drop, refl, sym, ◌∙◌, ap, arith}
 use Rattle.std.specs.Prelude.{None}
 use Rattle.std.proofs.lemmas.List.{length-drop, get_or-set_same}
 use Rattle.counted.specs.Bytes.{put}
@@ -28,6 +28,11 @@ same-committed (p ∷ ps) old = (refl, refl, refl)
 moment-committed : (ps : List Part) (old : Plain) → length ps ≡ 0 → (committed ps old).kept ≡ old.kept
 moment-committed [] old none = refl
 moment-committed (p ∷ ps) old none = absurd (omega arith)
+
+-- it is one call, where there are any
+pub calls-committed : (ps : List Part) (old : Plain) → (committed ps old).kept.moment ≡ old.kept.moment + min (length ps) 1
+calls-committed [] old = omega arith
+calls-committed (p ∷ ps) old = omega arith
 
 module _ (old : Plain) (sound : IsSound old) (t : ℕ) (lt : t < old.shape.numbers) (alive : IsAlive (view_of old)) where
   pub is_live : IsLive (view_of old) t → (log_at old.logs t).is_live ≡ true

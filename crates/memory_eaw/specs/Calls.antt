@@ -1,23 +1,27 @@
 -- Which calls are counted, which of them fail, and what is kept of them.
-use Rattle.std.specs.Prelude.{ℕ, ◌≡◌, ◌<◌, ◌↔◌, Bool, true, false, List, Result, Ok, Err, IsErrOf}
+use Rattle.std.specs.Prelude.{ℕ, ◌≡◌, ◌-◌, ◌<◌, min, ◌↔◌, Bool, true, false, List, Result, Ok, Err, IsErrOf}
 use Rattle.eaw_face.specs.StoreView.{StoreView, log_len}
-use Rattle.eaw_face.specs.Command.{Command, log_write, log_edit, commit, abort, nested_top, partial_abort, atomic_write, log_read, read}
+use Rattle.eaw_face.specs.Command.{Command, commit, abort, nested_top, partial_abort, atomic_write}
 use Rattle.eaw_face.specs.Causes.{IsAlive, Knows, HasRoom}
 use Rattle.eaw_face.specs.declared.fault.EawFault.{EawFault}
 use Rattle.eaw_face.specs.declared.fault.EawFault.TheVariants.{Media}
 use Rattle.memory_eaw.specs.Kept.{Kept, MustFail, MustFailChange, failed, called, changed}
 
--- a commit has parts to commit; an abort needs no call at all
+-- how often a command that is done is counted: a commit where it has parts to commit, an abort not at all
+abbrev pub plain_calls : Command → StoreView → ℕ
+plain_calls (commit t) store = min (log_len store t) 1
+plain_calls (nested_top t offset) store = min (log_len store t - offset) 1
+plain_calls (abort t) store = 0
+plain_calls (partial_abort t offset) store = 0
+plain_calls _ store = 1
+
+-- there is work for it
 abbrev pub HasWork : StoreView → Command → Type 0
-HasWork store (log_write t addr bytes) = Unit {0}
-HasWork store (log_edit t pos at bytes) = Unit {0}
 HasWork store (commit t) = 0 < log_len store t
-HasWork store (abort t) = ⊥
 HasWork store (nested_top t offset) = offset < log_len store t
+HasWork store (abort t) = ⊥
 HasWork store (partial_abort t offset) = ⊥
-HasWork store (atomic_write t addr bytes) = Unit {0}
-HasWork store (log_read t) = Unit {0}
-HasWork store read = Unit {0}
+HasWork store _ = Unit {0}
 
 -- A call of this command is counted: it is not refused, and there is work for it.
 pub record IsCounted (store : StoreView) (command : Command) : Type 0 where
@@ -28,15 +32,10 @@ pub record IsCounted (store : StoreView) (command : Command) : Type 0 where
 
 -- the commands that change the data
 abbrev pub is_change : Command → Bool
-is_change (log_write t addr bytes) = false
-is_change (log_edit t pos at bytes) = false
 is_change (commit t) = true
-is_change (abort t) = false
 is_change (nested_top t offset) = true
-is_change (partial_abort t offset) = false
 is_change (atomic_write t addr bytes) = true
-is_change (log_read t) = false
-is_change read = false
+is_change _ = false
 
 -- the next call fails, where it changes data or not
 abbrev pub FailsAs : Bool → Kept → Type 0

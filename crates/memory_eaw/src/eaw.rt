@@ -1,6 +1,7 @@
 // An array in memory.
 ghost use Rattle.std.specs.Prelude.{ℕ, ◌≡◌, ◌≢◌, ◌+◌, ◌*◌, ◌^◌, ◌≤◌, ◌<◌, true, false, [], ◌∷◌, ◌++◌, length, take, drop, replicate, IfOk, IfErr, OnOk, OnErr, IsErrOf};
 ghost use Rattle.counted.specs.Bytes.{put, range};
+ghost use Rattle.counted.specs.Costs.{Costs};
 ghost use Rattle.array_shape.specs.Places.{data_len};
 ghost use Rattle.array_shape.specs.Parts.{parts_of_write};
 ghost use Rattle.array_shape.specs.Logged.{applied, ranges_of};
@@ -13,7 +14,7 @@ ghost use Rattle.memory_eaw.specs.Kept.{fresh_kept, MustFail, MustFailChange};
 ghost use Rattle.memory_eaw.specs.Plain.{IsSound, SameStore};
 ghost use Rattle.memory_eaw.specs.Fresh.{IsFresh};
 ghost use Rattle.memory_eaw.specs.Plain.{IsData};
-ghost use Rattle.memory_eaw.specs.Calls.{Counts};
+ghost use Rattle.memory_eaw.specs.Calls.{Counts, plain_calls};
 ghost use Rattle.memory_eaw.specs.Steps.{log_at, relogged, called_plain, changed_plain, failed_plain, committed, IsUnknown, IsFullBy};
 
 use crate::journal::Journal;
@@ -269,6 +270,7 @@ impl EawStore for MemoryEaw {
     ghost use Rattle.std.proofs.Common.{sym, ◌∙◌};
     ghost use Rattle.memory_eaw.specs.Plain.{IsData};
     ghost use Rattle.memory_eaw.specs.Shown.{plain_of, shown, kept_of};
+    ghost use Rattle.memory_eaw.specs.Calls.{plain_calls};
     ghost use Rattle.memory_eaw.specs.Laws.{beyond_in, placed_in, some_now, counts_now, only_now};
 
     ghost tells = { true };
@@ -276,6 +278,8 @@ impl EawStore for MemoryEaw {
     ghost view = { shown };
 
     ghost opens = { λ shape. IsData };
+
+    ghost calls = { plain_calls };
 
     ghost shaped = { λ s. s.shape.in_range };
 
@@ -304,6 +308,7 @@ impl EawStore for MemoryEaw {
         requires inside { addr + length bytes.now ≤ data_len self.old.shape }
         ensures does { Does true IsData (log_write tid addr bytes.now) (shown self.old) (shown self.new) result }
         ensures len { IfOk result (λ n. n ≡ log_len (shown self.new) tid) }
+        ensures costs { Costs true (plain_calls (log_write tid addr bytes.now) (shown self.old)) (shown self.old).moment (shown self.new).moment result }
         ensures refused { IfErr result (λ fault. fault ≢ EawFault.Media → self.new ≡ self.old) }
         ensures calls { Counts (log_write tid addr bytes.now) (shown self.old) (kept_of self.old) (kept_of self.new) result }
     {
@@ -317,6 +322,7 @@ impl EawStore for MemoryEaw {
         ensures does { Does true IsData (commit tid) (shown self.old) (shown self.new) result }
         ensures due { IsErrOf result EawFault.Media → 0 < log_len (shown self.old) tid }
         ensures idle { log_len (shown self.old) tid ≡ 0 → (shown self.new).moment ≡ (shown self.old).moment }
+        ensures costs { Costs true (plain_calls (commit tid) (shown self.old)) (shown self.old).moment (shown self.new).moment result }
         ensures refused { IfErr result (λ fault. fault ≢ EawFault.Media → self.new ≡ self.old) }
         ensures calls { Counts (commit tid) (shown self.old) (kept_of self.old) (kept_of self.new) result }
     {
@@ -330,6 +336,7 @@ impl EawStore for MemoryEaw {
         ensures does { Does true IsData (abort tid) (shown self.old) (shown self.new) result }
         ensures due { IsErrOf result EawFault.Media → ⊥ }
         ensures idle { (shown self.new).moment ≡ (shown self.old).moment }
+        ensures costs { Costs true (plain_calls (abort tid) (shown self.old)) (shown self.old).moment (shown self.new).moment result }
         ensures refused { OnErr result (self.new ≡ self.old) }
         ensures calls { Counts (abort tid) (shown self.old) (kept_of self.old) (kept_of self.new) result }
     {
@@ -343,6 +350,7 @@ impl EawStore for MemoryEaw {
         ensures does { Does true IsData (nested_top tid offset) (shown self.old) (shown self.new) result }
         ensures due { IsErrOf result EawFault.Media → offset < log_len (shown self.old) tid }
         ensures idle { log_len (shown self.old) tid ≡ offset → (shown self.new).moment ≡ (shown self.old).moment }
+        ensures costs { Costs true (plain_calls (nested_top tid offset) (shown self.old)) (shown self.old).moment (shown self.new).moment result }
         ensures refused { IfErr result (λ fault. fault ≢ EawFault.Media → self.new ≡ self.old) }
         ensures calls { Counts (nested_top tid offset) (shown self.old) (kept_of self.old) (kept_of self.new) result }
     {
@@ -358,6 +366,7 @@ impl EawStore for MemoryEaw {
         ensures does { Does true IsData (partial_abort tid offset) (shown self.old) (shown self.new) result }
         ensures due { IsErrOf result EawFault.Media → ⊥ }
         ensures idle { (shown self.new).moment ≡ (shown self.old).moment }
+        ensures costs { Costs true (plain_calls (partial_abort tid offset) (shown self.old)) (shown self.old).moment (shown self.new).moment result }
         ensures refused { OnErr result (self.new ≡ self.old) }
         ensures calls { Counts (partial_abort tid offset) (shown self.old) (kept_of self.old) (kept_of self.new) result }
     {
@@ -372,6 +381,7 @@ impl EawStore for MemoryEaw {
         requires tid { tid < self.old.shape.numbers }
         requires free { (shown self.old).ranges tid ≡ None }
         ensures does { Does true IsData (atomic_write tid addr bytes.now) (shown self.old) (shown self.new) result }
+        ensures costs { Costs true (plain_calls (atomic_write tid addr bytes.now) (shown self.old)) (shown self.old).moment (shown self.new).moment result }
         ensures refused { IfErr result (λ fault. fault ≢ EawFault.Media → self.new ≡ self.old) }
         ensures calls { Counts (atomic_write tid addr bytes.now) (shown self.old) (kept_of self.old) (kept_of self.new) result }
     {
@@ -387,6 +397,7 @@ impl EawStore for MemoryEaw {
         ensures does { Does true IsData (log_read tid) (shown self.old) (shown self.new) result }
         ensures part { IfOk result (λ part. part ≡ range_at (listed ((shown self.old).ranges tid)) pos) }
         ensures bytes { IfOk result (λ part. take part.1 buf.new ≡ (part_at (listed ((shown self.old).state.logs tid)) pos).1) }
+        ensures costs { Costs true (plain_calls (log_read tid) (shown self.old)) (shown self.old).moment (shown self.new).moment result }
         ensures refused { IfErr result (λ fault. fault ≢ EawFault.Media → self.new ≡ self.old) }
         ensures unread { IfErr result (λ fault. fault ≢ EawFault.Media → buf.new ≡ buf.old) }
         ensures calls { Counts (log_read tid) (shown self.old) (kept_of self.old) (kept_of self.new) result }
@@ -401,6 +412,7 @@ impl EawStore for MemoryEaw {
         requires within { IsLive (shown self.old) tid →
             at + length bytes.now ≤ (range_at (listed ((shown self.old).ranges tid)) pos).1 }
         ensures does { Does true IsData (log_edit tid pos at bytes.now) (shown self.old) (shown self.new) result }
+        ensures costs { Costs true (plain_calls (log_edit tid pos at bytes.now) (shown self.old)) (shown self.old).moment (shown self.new).moment result }
         ensures refused { IfErr result (λ fault. fault ≢ EawFault.Media → self.new ≡ self.old) }
         ensures calls { Counts (log_edit tid pos at bytes.now) (shown self.old) (kept_of self.old) (kept_of self.new) result }
     {
@@ -412,11 +424,12 @@ impl EawStore for MemoryEaw {
 
     fn read(&mut self, addr: u64, buf: &mut [u8]) -> Result<(), EawFault>
         requires { addr + length buf.old ≤ data_len self.old.shape }
-        ensures does { Does true IsData read (shown self.old) (shown self.new) result }
+        ensures does { Does true IsData (read addr (length buf.old)) (shown self.old) (shown self.new) result }
         ensures bytes { OnOk result (buf.new ≡ range (shown self.old).state.bytes addr (length buf.old)) }
+        ensures costs { Costs true (plain_calls (read addr (length buf.old)) (shown self.old)) (shown self.old).moment (shown self.new).moment result }
         ensures refused { IfErr result (λ fault. fault ≢ EawFault.Media → self.new ≡ self.old) }
         ensures unread { IfErr result (λ fault. fault ≢ EawFault.Media → buf.new ≡ buf.old) }
-        ensures calls { Counts read (shown self.old) (kept_of self.old) (kept_of self.new) result }
+        ensures calls { Counts (read addr (length buf.old)) (shown self.old) (kept_of self.old) (kept_of self.new) result }
     {
         self.check_alive()?;
         self.call()?;

@@ -25,6 +25,6 @@ loop-logger-preserved g c =
           ∙ (λ i. row_of c.args.shape.now (same_bytes _ _ (c.loop-logger.invariant.does.touched told) i) (sym is i) c.args.tid))
           (λ ne. row_kept rows at c.loop-logger.logger c.args.tid row long c.place.ensures.place c.place.ensures.below h c.args.tid (omega arith) (omega arith) (λ same is. ne same) ∙ c.loop-logger.invariant.rows told h (omega arith))
           (cases_eq h c.loop-logger.logger);
-      costs = let one = c.in_ok-rows.ensures.costs.done in omega (arith, one, c.loop-logger.invariant.costs);
+      costs = let one = c.in_ok-rows.ensures.costs.done refl in omega (arith, one, c.loop-logger.invariant.costs);
       others = λ h t lt ne. row_kept rows at c.loop-logger.logger c.args.tid row long c.place.ensures.place c.place.ensures.below h t lt (omega arith) (λ same is. ne is) ∙ c.loop-logger.invariant.others h t lt ne;
     }

@@ -12,7 +12,7 @@ loop-tid-preserved g c =
     let m = g.M.Media in
     record {
       does = goes_on m.tells [] [] _ _ _ (λ told i out. out) c.loop-tid.invariant.does c.in_ok-read_number.ensures.does refl;
-      costs = let row = c.in_ok-read_number.ensures.costs.done in omega (arith, row, c.loop-tid.invariant.costs, rounds_next c.args.shape.now.loggers c.loop-tid.tid (c.loop-tid.tid + 1) refl);
+      costs = let row = c.in_ok-read_number.ensures.costs.done refl in omega (arith, row, c.loop-tid.invariant.costs, rounds_next c.args.shape.now.loggers c.loop-tid.tid (c.loop-tid.tid + 1) refl);
       rows = λ told h t lt lt'. ⊎_elim
           (λ is.
           ap (λ (k : ℕ). row_in c.read_number.new.rows h k) is ∙ c.in_ok-read_number.ensures.rows told h lt

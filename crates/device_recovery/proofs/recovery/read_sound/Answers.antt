@@ -1,4 +1,4 @@
-use Rattle.std.proofs.Common.{◌∙◌, sym, ap, subst, arith}
+use Rattle.std.proofs.Common.{true, refl, ◌∙◌, sym, ap, subst, arith}
 use Rattle.std.proofs.lemmas.Result.{err_from_is_err_and}
 use Rattle.pcm_media.specs.Images.{Content}
 use Rattle.pcm_media.proofs.Left.{same_bytes}
@@ -29,12 +29,12 @@ returns-clause-sure g c told i =
 
 pub returns-in_err-check_rows-clause-costs : goal.returns-in_err-check_rows-clause-costs
 returns-in_err-check_rows-clause-costs g c told none =
-    let read = c.in_ok-rows.ensures.costs.done in
+    let read = c.in_ok-rows.ensures.costs.done refl in
     let looked = c.check_rows.ensures.idle (none_decided c.args.shape.now (g.M.Media.view c.args.media.now).content.bytes c.in_ok-rows.rows (subst (λ bytes. RowsAre c.args.shape.now bytes c.args.shape.now.numbers c.in_ok-rows.rows) (same_bytes _ _ (c.in_ok-barrier.ensures.does.touched told)) (c.in_ok-rows.ensures.rows told)) none) in
-    costs_all _ _ _ _ (omega (arith, c.in_ok-barrier.ensures.ticks.next, c.in_ok-barrier.ensures.ticks.last, read, looked))
+    costs_all true _ _ _ _ (omega (arith, c.in_ok-barrier.ensures.ticks.next, c.in_ok-barrier.ensures.ticks.last, read, looked))
 
 pub returns-clause-costs : goal.returns-clause-costs
 returns-clause-costs g c told none =
-    let read = c.in_ok-rows.ensures.costs.done in
+    let read = c.in_ok-rows.ensures.costs.done refl in
     let looked = c.check_rows.ensures.idle (none_decided c.args.shape.now (g.M.Media.view c.args.media.now).content.bytes c.in_ok-rows.rows (subst (λ bytes. RowsAre c.args.shape.now bytes c.args.shape.now.numbers c.in_ok-rows.rows) (same_bytes _ _ (c.in_ok-barrier.ensures.does.touched told)) (c.in_ok-rows.ensures.rows told)) none) in
-    costs_all _ _ _ _ (omega (arith, c.in_ok-barrier.ensures.ticks.next, c.in_ok-barrier.ensures.ticks.last, read, looked))
+    costs_all true _ _ _ _ (omega (arith, c.in_ok-barrier.ensures.ticks.next, c.in_ok-barrier.ensures.ticks.last, read, looked))

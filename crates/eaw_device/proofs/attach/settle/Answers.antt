@@ -1,4 +1,5 @@
 use Rattle.std.proofs.lemmas.Result.{err_from_is_err_and}
+use Rattle.std.proofs.Common.{true, refl}
 use Rattle.counted.proofs.Costing.{costs_all}
 use Rattle.device_recovery.specs.declared.report.Report.{Report}
 use Rattle.eaw_device.proofs.OpeningLemmas.{settling_keeps}
@@ -37,4 +38,4 @@ returns-clause-keeps g c =
     settling_keeps m.tells c.args.shape.now (m.view c.args.media.now) (m.view c.recover.new.media) c.requires.header c.recover.ensures.any_moment
 
 pub returns-clause-costs : goal.returns-clause-costs
-returns-clause-costs g c told none = costs_all _ _ _ _ (c.in_ok-recover.ensures.costs told none).done
+returns-clause-costs g c told none = costs_all true _ _ _ _ ((c.in_ok-recover.ensures.costs told none).done refl)

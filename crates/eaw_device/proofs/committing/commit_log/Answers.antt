@@ -2,7 +2,10 @@ use Rattle.std.proofs.Common.{◌≡◌, ℕ, ◌-◌, ◌<◌, ◌≤◌, inl, 
 use Rattle.std.specs.Prelude.{slice_index, OnOk, OnErr, IsTrue}
 use Rattle.std.proofs.lemmas.Bool.{cases_lt}
 use Rattle.counted.specs.declared.Failed.{Failed}
-use Rattle.std.proofs.lemmas.List.{get_or-take, take_all}
+use Rattle.std.proofs.lemmas.List.{get_or-take, take_all, length-take-le}
+use Rattle.counted.specs.Costs.{Costs}
+use Rattle.coordinator.specs.Costs.{commit_calls}
+use Rattle.eaw_device.proofs.Costing.{counts_are as behind_counts}
 use Rattle.pcm_media.specs.View.{LeavesOnly}
 use Rattle.array_shape.specs.Logged.{applied}
 use Rattle.array_image.specs.Image.{data_of}
@@ -91,3 +94,13 @@ returns-clause-idle g c = λ all. (c.commit_from.ensures.idle (none_left c.args.
 pub returns-clause-due : goal.returns-clause-due
 returns-clause-due g c = due_from c.commit_from.result c.args.offset (length c.args.log.now.entries.items) c.requires.offset
     (λ all. (c.commit_from.ensures.idle (none_left c.args.shape.now c.args.log.now c.args.offset c.from-loggers.result c.from-loggers.ensures c.counts_of_first-firsts.result c.counts_behind-counts.result c.counts_of_first-firsts.ensures.counts c.counts_behind-counts.ensures.counts c.requires.kept all)).0)
+
+pub returns-clause-costs : goal.returns-clause-costs
+returns-clause-costs g c =
+    let log = c.args.log.now in
+    let first = firsts_are c.args.shape.now log c.args.offset c.from-loggers.result c.from-loggers.ensures c.counts_of_first-firsts.result c.counts_behind-counts.result c.counts_of_first-firsts.ensures.counts c.counts_behind-counts.ensures.counts in
+    let count = counts_are c.args.shape.now log c.args.offset c.from-loggers.result c.from-loggers.ensures c.counts_of_first-firsts.result c.counts_behind-counts.result c.counts_of_first-firsts.ensures.counts c.counts_behind-counts.ensures.counts in
+    let is = behind_counts c.args.shape.now log c.requires.kept c.args.offset (take c.from-loggers.result c.counts_behind-counts.result)
+    (length-take-le c.from-loggers.result c.counts_behind-counts.result (omega (arith, c.counts_behind-counts.ensures.long, c.from-loggers.ensures, c.args.shape.now.in_range.most_loggers)) ∙ c.from-loggers.ensures)
+    (λ h lt. count h lt ∙ ap (λ (k : ℕ). slice_index log.held h - k) (first h lt)) in
+    subst (λ (counts : List ℕ). Costs g.M.Media.tells (commit_calls counts) (g.M.Media.view c.args.media.now).moment (g.M.Media.view c.commit_from.new.media).moment c.commit_from.result) is c.commit_from.ensures.costs

@@ -1,4 +1,4 @@
-use Rattle.std.proofs.Common.{◌∙◌, sym, ap, subst, ℕ, List, arith}
+use Rattle.std.proofs.Common.{refl, ◌∙◌, sym, ap, subst, ℕ, List, arith}
 use Rattle.pcm_media.proofs.Left.{same_bytes}
 use Rattle.row_bytes.specs.Header.{SaysShape}
 use Rattle.array_image.specs.Decided.{settled_data}
@@ -25,7 +25,7 @@ returns-in-Ok-settle-clause-settled g c =
       bytes = λ told. done.settled told ∙ ap (λ (b : List ℕ). settled_data shape b) (same_bytes _ _ (read.touched told));
       sure = λ told. record { clean = done.clean told; header = done.header told };
       faults = done.faults ∙ c.in_ok-shape.ensures.does.cause.kept;
-      calls = λ told none. let settled = (done.costs told (subst (λ b. HasNoVote shape b) (sym (same_bytes _ _ (read.touched told))) none)).done in omega (arith, settled, c.in_ok-shape.ensures.costs.done);
+      calls = λ told none. let settled = (done.costs told (subst (λ b. HasNoVote shape b) (sym (same_bytes _ _ (read.touched told))) none)).done refl in let one = c.in_ok-shape.ensures.costs.done refl in omega (arith, settled, one);
     }
 
 pub returns-in-Ok-settle-clause-keeps : goal.returns-in-Ok-settle-clause-keeps
@@ -62,4 +62,5 @@ returns-in-Err-settle-clause-within g c told other says none =
     let is = one_shape (header_of old) other shape says (c.in_ok-shape.ensures.shape told) in
     let quiet = subst (λ b. HasNoVote shape b) (sym (same_bytes _ _ (c.read_header.ensures.does.touched told))) (subst (λ s. HasNoVote s old) is none) in
     let settled = (c.settle.ensures.costs told quiet).most in
-    omega (arith, settled, c.in_ok-shape.ensures.costs.done, ap opening_calls is)
+    let one = c.in_ok-shape.ensures.costs.done refl in
+    omega (arith, settled, one, ap opening_calls is)

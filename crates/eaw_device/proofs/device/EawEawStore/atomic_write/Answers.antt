@@ -1,9 +1,16 @@
-use Rattle.std.proofs.Common.{arith}
+use Rattle.std.proofs.Common.{ℕ, ◌*◌, List, length, refl, subst, arith}
+use Rattle.counted.specs.Costs.{Costs}
+use Rattle.counted.proofs.Costing.{none_yet, costs_more, costs_then}
+use Rattle.array_shape.specs.declared.shape.Shape.{Shape}
+use Rattle.array_shape.specs.Parts.{parts_of_write}
+use Rattle.array_shape.specs.Logged.{ranges_of}
+use Rattle.coordinator.specs.Costs.{commit_calls}
+use Rattle.eaw_device.specs.Costs.{counts_of}
 use Rattle.array_image.proofs.Data.{length-data_of}
 use Rattle.eaw_device.specs.Opens.{Opens}
 use Rattle.eaw_device.specs.Logs.{ranges_in, parts_in, entries_at}
 use Rattle.eaw_device.specs.Sound.{view_of}
-use Rattle.eaw_device.proofs.Atomic.{atomic, mid_alive, mid_live, commit_fails, media_alone, none_ranges}
+use Rattle.eaw_device.proofs.Atomic.{atomic, mid_alive, mid_live, mid_ranges, commit_fails, media_alone, none_ranges}
 use Rattle.eaw_device.proofs.device.EawEawStore.atomic_write.Goals as goal
 
 pub returns-clause-does : goal.returns-clause-does
@@ -32,3 +39,19 @@ returns-clause-refused g c =
     c.args.tid c.args.addr c.args.bytes.now c.requires.free
     (λ told fine. none_ranges ranges_in (parts_in s.shape (m.view s.media).content.bytes c.args.tid) (entries_at s.logs.items c.args.tid) c.requires.free)
     (λ told. omega (arith, c.requires.inside, length-data_of s.shape (m.view s.media).content.bytes)) c.in_ok-log_write.field-0 c.in_ok-log_write.ensures.does))
+
+pub returns-clause-costs : goal.returns-clause-costs
+returns-clause-costs g c =
+    let m = g.M.Media in
+    let s = c.args.self.now in
+    let mid = c.log_write.new.self in
+    let last = c.commit.new.self in
+    let wrote = c.in_ok-log_write.ensures.does in
+    let parts = parts_of_write c.args.addr c.args.bytes.now in
+    let ranges = mid_ranges m.tells Opens (view_of (m.view s.media) s.shape s.logs.items s.is_dead) (view_of (m.view mid.media) mid.shape mid.logs.items mid.is_dead) (view_of (m.view last.media) last.shape last.logs.items last.is_dead)
+    c.args.tid c.args.addr c.args.bytes.now c.requires.free
+    (λ told fine. none_ranges ranges_in (parts_in s.shape (m.view s.media).content.bytes c.args.tid) (entries_at s.logs.items c.args.tid) c.requires.free)
+    (λ told. omega (arith, c.requires.inside, length-data_of s.shape (m.view s.media).content.bytes)) c.in_ok-log_write.field-0 wrote in
+    costs_then m.tells _ (2 * length parts) (commit_calls (counts_of s.shape (ranges_of parts))) _ _ _ c.commit.result refl
+    (costs_more m.tells (2 * length parts) 0 (2 * length parts) _ _ _ _ (omega arith) (none_yet m.tells 0 _ refl) c.in_ok-log_write.ensures.costs)
+    (subst (λ (p : Shape × List (ℕ × ℕ)). Costs m.tells (commit_calls (counts_of p.0 p.1)) (m.view mid.media).moment (m.view last.media).moment c.commit.result) (λ i. (wrote.shape i, ranges i)) c.commit.ensures.costs)

@@ -1,6 +1,10 @@
-use Rattle.std.proofs.Common.{◌∙◌, sym, refl, arith}
+use Rattle.std.proofs.Common.{◌∙◌, sym, refl, arith, ℕ, List, drop, ap}
 use Rattle.eaw_device.proofs.StagedCalls.{when_ok}
 use Rattle.eaw_device.proofs.Doing.{Found, found, when_err}
+use Rattle.coordinator.specs.Costs.{commit_calls}
+use Rattle.eaw_device.specs.Costs.{counts_of}
+use Rattle.eaw_device.proofs.Costing.{costs_done}
+use Rattle.eaw_device.proofs.Tables.{ranges_there}
 use Rattle.eaw_device.proofs.Commits.{its_len, commit_failed, commit_sound, commit_done}
 use Rattle.eaw_device.proofs.device.EawEawStore.commit.Given.{Over}
 use Rattle.eaw_device.proofs.device.EawEawStore.commit.Goals as goal
@@ -84,3 +88,12 @@ returns-then-is_err-clause-due g c = λ broke.
     let len = its_len m.tells (m.view s.media) (m.view c.commit_log.new.media) s.shape s.logs.items s.is_dead s.sound c.in_ok-at.ensures.alive c.args.tid c.in_ok-at.ensures.live c.index.result.now there in
     let due = when_err c.commit_log.result (sym c.is_err.ensures.value ∙ c.if-is_err.true) c.commit_log.ensures.due in
     omega (arith, due, len)
+
+pub returns-clause-costs : goal.returns-clause-costs
+returns-clause-costs g c =
+    let m = g.M.Media in
+    let s = c.args.self.now in
+    let there = found m.tells (m.view s.media) s.shape s.logs.items s.is_dead s.sound c.in_ok-at.ensures.alive c.args.tid c.in_ok-at.at c.index.result.now c.in_ok-at.ensures.at c.in_ok-at.ensures.live c.index.ensures in
+    let ranges = ranges_there s.shape s.logs.items c.args.tid c.index.result.now there.there there.kept in
+    costs_done m.tells _ _ _ _ c.commit_log.result tt (sym c.is_err.ensures.value ∙ c.if-is_err.false)
+    (ap (λ (rs : List (ℕ × ℕ)). commit_calls (counts_of s.shape (drop 0 rs))) (sym ranges)) c.commit_log.ensures.costs

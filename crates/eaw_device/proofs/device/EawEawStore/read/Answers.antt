@@ -1,4 +1,4 @@
-use Rattle.std.proofs.Common.{◌∙◌}
+use Rattle.std.proofs.Common.{length, ◌∙◌}
 use Rattle.eaw_device.proofs.Looks.{read_sound, read_done, read_failed}
 use Rattle.eaw_device.proofs.device.EawEawStore.read.Goals as goal
 
@@ -12,10 +12,10 @@ pub returns-in-Ok-clause-does : goal.returns-in-Ok-clause-does
 returns-in-Ok-clause-does g c =
     let m = g.M.Media in
     let s = c.args.self.now in
-    read_done m.tells (m.view s.media) (m.view c.read_data.new.media) s.shape s.logs.items s.is_dead s.sound c.if-self.false _ c.in-Ok.ensures.does (λ told. g.met.M.Media.long s.media told ∙ s.sound.sized) tt c.in-Ok.ensures.does.cause.kept
+    read_done m.tells (m.view s.media) (m.view c.read_data.new.media) s.shape s.logs.items s.is_dead s.sound c.if-self.false _ c.in-Ok.ensures.does (λ told. g.met.M.Media.long s.media told ∙ s.sound.sized) c.args.addr (length c.args.buf.now) tt c.in-Ok.ensures.does.cause.kept
 
 pub returns-in-Err-clause-does : goal.returns-in-Err-clause-does
 returns-in-Err-clause-does g c =
     let m = g.M.Media in
     let s = c.args.self.now in
-    read_failed m.tells (m.view s.media) (m.view c.read_data.new.media) s.shape s.logs.items s.is_dead s.sound c.if-self.false _ c.in-Err.ensures.does (λ told. g.met.M.Media.long s.media told ∙ s.sound.sized) c.in-Err.ensures.does.cause.failed
+    read_failed m.tells (m.view s.media) (m.view c.read_data.new.media) s.shape s.logs.items s.is_dead s.sound c.if-self.false _ c.in-Err.ensures.does (λ told. g.met.M.Media.long s.media told ∙ s.sound.sized) c.args.addr (length c.args.buf.now) c.in-Err.ensures.does.cause.failed

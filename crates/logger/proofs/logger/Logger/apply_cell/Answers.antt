@@ -10,6 +10,7 @@ use Rattle.array_shape.proofs.Apart.{placed_fits}
 use Rattle.array_shape.specs.Logged.{places_of}
 use Rattle.array_image.specs.Image.{cell_of, cell_head, cell_part}
 use Rattle.logger.proofs.Ranges.{writes_told}
+use Rattle.counted.proofs.Costing.{costs_one, costs_then, so_far}
 use Rattle.logger.proofs.logger.Logger.apply_cell.Goals as goal
 
 pub write-requires : goal.write-requires
@@ -48,3 +49,8 @@ returns-clause-does g c =
     let count : 16 + c.from.result - 16 ≡ c.head_of-head.result.len = omega arith in
     let part = ap (λ (n : ℕ). take n (drop 16 c.in_ok-cell.cell)) count ∙ (λ i. take (head i).len (drop 16 (cell i))) in
     λ i. (at i, length (part i)) ∷ []) c.write.ensures.does)
+
+pub returns-clause-costs : goal.returns-clause-costs
+returns-clause-costs g c =
+    let read = c.in_ok-cell.ensures.costs.done refl in
+    costs_then g.M.Media.tells 2 1 1 _ _ _ c.write.result refl (so_far g.M.Media.tells 1 _ _ read) (costs_one g.M.Media.tells _ _ _ c.write.ensures.ticks)

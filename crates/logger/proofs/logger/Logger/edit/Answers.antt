@@ -1,4 +1,4 @@
-use Rattle.std.proofs.Common.{◌≡◌, ◌+◌, ◌∙◌, ap, length, arith}
+use Rattle.std.proofs.Common.{true, ◌≡◌, ◌+◌, ◌∙◌, ap, length, arith}
 use Rattle.std.proofs.lemmas.Result.{on_ok_weaker}
 use Rattle.counted.specs.Bytes.{put}
 use Rattle.pcm_media.specs.Images.{Content}
@@ -6,6 +6,7 @@ use Rattle.array_shape.specs.Places.{media_len}
 use Rattle.array_image.specs.Image.{cell_of}
 use Rattle.array_image.proofs.Places.{cell_fits_in}
 use Rattle.logger.proofs.Cells.{cell_of-put}
+use Rattle.counted.proofs.Costing.{costs_one}
 use Rattle.logger.proofs.logger.Logger.edit.Goals as goal
 
 pub write-requires : goal.write-requires
@@ -18,3 +19,6 @@ returns-clause-cell g c told =
     let cell = (λ i. cell_of c.args.self.shape (put old.bytes (c.cell_at-cell.ensures i + 16 + c.from.ensures i) c.args.bytes.now) c.args.self.number c.args.tid c.args.entry)
     ∙ cell_of-put c.args.self.shape c.args.self.number c.args.tid c.args.entry old.bytes long c.args.self.there c.requires.tid c.requires.entry c.args.at c.args.bytes.now c.requires.within in
     on_ok_weaker c.write.result (λ is. ap (λ (content : Content). cell_of c.args.self.shape content.bytes c.args.self.number c.args.tid c.args.entry) is ∙ cell) (c.write.ensures.written told)
+
+pub returns-clause-costs : goal.returns-clause-costs
+returns-clause-costs g c = costs_one true _ _ _ c.write.ensures.ticks

@@ -1,8 +1,9 @@
-use Rattle.std.proofs.Common.{◌+◌, [], ◌∷◌, length, ap, arith}
+use Rattle.std.proofs.Common.{true, refl, ◌+◌, [], ◌∷◌, length, ap, arith}
 use Rattle.std.specs.Prelude.{is_ok}
 use Rattle.pcm_media.proofs.Writing.{writes_on, writes_within}
 use Rattle.array_shape.specs.Places.{cell_at}
 use Rattle.array_image.proofs.Places.{cell_fits_in}
+use Rattle.counted.proofs.Costing.{costs_one, costs_err, costs_then, once}
 use Rattle.logger.proofs.logger.Logger.put_cell.Goals as goal
 
 pub write-requires : goal.write-requires
@@ -19,3 +20,9 @@ returns-clause-does g c =
     (λ i out. ((λ le lt. out.0 (omega arith) (omega arith)), tt)) c.write.ensures.does in
     writes_on g.M.Media.tells cell ((c.cell_at-at.result + 16, length c.args.bytes.now) ∷ []) (view c.args.media.now) (view c.write.new.self) (view c.write-2.new.self) c.write.result c.write-2.result (ap is_ok c.in_ok-write.was)
     (λ i out. ((λ le lt. out.0 (omega arith) (omega arith)), tt)) first c.write-2.ensures.does
+
+pub returns-in_err-write-clause-costs : goal.returns-in_err-write-clause-costs
+returns-in_err-write-clause-costs g c = costs_err true _ _ _ c.from_residual.result c.from_residual.ensures.0 (omega (arith, c.write.ensures.ticks.next))
+
+pub returns-clause-costs : goal.returns-clause-costs
+returns-clause-costs g c = costs_then true 2 1 1 _ _ _ c.write-2.result refl (once true _ _ _ c.in_ok-write.ensures.ticks) (costs_one true _ _ _ c.write-2.ensures.ticks)

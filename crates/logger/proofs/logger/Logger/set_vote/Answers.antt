@@ -8,6 +8,7 @@ use Rattle.row_bytes.proofs.Saying.{row}
 use Rattle.array_image.specs.Image.{row_of}
 use Rattle.array_image.proofs.Places.{row_fits_in}
 use Rattle.logger.proofs.Rows.{row_of-put_vote}
+use Rattle.counted.proofs.Costing.{costs_one}
 use Rattle.logger.proofs.logger.Logger.set_vote.Goals as goal
 
 vote_reads : (voted : Bool) → nat_eq (vote_byte voted) 0xC3 ≡ voted
@@ -28,3 +29,6 @@ returns-clause-row g c told =
     let reads = ap (λ (n : ℕ). nat_eq n 0xC3) c.vote_byte.ensures ∙ vote_reads c.args.voted in
     let said = row_of-put_vote shape number c.args.tid old.bytes long c.args.self.there c.requires.tid c.vote_byte.result ∙ ap (λ (v : Bool). row v was.mask was.first was.count) reads in
     on_ok_weaker c.write.result (λ is. ap (λ (content : Content). row_of shape content.bytes number c.args.tid) is ∙ at ∙ said) (c.write.ensures.written told)
+
+pub returns-clause-costs : goal.returns-clause-costs
+returns-clause-costs g c = costs_one true _ _ _ c.write.ensures.ticks

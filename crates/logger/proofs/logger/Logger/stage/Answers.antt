@@ -1,10 +1,11 @@
-use Rattle.std.proofs.Common.{◌≡◌, ℕ, ◌+◌, ◌≤◌, List, refl, ◌∙◌, ap, length, arith}
+use Rattle.std.proofs.Common.{true, ◌≡◌, ℕ, ◌+◌, ◌≤◌, List, refl, ◌∙◌, ap, length, arith}
 use Rattle.std.proofs.lemmas.List.{length-map}
 use Rattle.std.proofs.lemmas.Result.{err_from_is_err_and}
 use Rattle.array_shape.specs.declared.shape.Shape.{Shape}
 use Rattle.array_shape.specs.Places.{media_len}
 use Rattle.array_shape.specs.Parts.{parts_on, part_of_write, write_parts_on}
 use Rattle.array_shape.proofs.Cutting.{write_parts_on-parts}
+use Rattle.counted.proofs.Costing.{costs_all, costs_err}
 use Rattle.logger.proofs.Staging.{staged_holds}
 use Rattle.logger.proofs.logger.Logger.stage.Goals as goal
 
@@ -51,3 +52,9 @@ returns-clause-holds g c told =
     let view = g.M.Media.view in
     let long : length (view c.args.media.now).content.bytes ≡ media_len c.args.self.shape = g.met.M.Media.long c.args.media.now told ∙ c.requires.size in
     staged_holds c.args.self.shape c.args.self.number c.args.tid c.args.held c.args.addr c.args.bytes.now (view c.args.media.now).content.bytes (view c.put_parts.new.media).content.bytes c.args.self.there c.requires.tid long c.requires.range (returns-clause-fits g c) (c.in_ok-put_parts.ensures.written told)
+
+pub returns-in_err-put_parts-clause-costs : goal.returns-in_err-put_parts-clause-costs
+returns-in_err-put_parts-clause-costs g c = costs_err true _ _ _ c.from_residual.result c.from_residual.ensures.0 c.put_parts.ensures.costs.most
+
+pub returns-clause-costs : goal.returns-clause-costs
+returns-clause-costs g c = costs_all true _ _ _ _ (c.in_ok-put_parts.ensures.costs.done refl)

@@ -1,11 +1,13 @@
-use Rattle.std.proofs.Common.{refl, ◌∙◌, ap, arith}
+use Rattle.std.proofs.Common.{true, refl, ◌∙◌, ap, arith}
 use Rattle.std.proofs.lemmas.Result.{err_from_is_err_and}
 use Rattle.eaw_face.specs.Command.{commit}
 use Rattle.memory_eaw.specs.Plain.{Plain}
+use Rattle.memory_eaw.specs.Steps.{log_at}
 use Rattle.memory_eaw.specs.Shown.{plain_of}
 use Rattle.memory_eaw.proofs.Stopping.{counts_failed}
 use Rattle.memory_eaw.proofs.Doing.{log_len_is}
-use Rattle.memory_eaw.proofs.Commands.{does_committed, moment_stays, counts_committed}
+use Rattle.counted.proofs.Costing.{costs_err, costs_all}
+use Rattle.memory_eaw.proofs.Commands.{calls-committed, does_committed, moment_stays, counts_committed}
 use Rattle.memory_eaw.proofs.eaw.MemoryEawEawStore.commit.Goals as goal
 
 pub returns-in_err-commit_from-clause-idle : goal.returns-in_err-commit_from-clause-idle
@@ -48,3 +50,19 @@ pub returns-in_err-commit_from-clause-due : goal.returns-in_err-commit_from-clau
 returns-in_err-commit_from-clause-due c =
     let self = c.args.self.now in
     λ broke. omega (arith, c.in_err-commit_from.ensures.failed.1, log_len_is (plain_of self) self.sound c.args.tid c.in_ok-check_live.ensures.live.1.small)
+
+pub returns-in_err-commit_from-clause-costs : goal.returns-in_err-commit_from-clause-costs
+returns-in_err-commit_from-clause-costs c =
+    let self = c.args.self.now in
+    let failed = c.in_err-commit_from.ensures.failed in
+    let moment = ap (λ (p : Plain). p.kept.moment) failed.3 in
+    costs_err true _ _ _ c.from_residual-in_err-commit_from.result c.from_residual-in_err-commit_from.ensures.0
+    (omega (arith, moment, failed.1, log_len_is (plain_of self) self.sound c.args.tid c.in_ok-check_live.ensures.live.1.small))
+
+pub returns-clause-costs : goal.returns-clause-costs
+returns-clause-costs c =
+    let self = c.args.self.now in
+    let moment = ap (λ (p : Plain). p.kept.moment) c.free.ensures in
+    let first = ap (λ (p : Plain). p.kept.moment) c.in_ok-commit_from.ensures.done.1 in
+    let one = calls-committed (log_at self.logs.items c.args.tid).parts (plain_of self) in
+    costs_all true _ _ _ _ (omega (arith, moment, first, one, log_len_is (plain_of self) self.sound c.args.tid c.in_ok-check_live.ensures.live.1.small))
