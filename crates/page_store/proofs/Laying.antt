@@ -32,7 +32,7 @@ range_front xs len a k fits le =
     let long : length (take len xs) ≡ len = length-take-le len xs le in
     ext_get_or 0 (range (take len xs) a k) (range xs a k) (length-range (take len xs) a k (omega (arith, long)) ∙ sym (length-range xs a k (omega arith)))
     (λ i lt. let below : i < k = omega (arith, lt, length-range (take len xs) a k (omega (arith, long))) in
-      get_or-range (take len xs) a k i below ∙ get_or-take len xs (a + i) 0 (omega arith) ∙ sym (get_or-range xs a k i below))
+    get_or-range (take len xs) a k i below ∙ get_or-take len xs (a + i) 0 (omega arith) ∙ sym (get_or-range xs a k i below))
 
 module _ (bytes buf : List ℕ) (p : Part) (addr n start len first last : ℕ) (start_is : start ≡ p.0) (len_is : len ≡ length p.1)
     (first_is : first ≡ max start addr) (last_is : last ≡ min (start + len) (addr + n)) (fits : start + len ≤ length bytes) (inside : addr + n ≤ length bytes) (read : buf ≡ range bytes addr n) where
@@ -40,7 +40,7 @@ module _ (bytes buf : List ℕ) (p : Part) (addr n start len first last : ℕ) (
   missed apart some = elim (cases_lt 0 n) [
     | inl more ↦ read ∙ sym (part_missed bytes p addr n (omega (arith, start_is, len_is)) (go more (cases_lt addr start)))
     | inr none ↦ let zero_is : n ≡ 0 = omega arith in
-      read ∙ ap (λ (k : ℕ). range bytes addr k) zero_is ∙ ap (λ (k : ℕ). range (put bytes p.0 p.1) addr k) (sym zero_is)
+        read ∙ ap (λ (k : ℕ). range bytes addr k) zero_is ∙ ap (λ (k : ℕ). range (put bytes p.0 p.1) addr k) (sym zero_is)
   ]
     where
       go : 0 < n → (addr < start) ⊎ (start ≤ addr) → (addr + n ≤ p.0) ⊎ (p.0 + length p.1 ≤ addr)
@@ -55,8 +55,8 @@ module _ (bytes buf : List ℕ) (p : Part) (addr n start len first last : ℕ) (
   laid meets part more whole long is =
       let at : first - start ≡ first - p.0 = omega (arith, start_is) in
       let piece : more ≡ range p.1 (first - p.0) (last - first) =
-          is ∙ sym (range_front part len (first - start) (last - first) (omega arith) long)
-          ∙ ap (λ (xs : List ℕ). range xs (first - start) (last - first)) whole ∙ ap (λ (k : ℕ). range p.1 k (last - first)) at in
+      is ∙ sym (range_front part len (first - start) (last - first) (omega arith) long)
+      ∙ ap (λ (xs : List ℕ). range xs (first - start) (last - first)) whole ∙ ap (λ (k : ℕ). range p.1 k (last - first)) at in
       (λ i. put (read i) (first - addr) (piece i))
       ∙ sym (part_laid bytes p addr n first last (omega (arith, start_is, len_is)) inside (omega (arith, first_is, start_is)) (omega (arith, last_is, start_is, len_is)) meets)
 

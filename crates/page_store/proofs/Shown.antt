@@ -109,7 +109,7 @@ module _ (pages : PagesView) (told : IsTold pages.store) (ordered : IsOrdered (o
       let kept' = kept_after pages.store.shape (state_of pages) kept c allowed' in
       let out : outline s' ≡ outline_of new = outline_does pages.store.shape c (state_of pages) kept allowed' ∙ ap (outline_after c) outlined ∙ sym same in
       let saved : (t : ℕ) → saved_of (listed (new.store.state.logs t)) (new.counts t) ≡ s'.saved t = λ t.
-          ap (λ (st : State). saved_of (listed (st.logs t)) (new.counts t)) store
-          ∙ ap (saved_of (log_of s' t)) (ap (λ (o : Outline). o.counts t) (sym out))
-          ∙ saved_lengths (log_of s' t) (s'.saved t) (kept'.each t).fronts in
+      ap (λ (st : State). saved_of (listed (st.logs t)) (new.counts t)) store
+      ∙ ap (saved_of (log_of s' t)) (ap (λ (o : Outline). o.counts t) (sym out))
+      ∙ saved_lengths (log_of s' t) (s'.saved t) (kept'.each t).fronts in
       λ i. record { store = store i; saved = λ t. saved t i; top = (sym out i).top }

@@ -308,12 +308,7 @@ fn page_fault(fault: EawFault) -> PageFault
 }
 
 // Reads what the number sees: the data, and over it each part that meets the range.
-fn read_seen<S: EawStore>(
-    store: &mut S,
-    tid: u8,
-    addr: u64,
-    buf: &mut [u8],
-) -> Result<(), EawFault>
+fn read_seen<S: EawStore>(store: &mut S, tid: u8, addr: u64, buf: &mut [u8]) -> Result<(), EawFault>
     requires tid { tid < (S.view store.old).shape.numbers }
     requires inside { addr + length buf.old ≤ data_len (S.view store.old).shape }
     ensures does { Reads S.tells (S.opens (S.view store.old).shape) tid (S.view store.old) (S.view store.new) result }

@@ -25,7 +25,7 @@ loop-pos-preserved g c =
     let so_far = c.loop-pos.invariant.reads in
     let done : Result (Unit {0}) EawFault = Ok tt in
     let more : Reads tells (g.S.EawStore.opens first.shape) c.args.tid mid new done =
-        subst (λ (shape : Shape). Reads tells (g.S.EawStore.opens shape) c.args.tid mid new done) so_far.shape c.in-Ok-lay_part.ensures.does in
+    subst (λ (shape : Shape). Reads tells (g.S.EawStore.opens shape) c.args.tid mid new done) so_far.shape c.in-Ok-lay_part.ensures.does in
     record {
       reads = reads_on tells (g.S.EawStore.opens first.shape) c.args.tid first mid new done refl so_far done more;
       long = c.lay_part.auto.buf ∙ c.loop-pos.invariant.long;
@@ -38,7 +38,7 @@ loop-pos-preserved g c =
           let placed = placed_parts first.shape log (subst (λ rs. ArePlaced first.shape rs) outline (g.met.S.EawStore.placed c.args.store.now c.args.tid)) in
           let long = long_applied first.shape log pos first.state.bytes placed (g.met.S.EawStore.long c.args.store.now tell) in
           let there : c.loop-pos.pos < length (listed (first.state.logs c.args.tid)) =
-              omega (arith, c.loop-pos-test.true, c.log_len-pos-end.ensures ∙ ap (λ (rs : ℕ → Option (List (ℕ × ℕ))). length (listed (rs c.args.tid))) c.in-Ok.ensures.does.done.ranges ∙ ap length outline ∙ length-ranges log) in
+          omega (arith, c.loop-pos-test.true, c.log_len-pos-end.ensures ∙ ap (λ (rs : ℕ → Option (List (ℕ × ℕ))). length (listed (rs c.args.tid))) c.in-Ok.ensures.does.done.ranges ∙ ap length outline ∙ length-ranges log) in
           c.in-Ok-lay_part.ensures.laid tell d (long ∙ (λ i. data_len (sym so_far.shape i))) (c.loop-pos.invariant.seen tell)
           ∙ (λ i. let part = part_at (listed ((same i).logs c.args.tid)) c.loop-pos.pos in range (put d part.0 part.1) c.args.addr (length c.loop-pos.buf))
           ∙ ap (λ (bytes : List ℕ). range bytes c.args.addr (length c.loop-pos.buf))

@@ -34,12 +34,12 @@ names false t u is = is
 -- what it does, over the store and the marks that it began with
 done_does : (g : given.Over) (c : goal.After-self-1 g)
     → (let view = g.S.EawStore.view in
-      let marks = c.self.inside.marks.items in
-      let old : PagesView = record { store = view c.self.inside.store; counts = counts_in marks; top = top_in marks } in
-      let marks' = set marks c.from.result c.cut.new.self in
-      let new : PagesView = record { store = view c.end_number.new.store; counts = counts_in marks'; top = top_in marks' } in
-      let r : Result (Unit {0}) PageFault = Ok tt in
-      Does g.S.EawStore.tells (g.S.EawStore.opens (view c.self.inside.store).shape) (end c.args.tid c.args.commits) old new r)
+    let marks = c.self.inside.marks.items in
+    let old : PagesView = record { store = view c.self.inside.store; counts = counts_in marks; top = top_in marks } in
+    let marks' = set marks c.from.result c.cut.new.self in
+    let new : PagesView = record { store = view c.end_number.new.store; counts = counts_in marks'; top = top_in marks' } in
+    let r : Result (Unit {0}) PageFault = Ok tt in
+    Does g.S.EawStore.tells (g.S.EawStore.opens (view c.self.inside.store).shape) (end c.args.tid c.args.commits) old new r)
 done_does g c =
     let view = g.S.EawStore.view in
     let store = view c.self.inside.store in

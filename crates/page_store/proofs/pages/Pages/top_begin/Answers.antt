@@ -16,11 +16,11 @@ use Rattle.page_store.proofs.pages.Pages.top_begin.Goals as goal
 -- what it does while the store is not dead, over the store and the marks that it began with
 begun : (g : given.Over) (c : goal.After-self-1 g) → (g.S.EawStore.view c.self.inside.store).is_dead ≡ false
     → (let view = g.S.EawStore.view in
-      let marks = c.self.inside.marks.items in
-      let old : PagesView = record { store = view c.self.inside.store; counts = counts_in marks; top = top_in marks } in
-      let marks' = set marks c.from.result c.begin_top.new.self in
-      let new : PagesView = record { store = view c.self.inside.store; counts = counts_in marks'; top = top_in marks' } in
-      Becomes g.S.EawStore.tells (top_begin c.args.tid) old new)
+    let marks = c.self.inside.marks.items in
+    let old : PagesView = record { store = view c.self.inside.store; counts = counts_in marks; top = top_in marks } in
+    let marks' = set marks c.from.result c.begin_top.new.self in
+    let new : PagesView = record { store = view c.self.inside.store; counts = counts_in marks'; top = top_in marks' } in
+    Becomes g.S.EawStore.tells (top_begin c.args.tid) old new)
 begun g c alive =
     let view = g.S.EawStore.view in
     let store = view c.self.inside.store in

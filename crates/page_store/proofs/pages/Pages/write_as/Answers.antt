@@ -65,10 +65,10 @@ log_edit-requires-clause-within g c live =
 
 edit_does : (g : given.Over) (c : goal.After-told g)
     → (let view = g.S.EawStore.view in
-      let marks = c.self.inside.marks.items in
-      let old : PagesView = record { store = view c.self.inside.store; counts = counts_in marks; top = top_in marks } in
-      let new : PagesView = record { store = view c.log_edit.new.self; counts = counts_in marks; top = top_in marks } in
-      Does g.S.EawStore.tells (g.S.EawStore.opens (view c.self.inside.store).shape) (write_as c.args.tid (address c.args.page c.args.at) c.args.bytes.now) old new c.told.result)
+    let marks = c.self.inside.marks.items in
+    let old : PagesView = record { store = view c.self.inside.store; counts = counts_in marks; top = top_in marks } in
+    let new : PagesView = record { store = view c.log_edit.new.self; counts = counts_in marks; top = top_in marks } in
+    Does g.S.EawStore.tells (g.S.EawStore.opens (view c.self.inside.store).shape) (write_as c.args.tid (address c.args.page c.args.at) c.args.bytes.now) old new c.told.result)
 edit_does g c =
     let view = g.S.EawStore.view in
     let store = view c.self.inside.store in
@@ -92,10 +92,10 @@ edit_does g c =
 
 write_does : (g : given.Over) (c : goal.After-told-in-None g)
     → (let view = g.S.EawStore.view in
-      let marks = c.self.inside.marks.items in
-      let old : PagesView = record { store = view c.self.inside.store; counts = counts_in marks; top = top_in marks } in
-      let new : PagesView = record { store = view c.log_write.new.self; counts = counts_in marks; top = top_in marks } in
-      Does g.S.EawStore.tells (g.S.EawStore.opens (view c.self.inside.store).shape) (write_as c.args.tid (address c.args.page c.args.at) c.args.bytes.now) old new c.told-in-None.result)
+    let marks = c.self.inside.marks.items in
+    let old : PagesView = record { store = view c.self.inside.store; counts = counts_in marks; top = top_in marks } in
+    let new : PagesView = record { store = view c.log_write.new.self; counts = counts_in marks; top = top_in marks } in
+    Does g.S.EawStore.tells (g.S.EawStore.opens (view c.self.inside.store).shape) (write_as c.args.tid (address c.args.page c.args.at) c.args.bytes.now) old new c.told-in-None.result)
 write_does g c =
     let view = g.S.EawStore.view in
     let store = view c.self.inside.store in
