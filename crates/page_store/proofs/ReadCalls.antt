@@ -1,0 +1,209 @@
+-- Reads of a store one after another, and as reads of pages.
+use Rattle.std.proofs.Common.{◌≡◌, ℕ, Bool, true, false, inl, inr, ⊎_elim, List, Result, Ok, Err, refl, sym, ◌∙◌, ap, subst, arith}
+use Rattle.std.specs.Prelude.{Option, Some, None, IsTrue, IsOk, OnOk, OnErr, IsErrOf}
+use Rattle.std.proofs.lemmas.Bool.{false≢true}
+use Rattle.std.proofs.lemmas.Result.{IfErr-at_err}
+use Rattle.counted.specs.Causes.{Rose}
+use Rattle.counted.proofs.Going.{weaker, then}
+use Rattle.eaw_face.specs.State.{State, Logs}
+use Rattle.eaw_face.specs.StoreView.{StoreView, LeavesOnly}
+use Rattle.eaw_face.specs.Command.{Command}
+use Rattle.eaw_face.specs.Command as model
+use Rattle.eaw_face.specs.Causes as causes
+use Rattle.eaw_face.specs.Does as store
+use Rattle.eaw_face.specs.declared.fault.EawFault.{EawFault}
+use Rattle.eaw_face.specs.declared.fault.EawFault.TheVariants as fault
+use Rattle.page_store.specs.State.{PagesState}
+use Rattle.page_store.specs.Command.{PageCommand, after}
+use Rattle.page_store.specs.Outline.{Outline, outline_after}
+use Rattle.page_store.specs.Does.{Does, Cause, HasRoom, Becomes, named_by}
+use Rattle.page_store.specs.Reads.{Reads, IsRead, ReadCause}
+use Rattle.page_store.specs.Shown.{PagesView, outline_of, state_of}
+use Rattle.page_store.specs.Told.{IsKnown, told_as, TellsAs}
+use Rattle.page_store.specs.declared.fault.PageFault.{PageFault}
+use Rattle.page_store.specs.declared.fault.PageFault.TheVariants.{LogFull, SavesFull, Media, Dead, Damaged}
+
+abbrev NotMedia : PageFault → Type 0
+NotMedia Media = ⊥
+NotMedia _ = Unit {0}
+
+-- a command of the store that reads, of a number that is live
+module _ (tells : Bool) (Opens : List ℕ → List ℕ → Type 0) (t : ℕ) (d : Command) (old new : StoreView)
+    (same : (s : State) → model.after d s ≡ s) (same_ranges : (rs : Logs (ℕ × ℕ)) → model.ranges_after d rs ≡ rs)
+    (knows : causes.Knows old d) (room : (g h n : ℕ) → causes.IsFull old d g h n → ⊥) where
+  cause_of : {T : Type 0} (r : Result T EawFault) → causes.Cause old d new.faults r → ReadCause old new.faults r
+  cause_of (Ok x) cause = cause.0
+  cause_of (Err (fault.UnknownTid t)) cause = absurd (cause.2 knows)
+  cause_of (Err (fault.LogFull g h n)) cause = absurd (room g h n cause.2)
+  cause_of (Err fault.Media) cause = (cause.0, cause.3)
+  cause_of (Err fault.Dead) cause = cause
+
+  is_read : store.Becomes tells d old new → IsRead tells old new
+  is_read is = record { alive = is.alive; ranges = is.ranges ∙ same_ranges old.ranges; state = λ tell. is.state tell ∙ same old.state }
+
+  done_of : {T : Type 0} (r : Result T EawFault) → OnOk r (store.Becomes tells d old new) → OnOk r (IsRead tells old new)
+  done_of (Ok x) is = is_read is
+  done_of (Err f) is = tt
+
+  pub reads_of : {T : Type 0} → ((u : ℕ) → (u ≡ t → ⊥) → new.ranges u ≡ old.ranges u) → (r : Result T EawFault) → store.Does tells Opens d old new r → Reads tells Opens t old new r
+  reads_of others r does = record {
+    shape = does.shape;
+    cause = cause_of r does.cause;
+    kept = does.kept;
+    done = done_of r does.done;
+    dies = does.dies;
+    others = others;
+    time = λ tell alive. weaker (λ image either. ⊎_elim (λ b. b) (λ a. subst (λ (st : State). Opens image st.bytes) (same old.state) a) either) (does.time tell alive);
+  }
+
+-- one read that succeeded, and others
+module _ {T : Type 0} (tells : Bool) (Opens : List ℕ → List ℕ → Type 0) (t : ℕ) (old mid new : StoreView) (r : Result T EawFault) (ok : IsOk r) (first : Reads tells Opens t old mid r) where
+  done_first : (r : Result T EawFault) → IsOk r → OnOk r (IsRead tells old mid) → IsRead tells old mid
+  done_first (Ok x) ok is = is
+  done_first (Err f) ok is = absurd (false≢true ok)
+
+  kept_first : (r : Result T EawFault) → IsOk r → OnOk r (mid.faults ≡ old.faults) → mid.faults ≡ old.faults
+  kept_first (Ok x) ok is = is
+  kept_first (Err f) ok is = absurd (false≢true ok)
+
+  alive_first : (r : Result T EawFault) → IsOk r → ReadCause old mid.faults r → old.is_dead ≡ false
+  alive_first (Ok x) ok is = is
+  alive_first (Err f) ok is = absurd (false≢true ok)
+
+  cause_on : {U : Type 0} (s : Result U EawFault) → ReadCause mid new.faults s → ReadCause old new.faults s
+  cause_on (Ok x) cause = alive_first r ok first.cause
+  cause_on (Err fault.Dead) cause = absurd (false≢true (sym (done_first r ok first.done).alive ∙ cause))
+  cause_on (Err fault.Media) cause = (alive_first r ok first.cause, subst (λ (n : ℕ). Rose n new.faults) (kept_first r ok first.kept) cause.1)
+  cause_on (Err (fault.UnknownTid t)) cause = cause
+  cause_on (Err (fault.LogFull g h n)) cause = cause
+
+  done_on : {U : Type 0} (s : Result U EawFault) → OnOk s (IsRead tells mid new) → OnOk s (IsRead tells old new)
+  done_on (Ok x) is = record {
+    alive = is.alive;
+    ranges = is.ranges ∙ (done_first r ok first.done).ranges;
+    state = λ tell. is.state tell ∙ (done_first r ok first.done).state tell;
+  }
+  done_on (Err f) is = tt
+
+  kept_on : {U : Type 0} (s : Result U EawFault) → OnOk s (new.faults ≡ mid.faults) → OnOk s (new.faults ≡ old.faults)
+  kept_on (Ok x) is = is ∙ kept_first r ok first.kept
+  kept_on (Err f) is = tt
+
+  pub reads_on : {U : Type 0} (s : Result U EawFault) → Reads tells Opens t mid new s → Reads tells Opens t old new s
+  reads_on s more = record {
+    shape = more.shape ∙ first.shape;
+    cause = cause_on s more.cause;
+    kept = kept_on s more.kept;
+    done = done_on s more.done;
+    dies = more.dies;
+    others = λ u ne. more.others u ne ∙ first.others u ne;
+    time = λ tell alive. then (first.time tell alive)
+        (weaker (λ image opens. subst (λ (st : State). Opens image st.bytes) ((done_first r ok first.done).state tell) opens) (more.time tell (done_first r ok first.done).alive));
+  }
+
+-- a fault of a read, handed on
+pub reads_err : {T U : Type 0} (tells : Bool) (Opens : List ℕ → List ℕ → Type 0) (t : ℕ) (old new : StoreView) (f : EawFault)
+    → (let r : Result T EawFault = Err f in Reads tells Opens t old new r) → (let s : Result U EawFault = Err f in Reads tells Opens t old new s)
+reads_err {T} {U} tells Opens t old new f reads = record {
+  shape = reads.shape;
+  cause = cause f reads.cause;
+  kept = tt;
+  done = tt;
+  dies = λ is. reads.dies (ap Err (IfErr-at_err (λ q. f ≡ q) is refl));
+  others = reads.others;
+  time = reads.time;
+}
+  where
+    cause : (f : EawFault) → (let r : Result T EawFault = Err f in ReadCause old new.faults r) → (let s : Result U EawFault = Err f in ReadCause old new.faults s)
+    cause (fault.UnknownTid t) is = is
+    cause (fault.LogFull g h n) is = is
+    cause fault.Media is = is
+    cause fault.Dead is = is
+
+-- one that succeeded, with another answer
+pub reads_ok : {T U : Type 0} {x : T} (tells : Bool) (Opens : List ℕ → List ℕ → Type 0) (t : ℕ) (old new : StoreView) (y : U)
+    → (let r : Result T EawFault = Ok x in Reads tells Opens t old new r) → (let s : Result U EawFault = Ok y in Reads tells Opens t old new s)
+reads_ok tells Opens t old new y reads = record {
+  shape = reads.shape;
+  cause = reads.cause;
+  kept = reads.kept;
+  done = reads.done;
+  dies = λ is. absurd (IfErr-at_err (λ q. ⊥) is tt);
+  others = reads.others;
+  time = reads.time;
+}
+
+-- nothing was read
+pub reads_none : {T : Type 0} (tells : Bool) (Opens : List ℕ → List ℕ → Type 0) (t : ℕ) (old : StoreView) (x : T) → old.is_dead ≡ false → (let r : Result T EawFault = Ok x in Reads tells Opens t old old r)
+reads_none tells Opens t old x alive = record {
+  shape = refl;
+  cause = alive;
+  kept = refl;
+  done = record { alive = alive; ranges = refl; state = λ tell. refl };
+  dies = λ is. absurd (IfErr-at_err (λ q. ⊥) is tt);
+  others = λ u ne. refl;
+  time = λ tell living. record { later = omega arith; keeps = λ t image le left. left; only = λ t image le left. inl left };
+}
+
+-- As a command of pages that changes nothing.
+module _ (tells : Bool) (Opens : List ℕ → List ℕ → Type 0) (t : ℕ) (c : PageCommand) (old new : PagesView)
+    (same : (s : PagesState) → after c s ≡ s) (same_outline : (o : Outline) → outline_after c o ≡ o) (room : HasRoom old c)
+    (counts : new.counts ≡ old.counts) (top : new.top ≡ old.top) (number : (u : ℕ) → (named_by c ≡ Some u → ⊥) → new.store.ranges u ≡ old.store.ranges u) where
+  page_cause : {T U : Type 0} (r : Result T EawFault) (s : Result U PageFault) → TellsAs r s → ReadCause old.store new.store.faults r → Cause old c new.store.faults s
+  page_cause (Ok x) (Ok y) as_told cause = (cause, room)
+  page_cause (Ok x) (Err p) as_told cause = absurd as_told
+  page_cause (Err f) (Ok y) as_told cause = absurd as_told
+  page_cause {T} {U} (Err f) (Err p) as_told cause = subst (λ q. (let s : Result U PageFault = Err q in Cause old c new.store.faults s)) (sym as_told.1) (go f as_told.0 cause)
+    where
+      go : (f : EawFault) → IsKnown f → (let r : Result T EawFault = Err f in ReadCause old.store new.store.faults r) → (let s : Result U PageFault = Err (told_as f) in Cause old c new.store.faults s)
+      go (fault.UnknownTid t) known cause = absurd known
+      go (fault.LogFull g h n) known cause = absurd cause
+      go fault.Media known cause = (cause.0, room, cause.1)
+      go fault.Dead known cause = cause
+
+  page_kept : {T U : Type 0} (r : Result T EawFault) (s : Result U PageFault) → TellsAs r s → OnOk r (new.store.faults ≡ old.store.faults) → OnOk s (new.store.faults ≡ old.store.faults)
+  page_kept (Ok x) (Ok y) as_told is = is
+  page_kept (Ok x) (Err p) as_told is = absurd as_told
+  page_kept (Err f) (Ok y) as_told is = absurd as_told
+  page_kept (Err f) (Err p) as_told is = tt
+
+  becomes : IsRead tells old.store new.store → Becomes tells c old new
+  becomes is = record {
+    alive = is.alive;
+    outline = (λ i. record { ranges = is.ranges i; counts = counts i; top = top i }) ∙ sym (same_outline (outline_of old));
+    state = λ tell. (λ i. state_of (record { store = record old.store { state = is.state tell i }; counts = counts i; top = top i })) ∙ sym (same (state_of old));
+  }
+
+  page_done : {T U : Type 0} (r : Result T EawFault) (s : Result U PageFault) → TellsAs r s → OnOk r (IsRead tells old.store new.store) → OnOk s (Becomes tells c old new)
+  page_done (Ok x) (Ok y) as_told is = becomes is
+  page_done (Ok x) (Err p) as_told is = absurd as_told
+  page_done (Err f) (Ok y) as_told is = absurd as_told
+  page_done (Err f) (Err p) as_told is = tt
+
+  dies_of : (f : EawFault) → IsKnown f → told_as f ≡ Media → f ≡ fault.Media
+  dies_of (fault.UnknownTid t) known is = absurd known
+  dies_of (fault.LogFull g h n) known is = absurd (subst NotMedia is tt)
+  dies_of fault.Media known is = refl
+  dies_of fault.Dead known is = absurd (subst NotMedia is tt)
+
+  page_dies : {T U : Type 0} (r : Result T EawFault) (s : Result U PageFault) → TellsAs r s → (IsErrOf r fault.Media → new.store.is_dead ≡ true) → IsErrOf s Media → new.store.is_dead ≡ true
+  page_dies (Ok x) (Ok y) as_told dies is = absurd (IfErr-at_err (λ q. ⊥) is tt)
+  page_dies (Ok x) (Err p) as_told dies is = absurd as_told
+  page_dies (Err f) (Ok y) as_told dies is = absurd as_told
+  page_dies (Err f) (Err p) as_told dies is = dies (ap Err (dies_of f as_told.0 (sym as_told.1 ∙ IfErr-at_err (λ q. p ≡ q) is refl)))
+
+  any : {U : Type 0} (s : Result U PageFault) → OnErr s ((new.counts ≡ old.counts) × (new.top ≡ old.top))
+  any (Ok x) = tt
+  any (Err e) = (counts, top)
+
+  pub page_read : {T U : Type 0} (r : Result T EawFault) (s : Result U PageFault) → TellsAs r s → Reads tells Opens t old.store new.store r → Does tells Opens c old new s
+  page_read r s as_told reads = record {
+    shape = reads.shape;
+    cause = page_cause r s as_told reads.cause;
+    kept = page_kept r s as_told reads.kept;
+    done = page_done r s as_told reads.done;
+    marks = any s;
+    dies = page_dies r s as_told reads.dies;
+    others = number;
+    time = λ tell alive. weaker (λ image opens. inl opens) (reads.time tell alive);
+  }

@@ -1,0 +1,86 @@
+use Rattle.std.proofs.Common.{◌≡◌, ℕ, ◌+◌, ◌-◌, ◌<◌, ◌≤◌, List, false, length, take, drop, refl, sym, ◌∙◌, ap, subst, arith}
+use Rattle.std.specs.Prelude.{Option, Some, None, IsTrue, IsSome}
+use Rattle.counted.specs.Bytes.{range}
+use Rattle.array_shape.specs.Places.{IsPlaced}
+use Rattle.eaw_face.specs.State.{listed, range_at, part_at}
+use Rattle.eaw_face.specs.StoreView.{IsLive}
+use Rattle.eaw_face.specs.Command.{log_read}
+use Rattle.page_store.proofs.Editing.{placed_at, data_small}
+use Rattle.page_store.proofs.Laying.{range_of_part, missed, laid}
+use Rattle.page_store.proofs.ReadCalls.{reads_of, reads_ok, reads_err, reads_none}
+use Rattle.page_store.proofs.pages.lay_part.Goals as goal
+
+pub overflow_add-start : goal.overflow_add-start
+overflow_add-start g c =
+    let view = g.S.EawStore.view c.args.store.now in
+    let placed = placed_at view.shape (listed (view.ranges c.args.tid)) c.args.pos (g.met.S.EawStore.placed c.args.store.now c.args.tid) c.requires.pos in
+    let small = data_small view.shape (g.met.S.EawStore.shaped c.args.store.now) in
+    omega (arith, placed.inside, small, ap (λ (p : ℕ × ℕ). p.0) c.part_range-start.ensures, c.from.ensures ∙ ap (λ (p : ℕ × ℕ). p.1) c.part_range-start.ensures)
+
+pub returns-then-first-last-clause-laid : goal.returns-then-first-last-clause-laid
+returns-then-first-last-clause-laid g c tell bytes long read =
+    let view = g.S.EawStore.view c.args.store.now in
+    let log = view.state.logs c.args.tid in
+    let part = part_at (listed log) c.args.pos in
+    let is = range_of_part (view.ranges c.args.tid) log c.args.pos (g.met.S.EawStore.outlines c.args.store.now c.args.tid tell c.requires.alive) in
+    let placed = placed_at view.shape (listed (view.ranges c.args.tid)) c.args.pos (g.met.S.EawStore.placed c.args.store.now c.args.tid) c.requires.pos in
+    let start = ap (λ (p : ℕ × ℕ). p.0) c.part_range-start.ensures in
+    let len = c.from.ensures ∙ ap (λ (p : ℕ × ℕ). p.1) c.part_range-start.ensures in
+    missed bytes c.args.buf.now part c.args.addr (length c.args.buf.now) c.part_range-start.result.0 c.from.result c.max-first.result c.min-last.result
+    (start ∙ ap (λ (p : ℕ × ℕ). p.0) is) (len ∙ ap (λ (p : ℕ × ℕ). p.1) is) c.max-first.ensures c.min-last.ensures
+    (omega (arith, placed.inside, start, len, long)) (omega (arith, c.requires.inside, long)) read c.if-first-last.true (omega (arith, placed.some, len))
+
+pub slice_bounds-overwrite-end : goal.slice_bounds-overwrite-end
+slice_bounds-overwrite-end g c =
+    let view = g.S.EawStore.view c.args.store.now in
+    let placed = placed_at view.shape (listed (view.ranges c.args.tid)) c.args.pos (g.met.S.EawStore.placed c.args.store.now c.args.tid) c.requires.pos in
+    let start = ap (λ (p : ℕ × ℕ). p.0) c.part_range-start.ensures in
+    let len = c.from.ensures ∙ ap (λ (p : ℕ × ℕ). p.1) c.part_range-start.ensures in
+    omega (arith, placed.page, len, c.min-last.ensures, c.max-first.ensures, c.if-first-last.false)
+
+-- a number with parts is live
+is_there : (o : Option (List (ℕ × ℕ))) (k : ℕ) → k < length (listed o) → IsSome o
+is_there None k lt = absurd (omega (arith, lt))
+is_there (Some xs) k lt = refl
+
+pub returns-in-Err-clause-does : goal.returns-in-Err-clause-does
+returns-in-Err-clause-does g c =
+    let view = g.S.EawStore.view in
+    let old = view c.args.store.now in
+    let new = view c.log_read.new.self in
+    reads_err g.S.EawStore.tells (g.S.EawStore.opens old.shape) c.args.tid old new c.in-Err.fault
+    (reads_of g.S.EawStore.tells (g.S.EawStore.opens old.shape) c.args.tid (log_read c.args.tid) old new (λ s. refl) (λ rs. refl)
+    (record { small = c.requires.tid; live = is_there (old.ranges c.args.tid) c.args.pos c.requires.pos }) (λ h i n no. no) (λ u ne. c.in-Err.ensures.does.others u ne) _ c.in-Err.ensures.does)
+
+pub returns-clause-does : goal.returns-clause-does
+returns-clause-does g c =
+    let view = g.S.EawStore.view in
+    let old = view c.args.store.now in
+    let new = view c.log_read.new.self in
+    reads_ok g.S.EawStore.tells (g.S.EawStore.opens old.shape) c.args.tid old new tt
+    (reads_of g.S.EawStore.tells (g.S.EawStore.opens old.shape) c.args.tid (log_read c.args.tid) old new (λ s. refl) (λ rs. refl)
+    (record { small = c.requires.tid; live = is_there (old.ranges c.args.tid) c.args.pos c.requires.pos }) (λ h i n no. no) (λ u ne. c.in-Ok.ensures.does.others u ne) _ c.in-Ok.ensures.does)
+
+pub returns-then-first-last-clause-does : goal.returns-then-first-last-clause-does
+returns-then-first-last-clause-does g c =
+    let old = g.S.EawStore.view c.args.store.now in
+    reads_none g.S.EawStore.tells (g.S.EawStore.opens old.shape) c.args.tid old tt c.requires.alive
+
+pub returns-clause-laid : goal.returns-clause-laid
+returns-clause-laid g c tell bytes long read =
+    let view = g.S.EawStore.view c.args.store.now in
+    let log = view.state.logs c.args.tid in
+    let part = part_at (listed log) c.args.pos in
+    let is = range_of_part (view.ranges c.args.tid) log c.args.pos (g.met.S.EawStore.outlines c.args.store.now c.args.tid tell c.requires.alive) in
+    let placed = placed_at view.shape (listed (view.ranges c.args.tid)) c.args.pos (g.met.S.EawStore.placed c.args.store.now c.args.tid) c.requires.pos in
+    let start = ap (λ (p : ℕ × ℕ). p.0) c.part_range-start.ensures in
+    let len = c.from.ensures ∙ ap (λ (p : ℕ × ℕ). p.1) c.part_range-start.ensures in
+    let told = c.in-Ok.ensures.bytes tell in
+    c.overwrite.ensures ∙
+    laid bytes c.args.buf.now part c.args.addr (length c.args.buf.now) c.part_range-start.result.0 c.from.result c.max-first.result c.min-last.result
+    (start ∙ ap (λ (p : ℕ × ℕ). p.0) is) (len ∙ ap (λ (p : ℕ × ℕ). p.1) is) c.max-first.ensures c.min-last.ensures
+    (omega (arith, placed.inside, start, len, long)) (omega (arith, c.requires.inside, long)) read c.if-first-last.false c.log_read.new.buf _
+    (ap (λ (k : ℕ). take k c.log_read.new.buf) (len ∙ sym (ap (λ (p : ℕ × ℕ). p.1) c.in-Ok.ensures.part)) ∙ told)
+    (omega (arith, placed.page, len, c.log_read.array_long))
+    (let count : c.min-last.result - c.part_range-start.result.0 - (c.max-first.result - c.part_range-start.result.0) ≡ c.min-last.result - c.max-first.result = omega (arith, c.max-first.ensures, c.if-first-last.false) in
+    ap (λ (k : ℕ). take k (drop (c.max-first.result - c.part_range-start.result.0) c.log_read.new.buf)) count)

@@ -1,0 +1,60 @@
+use Rattle.std.proofs.Common.{◌≡◌, ℕ, suc, ◌+◌, ◌<◌, ◌≤◌, List, Ok, Result, length, take, refl, sym, ◌∙◌, ap, subst, add-one, arith}
+use Rattle.std.specs.Prelude.{Option, IsTrue}
+use Rattle.std.proofs.Math.Seq.{take-length}
+use Rattle.counted.specs.Bytes.{put, range}
+use Rattle.array_shape.specs.declared.shape.Shape.{Shape}
+use Rattle.array_shape.specs.Places.{data_len}
+use Rattle.array_shape.specs.Logged.{Part, applied, ranges_of}
+use Rattle.eaw_face.specs.State.{State, listed, part_at}
+use Rattle.eaw_face.specs.StoreView.{ArePlaced}
+use Rattle.eaw_face.specs.declared.fault.EawFault.{EawFault}
+use Rattle.page_store.specs.Reads.{Reads}
+use Rattle.page_store.proofs.Outline.{listed-ranges}
+use Rattle.page_store.proofs.Shown.{placed_parts}
+use Rattle.page_store.proofs.Laying.{more_applied, long_applied, length-ranges}
+use Rattle.page_store.proofs.ReadCalls.{reads_on}
+use Rattle.page_store.proofs.pages.read_seen.Goals as goal
+
+pub loop-pos-preserved : goal.loop-pos-preserved
+loop-pos-preserved g c =
+    let view = g.S.EawStore.view in
+    let first = view c.args.store.now in
+    let mid = view c.loop-pos.store in
+    let new = view c.lay_part.new.store in
+    let tells = g.S.EawStore.tells in
+    let so_far = c.loop-pos.invariant.reads in
+    let done : Result (Unit {0}) EawFault = Ok tt in
+    let more : Reads tells (g.S.EawStore.opens first.shape) c.args.tid mid new done =
+    subst (λ (shape : Shape). Reads tells (g.S.EawStore.opens shape) c.args.tid mid new done) so_far.shape c.in-Ok-lay_part.ensures.does in
+    record {
+      reads = reads_on tells (g.S.EawStore.opens first.shape) c.args.tid first mid new done refl so_far done more;
+      long = c.lay_part.auto.buf ∙ c.loop-pos.invariant.long;
+      seen = λ tell.
+          let same : mid.state ≡ first.state = so_far.done.state tell in
+          let log = listed (first.state.logs c.args.tid) in
+          let pos = c.loop-pos.pos in
+          let d = applied (take c.loop-pos.pos (listed (first.state.logs c.args.tid))) first.state.bytes in
+          let outline = ap listed (g.met.S.EawStore.outlines c.args.store.now c.args.tid tell so_far.cause) ∙ listed-ranges (first.state.logs c.args.tid) in
+          let placed = placed_parts first.shape log (subst (λ rs. ArePlaced first.shape rs) outline (g.met.S.EawStore.placed c.args.store.now c.args.tid)) in
+          let long = long_applied first.shape log pos first.state.bytes placed (g.met.S.EawStore.long c.args.store.now tell) in
+          let there : c.loop-pos.pos < length (listed (first.state.logs c.args.tid)) =
+          omega (arith, c.loop-pos-test.true, c.log_len-pos-end.ensures ∙ ap (λ (rs : ℕ → Option (List (ℕ × ℕ))). length (listed (rs c.args.tid))) c.in-Ok.ensures.does.done.ranges ∙ ap length outline ∙ length-ranges log) in
+          c.in-Ok-lay_part.ensures.laid tell d (long ∙ (λ i. data_len (sym so_far.shape i))) (c.loop-pos.invariant.seen tell)
+          ∙ (λ i. let part = part_at (listed ((same i).logs c.args.tid)) c.loop-pos.pos in range (put d part.0 part.1) c.args.addr (length c.loop-pos.buf))
+          ∙ ap (λ (bytes : List ℕ). range bytes c.args.addr (length c.loop-pos.buf))
+          (sym (more_applied log pos first.state.bytes there) ∙ ap (λ (k : ℕ). applied (take k log) first.state.bytes) (sym (add-one pos)))
+          ∙ ap (λ (n : ℕ). range (applied (take (c.loop-pos.pos + 1) (listed (first.state.logs c.args.tid))) first.state.bytes) c.args.addr n) (sym c.lay_part.auto.buf);
+    }
+
+pub returns-clause-bytes : goal.returns-clause-bytes
+returns-clause-bytes g c tell =
+    let view = g.S.EawStore.view in
+    let first = view c.args.store.now in
+    let log = listed (first.state.logs c.args.tid) in
+    let outline = ap listed (g.met.S.EawStore.outlines c.args.store.now c.args.tid tell c.loop-pos.invariant.reads.cause) ∙ listed-ranges (first.state.logs c.args.tid) in
+    let count = c.log_len-pos-end.ensures ∙ ap (λ (rs : ℕ → Option (List (ℕ × ℕ))). length (listed (rs c.args.tid))) c.in-Ok.ensures.does.done.ranges ∙ ap length outline ∙ length-ranges log in
+    let all : c.loop-pos.pos ≡ length (listed (first.state.logs c.args.tid)) = omega (arith, c.loop-pos-test.false, c.loop-pos.auto.pos-end, count) in
+    c.loop-pos.invariant.seen tell
+    ∙ ap (λ (k : ℕ). range (applied (take k (listed (first.state.logs c.args.tid))) first.state.bytes) c.args.addr (length c.loop-pos.buf)) all
+    ∙ ap (λ (ps : List Part). range (applied ps first.state.bytes) c.args.addr (length c.loop-pos.buf)) (take-length log)
+    ∙ ap (λ (n : ℕ). range (applied log first.state.bytes) c.args.addr n) c.loop-pos.invariant.long

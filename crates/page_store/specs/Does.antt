@@ -1,0 +1,67 @@
+-- What a call of pages does, and when each answer comes.
+use Rattle.std.specs.Prelude.{ℕ, ◌≡◌, ◌<◌, ◌⊎◌, Bool, true, false, IsTrue, List, [], ◌∷◌, length, Option, Some, None, Result, Ok, Err, OnOk, OnErr, IsErrOf}
+use Rattle.counted.specs.Causes.{Rose}
+use Rattle.eaw_face.specs.State.{listed}
+use Rattle.eaw_face.specs.StoreView.{StoreView, LeavesOnly}
+use Rattle.eaw_face.specs.Causes.{IsAlive, Fit, IsFirstFull}
+use Rattle.eaw_face.specs.Does.{IsEither}
+use Rattle.page_store.specs.Edit.{edit_pos}
+use Rattle.page_store.specs.Outline.{outline_after, floor_in}
+use Rattle.page_store.specs.Command.{PageCommand, write_as, save, read_as, after, number_of}
+use Rattle.page_store.specs.Shown.{PagesView, outline_of, state_of}
+use Rattle.page_store.specs.declared.fault.PageFault.{PageFault}
+use Rattle.page_store.specs.declared.fault.PageFault.TheVariants.{LogFull, SavesFull, Media, Dead, Damaged}
+
+-- the part that a write of this range edits
+abbrev pub edits_at : PagesView → ℕ → ℕ → ℕ → Option ℕ
+edits_at pages t addr len = edit_pos (floor_in (outline_of pages) t) (addr, len) (listed (pages.store.ranges t))
+
+-- A write that edits no part needs room for one, and a save needs one of the 32.
+abbrev pub HasRoom : PagesView → PageCommand → Type 0
+HasRoom pages (write_as t addr bytes) = edits_at pages t addr (length bytes) ≡ None → Fit pages.store (listed (pages.store.ranges t)) ((addr, length bytes) ∷ [])
+HasRoom pages (save t) = length (pages.counts t) < 32
+HasRoom pages _ = Unit {0}
+
+-- a write edits no part, and logger g has no room for one: it holds so many, and as many more are needed
+abbrev pub IsFull : PagesView → PageCommand → ℕ → ℕ → ℕ → Type 0
+IsFull pages (write_as t addr bytes) g h n = (edits_at pages t addr (length bytes) ≡ None) × IsFirstFull pages.store (listed (pages.store.ranges t)) ((addr, length bytes) ∷ []) g h n
+IsFull pages _ g h n = ⊥
+
+-- a number has saved as often as it may
+abbrev pub IsSavedOut : PagesView → PageCommand → Type 0
+IsSavedOut pages (save t) = length (pages.counts t) ≡ 32
+IsSavedOut pages _ = ⊥
+
+-- the answer to a command, where so many faults are counted behind it
+abbrev pub Cause : {T : Type 0} → PagesView → PageCommand → ℕ → Result T PageFault → Type 0
+Cause old command faults (Ok answer) = IsAlive old.store × HasRoom old command
+Cause old command faults (Err Dead) = old.store.is_dead ≡ true
+Cause old command faults (Err (LogFull g h n)) = IsAlive old.store × IsFull old command g h n
+Cause old command faults (Err SavesFull) = IsAlive old.store × IsSavedOut old command
+Cause old command faults (Err Media) = IsAlive old.store × HasRoom old command × Rose old.store.faults faults
+Cause old command faults (Err (Damaged page)) = ⊥
+
+-- It is done: parts, saves and tops are as the model says, and the store is not dead.
+pub record Becomes (tells : Bool) (command : PageCommand) (old new : PagesView) : Type 0 where
+  pub alive : new.store.is_dead ≡ false
+  pub outline : outline_of new ≡ outline_after command (outline_of old)
+  pub state : IsTrue tells → state_of new ≡ after command (state_of old)
+
+-- the number that a command names
+abbrev pub named_by : PageCommand → Option ℕ
+named_by (read_as t) = Some t
+named_by command = number_of command
+
+-- A call of pages over a store, of which an image that a loss of power leaves is opened so. Each answer has its cause; an Ok is the
+-- model's command, and hides no fault; a refusal leaves saves and tops; a fault of the media leaves the store dead; and whatever the
+-- answer, other numbers keep what they have logged, and at each moment of a store that was not dead a loss of power leaves what it might
+-- have left before, or an image that opens with the data before the command or after it.
+pub record Does {T : Type 0} (tells : Bool) (Opens : List ℕ → List ℕ → Type 0) (command : PageCommand) (old new : PagesView) (result : Result T PageFault) : Type 0 where
+  pub shape : new.store.shape ≡ old.store.shape
+  pub cause : Cause old command new.store.faults result
+  pub kept : OnOk result (new.store.faults ≡ old.store.faults)
+  pub done : OnOk result (Becomes tells command old new)
+  pub marks : OnErr result ((new.counts ≡ old.counts) × (new.top ≡ old.top))
+  pub dies : IsErrOf result Media → new.store.is_dead ≡ true
+  pub others : (u : ℕ) → (named_by command ≡ Some u → ⊥) → new.store.ranges u ≡ old.store.ranges u
+  pub time : IsTrue tells → old.store.is_dead ≡ false → LeavesOnly (IsEither Opens old.store.state.bytes (after command (state_of old)).store.bytes) old.store new.store

@@ -1,0 +1,15 @@
+pub mod Edit
+pub mod State
+pub mod Command
+pub mod Device
+pub mod Kept
+pub mod Played
+pub mod Outline
+pub mod Ready
+pub mod Marked
+pub mod Shown
+pub mod Does
+pub mod Invariant
+pub mod Told
+pub mod Fits
+pub mod Reads

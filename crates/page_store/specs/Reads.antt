@@ -1,0 +1,29 @@
+-- What reads do to a store.
+use Rattle.std.specs.Prelude.{◌≡◌, ◌≤◌, Bool, true, false, IsTrue, List, ℕ, Result, Ok, Err, OnOk, IsErrOf}
+use Rattle.counted.specs.Causes.{Rose}
+use Rattle.eaw_face.specs.StoreView.{StoreView, LeavesOnly}
+use Rattle.eaw_face.specs.declared.fault.EawFault.{EawFault}
+use Rattle.eaw_face.specs.declared.fault.EawFault.TheVariants.{Media, Dead}
+
+-- data and logs are as they were, and the store is not dead
+pub record IsRead (tells : Bool) (old new : StoreView) : Type 0 where
+  pub alive : new.is_dead ≡ false
+  pub ranges : new.ranges ≡ old.ranges
+  pub state : IsTrue tells → new.state ≡ old.state
+
+-- the answer to a read
+abbrev pub ReadCause : {T : Type 0} → StoreView → ℕ → Result T EawFault → Type 0
+ReadCause old faults (Ok x) = old.is_dead ≡ false
+ReadCause old faults (Err Dead) = old.is_dead ≡ true
+ReadCause old faults (Err Media) = (old.is_dead ≡ false) × Rose old.faults faults
+ReadCause old faults _ = ⊥
+
+-- Reads of data and of the log of number t: at each moment a loss of power leaves what it might have left before, or an image that opens with the data.
+pub record Reads {T : Type 0} (tells : Bool) (Opens : List ℕ → List ℕ → Type 0) (t : ℕ) (old new : StoreView) (result : Result T EawFault) : Type 0 where
+  pub shape : new.shape ≡ old.shape
+  pub cause : ReadCause old new.faults result
+  pub kept : OnOk result (new.faults ≡ old.faults)
+  pub done : OnOk result (IsRead tells old new)
+  pub dies : IsErrOf result Media → new.is_dead ≡ true
+  pub others : (u : ℕ) → (u ≡ t → ⊥) → new.ranges u ≡ old.ranges u
+  pub time : IsTrue tells → old.is_dead ≡ false → LeavesOnly (λ image. Opens image old.state.bytes) old new

@@ -1,0 +1,477 @@
+// Pages over a store of editable atomic writes.
+ghost use Rattle.std.specs.Prelude.{◌≡◌, ◌≢◌, ◌↔◌, ◌+◌, ◌^◌, ◌<◌, ◌≤◌, ℕ, List, None, Some, is_some, filter, if◌then◌else◌, IsTrue, IsOk, IfOk, IfErr, OnErr, OnOk, length};
+ghost use Rattle.counted.specs.Bytes.{put, range};
+ghost use Rattle.array_shape.specs.Places.{data_len};
+ghost use Rattle.array_shape.specs.Logged.{applied};
+ghost use Rattle.eaw_face.specs.Causes.{IsAlive};
+ghost use Rattle.eaw_face.specs.Command.{commit, abort, nested_top, partial_abort};
+ghost use Rattle.eaw_face.specs.State.{listed, part_at};
+ghost use Rattle.eaw_face.specs.StoreView.{log_len};
+ghost use Rattle.page_store.specs.Command.{write_as, save, back, top_begin, top_end, end, read_as, read};
+ghost use Rattle.page_store.specs.Does.{Becomes, Does};
+ghost use Rattle.page_store.specs.Edit.{edit_pos, meet};
+ghost use Rattle.page_store.specs.Fits.{FitAll, LacksRoom, is_page_on};
+ghost use Rattle.page_store.specs.Reads.{Reads};
+ghost use Rattle.page_store.specs.Shown.{IsInPage, IsUnmarked, address, counts_in, top_in, pages_of, state_of};
+ghost use Rattle.page_store.specs.Told.{IsKnown, TellsAs, DoesWhereLive, told_as};
+ghost use Rattle.page_store.specs.State.{view_of};
+
+use crate::fault::PageFault;
+use crate::marks::Marks;
+use array_shape::Shape;
+use counted::NoMemory;
+use eaw_face::{EawFault, EawStore};
+use std::alloc::Global;
+use std::marker::Model;
+
+/// Pages with savepoints and nested top actions over an array of editable atomic writes (ARIES' savepoints and nested top actions, over
+/// the commands of the SOSP paper). What a number sees, its view, is the data with all that it has written.
+///
+/// Each call is one of the model's (`Does`): what it makes of parts and saves, when each refusal comes, and what a loss of power
+/// within it may leave. After a refusal other than `Media` nothing has changed. After `Media` each call that can be refused answers `Dead`.
+#[derive(Drop)]
+pub struct Pages<S: EawStore> {
+    store: S,
+    marks: Vec<Marks>,
+}
+
+impl<S: EawStore> Model for Pages<S> {
+    ghost use Rattle.page_store.specs.Shown.{Shown};
+    ghost use Rattle.page_store.specs.Invariant.{IsSound};
+
+    ghost Value = { Shown S };
+
+    ghost view = { λ p. record { store = p.store; marks = p.marks.items } };
+
+    ghost invariant = { λ p. IsSound (S.view p.store) p.marks.items };
+}
+
+impl<S: EawStore> Pages<S> {
+    /// Pages over a store, without saves. The memory for saves is taken here.
+    pub fn attach(alloc: Global, store: S) -> Result<Pages<S>, (NoMemory, S)>
+        ensures fresh { IfOk result (λ pages. (pages.store ≡ store) × IsUnmarked pages.marks) }
+        ensures err { IfErr result (λ failed. failed.1 ≡ store) }
+    {
+        match fresh_marks(alloc, store.shape().numbers) {
+            Ok(marks) => Ok(Pages { store, marks }),
+            Err(_) => Err((NoMemory, store)),
+        }
+    }
+
+    /// The shape of the array below.
+    pub fn shape(&self) -> Shape
+        ensures { result ≡ (S.view self.now.store).shape }
+    {
+        self.store.shape()
+    }
+
+    /// How many parts the number has logged, 0 where it is not live.
+    pub fn log_len(&self, tid: u8) -> u32
+        requires { tid < (S.view self.now.store).shape.numbers }
+        ensures { result ≡ log_len (S.view self.now.store) tid }
+    {
+        self.store.log_len(tid)
+    }
+
+    pub fn is_live(&self, tid: u8) -> bool
+        requires { tid < (S.view self.now.store).shape.numbers }
+        ensures { result ≡ is_some ((S.view self.now.store).ranges tid) }
+    {
+        self.store.is_live(tid)
+    }
+
+    /// How often the number has saved, up to 32 times.
+    pub fn saves(&self, tid: u8) -> u32
+        requires { tid < (S.view self.now.store).shape.numbers }
+        ensures count { result ≡ length (counts_in self.now.marks tid) }
+        ensures most { result ≤ 32 }
+    {
+        self.marks[usize::from(tid)].saves()
+    }
+
+    /// Reads committed data within a page, as many bytes as the buffer has, from the place `at` on.
+    pub fn read(&mut self, page: u32, at: u32, buf: &mut [u8]) -> Result<(), PageFault>
+        requires { IsInPage (S.view self.old.store) page at (length buf.old) }
+        ensures does { Does S.tells (S.opens (S.view self.old.store).shape) read
+            (pages_of (S.view self.old.store) self.old) (pages_of (S.view self.new.store) self.new) result }
+        ensures bytes { IsTrue S.tells → OnOk result (buf.new ≡ range (S.view self.old.store).state.bytes (address page at) (length buf.old)) }
+        ensures refused { IfErr result (λ fault. fault ≢ PageFault.Media → self.new ≡ self.old) }
+    {
+        told(self.store.read(address(page, at), buf))
+    }
+
+    /// Reads what the number sees within a page: the data with the number's own parts written.
+    pub fn read_as(&mut self, tid: u8, page: u32, at: u32, buf: &mut [u8]) -> Result<(), PageFault>
+        requires tid { tid < (S.view self.old.store).shape.numbers }
+        requires inside { IsInPage (S.view self.old.store) page at (length buf.old) }
+        ensures does { Does S.tells (S.opens (S.view self.old.store).shape) (read_as tid)
+            (pages_of (S.view self.old.store) self.old) (pages_of (S.view self.new.store) self.new) result }
+        ensures bytes { IsTrue S.tells → OnOk result (buf.new ≡
+            range (view_of tid (state_of (pages_of (S.view self.old.store) self.old))) (address page at) (length buf.old)) }
+        ensures refused { IfErr result (λ fault. fault ≢ PageFault.Media → self.new ≡ self.old) }
+    {
+        told(read_seen(&mut self.store, tid, address(page, at), buf))
+    }
+
+    /// Writes bytes within a page as the number: they are in its view at once, and in the data once it commits. A part that it has
+    /// logged since its last save, or since its open top action began, is edited where it has just this range and no later part
+    /// meets it; else one part is logged more.
+    pub fn write_as(&mut self, tid: u8, page: u32, at: u32, bytes: &[u8]) -> Result<(), PageFault>
+        requires tid { tid < (S.view self.old.store).shape.numbers }
+        requires some { 0 < length bytes.now }
+        requires inside { IsInPage (S.view self.old.store) page at (length bytes.now) }
+        ensures does { Does S.tells (S.opens (S.view self.old.store).shape) (write_as tid (address page at) bytes.now)
+            (pages_of (S.view self.old.store) self.old) (pages_of (S.view self.new.store) self.new) result }
+        ensures refused { IfErr result (λ fault. fault ≢ PageFault.Media → self.new ≡ self.old) }
+    {
+        let addr = address(page, at);
+        let floor = self.marks[usize::from(tid)].floor();
+        match edited_part(&self.store, tid, floor, addr, bytes.len() as u64) {
+            Some(pos) => told(self.store.log_edit(tid, pos, 0, bytes)),
+            None => told(self.store.log_write(tid, addr, bytes)),
+        }
+    }
+
+    /// Remembers what the number has logged, and gives how often it has saved now.
+    pub fn save(&mut self, tid: u8) -> Result<u32, PageFault>
+        requires tid { tid < (S.view self.old.store).shape.numbers }
+        requires closed { IsAlive (S.view self.old.store) → top_in self.old.marks tid ≡ None }
+        ensures does { Does S.tells (S.opens (S.view self.old.store).shape) (save tid)
+            (pages_of (S.view self.old.store) self.old) (pages_of (S.view self.new.store) self.new) result }
+        ensures count { IfOk result (λ n. n ≡ length (counts_in self.new.marks tid)) }
+        ensures refused { OnErr result (self.new ≡ self.old) }
+        ensures idle { self.new.store ≡ self.old.store }
+    {
+        if self.store.is_dead() {
+            return Err(PageFault::Dead);
+        }
+        let count = self.store.log_len(tid);
+        let marks = &mut self.marks[usize::from(tid)];
+        if marks.is_full() {
+            return Err(PageFault::SavesFull);
+        }
+        marks.save(count);
+        Ok(marks.saves())
+    }
+
+    /// Takes the number back to its save `n`, counted from 1: it sees again what it saw there, over the data as it is now. Later
+    /// saves are gone, this one stays.
+    pub fn back(&mut self, tid: u8, n: u32) -> Result<(), PageFault>
+        requires tid { tid < (S.view self.old.store).shape.numbers }
+        requires some { 0 < n }
+        requires there { n ≤ length (counts_in self.old.marks tid) }
+        requires closed { IsAlive (S.view self.old.store) → top_in self.old.marks tid ≡ None }
+        ensures does { Does S.tells (S.opens (S.view self.old.store).shape) (back tid n)
+            (pages_of (S.view self.old.store) self.old) (pages_of (S.view self.new.store) self.new) result }
+        ensures refused { OnErr result (self.new ≡ self.old) }
+        ensures idle { (S.view self.new.store).moment ≡ (S.view self.old.store).moment }
+    {
+        if self.store.is_dead() {
+            return Err(PageFault::Dead);
+        }
+        let count = self.marks[usize::from(tid)].at_save(n);
+        drop_from(&mut self.store, tid, count)?;
+        self.marks[usize::from(tid)].cut(n);
+        Ok(())
+    }
+
+    /// Begins a top action of the number, and gives the mark that its end takes.
+    pub fn top_begin(&mut self, tid: u8) -> u32
+        requires tid { tid < (S.view self.old.store).shape.numbers }
+        requires closed { IsAlive (S.view self.old.store) → top_in self.old.marks tid ≡ None }
+        ensures mark { result ≡ log_len (S.view self.old.store) tid }
+        ensures begun { IsAlive (S.view self.old.store) → Becomes S.tells (top_begin tid)
+            (pages_of (S.view self.old.store) self.old) (pages_of (S.view self.new.store) self.new) }
+        ensures idle { self.new.store ≡ self.old.store }
+    {
+        let mark = self.store.log_len(tid);
+        self.marks[usize::from(tid)].begin_top(mark);
+        mark
+    }
+
+    /// Ends a top action: what the number has written since it began becomes data at once, and stays whatever becomes of the rest
+    /// (ARIES' nested top action).
+    pub fn top_end(&mut self, tid: u8, mark: u32) -> Result<(), PageFault>
+        requires tid { tid < (S.view self.old.store).shape.numbers }
+        requires open { IsAlive (S.view self.old.store) → top_in self.old.marks tid ≡ Some mark }
+        ensures does { Does S.tells (S.opens (S.view self.old.store).shape) (top_end tid mark)
+            (pages_of (S.view self.old.store) self.old) (pages_of (S.view self.new.store) self.new) result }
+        ensures refused { IfErr result (λ fault. fault ≢ PageFault.Media → self.new ≡ self.old) }
+        ensures idle { log_len (S.view self.old.store) tid ≡ mark → (S.view self.new.store).moment ≡ (S.view self.old.store).moment }
+    {
+        if self.store.is_dead() {
+            return Err(PageFault::Dead);
+        }
+        commit_from(&mut self.store, tid, mark)?;
+        self.marks[usize::from(tid)].end_top();
+        Ok(())
+    }
+
+    /// Commits the number or aborts it, and forgets its saves. It is free then, as one that was not live is before.
+    pub fn end(&mut self, tid: u8, commits: bool) -> Result<(), PageFault>
+        requires tid { tid < (S.view self.old.store).shape.numbers }
+        requires closed { IsAlive (S.view self.old.store) → top_in self.old.marks tid ≡ None }
+        ensures does { Does S.tells (S.opens (S.view self.old.store).shape) (end tid commits)
+            (pages_of (S.view self.old.store) self.old) (pages_of (S.view self.new.store) self.new) result }
+        ensures refused { IfErr result (λ fault. fault ≢ PageFault.Media → self.new ≡ self.old) }
+        ensures idle { log_len (S.view self.old.store) tid ≡ 0 → (S.view self.new.store).moment ≡ (S.view self.old.store).moment }
+    {
+        if self.store.is_dead() {
+            return Err(PageFault::Dead);
+        }
+        end_number(&mut self.store, tid, commits)?;
+        self.marks[usize::from(tid)].cut(0);
+        Ok(())
+    }
+
+    /// Whether one part more of the number in each of these pages has room: a page that is named twice counts twice.
+    pub fn fits(&self, tid: u8, pages: &[u32]) -> Result<(), PageFault>
+        requires tid { tid < (S.view self.now.store).shape.numbers }
+        requires few { length pages.now < 2 ^ 16 }
+        ensures fits { OnOk result (IsAlive (S.view self.now.store) × FitAll (S.view self.now.store) tid pages.now) }
+        ensures full { IfErr result (LacksRoom (S.view self.now.store) tid pages.now) }
+    {
+        if self.store.is_dead() {
+            return Err(PageFault::Dead);
+        }
+        let shape = self.store.shape();
+        for logger in 0..shape.loggers {
+            let held = self.store.held(tid, logger);
+            let needed = pages_on(pages, logger, shape.loggers);
+            if u32::from(held) + u32::from(needed) > u32::from(shape.entries) {
+                return Err(PageFault::LogFull {
+                    logger,
+                    held,
+                    needed,
+                });
+            }
+        }
+        Ok(())
+    }
+
+    /// The store below. What numbers have logged is still in it.
+    pub fn into_store(self) -> S
+        ensures { result ≡ self.store }
+    {
+        let Pages { store, marks: _ } = self;
+        store
+    }
+}
+
+// Marks for each number: none has saved, and no top action is open.
+fn fresh_marks(alloc: Global, numbers: u8) -> Result<Vec<Marks>, NoMemory>
+    ensures { IfOk result (λ marks. (length marks.items ≡ numbers) × IsUnmarked marks.items) }
+{
+    let mut marks = Vec::with_capacity(alloc, usize::from(numbers))?;
+    for _tid in 0..numbers {
+        marks.push(Marks::new())?;
+    }
+    Ok(marks)
+}
+
+// The address of a place in a page.
+fn address(page: u32, at: u32) -> u64
+    ensures { result ≡ address page at }
+{
+    512 * u64::from(page) + u64::from(at)
+}
+
+// An answer of the store, as pages tell it. The store is asked for live numbers alone.
+fn told<T: Drop>(answer: Result<T, EawFault>) -> Result<(), PageFault>
+    requires { IfErr answer IsKnown }
+    ensures { TellsAs answer result }
+{
+    match answer {
+        Ok(_) => Ok(()),
+        Err(fault) => Err(page_fault(fault)),
+    }
+}
+
+fn page_fault(fault: EawFault) -> PageFault
+    requires { IsKnown fault }
+    ensures { result ≡ told_as fault }
+{
+    match fault {
+        EawFault::UnknownTid { .. } => unreachable!(),
+        EawFault::LogFull {
+            logger,
+            held,
+            needed,
+        } => PageFault::LogFull {
+            logger,
+            held,
+            needed,
+        },
+        EawFault::Media => PageFault::Media,
+        EawFault::Dead => PageFault::Dead,
+    }
+}
+
+// Reads what the number sees: the data, and over it each part that meets the range.
+fn read_seen<S: EawStore>(store: &mut S, tid: u8, addr: u64, buf: &mut [u8]) -> Result<(), EawFault>
+    requires tid { tid < (S.view store.old).shape.numbers }
+    requires inside { addr + length buf.old ≤ data_len (S.view store.old).shape }
+    ensures does { Reads S.tells (S.opens (S.view store.old).shape) tid (S.view store.old) (S.view store.new) result }
+    ensures bytes { IsTrue S.tells → OnOk result (buf.new ≡
+        range (applied (listed ((S.view store.old).state.logs tid)) (S.view store.old).state.bytes) addr (length buf.old)) }
+    ensures refused { IfErr result (λ fault. fault ≢ EawFault.Media → store.new ≡ store.old) }
+{
+    match store.read(addr, buf) {
+        Ok(()) => {}
+        Err(fault) => return Err(fault),
+    }
+    for pos in 0..store.log_len(tid) {
+        match lay_part(store, tid, pos, addr, buf) {
+            Ok(()) => {}
+            Err(fault) => return Err(fault),
+        }
+    }
+    Ok(())
+}
+
+// Lays the part at a position of the number's log over bytes that were read from an address on, where it meets them.
+fn lay_part<S: EawStore>(
+    store: &mut S,
+    tid: u8,
+    pos: u32,
+    addr: u64,
+    buf: &mut [u8],
+) -> Result<(), EawFault>
+    requires tid { tid < (S.view store.old).shape.numbers }
+    requires pos { pos < log_len (S.view store.old) tid }
+    requires alive { IsAlive (S.view store.old) }
+    requires inside { addr + length buf.old ≤ data_len (S.view store.old).shape }
+    ensures does { Reads S.tells (S.opens (S.view store.old).shape) tid (S.view store.old) (S.view store.new) result }
+    ensures laid { IsTrue S.tells → (bytes : List ℕ) → length bytes ≡ data_len (S.view store.old).shape → buf.old ≡ range bytes addr (length buf.old)
+        → OnOk result (buf.new ≡ (let part = part_at (listed ((S.view store.old).state.logs tid)) pos in range (put bytes part.0 part.1) addr (length buf.old))) }
+    ensures refused { IfErr result (λ fault. fault ≢ EawFault.Media → store.new ≡ store.old) }
+{
+    let (start, len) = store.part_range(tid, pos);
+    let end = addr + buf.len() as u64;
+    let first = start.max(addr);
+    let last = (start + u64::from(len)).min(end);
+    if first >= last {
+        return Ok(());
+    }
+    let mut part = [0; 512];
+    match store.log_read(tid, pos, &mut part) {
+        Ok(_) => {}
+        Err(fault) => return Err(fault),
+    }
+    let from = (first - start) as usize;
+    let to = (last - start) as usize;
+    overwrite(buf, (first - addr) as usize, &part[from..to]);
+    Ok(())
+}
+
+// Puts these bytes at a place.
+fn overwrite(bytes: &mut [u8], at: usize, more: &[u8])
+    requires { at + length more.now ≤ length bytes.old }
+    ensures { bytes.new ≡ put bytes.old at more.now }
+{
+    bytes[at..at + more.len()].copy_from_slice(more);
+}
+
+// The part that a write of this range edits: from the floor on, of just this range, and met by no later one. The last part that the
+// range meets decides.
+fn edited_part<S: EawStore>(store: &S, tid: u8, floor: u32, addr: u64, len: u64) -> Option<u32>
+    requires tid { tid < (S.view store.now).shape.numbers }
+    requires some { 0 < len }
+    requires inside { addr + len ≤ data_len (S.view store.now).shape }
+    ensures { result ≡ edit_pos floor (addr, len) (listed ((S.view store.now).ranges tid)) }
+{
+    for pos in (floor..store.log_len(tid)).rev() {
+        let (start, count) = store.part_range(tid, pos);
+        let count = u64::from(count);
+        if is_same(start, count, addr, len) {
+            return Some(pos);
+        }
+        if meet(addr, len, start, count) {
+            return None;
+        }
+    }
+    None
+}
+
+// Two ranges are one.
+fn is_same(start: u64, count: u64, addr: u64, len: u64) -> bool
+    ensures { IsTrue result ↔ ((start ≡ addr) × (count ≡ len)) }
+{
+    start == addr && count == len
+}
+
+// Two ranges share a byte.
+fn meet(addr: u64, len: u64, start: u64, count: u64) -> bool
+    requires first { addr + len < 2 ^ 64 }
+    requires second { start + count < 2 ^ 64 }
+    ensures { result ≡ meet (addr, len) (start, count) }
+{
+    addr < start + count && start < addr + len
+}
+
+// Drops the parts of a live number from an offset on.
+fn drop_from<S: EawStore>(store: &mut S, tid: u8, offset: u32) -> Result<(), PageFault>
+    requires tid { tid < (S.view store.old).shape.numbers }
+    requires alive { IsAlive (S.view store.old) }
+    requires offset { offset ≤ log_len (S.view store.old) tid }
+    ensures does { DoesWhereLive ((S.view store.old).ranges tid) (store.new ≡ store.old) S.tells (S.opens (S.view store.old).shape) (partial_abort tid offset)
+        (S.view store.old) (S.view store.new) result }
+    ensures refused { IfErr result (λ fault. fault ≢ PageFault.Media → store.new ≡ store.old) }
+    ensures idle { (S.view store.new).moment ≡ (S.view store.old).moment }
+    ensures done { IsOk result }
+{
+    if !store.is_live(tid) {
+        return Ok(());
+    }
+    told(store.partial_abort(tid, offset))
+}
+
+// Commits the parts of a live number from an offset on.
+fn commit_from<S: EawStore>(store: &mut S, tid: u8, offset: u32) -> Result<(), PageFault>
+    requires tid { tid < (S.view store.old).shape.numbers }
+    requires alive { IsAlive (S.view store.old) }
+    requires offset { offset ≤ log_len (S.view store.old) tid }
+    ensures does { DoesWhereLive ((S.view store.old).ranges tid) (store.new ≡ store.old) S.tells (S.opens (S.view store.old).shape) (nested_top tid offset)
+        (S.view store.old) (S.view store.new) result }
+    ensures refused { IfErr result (λ fault. fault ≢ PageFault.Media → store.new ≡ store.old) }
+    ensures idle { log_len (S.view store.old) tid ≡ offset → (S.view store.new).moment ≡ (S.view store.old).moment }
+{
+    if !store.is_live(tid) {
+        return Ok(());
+    }
+    told(store.nested_top(tid, offset))
+}
+
+// Commits a live number, or aborts it.
+fn end_number<S: EawStore>(store: &mut S, tid: u8, commits: bool) -> Result<(), PageFault>
+    requires tid { tid < (S.view store.old).shape.numbers }
+    requires alive { IsAlive (S.view store.old) }
+    ensures does { DoesWhereLive ((S.view store.old).ranges tid) (store.new ≡ store.old) S.tells (S.opens (S.view store.old).shape) (if commits then commit tid else abort tid)
+        (S.view store.old) (S.view store.new) result }
+    ensures refused { IfErr result (λ fault. fault ≢ PageFault.Media → store.new ≡ store.old) }
+    ensures idle { log_len (S.view store.old) tid ≡ 0 → (S.view store.new).moment ≡ (S.view store.old).moment }
+{
+    if !store.is_live(tid) {
+        return Ok(());
+    }
+    if commits {
+        told(store.commit(tid))
+    } else {
+        told(store.abort(tid))
+    }
+}
+
+// How many of the pages this logger has: they are dealt to the loggers by turns.
+fn pages_on(pages: &[u32], logger: u8, loggers: u8) -> u16
+    requires loggers { 0 < loggers }
+    requires few { length pages.now < 2 ^ 16 }
+    ensures { result ≡ length (filter (is_page_on loggers logger) pages.now) }
+{
+    let mut count = 0;
+    for page in pages {
+        if *page % u32::from(loggers) == u32::from(logger) {
+            count += 1;
+        }
+    }
+    count
+}
