@@ -35,19 +35,36 @@ pub fn compare_plain(
     ran: &Ran,
     report: &mut Report,
 ) -> Result<(), RowFault> {
-    let plain = plain_store(alloc, before)?;
-    let mut sink = MemorySink::new(alloc, TEXT)?;
-    let (_, mut plain) = answer_commands(alloc, &run.input, &mut sink, plain);
+    let (sink, mut plain) = answered(alloc, &run.input, plain_store(alloc, before)?)?;
     let was = ran.sink.written();
     if sink.written() != was {
         return Err(report.differs("the plain store's answers", sink.written(), was));
     }
     let wanted = data_of(alloc, &mut plain)?;
-    let was = data_of(alloc, &mut opened(alloc, ran.media.bytes())?)?;
+    let was = data_in(alloc, ran.media.bytes())?;
     if wanted != was {
         return Err(report.differs("the plain store's data", &wanted, &was));
     }
     Ok(())
+}
+
+// The answers of a plain store, and the store behind them.
+fn answered(
+    alloc: Global,
+    input: &[u8],
+    plain: MemoryEaw,
+) -> Result<(MemorySink, MemoryEaw), RowFault>
+    requires { (⟦<MemoryEaw as EawStore>⟧.view plain).is_dead ≡ false }
+{
+    let mut sink = MemorySink::new(alloc, TEXT)?;
+    let (_, plain) = answer_commands(alloc, input, &mut sink, plain);
+    Ok((sink, plain))
+}
+
+// The data with which an image opens.
+fn data_in(alloc: Global, image: &[u8]) -> Result<Vec<u8>, RowFault> {
+    let mut device = opened(alloc, image)?;
+    data_of(alloc, &mut device)
 }
 
 fn opened(alloc: Global, image: &[u8]) -> Result<Eaw<MemoryMedia>, RowFault> {
