@@ -38,6 +38,7 @@ pub fn format<M: Media>(media: &mut M, shape: &Shape) -> Result<(), FormatFault>
     ensures bad_shape { IfErr result (IsWrongLength shape.now (M.view media.old).size) }
     ensures untouched { IfErr result (λ fault. fault ≢ FormatFault.Media → media.new ≡ media.old) }
     ensures media { IsErrOf result FormatFault.Media → Rose (M.view media.old).faults (M.view media.new).faults }
+    ensures kept { OnOk result ((M.view media.new).faults ≡ (M.view media.old).faults) }
     ensures size { (M.view media.new).size ≡ (M.view media.old).size }
     ensures later { (M.view media.old).faults ≤ (M.view media.new).faults }
 {
