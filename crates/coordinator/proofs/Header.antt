@@ -1,5 +1,5 @@
 -- A commit writes behind the header.
-use Rattle.std.proofs.Common.{◌≡◌, ℕ, ◌+◌, ◌<◌, ◌≤◌, Bool, true, false, cond, List, [], ◌∷◌, arith}
+use Rattle.std.proofs.Common.{ℕ, ◌<◌, ◌≤◌, Bool, true, false, cond, List, [], ◌∷◌, arith}
 use Rattle.std.specs.Prelude.{slice_index, nat_lt}
 use Rattle.pcm_media.specs.Images.{IsOutside}
 use Rattle.array_shape.specs.declared.shape.Shape.{Shape}

@@ -1,5 +1,5 @@
 -- Calls one after another.
-use Rattle.std.proofs.Common.{◌≡◌, ℕ, ◌≤◌, ◌⊎◌, inl, inr, ⊎_elim, arith}
+use Rattle.std.proofs.Common.{ℕ, inl, inr, ⊎_elim, arith}
 use Rattle.counted.specs.Moments.{Elapses, Through}
 
 pub stays : {C : Type 0} (now : ℕ) (since : ℕ → C → Type 0) (P : C → Type 0) → Elapses now now since since P

@@ -12,7 +12,7 @@ use Rattle.array_image.specs.Decided.{decided, all_decided, settled_data}
 use Rattle.array_image.specs.Standing.{IsGoodRow, IsLawful}
 use Rattle.device_recovery.specs.declared.report.Report.{Report}
 use Rattle.device_recovery.specs.declared.report.RecoverFault.{RecoverFault}
-use Rattle.device_recovery.specs.declared.report.RecoverFault.TheVariants.{BadRow, Media}
+use Rattle.device_recovery.specs.declared.report.RecoverFault.TheVariants.{Media}
 
 -- each decided row of the numbers below n is good
 abbrev pub AllGood : Shape → List ℕ → ℕ → Type 0

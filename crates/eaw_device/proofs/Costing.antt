@@ -1,5 +1,5 @@
 -- What the steps of a command cost.
-use Rattle.std.proofs.Common.{◌≡◌, ℕ, ◌+◌, ◌-◌, ◌<◌, ◌≤◌, Bool, true, false, Result, Ok, Err, List, length, take, drop, sym, ◌∙◌, ap, arith}
+use Rattle.std.proofs.Common.{◌≡◌, ℕ, ◌-◌, ◌<◌, Bool, false, Result, Ok, Err, List, length, take, drop, sym, ◌∙◌, ap, arith}
 use Rattle.std.specs.Prelude.{slice_index, is_err}
 use Rattle.std.proofs.lemmas.Bool.{false≢true}
 use Rattle.counted.specs.Costs.{Costs}
@@ -11,7 +11,7 @@ use Rattle.eaw_device.specs.declared.log.Log.{Log}
 use Rattle.eaw_device.specs.Logs.{ranges_in, cells_on, IsKept}
 use Rattle.eaw_device.specs.Costs.{counts_of}
 use Rattle.eaw_device.proofs.Entries.{count_on-ranges_in}
-use Rattle.eaw_device.proofs.Keeping.{last_cells, first_few}
+use Rattle.eaw_device.proofs.Keeping.{last_cells}
 use Rattle.eaw_device.proofs.LogParts.{ranges_in-drop}
 
 -- what a logger has of the parts behind a position

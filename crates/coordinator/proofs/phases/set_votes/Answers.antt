@@ -10,7 +10,7 @@ use Rattle.array_image.proofs.Calls.{goes_on, hands_on, then_barrier, barrier_ke
 use Rattle.coordinator.proofs.Calls.{vote_within, votes_more}
 use Rattle.counted.proofs.Costing.{costs_one, costs_err, costs_then, so_far}
 use Rattle.coordinator.specs.Costs.{voters}
-use Rattle.coordinator.proofs.Costing.{voters_skip, voters_more, voters_take, voters_all}
+use Rattle.coordinator.proofs.Costing.{voters_more, voters_take, voters_all}
 use Rattle.coordinator.proofs.phases.set_votes.Goals as goal
 
 pub returns-in_err-set_vote-clause-does : goal.returns-in_err-set_vote-clause-does
