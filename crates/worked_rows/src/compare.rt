@@ -31,12 +31,23 @@ fn compare_answers(
         if is_way(way, nth, ran) {
             return Ok(());
         }
-        report.put_wanted(&way.text);
-        report.put_wanted(way.fault.as_bytes());
-        report.put_wanted(b" or ");
     }
     report.put_was(ran.sink.written());
-    Err(report.differs("answers and status", b"nothing", &ran.fault))
+    report.put_was(&ran.fault);
+    put_ways(ways, report);
+    Err(RowFault::Differs {
+        what: "answers and status",
+    })
+}
+
+fn put_ways(ways: &[Wanted], report: &mut Report) {
+    for (i, way) in ways.iter().enumerate() {
+        if i > 0 {
+            report.put_wanted(b" or ");
+        }
+        report.put_wanted(&way.text);
+        report.put_wanted(way.fault.as_bytes());
+    }
 }
 
 fn is_way(way: &Wanted, nth: u64, ran: &Ran) -> bool {
