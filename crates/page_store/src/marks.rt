@@ -83,6 +83,12 @@ impl Marks {
         self.saves.truncate(n as usize);
     }
 
+    pub fn top(&self) -> Option<u32>
+        ensures { result ≡ self.now.top }
+    {
+        self.top
+    }
+
     pub fn begin_top(&mut self, count: u32)
         ensures { self.new ≡ record self.old { top = Some count } }
     {

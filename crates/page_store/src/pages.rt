@@ -89,6 +89,14 @@ impl<S: EawStore> Pages<S> {
         self.marks[usize::from(tid)].saves()
     }
 
+    /// The mark of the number's open top action.
+    pub fn open_top(&self, tid: u8) -> Option<u32>
+        requires { tid < (S.view self.now.store).shape.numbers }
+        ensures { result ≡ top_in self.now.marks tid }
+    {
+        self.marks[usize::from(tid)].top()
+    }
+
     /// Reads committed data within a page, as many bytes as the buffer has, from the place `at` on.
     pub fn read(&mut self, page: u32, at: u32, buf: &mut [u8]) -> Result<(), PageFault>
         requires { IsInPage (S.view self.old.store) page at (length buf.old) }
