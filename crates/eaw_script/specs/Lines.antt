@@ -18,7 +18,7 @@ Gives old n bad text new = (text ≡ bad_line n) × (new ≡ old)
 Gives old n (told t command) text new =
     (answer : Answer) × (state : State) × Answers old.shape old.state t command answer state × (text ≡ answer_line t answer) × (new ≡ moved old state)
 
--- the same of what the line's bytes mean, where there are as many numbers as the shape has
+-- the same of what the line's bytes mean, where there are as many transaction numbers as the shape has
 abbrev pub LineGives : Progress → ℕ → List ℕ → List ℕ → Progress → Type 0
 LineGives old n line text new = (meaning : Meaning) × Means old.shape.numbers line meaning × Gives old n meaning text new
 

@@ -1,5 +1,5 @@
 use super::*;
-use crate::hex_into;
+use crate::block_of;
 
 #[test]
 fn raw_lines_say_their_commands(rt: HostRuntime) {
@@ -121,8 +121,6 @@ fn bytes_are_read_from_their_text(rt: HostRuntime) {
     else {
         panic!(rt; "no such line");
     };
-    let mut bytes = [9; 6];
-    assert!(rt; hex.len() <= 2 * bytes.len());
-    assert_eq!(rt; hex_into(hex, &mut bytes), 4);
-    assert_eq!(rt; bytes, [0, 255, 122, 30, 9, 9]);
+    let block = block_of(hex);
+    assert_eq!(rt; block.as_bytes(), [0, 255, 122, 30].as_slice());
 }
