@@ -27,9 +27,7 @@ pub fn push_drawn(
     seed: u32,
     count: u32,
 ) -> Result<(), RowFault> {
-    let mut draws = Draws {
-        x: u64::from(seed),
-    };
+    let mut draws = Draws { x: u64::from(seed) };
     for _ in 0..count {
         let line = drawn_line(alloc, &mut draws)?;
         lines.push(line)?;
@@ -44,8 +42,16 @@ fn drawn_line(alloc: Global, draws: &mut Draws) -> Result<Line, RowFault> {
     let len = draws.below(3).saturating_add(1);
     let call = match draws.below(20) {
         0..=6 => drawn_write(alloc, draws, page, at, len)?,
-        7 | 8 => Call::See { page, at: 0, len: 8 },
-        9 => Call::Read { page, at: 0, len: 8 },
+        7 | 8 => Call::See {
+            page,
+            at: 0,
+            len: 8,
+        },
+        9 => Call::Read {
+            page,
+            at: 0,
+            len: 8,
+        },
         10 => Call::Len,
         11 | 12 => Call::Save,
         13 => Call::Back { n: len },

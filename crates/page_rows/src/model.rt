@@ -120,7 +120,10 @@ impl Number {
         };
         let floor = saved.max(self.top.unwrap_or(0));
         let (_, open) = self.parts.split_at_mut_checked(floor)?;
-        let part = open.iter_mut().rev().find(|part| part.meets(page, at, len))?;
+        let part = open
+            .iter_mut()
+            .rev()
+            .find(|part| part.meets(page, at, len))?;
         if part.at != at || part.bytes.len() != len {
             return None;
         }

@@ -37,9 +37,8 @@ pub fn play<S: EawStore>(
         }
         compare_answer(alloc, line, &wanted, &was)?;
     }
-    compare_data(alloc, &model, pages)?;
     Ok(Played {
-        is_whole: true,
+        is_whole: compare_data(alloc, &model, pages)?,
         before: Vec::from_slice(alloc, &model.data)?,
         after: model.data,
     })
@@ -84,18 +83,20 @@ fn answers_dead<S: EawStore>(
     Ok(())
 }
 
+// Whether all the data could be read. It has to be the model's.
 fn compare_data<S: EawStore>(
     alloc: Global,
     model: &Model,
     pages: &mut Pages<S>,
-) -> Result<(), RowFault> {
+) -> Result<bool, RowFault> {
     let mut page: u32 = 0;
     for wanted in model.data.chunks(512) {
         match read(alloc, pages, page, 0, 512)? {
             Answer::Bytes(was) if was.as_slice() == wanted => {}
+            was if is_media(&was) => return Ok(false),
             _ => return Err(RowFault::Data),
         }
         page = page.saturating_add(1);
     }
-    Ok(())
+    Ok(true)
 }

@@ -100,9 +100,15 @@ fn play_row(alloc: Global, row: &Row, plays: &mut u64) -> Result<(), RowFault> {
     let image = fresh_image(alloc, row.shape)?;
     let data = data_in(alloc, media_of(alloc, image.bytes())?)?;
     let mut plain = plain_pages(alloc, row.shape, &data)?;
-    play(alloc, &row.lines, &data, &mut plain)?;
-    let (played, media) = play_device(alloc, row, &data, media_of(alloc, image.bytes())?, u64::MAX)?;
-    if !played.is_whole {
+    let plainly = play(alloc, &row.lines, &data, &mut plain)?;
+    let (played, media) = play_device(
+        alloc,
+        row,
+        &data,
+        media_of(alloc, image.bytes())?,
+        u64::MAX,
+    )?;
+    if !plainly.is_whole || !played.is_whole {
         return Err(RowFault::Hidden);
     }
     *plays = plays.saturating_add(2);
