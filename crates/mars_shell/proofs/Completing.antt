@@ -20,7 +20,7 @@ use Rattle.mars_shell.specs.Run.{data_in, IsDamaged}
 use Rattle.mars_shell.specs.Statuses.{Counts, IsGoodOrShort}
 use Rattle.mars_shell.specs.declared.status.Status.{Status}
 use Rattle.mars_shell.specs.declared.status.Status.TheVariants.{Good, Usage, TooLong, ReadFault, WriteFault, MediaFault, NoMemory, Damaged, BadRow, NotMars, BadShape}
-use Rattle.mars_shell.proofs.Running.{one_shape}
+use Rattle.row_bytes.proofs.OneShape.{one_shape}
 
 -- what the words ask for, at a status that is not that of other words
 pub words_say : (words : List (List ℕ)) (status : Status) (Unread : Type 0) (Holds : Words → Type 0) (asked : Words) → (status ≡ Usage → ⊥) → AsksFor words asked → Holds asked → WordsSay words status Unread Holds

@@ -1,18 +1,14 @@
 -- A run over an array that was opened: its records were looked at, and its lines answered.
 use Rattle.std.proofs.Common.{◌≡◌, ℕ, ◌+◌, ◌≤◌, inl, inr, ⊎_elim, List, [], length, Option, Some, None, Result, Ok, Bool, false, refl, sym, ap, subst, ◌∙◌, arith}
 use Rattle.std.specs.Prelude.{IsTrue, IfSome, IfNone}
-use Rattle.std.proofs.Props.{props}
 use Rattle.counted.proofs.Going as going
 use Rattle.pcm_media.specs.Images.{MayLeave}
 use Rattle.pcm_media.specs.View.{View}
 use Rattle.pcm_media.proofs.Left.{left_as_read}
 use Rattle.array_shape.specs.declared.shape.Shape.{Shape}
-use Rattle.array_shape.specs.Numbers.{AreInRange}
-use Rattle.array_shape.specs.Places.{HasNumbers}
 use Rattle.array_image.specs.Image.{data_of}
 use Rattle.array_image.specs.Standing.{IsLawful}
-use Rattle.row_bytes.specs.Header.{SaysShape}
-use Rattle.row_bytes.proofs.Heading.{says_one}
+use Rattle.row_bytes.proofs.OneShape.{one_shape}
 use Rattle.device_recovery.specs.Recovered.{HasNoVote}
 use Rattle.eaw_face.specs.State.{State as Data}
 use Rattle.eaw_face.specs.StoreView.{StoreView, LeavesOnly}
@@ -36,25 +32,6 @@ use Rattle.mars_shell.specs.Session.{State, opened}
 use Rattle.mars_shell.proofs.Acknowledged.{committed_kept}
 use Rattle.mars_shell.proofs.AnsweredLemmas.{Answered-keeps}
 use Rattle.mars_shell.proofs.Unopened.{first_like}
-
-in_range_prop : {loggers numbers entries pages : ℕ} → IsProp (AreInRange loggers numbers entries pages)
-in_range_prop = hlevel props
-
--- a shape is its four numbers
-same_shape : (a b : Shape) → HasNumbers b.loggers b.numbers b.entries b.pages a → a ≡ b
-same_shape a b same =
-    let with_numbers : ℕ → ℕ → ℕ → ℕ → Type 0 = λ l n e p. (r : AreInRange l n e p) → ◌≡◌ {A = Shape} a (record { loggers = l; numbers = n; entries = e; pages = p; in_range = r }) in
-    let own : with_numbers a.loggers a.numbers a.entries a.pages = λ r. ap (λ (q : AreInRange a.loggers a.numbers a.entries a.pages). let s : Shape = record { loggers = a.loggers; numbers = a.numbers; entries = a.entries; pages = a.pages; in_range = q } in s) (in_range_prop a.in_range r) in
-    let moved : with_numbers b.loggers b.numbers b.entries b.pages =
-    subst (λ p. with_numbers b.loggers b.numbers b.entries p) same.pages_are
-    (subst (λ e. with_numbers b.loggers b.numbers e a.pages) same.entries_are
-    (subst (λ n. with_numbers b.loggers n a.entries a.pages) same.numbers_are
-    (subst (λ l. with_numbers l a.numbers a.entries a.pages) same.loggers_are own))) in
-    moved b.in_range
-
--- a header says one shape
-pub one_shape : (bytes : List ℕ) (a b : Shape) → SaysShape bytes a → SaysShape bytes b → a ≡ b
-one_shape bytes a b says says' = same_shape a b (says_one bytes a b says says')
 
 -- of at least fewer transactions
 fewer : (shape : Shape) (final : State) (least n : ℕ) (image : List ℕ) → n ≤ least → Recovers shape final least image → Recovers shape final n image

@@ -1,18 +1,12 @@
 // Calls that are drawn by chance, the same for the same seed.
 use crate::call::{Call, Line};
 use crate::fault::RowFault;
+use row_files::Draws;
 use std::alloc::Global;
 
-#[derive(Drop)]
-struct Draws {
-    x: u64,
-}
-
-impl Draws {
-    fn below(&mut self, n: u32) -> u32 {
-        self.x = self.x.wrapping_mul(1_103_515_245).wrapping_add(12_345) % 2_147_483_648;
-        ((self.x / 65_536) as u32).checked_rem(n).unwrap_or(0)
-    }
+// The next number below `n`.
+fn below(draws: &mut Draws, n: u64) -> u32 {
+    u32::try_from(draws.below(n)).unwrap_or(0)
 }
 
 // The lowest byte.
@@ -27,7 +21,7 @@ pub fn push_drawn(
     seed: u32,
     count: u32,
 ) -> Result<(), RowFault> {
-    let mut draws = Draws { x: u64::from(seed) };
+    let mut draws = Draws::new(u64::from(seed));
     for _ in 0..count {
         let line = drawn_line(alloc, &mut draws)?;
         lines.push(line)?;
@@ -36,11 +30,11 @@ pub fn push_drawn(
 }
 
 fn drawn_line(alloc: Global, draws: &mut Draws) -> Result<Line, RowFault> {
-    let tid = byte(draws.below(3));
-    let page = draws.below(8);
-    let at = draws.below(3);
-    let len = draws.below(3).saturating_add(1);
-    let call = match draws.below(20) {
+    let tid = byte(below(draws, 3));
+    let page = below(draws, 8);
+    let at = below(draws, 3);
+    let len = below(draws, 3).saturating_add(1);
+    let call = match below(draws, 20) {
         0..=6 => drawn_write(alloc, draws, page, at, len)?,
         7 | 8 => Call::See {
             page,
@@ -59,7 +53,7 @@ fn drawn_line(alloc: Global, draws: &mut Draws) -> Result<Line, RowFault> {
         16 | 17 => Call::TopEnd,
         18 => drawn_fits(alloc, draws)?,
         _ => Call::End {
-            commits: draws.below(3) > 0,
+            commits: below(draws, 3) > 0,
         },
     };
     Ok(Line {
@@ -78,15 +72,15 @@ fn drawn_write(
 ) -> Result<Call, RowFault> {
     let mut bytes = Vec::new(alloc);
     for _ in 0..len {
-        bytes.push(byte(draws.below(256)))?;
+        bytes.push(byte(below(draws, 256)))?;
     }
     Ok(Call::Write { page, at, bytes })
 }
 
 fn drawn_fits(alloc: Global, draws: &mut Draws) -> Result<Call, RowFault> {
     let mut pages = Vec::new(alloc);
-    for _ in 0..draws.below(8) {
-        pages.push(draws.below(8))?;
+    for _ in 0..below(draws, 8) {
+        pages.push(below(draws, 8))?;
     }
     Ok(Call::Fits { pages })
 }

@@ -2,14 +2,19 @@
 use crate::fault::LineFault;
 use std::alloc::Global;
 
-// Draws of a seed.
+/// Numbers that are drawn by chance, the same for the same seed.
 #[derive(Drop)]
-struct Draws {
+pub struct Draws {
     x: u64,
 }
 
 impl Draws {
-    fn below(&mut self, n: u64) -> u64 {
+    pub fn new(seed: u64) -> Draws {
+        Draws { x: seed }
+    }
+
+    /// The next number below `n`.
+    pub fn below(&mut self, n: u64) -> u64 {
         self.x = self.x.wrapping_mul(1_103_515_245).wrapping_add(12_345) % 2_147_483_648;
         (self.x / 65_536).checked_rem(n).unwrap_or(0)
     }
@@ -42,7 +47,7 @@ pub fn push_drawn(
     count: u64,
     seed: u64,
 ) -> Result<(), LineFault> {
-    let mut draws = Draws { x: seed };
+    let mut draws = Draws::new(seed);
     for _ in 0..count {
         let line = drawn_line(alloc, &mut draws)?;
         out.extend_from_slice(line.as_bytes())?;

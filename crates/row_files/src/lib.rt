@@ -50,6 +50,7 @@ mod row;
 mod run;
 mod texts;
 
+pub use draws::Draws;
 pub use fault::{LineFault, RowsFault};
 pub use file::read_rows;
 pub use row::{Image, Row};

@@ -4,7 +4,8 @@ use Rattle.row_bytes.specs.Header.{SaysShape}
 use Rattle.array_image.specs.Decided.{settled_data}
 use Rattle.device_recovery.specs.Recovered.{AllGood, HasNoVote}
 use Rattle.eaw_device.specs.Opens.{header_of, opening_calls}
-use Rattle.eaw_device.proofs.OpeningLemmas.{one_shape, reading_keeps, keeps_then}
+use Rattle.row_bytes.proofs.OneShape.{one_shape}
+use Rattle.eaw_device.proofs.OpeningLemmas.{reading_keeps, keeps_then}
 use Rattle.eaw_device.proofs.Attaching.{cause_on, leaves_on}
 use Rattle.eaw_device.proofs.opening.open_array.Goals as goal
 
