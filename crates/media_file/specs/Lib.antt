@@ -1,1 +1,3 @@
-pub mod Opened
+pub mod Past
+pub mod Transfer
+pub mod Shown

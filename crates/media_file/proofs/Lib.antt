@@ -1,0 +1,4 @@
+pub mod Serving
+pub mod Reading
+pub mod Writing
+pub mod Showing
