@@ -1,3 +1,5 @@
 pub mod Past
 pub mod Transfer
 pub mod Shown
+pub mod Honest
+pub mod InMemory

@@ -30,7 +30,7 @@ noted moment event past = record { first = past.first; calls = record { moment =
 
 -- bytes cut to a length, or made longer by zeros
 abbrev pub padded : ℕ → List ℕ → List ℕ
-padded len bytes = take len (bytes ++ replicate (len - length bytes) 0)
+padded len bytes = take len bytes ++ replicate (len - length bytes) 0
 
 -- the smallest range that has both
 abbrev pub hull : ℕ × ℕ → ℕ × ℕ → ℕ × ℕ

@@ -4,8 +4,12 @@
 mod calls;
 mod file_calls;
 mod file_media;
+mod honest_call;
+mod honest_calls;
 mod transfer;
 
 pub use calls::{CallFault, Calls};
 pub use file_calls::FileCalls;
 pub use file_media::FileMedia;
+pub use honest_call::{Answer, Done, HonestCall};
+pub use honest_calls::HonestCalls;
