@@ -1,4 +1,4 @@
-pub mod Serving
-pub mod Reading
-pub mod Writing
-pub mod Showing
+mod ServeLemmas
+mod ReadLemmas
+mod WriteLemmas
+mod ShowLemmas

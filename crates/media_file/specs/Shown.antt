@@ -1,5 +1,5 @@
 -- What a media over a file shows.
-use Rattle.std.specs.Prelude.{ℕ, ◌≡◌, nat_le, if◌then◌else◌, [], List, length}
+use Rattle.std.specs.Prelude.{ℕ, nat_le, if◌then◌else◌, [], length}
 use Rattle.pcm_media.specs.Images.{Content}
 use Rattle.pcm_media.specs.View.{View}
 use Rattle.media_file.specs.declared.calls.Calls as calls

@@ -4,7 +4,9 @@ ghost use Rattle.counted.specs.Causes.{Rose};
 ghost use Rattle.counted.specs.Moments.{Ticks};
 ghost use Rattle.media_file.specs.Past.{held, AreBefore};
 
-use crate::transfer::{read_all, settle, write_all};
+use crate::reading::read_all;
+use crate::settling::settle;
+use crate::writing::write_all;
 use crate::{Calls, FileCalls};
 use counted::Failed;
 use pcm_media::Media;

@@ -6,7 +6,9 @@ mod file_calls;
 mod file_media;
 mod honest_call;
 mod honest_calls;
-mod transfer;
+mod reading;
+mod settling;
+mod writing;
 
 pub use calls::{CallFault, Calls};
 pub use file_calls::FileCalls;

@@ -1,6 +1,6 @@
-use Rattle.std.proofs.Common.{[], ◌∷◌, length, ap, arith}
+use Rattle.std.proofs.Common.{[], ◌∷◌, length, ap}
 use Rattle.std.proofs.lemmas.Result.{err_from_is_err_and}
-use Rattle.media_file.proofs.Showing.{writes_stopped, writes_served}
+use Rattle.media_file.proofs.ShowLemmas.{writes_stopped}
 use Rattle.media_file.proofs.file_media.FileMediaMedia.write.Goals as goal
 
 pub returns-in_err-tick-clause-does : goal.returns-in_err-tick-clause-does

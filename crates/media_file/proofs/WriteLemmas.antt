@@ -1,15 +1,15 @@
 -- Writes of one part after another.
-use Rattle.std.proofs.Common.{◌≡◌, ℕ, ◌+◌, ◌-◌, ◌<◌, ◌≤◌, ◌==◌, ◌⊎◌, min, max, Bool, true, false, inl, inr, List, [], ◌∷◌, length, get_or, take, drop, refl, sym, ◌∙◌, ap, subst, arith, ne_eqb, eq-eqb}
+use Rattle.std.proofs.Common.{◌≡◌, ℕ, ◌+◌, ◌-◌, ◌<◌, ◌≤◌, ◌⊎◌, min, max, Bool, true, false, inl, inr, List, [], ◌∷◌, length, get_or, take, drop, refl, sym, ◌∙◌, ap, subst, arith, ne_eqb, eq-eqb}
 use Rattle.std.proofs.lemmas.Bool.{cases_lt}
 use Rattle.std.proofs.lemmas.List.{ext_get_or, get_or-take, get_or-drop, length-take-le, length-drop}
 use Rattle.std.proofs.lemmas.List.Elements.{All-head}
 use Rattle.counted.specs.Bytes.{put}
 use Rattle.counted.proofs.Puts.{length-put, get_or-put_before, get_or-put_after, get_or-put_inside}
-use Rattle.pcm_media.specs.Images.{Content, Touched, IsOutside, written}
+use Rattle.pcm_media.specs.Images.{Touched, IsOutside, written}
 use Rattle.pcm_media.proofs.Left.{get_or-put_outside}
-use Rattle.media_file.specs.Past.{Made, Past, stands, noted, held, joined, goes_on, hull, AreBefore}
+use Rattle.media_file.specs.Past.{Made, Past, stands, noted, held, joined, goes_on, AreBefore}
 use Rattle.media_file.specs.Transfer.{Serves}
-use Rattle.media_file.proofs.Serving.{serves_none, serves_more}
+use Rattle.media_file.proofs.ServeLemmas.{serves_none, serves_more}
 
 -- The parts that were written count as one range, which reaches so far at least.
 pub record HasRange (moment at reach len : ℕ) (old now : Past) : Type 0 where

@@ -1,8 +1,8 @@
-use Rattle.std.proofs.Common.{◌≡◌, ◌+◌, ◌-◌, ◌≤◌, List, ℕ, length, sym, ◌∙◌, arith, length-take, length-drop}
+use Rattle.std.proofs.Common.{◌≡◌, ◌-◌, ◌≤◌, length, sym, ◌∙◌, arith, length-take, length-drop}
 use borrow.Rule.Slice.PartMut.{put_mid}
-use Rattle.media_file.proofs.Reading.{read_none, read_next, read_failed, read_whole, length_kept}
-use Rattle.media_file.proofs.transfer.read_all.Goals.{in-Ok+else-done-buf+else-count-eq0, in-Err-Interrupted}
-use Rattle.media_file.proofs.transfer.read_all.Goals as goal
+use Rattle.media_file.proofs.ReadLemmas.{read_none, read_next, read_failed, read_whole, length_kept}
+use Rattle.media_file.proofs.reading.read_all.Goals.{in-Ok+else-done-buf+else-count-eq0, in-Err-Interrupted}
+use Rattle.media_file.proofs.reading.read_all.Goals as goal
 
 pub turns-init : goal.turns-init
 turns-init g c = record { low = omega arith; told = λ told. read_none c.args.moment c.args.at c.args.buf.now (g.C.Calls.past c.args.calls.now) (c.requires.before told) }

@@ -1,9 +1,9 @@
 -- Calls one after another that serve one call of the media.
-use Rattle.std.proofs.Common.{◌≡◌, ℕ, ◌+◌, ◌<◌, ◌≤◌, ◌⊎◌, inl, inr, List, [], ◌∷◌, refl, sym, subst, arith}
+use Rattle.std.proofs.Common.{◌≡◌, ℕ, ◌+◌, ◌<◌, ◌≤◌, inl, inr, List, [], sym, subst, arith}
 use Rattle.std.proofs.lemmas.List.Elements.{All-cons}
-use Rattle.pcm_media.specs.Images.{MayLeave, Touched, partly}
+use Rattle.pcm_media.specs.Images.{Touched}
 use Rattle.pcm_media.proofs.Left.{touched_by_nothing, touched_by_barrier, left_partly}
-use Rattle.media_file.specs.Past.{Event, Made, Past, synced, noted, held, LeftBefore, LeftSince, AreBefore, Answers, IsHonest}
+use Rattle.media_file.specs.Past.{Event, Made, Past, synced, noted, held, AreBefore, Answers, IsHonest}
 use Rattle.media_file.specs.Transfer.{Serves}
 
 pub before_later : (now then : ℕ) (calls : List Made) → now ≤ then → AreBefore now calls → AreBefore then calls

@@ -1,7 +1,7 @@
-use Rattle.std.proofs.Common.{◌≡◌, ◌+◌, ◌≤◌, length, refl, sym, arith}
-use Rattle.media_file.proofs.Writing.{length_rest, written_none, written_next, written_whole, written_failed}
-use Rattle.media_file.proofs.transfer.write_all.Goals.{in-Ok+else-done-bytes+else-count-eq0, in-Err-Interrupted}
-use Rattle.media_file.proofs.transfer.write_all.Goals as goal
+use Rattle.std.proofs.Common.{◌+◌, refl, arith}
+use Rattle.media_file.proofs.WriteLemmas.{length_rest, written_none, written_next, written_whole, written_failed}
+use Rattle.media_file.proofs.writing.write_all.Goals.{in-Ok+else-done-bytes+else-count-eq0, in-Err-Interrupted}
+use Rattle.media_file.proofs.writing.write_all.Goals as goal
 
 pub turns-init : goal.turns-init
 turns-init g c = record { low = omega arith; told = λ told. written_none c.args.moment c.args.at c.args.bytes.now (g.C.Calls.past c.args.calls.now) (c.requires.before told) }

@@ -1,7 +1,7 @@
 use Rattle.std.proofs.Common.{◌∙◌, ap}
 use Rattle.media_file.specs.Past.{noted, synced}
-use Rattle.media_file.proofs.Serving.{serves_sync, serves_same}
-use Rattle.media_file.proofs.transfer.settle.Goals as goal
+use Rattle.media_file.proofs.ServeLemmas.{serves_sync, serves_same}
+use Rattle.media_file.proofs.settling.settle.Goals as goal
 
 pub returns-in-Ok-clause-serves : goal.returns-in-Ok-clause-serves
 returns-in-Ok-clause-serves g c told =

@@ -1,6 +1,6 @@
 use Rattle.std.proofs.Common.{◌≤◌, length, IsTrue}
-use Rattle.media_file.proofs.Reading.{ReadSoFar}
-use Rattle.media_file.proofs.transfer.read_all.Given as goal
+use Rattle.media_file.proofs.ReadLemmas.{ReadSoFar}
+use Rattle.media_file.proofs.reading.read_all.Given as goal
 
 abbrev pub invariant-turns : goal.invariant-turns
 invariant-turns g l = record {

@@ -1,6 +1,6 @@
 use Rattle.std.proofs.Common.{◌≤◌, length, IsTrue}
-use Rattle.media_file.proofs.Writing.{WrittenSoFar}
-use Rattle.media_file.proofs.transfer.write_all.Given as goal
+use Rattle.media_file.proofs.WriteLemmas.{WrittenSoFar}
+use Rattle.media_file.proofs.writing.write_all.Given as goal
 
 abbrev pub invariant-turns : goal.invariant-turns
 invariant-turns g l = record {

@@ -1,5 +1,5 @@
 -- What a call of the media does to what it shows.
-use Rattle.std.proofs.Common.{◌≡◌, ℕ, ◌+◌, ◌≤◌, Bool, IsTrue, inl, List, Result, Ok, Err, refl, subst, sym, arith}
+use Rattle.std.proofs.Common.{◌≡◌, ℕ, ◌+◌, ◌≤◌, Bool, IsTrue, inl, List, Result, Err, refl, subst, sym, arith}
 use Rattle.counted.specs.Causes.{HasCause, Rose}
 use Rattle.pcm_media.specs.View.{Writes}
 use Rattle.pcm_media.proofs.Left.{touched_by_nothing}
@@ -23,16 +23,3 @@ module _ {T E : Type 0} (tells : Bool) (ranges : List (ℕ × ℕ)) (old new : P
       let r : Result T E = Err e in
       subst (λ (n : ℕ). Writes tells ranges (view_over old size moment faults) (view_over new n later more) r) (sym long)
       (subst (λ (p : Past). Writes tells ranges (view_over old size moment faults) (view_over p size later more) r) (sym same) (same_past e le few rose))
-
-  -- its calls served this one
-  pub writes_served : (size' : ℕ) (mid : Past) (r : Result T E) → size' ≡ size → mid ≡ old → later ≡ moment + 1 → HasCause faults more r → (IsTrue tells → Serves later ranges mid new)
-      → Writes tells ranges (view_over old size moment faults) (view_over new size' later more) r
-  writes_served size' mid r long same next cause serves = record {
-    size = long;
-    cause = cause;
-    touched = λ told. (from told).touched;
-    time = λ told. record { later = omega arith; keeps = λ t image le left. (from told).keeps t image (omega arith) left; only = λ t image le left. (from told).only t image (omega arith) left };
-  }
-    where
-      from : IsTrue tells → Serves later ranges old new
-      from told = subst (λ (p : Past). Serves later ranges p new) same (serves told)
