@@ -1,1 +1,5 @@
-pub mod Opened
+pub mod Past
+pub mod Transfer
+pub mod Shown
+pub mod Honest
+pub mod InMemory

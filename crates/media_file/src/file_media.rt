@@ -1,68 +1,112 @@
 // A media over a file.
-ghost use Rattle.std.specs.Prelude.{◌≡◌, ◌+◌, ◌≤◌, false, [], ◌∷◌, length, IfOk, IfSome, IsSome};
+ghost use Rattle.std.specs.Prelude.{◌≡◌, ◌+◌, ◌-◌, ◌^◌, ◌≤◌, ◌<◌, false, [], ◌∷◌, length, IfOk, OnOk, OnErr, IfSome, IsSome, IsTrue};
+ghost use Rattle.counted.specs.Causes.{Rose};
 ghost use Rattle.counted.specs.Moments.{Ticks};
-ghost use Rattle.pcm_media.specs.View.{Writes};
-ghost use Rattle.media_file.specs.Opened.{next_faults, view_of, IsCall};
+ghost use Rattle.media_file.specs.Past.{held, AreBefore};
 
+use crate::reading::read_all;
+use crate::settling::settle;
+use crate::writing::write_all;
+use crate::{Calls, FileCalls};
 use counted::Failed;
 use pcm_media::Media;
-use std::fs::{File, OpenOptions};
-use std::io;
-use std::io::ErrorKind;
-use std::marker::Model;
-use std::os::unix::fs::FileExt;
-use std::path::Path;
+use std::fs::File;
 use std::rt::Files;
 
-/// A media over a file of the system that nobody else changes. It tells no bytes: no contract says what a file gives. It counts
-/// its faults.
+/// A media over a file that nobody else changes. It tells its bytes where its calls are trusted. It counts its faults, and makes
+/// one call of the file for each of its own, where the file does it whole.
 #[derive(Drop)]
-pub struct FileMedia {
-    file: File,
+pub struct FileMedia<C: Calls> {
+    calls: C,
     size: u64,
     moment: u64,
     faults: u64,
+    ghost sized: { size < 2 ^ 64 },
+    ghost whole: { IsTrue C.trusted → length (held (C.past calls)).bytes ≡ size },
+    ghost stamped: { IsTrue C.trusted → AreBefore (moment + 1) (C.past calls).calls },
 }
 
-impl Model for FileMedia {
-    ghost use Rattle.media_file.specs.Opened.{Opened};
+impl<C: Calls + Drop> FileMedia<C> {
+    ghost use Rattle.media_file.specs.Shown.{shown, opened};
 
-    ghost Value = { Opened };
-
-    ghost view = { λ m. record { size = m.size; moment = m.moment; faults = m.faults } };
+    /// The media over a file none of whose calls has been made. A file of fewer than `least` bytes is lengthened to them with
+    /// zeros, and synced. Fails where one of these calls does.
+    pub fn over(calls: C, least: u64) -> Result<FileMedia<C>, Failed>
+        requires { IsTrue C.trusted → (C.past calls).calls ≡ [] }
+        ensures long { IfOk result (λ media. least ≤ (shown media).size) }
+        ensures anew { IfOk result (λ media. ((shown media).moment ≡ 0) × ((shown media).faults ≡ 0)) }
+        ensures content { IsTrue C.trusted → IfOk result (λ media. (shown media).content ≡ opened least (C.past calls).first) }
+    {
+        let mut calls = calls;
+        let Ok(size) = calls.len(0) else {
+            return Err(Failed);
+        };
+        if size >= least {
+            return Ok(FileMedia {
+                calls,
+                size,
+                moment: 0,
+                faults: 0,
+            });
+        }
+        if calls.set_len(0, least).is_err() || calls.sync_data(0).is_err() {
+            return Err(Failed);
+        }
+        Ok(FileMedia {
+            calls,
+            size: least,
+            moment: 0,
+            faults: 0,
+        })
+    }
 }
 
-impl FileMedia {
-    /// Opens the file at `path` to read and to write, and locks it until the media is let go. A file of fewer than `least` bytes
-    /// is lengthened to them with zeros. Where there is none, it is made, and its folder holds it surely before this returns; but
-    /// where `least` is 0 nothing is made, and the answer is None.
+impl FileMedia<FileCalls> {
+    ghost use Rattle.media_file.specs.Shown.{shown};
+
+    /// The media over the file at `path`, locked until it is let go. A file of fewer than `least` bytes is lengthened to them
+    /// with zeros. Where there is none, it is made, but where `least` is 0 the answer is None.
     ///
-    /// Fails where the system refuses one of these, or another program holds the lock: then the file is as it was, or one that
-    /// was made or lengthened here.
+    /// Fails where the system refuses a call, or another program holds the lock: then the file is as it was, or one that was
+    /// made or lengthened here.
     pub fn attach<R: Files<File = File>>(
         rt: &R,
         path: &str,
         least: u64,
-    ) -> Result<Option<FileMedia>, Failed>
+    ) -> Result<Option<FileMedia<FileCalls>>, Failed>
         ensures there { 1 ≤ least → IfOk result IsSome }
-        ensures long { IfOk result (λ media. IfSome media (λ m. least ≤ m.size)) }
-        ensures anew { IfOk result (λ media. IfSome media (λ m. m ≡ record { size = m.size; moment = 0; faults = 0 })) }
+        ensures long { IfOk result (λ media. IfSome media (λ m. least ≤ (shown m).size)) }
+        ensures anew { IfOk result (λ media. IfSome media (λ m. ((shown m).moment ≡ 0) × ((shown m).faults ≡ 0))) }
     {
-        match open_at_least(rt, path, least) {
-            Ok(None) => Ok(None),
-            Ok(Some((file, size))) => Ok(Some(FileMedia {
-                file,
-                size,
-                moment: 0,
-                faults: 0,
-            })),
-            Err(_) => Err(Failed),
+        match FileCalls::open(rt, path, least > 0)? {
+            Some(calls) => Ok(Some(FileMedia::over(calls, least)?)),
+            None => Ok(None),
         }
+    }
+}
+
+impl<C: Calls> FileMedia<C> {
+    ghost use Rattle.media_file.specs.Shown.{calls_of};
+
+    /// The file.
+    pub fn into_calls(self) -> C
+        ensures { result ≡ calls_of self }
+    {
+        let FileMedia {
+            calls,
+            size: _,
+            moment: _,
+            faults: _,
+        } = self;
+        calls
     }
 
     // Counts a fault.
     fn fault(&mut self) -> Failed
-        ensures counted { self.new ≡ next_faults self.old }
+        ensures calls { self.new.calls ≡ self.old.calls }
+        ensures size { self.new.size ≡ self.old.size }
+        ensures moment { self.new.moment ≡ self.old.moment }
+        ensures counted { Rose self.old.faults self.new.faults }
         ensures later { self.old.faults ≤ self.new.faults }
     {
         self.faults = self.faults.saturating_add(1);
@@ -71,7 +115,12 @@ impl FileMedia {
 
     // Raises the moment, or fails at its last value.
     fn tick(&mut self) -> Result<(), Failed>
-        ensures { IsCall self.old self.new result }
+        ensures calls { self.new.calls ≡ self.old.calls }
+        ensures size { self.new.size ≡ self.old.size }
+        ensures ticks { Ticks self.old.moment self.new.moment result }
+        ensures later { (self.old.moment ≤ self.new.moment) × (self.old.faults ≤ self.new.faults) }
+        ensures faults { OnOk result (self.new.faults ≡ self.old.faults) }
+        ensures counted { OnErr result (Rose self.old.faults self.new.faults) }
     {
         if self.moment == u64::MAX {
             return Err(self.fault());
@@ -81,63 +130,23 @@ impl FileMedia {
     }
 }
 
-// The file, locked, and its length. Nothing of it is changed, nor its length read, before the lock is held.
-fn open_at_least<R: Files<File = File>>(
-    rt: &R,
-    path: &str,
-    least: u64,
-) -> io::Result<Option<(File, u64)>>
-    ensures there { 1 ≤ least → IfOk result IsSome }
-    ensures long { IfOk result (λ opened. IfSome opened (λ o. least ≤ o.1)) }
-{
-    let file = match options().open(rt, path) {
-        Ok(file) => file,
-        Err(error) if error.kind() == ErrorKind::NotFound && least == 0 => return Ok(None),
-        Err(error) if error.kind() == ErrorKind::NotFound => make(rt, path)?,
-        Err(error) => return Err(error),
-    };
-    file.try_lock()?;
-    let size = file.metadata()?.len();
-    if size >= least {
-        return Ok(Some((file, size)));
-    }
-    file.set_len(least)?;
-    Ok(Some((file, least)))
-}
-
-fn options() -> OpenOptions {
-    let mut options = OpenOptions::new();
-    options.read(true).write(true);
-    options
-}
-
-// A new file of no bytes. Once its folder is synced, a loss of power leaves it there.
-fn make<R: Files<File = File>>(rt: &R, path: &str) -> io::Result<File> {
-    let file = options().create(true).open(rt, path)?;
-    let folder = match Path::new(path).parent() {
-        Some(folder) if !folder.as_str().is_empty() => folder,
-        _ => Path::new("."),
-    };
-    File::open(rt, folder)?.sync_all()?;
-    Ok(file)
-}
-
-impl Media for FileMedia {
+impl<C: Calls> Media for FileMedia<C> {
     ghost use Rattle.std.specs.Prelude.{false};
-    ghost use Rattle.std.proofs.lemmas.Bool.{false≢true};
-    ghost use Rattle.media_file.specs.Opened.{view_of};
+    ghost use Rattle.std.proofs.Common.{inl};
+    ghost use Rattle.media_file.specs.Shown.{shown};
+    ghost use Rattle.media_file.specs.Past.{only_now};
 
-    ghost tells = { false };
+    ghost tells = { C.trusted };
 
-    ghost view = { view_of };
+    ghost view = { shown };
 
     ghost steady = { λ _ _ _. false };
 
-    ghost long = { λ m told. absurd (false≢true told) };
+    ghost long = { λ m told. m.whole told };
 
-    ghost counts_now = { λ m t image told le left. absurd (false≢true told) };
+    ghost counts_now = { λ m t image told le left. inl left };
 
-    ghost only_now = { λ m image told left. absurd (false≢true told) };
+    ghost only_now = { λ m image told left. only_now (C.past m.calls) m.moment image (m.stamped told) left };
 
     fn len(&self) -> u64 {
         self.size
@@ -147,41 +156,25 @@ impl Media for FileMedia {
         self.moment
     }
 
-    fn read(&mut self, at: u64, buf: &mut [u8]) -> Result<(), Failed>
-        requires { at + length buf.old ≤ self.old.size }
-        ensures does { Writes false [] (view_of self.old) (view_of self.new) result }
-        ensures ticks { Ticks self.old.moment self.new.moment result }
-        ensures calls { IsCall self.old self.new result }
-    {
+    fn read(&mut self, at: u64, buf: &mut [u8]) -> Result<(), Failed> {
         self.tick()?;
-        match self.file.read_exact_at(buf, at) {
+        match read_all(&mut self.calls, self.moment, at, buf) {
             Ok(()) => Ok(()),
             Err(_) => Err(self.fault()),
         }
     }
 
-    fn write(&mut self, at: u64, bytes: &[u8]) -> Result<(), Failed>
-        requires { at + length bytes.now ≤ self.old.size }
-        ensures does { Writes false ((at, length bytes.now) ∷ []) (view_of self.old) (view_of self.new) result }
-        ensures ticks { Ticks self.old.moment self.new.moment result }
-        ensures calls { IsCall self.old self.new result }
-    {
+    fn write(&mut self, at: u64, bytes: &[u8]) -> Result<(), Failed> {
         self.tick()?;
-        match self.file.write_all_at(bytes, at) {
+        match write_all(&mut self.calls, self.moment, at, bytes) {
             Ok(()) => Ok(()),
             Err(_) => Err(self.fault()),
         }
     }
 
-    // The bytes and the length of the file are what a later read needs, and `sync_data` makes both sure. It leaves out what
-    // nobody reads, as the times of access.
-    fn barrier(&mut self) -> Result<(), Failed>
-        ensures does { Writes false [] (view_of self.old) (view_of self.new) result }
-        ensures ticks { Ticks self.old.moment self.new.moment result }
-        ensures calls { IsCall self.old self.new result }
-    {
+    fn barrier(&mut self) -> Result<(), Failed> {
         self.tick()?;
-        match self.file.sync_data() {
+        match settle(&mut self.calls, self.moment) {
             Ok(()) => Ok(()),
             Err(_) => Err(self.fault()),
         }

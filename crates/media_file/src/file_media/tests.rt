@@ -8,7 +8,11 @@ fn is_sent<M: Media + Send>(media: &M) -> u64 {
 }
 
 // The media over a file that is there, or is made.
-fn over<R: Files<File = File>>(rt: &R, path: &str, least: u64) -> Result<FileMedia, Failed> {
+fn over<R: Files<File = File>>(
+    rt: &R,
+    path: &str,
+    least: u64,
+) -> Result<FileMedia<FileCalls>, Failed> {
     FileMedia::attach(rt, path, least)?.ok_or(Failed)
 }
 

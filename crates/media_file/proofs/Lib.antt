@@ -1,0 +1,4 @@
+mod ServeLemmas
+mod ReadLemmas
+mod WriteLemmas
+mod ShowLemmas

@@ -1,0 +1,9 @@
+use Rattle.std.proofs.Common.{◌≤◌, length, IsTrue}
+use Rattle.media_file.proofs.ReadLemmas.{ReadSoFar}
+use Rattle.media_file.proofs.reading.read_all.Given as goal
+
+abbrev pub invariant-turns : goal.invariant-turns
+invariant-turns g l = record {
+  low : l.done ≤ length l.buf;
+  told : IsTrue g.C.Calls.trusted → ReadSoFar l.moment l.at l.done l.buf (g.C.Calls.past l.fn.calls) (g.C.Calls.past l.calls);
+}

@@ -1,0 +1,51 @@
+// What is asked of a file.
+ghost use Rattle.std.specs.Prelude.{◌≡◌, ◌≤◌, ◌⊎◌, List, ℕ, Bool, length, take, IsTrue, IfOk, OnOk, MatchResult};
+ghost use Rattle.media_file.specs.Past.{Past, measured, came, stands, resized, synced, noted, IsHonest};
+
+/// Why a call of a file did not do its work.
+#[derive(Clone, Copy, Debug, PartialEq, Eq)]
+pub enum CallFault {
+    /// A signal came first. The call may be made again.
+    Interrupted,
+    Failed,
+}
+
+/// A file by its calls. Each is told the moment of the media's call for which it is made, which only its record needs.
+pub trait Calls {
+    /// Whether its record is known to be that of an honest file. Of what the system answers no contract can say that.
+    ghost trusted: { Bool };
+
+    /// What it held at first, and its calls since with their answers. Clauses alone speak of it.
+    ghost past: { Self → Past };
+
+    /// How many bytes it has.
+    fn len(&mut self, moment: u64) -> Result<u64, CallFault>
+        ensures noted { IsTrue trusted → IfOk result (λ len. past self.new ≡ noted moment (measured len) (past self.old)) };
+
+    /// Reads bytes from the place `at` on, and tells how many came.
+    fn read_at(&mut self, moment: u64, at: u64, buf: &mut [u8]) -> Result<usize, CallFault>
+        ensures count { IfOk result (λ count. count ≤ length buf.old) }
+        ensures noted { IsTrue trusted → MatchResult result
+            (λ count. past self.new ≡ noted moment (came at (take count buf.new)) (past self.old))
+            (λ _. past self.new ≡ past self.old) };
+
+    /// Writes bytes at the place `at`, and tells how many were taken. Where it fails, anything may stand in their place.
+    fn write_at(&mut self, moment: u64, at: u64, bytes: &[u8]) -> Result<usize, CallFault>
+        ensures count { IfOk result (λ count. count ≤ length bytes.now) }
+        ensures noted { IsTrue trusted → MatchResult result
+            (λ count. past self.new ≡ noted moment (stands at (take count bytes.now)) (past self.old))
+            (λ _. (past self.new ≡ past self.old) ⊎ ((left : List ℕ) × (length left ≡ length bytes.now) × (past self.new ≡ noted moment (stands at left) (past self.old)))) };
+
+    /// Cuts it to so many bytes, or makes it so long with zeros.
+    fn set_len(&mut self, moment: u64, len: u64) -> Result<(), CallFault>
+        ensures noted { IsTrue trusted → OnOk result (past self.new ≡ noted moment (resized len) (past self.old)) };
+
+    /// Waits until what was written, and the length, are sure.
+    fn sync_data(&mut self, moment: u64) -> Result<(), CallFault>
+        ensures noted { IsTrue trusted → MatchResult result
+            (λ _. past self.new ≡ noted moment synced (past self.old))
+            (λ _. past self.new ≡ past self.old) };
+
+    /// Where it is trusted, each call was answered from what the calls before it had made of the first content.
+    ghost honest: { (file : Self) → IsTrue trusted → IsHonest (past file).first (past file).calls };
+}

@@ -1,0 +1,113 @@
+// A file of the system.
+ghost use Rattle.std.specs.Prelude.{◌≡◌, true, IfOk, IsSome};
+
+use crate::{CallFault, Calls};
+use counted::Failed;
+use std::fs::{File, OpenOptions};
+use std::io;
+use std::io::ErrorKind;
+use std::os::unix::fs::FileExt;
+use std::path::Path;
+use std::rt::Files;
+
+/// A file of the system, open to read and to write, and locked until it is let go. Each call makes one of the system, or some
+/// more where a length or a sync is interrupted. It is not trusted: no contract says what the system answers.
+#[derive(Drop)]
+pub struct FileCalls {
+    file: File,
+}
+
+impl FileCalls {
+    /// Opens the file at `path`, and locks it. Where there is none, it is made if `makes` says so, and its folder holds it surely
+    /// before this returns; else the answer is None.
+    ///
+    /// Fails where the system refuses one of these, or another program holds the lock: then the file is as it was, or one that
+    /// was made here.
+    pub fn open<R: Files<File = File>>(
+        rt: &R,
+        path: &str,
+        makes: bool,
+    ) -> Result<Option<FileCalls>, Failed>
+        ensures there { makes ≡ true → IfOk result IsSome }
+    {
+        match open_or_make(rt, path, makes) {
+            Ok(Some(file)) => Ok(Some(FileCalls { file })),
+            Ok(None) => Ok(None),
+            Err(_) => Err(Failed),
+        }
+    }
+}
+
+// The file, locked. Nothing of it is changed before the lock is held.
+fn open_or_make<R: Files<File = File>>(rt: &R, path: &str, makes: bool) -> io::Result<Option<File>>
+    ensures there { makes ≡ true → IfOk result IsSome }
+{
+    let file = match options().open(rt, path) {
+        Ok(file) => file,
+        Err(error) if error.kind() != ErrorKind::NotFound => return Err(error),
+        Err(_) if makes => make(rt, path)?,
+        Err(_) => return Ok(None),
+    };
+    file.try_lock()?;
+    Ok(Some(file))
+}
+
+fn options() -> OpenOptions {
+    let mut options = OpenOptions::new();
+    options.read(true).write(true);
+    options
+}
+
+// A new file of no bytes. Once its folder is synced, a loss of power leaves it there.
+fn make<R: Files<File = File>>(rt: &R, path: &str) -> io::Result<File> {
+    let file = options().create(true).open(rt, path)?;
+    let folder = match Path::new(path).parent() {
+        Some(folder) if !folder.as_str().is_empty() => folder,
+        _ => Path::new("."),
+    };
+    File::open(rt, folder)?.sync_all()?;
+    Ok(file)
+}
+
+fn fault_of(error: io::Error) -> CallFault {
+    match error.kind() {
+        ErrorKind::Interrupted => CallFault::Interrupted,
+        _ => CallFault::Failed,
+    }
+}
+
+impl Calls for FileCalls {
+    ghost use Rattle.std.specs.Prelude.{false, []};
+    ghost use Rattle.std.proofs.lemmas.Bool.{false≢true};
+
+    ghost trusted = { false };
+
+    ghost past = { λ _. record { first = record { bytes = []; unsettled = [] }; calls = [] } };
+
+    ghost honest = { λ file told. absurd (false≢true told) };
+
+    fn len(&mut self, _moment: u64) -> Result<u64, CallFault> {
+        match self.file.metadata() {
+            Ok(metadata) => Ok(metadata.len()),
+            Err(error) => Err(fault_of(error)),
+        }
+    }
+
+    fn read_at(&mut self, _moment: u64, at: u64, buf: &mut [u8]) -> Result<usize, CallFault> {
+        self.file.read_at(buf, at).map_err(fault_of)
+    }
+
+    fn write_at(&mut self, _moment: u64, at: u64, bytes: &[u8]) -> Result<usize, CallFault> {
+        self.file.write_at(bytes, at).map_err(fault_of)
+    }
+
+    fn set_len(&mut self, _moment: u64, len: u64) -> Result<(), CallFault> {
+        self.file.set_len(len).map_err(fault_of)
+    }
+
+    // The bytes and the length of the file are what a later read needs, and `sync_data` makes both sure. It leaves out what
+    // nobody reads, as the times of access.
+    fn sync_data(&mut self, _moment: u64) -> Result<(), CallFault> {
+        self.file.sync_data().map_err(fault_of)
+    }
+}

@@ -1,0 +1,36 @@
+// The reads of a file that serve one of its media: a part is followed by the rest, and one that was interrupted is made again.
+ghost use Rattle.std.specs.Prelude.{◌≡◌, ◌+◌, ◌≤◌, ◌<◌, ◌^◌, [], length, IsTrue, OnOk};
+ghost use Rattle.counted.specs.Bytes.{range};
+ghost use Rattle.media_file.specs.Past.{held, AreBefore};
+ghost use Rattle.media_file.specs.Transfer.{Serves};
+
+use crate::{CallFault, Calls};
+use counted::Failed;
+
+/// Reads as many bytes as the buffer has. An end of the file before them is a fault.
+pub fn read_all<C: Calls>(calls: &mut C, moment: u64, at: u64, buf: &mut [u8]) -> Result<(), Failed>
+    requires fits { at + length buf.old < 2 ^ 64 }
+    requires within { IsTrue C.trusted → at + length buf.old ≤ length (held (C.past calls.old)).bytes }
+    requires before { IsTrue C.trusted → AreBefore moment (C.past calls.old).calls }
+    ensures bytes { IsTrue C.trusted → OnOk result (buf.new ≡ range (held (C.past calls.old)).bytes at (length buf.old)) }
+    ensures same { IsTrue C.trusted → held (C.past calls.new) ≡ held (C.past calls.old) }
+    ensures serves { IsTrue C.trusted → Serves moment [] (C.past calls.old) (C.past calls.new) }
+{
+    let mut done = 0;
+    'turns: for _ in 0..u64::MAX {
+        match calls.read_at(moment, at + done as u64, &mut buf[done..]) {
+            Ok(count) => {
+                done += count;
+                if done == buf.len() {
+                    return Ok(());
+                }
+                if count == 0 {
+                    return Err(Failed);
+                }
+            }
+            Err(CallFault::Interrupted) => {}
+            Err(CallFault::Failed) => return Err(Failed),
+        }
+    }
+    Err(Failed)
+}

@@ -1,0 +1,35 @@
+// The writes of a file that serve one of its media: a part is followed by the rest, and one that was interrupted is made again.
+ghost use Rattle.std.specs.Prelude.{◌≡◌, ◌+◌, ◌≤◌, ◌<◌, ◌^◌, [], ◌∷◌, length, IsTrue, OnOk};
+ghost use Rattle.pcm_media.specs.Images.{written};
+ghost use Rattle.media_file.specs.Past.{held, AreBefore};
+ghost use Rattle.media_file.specs.Transfer.{Serves};
+
+use crate::{CallFault, Calls};
+use counted::Failed;
+
+/// Writes all the bytes.
+pub fn write_all<C: Calls>(calls: &mut C, moment: u64, at: u64, bytes: &[u8]) -> Result<(), Failed>
+    requires fits { at + length bytes.now < 2 ^ 64 }
+    requires within { IsTrue C.trusted → at + length bytes.now ≤ length (held (C.past calls.old)).bytes }
+    requires before { IsTrue C.trusted → AreBefore moment (C.past calls.old).calls }
+    ensures written { IsTrue C.trusted → OnOk result (held (C.past calls.new) ≡ written at bytes.now (held (C.past calls.old))) }
+    ensures serves { IsTrue C.trusted → Serves moment ((at, length bytes.now) ∷ []) (C.past calls.old) (C.past calls.new) }
+{
+    let mut done = 0;
+    'turns: for _ in 0..u64::MAX {
+        match calls.write_at(moment, at + done as u64, &bytes[done..]) {
+            Ok(count) => {
+                done += count;
+                if done == bytes.len() {
+                    return Ok(());
+                }
+                if count == 0 {
+                    return Err(Failed);
+                }
+            }
+            Err(CallFault::Interrupted) => {}
+            Err(CallFault::Failed) => return Err(Failed),
+        }
+    }
+    Err(Failed)
+}
