@@ -1,6 +1,5 @@
 -- What each call does to a session.
-use Rattle.std.proofs.Common.{◌≡◌, ℕ, ◌+◌, ◌<◌, ◌≤◌, Bool, true, false, List, [], ◌∷◌, ◌++◌, length, map, Option, Some, None, Result, Ok, Err, refl, sym, ap, subst, ◌∙◌, arith, IsTrue}
-use Rattle.std.specs.Prelude.{OnOk}
+use Rattle.std.proofs.Common.{◌≡◌, ℕ, ◌+◌, ◌<◌, ◌≤◌, Bool, true, false, List, [], ◌∷◌, ◌++◌, length, Option, Some, None, Result, Ok, Err, refl, sym, ap, subst, ◌∙◌, arith, IsTrue}
 use Rattle.std.specs.FinMap.{get, len}
 use Rattle.std.proofs.lemmas.Bool.{false≢true}
 use Rattle.std.proofs.lemmas.List.{length-map}
@@ -10,7 +9,7 @@ use Rattle.array_shape.specs.declared.shape.Shape.{Shape}
 use Rattle.array_shape.specs.Places.{IsShape}
 use Rattle.array_shape.specs.Logged.{applied}
 use Rattle.eaw_face.specs.State.{listed}
-use Rattle.eaw_face.specs.StoreView.{StoreView, LeavesOnly, log_len}
+use Rattle.eaw_face.specs.StoreView.{StoreView, log_len}
 use Rattle.page_store.specs.Command.{PageCommand, write_as, end, read}
 use Rattle.page_store.specs.Does.{Does, Cause, IsFull, IsSavedOut}
 use Rattle.page_store.specs.Shown.{PagesView, state_of}

@@ -26,7 +26,7 @@ use Rattle.history.specs.declared.call.Reply.{Reply}
 use Rattle.history.specs.declared.call.Reply.TheVariants.{Fine, LogFull, Committed}
 use Rattle.history.specs.declared.transaction.Done.{Done}
 use Rattle.mars_shell.specs.Records.{slot_at, records_of, Holds}
-use Rattle.mars_shell.specs.Session.{Limits, Step, has_put, taken_on, HasEntry, done_with}
+use Rattle.mars_shell.specs.Session.{Step, has_put, taken_on, HasEntry, done_with}
 use Rattle.mars_shell.specs.Kept.{Work, work_of, state_over, slots_of, limits_of, calls_of, slot_range, AreKeys, IsReady, IsKept}
 use Rattle.mars_shell.specs.Called.{Steps}
 use Rattle.mars_shell.proofs.PutLemmas.{keys_get, keys_new, keys_old, keys_none}

@@ -1,4 +1,4 @@
-use Rattle.std.proofs.Common.{Option, List, ℕ, ◌+◌, ◌<◌, ◌≡◌, length, Ok, Err, ap, subst, sym, ◌∙◌, arith}
+use Rattle.std.proofs.Common.{Option, List, ℕ, ◌+◌, length, Ok, Err, ap, subst, sym}
 use Rattle.history.specs.declared.transaction.Done.{Done}
 use Rattle.history.specs.declared.call.Call.{Call}
 use Rattle.history.specs.declared.call.Call.TheVariants.{Commit}
