@@ -1,9 +1,10 @@
 #!/usr/bin/env bash
 # Lines a second, growth and peak memory of `mars`. With a folder as argument also transactions a second on a file in it.
 #
-# Three mixes of lines over the image in memory, of some lines and of ten times as many; keys are below 1,000, values have 16 bytes:
+# Four mixes of lines over the image in memory, of some lines and of ten times as many; keys are below 1,000, values have 16 bytes:
 #   puts   run: a transaction is a begin, a put and a commit
 #   reads  run: a transaction is a begin, a put, three gets of committed keys, and a commit
+#   edits  run: a transaction is a begin, ten puts of one key, and a commit
 #   raw    eaw: 64 bytes are logged, and committed
 # Each script is run three times, and the best time counts. The answers go to a file, and the last is compared, so a
 # run that stops early is no result. A time has the start of the process in it, about a millisecond.
@@ -18,7 +19,7 @@ program=$top/crates/mars/out/mars
 
 # size MIX: the lines of one transaction
 size() {
-    case $1 in puts) echo 3 ;; reads) echo 6 ;; raw) echo 2 ;; esac
+    case $1 in puts) echo 3 ;; reads) echo 6 ;; edits) echo 12 ;; raw) echo 2 ;; esac
 }
 
 # word MIX: the word of the command line
@@ -41,7 +42,8 @@ script() {
                 print "0 logwrite " 64 * (n % 1000) " " block
             } else {
                 print "0 begin"
-                printf "0 put %d value%011d\n", n % 1000, n
+                for (i = 0; i < (mix == "edits" ? 10 : 1); i++)
+                    printf "0 put %d value%011d\n", n % 1000, n + i
             }
             if (mix == "reads")
                 for (i = 1; i <= 3; i++) {
@@ -112,7 +114,7 @@ on_file() {
 }
 
 printf '%-6s %8s %10s %9s %12s %10s %8s\n' mix lines bytes ms lines/s peak-KB peak/in
-for mix in puts reads raw; do
+for mix in puts reads edits raw; do
     # Ten times as many raw lines as 30,000 were too long an input.
     lines=30000
     [ "$mix" != raw ] || lines=20000

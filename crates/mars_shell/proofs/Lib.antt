@@ -1,5 +1,6 @@
 pub mod AnsweredLemmas
 pub mod PutLemmas
+pub mod LiveLemmas
 pub mod RecordLemmas
 pub mod Sound
 pub mod StoreLemmas

@@ -1,9 +1,9 @@
 -- The records of data, and of data in which one slot is written.
 use Rattle.std.proofs.Common.{◌≡◌, ◌≢◌, ℕ, zero, suc, ◌*◌, ◌<◌, ◌≤◌, inl, inr, Bool, cond, List, length, Option, Some, None, refl, sym, ap, subst, ◌∙◌, arith}
 use Rattle.std.specs.Ordering.{nat_cmp}
-use Rattle.std.specs.Cmp.{nat_cmp_total, unsigned_tied}
-use Rattle.std.specs.FinMap.{get, insert, get-empty, get-insert, same_map, nat_cmp-IsAntisymmetric}
-use Rattle.std.proofs.lemmas.Bool.{cases_eq, cases_lt, eq-eqb, ne_eqb}
+use Rattle.std.specs.Cmp.{nat_cmp_total}
+use Rattle.std.specs.FinMap.{get, insert, get-empty, same_map, nat_cmp-IsAntisymmetric}
+use Rattle.std.proofs.lemmas.Bool.{cases_eq, cases_lt, eq-eqb}
 use Rattle.counted.specs.Bytes.{put}
 use Rattle.pcm_media.proofs.Left.{same_outside-put}
 use Rattle.counted.proofs.Puts.{length-put}
@@ -11,23 +11,16 @@ use Rattle.pcm_media.proofs.Ranges.{range-put, range_away}
 use Rattle.history.specs.Table.{Table}
 use Rattle.record_slots.specs.Slots.{slot_said}
 use Rattle.record_slots.specs.declared.slot.Slot.TheVariants.{Present}
+use Rattle.mars_shell.proofs.PutLemmas.{get-put_same, get-put_other}
 use Rattle.mars_shell.specs.Records.{slot_at, slot_of, value_in, record_at, with_record, records_below, records_of, IsSoundIn, IsSoundSlot, IsSoundData, Holds}
-
-pub get-insert_same : (table : Table) (k : ℕ) (v : List ℕ) → get (insert table k v) k ≡ Some v
-get-insert_same table k v =
-    get-insert nat_cmp_total table k v k ∙ ap (λ (b : Bool). cond b (Some v) (get table k)) (unsigned_tied k k ∙ eq-eqb k k refl)
-
-pub get-insert_other : (table : Table) (k q : ℕ) (v : List ℕ) → q ≢ k → get (insert table k v) q ≡ get table q
-get-insert_other table k q v other =
-    get-insert nat_cmp_total table k v q ∙ ap (λ (b : Bool). cond b (Some v) (get table q)) (unsigned_tied q k ∙ ne_eqb q k other)
 
 with_same : (table : Table) (n : ℕ) (found : Option (List ℕ)) → get table n ≡ None → get (with_record table n found) n ≡ found
 with_same table n None none = none
-with_same table n (Some v) none = get-insert_same table n v
+with_same table n (Some v) none = get-put_same table n v
 
 with_other : (table : Table) (n q : ℕ) (found : Option (List ℕ)) → q ≢ n → get (with_record table n found) q ≡ get table q
 with_other table n q None other = refl
-with_other table n q (Some v) other = get-insert_other table n q v other
+with_other table n q (Some v) other = get-put_other table n q v other
 
 module _ (slots : ℕ) (bytes : List ℕ) where
   none_from : (n q : ℕ) → n ≤ q → get (records_below slots bytes n) q ≡ None
@@ -71,11 +64,11 @@ module _ (slots k : ℕ) (value bytes data_bytes : List ℕ) (lt : k < slots) (l
   records_of-put = same_map nat_cmp_total nat_cmp-IsAntisymmetric _ _ (λ q. elim (cases_eq q k) [
     | inl same ↦ ap (get (records_of slots (put data_bytes (slot_at slots k) bytes))) same
         ∙ get-records_of slots (put data_bytes (slot_at slots k) bytes) k lt ∙ own
-        ∙ sym (ap (get (insert (records_of slots data_bytes) k value)) same ∙ get-insert_same (records_of slots data_bytes) k value)
+        ∙ sym (ap (get (insert (records_of slots data_bytes) k value)) same ∙ get-put_same (records_of slots data_bytes) k value)
     | inr ne ↦ elim (cases_lt q slots) [
       | inl below ↦ get-records_of slots (put data_bytes (slot_at slots k) bytes) q below ∙ ap (value_in q) (other_slot q below ne) ∙ sym (get-records_of slots data_bytes q below)
-          ∙ sym (get-insert_other (records_of slots data_bytes) k q value ne)
-      | inr past ↦ get_past slots (put data_bytes (slot_at slots k) bytes) q past ∙ sym (get-insert_other (records_of slots data_bytes) k q value ne ∙ get_past slots data_bytes q past)
+          ∙ sym (get-put_other (records_of slots data_bytes) k q value ne)
+      | inr past ↦ get_past slots (put data_bytes (slot_at slots k) bytes) q past ∙ sym (get-put_other (records_of slots data_bytes) k q value ne ∙ get_past slots data_bytes q past)
     ]
   ])
 

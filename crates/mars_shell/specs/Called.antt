@@ -3,6 +3,7 @@ use Rattle.std.specs.Prelude.{ℕ, ◌≡◌, Bool, IsTrue, List, length, Result
 use Rattle.counted.specs.Causes.{Rose}
 use Rattle.array_shape.specs.declared.shape.Shape.{Shape}
 use Rattle.eaw_face.specs.StoreView.{StoreView, LeavesOnly}
+use Rattle.page_store.specs.Shown.{PagesView}
 use Rattle.history.specs.Table.{Table}
 use Rattle.history.specs.declared.call.Call.{Call}
 use Rattle.history.specs.declared.call.Reply.{Reply}
@@ -46,9 +47,9 @@ FaultCause old new _ = new ≡ old
 
 -- A call of a session, with this answer. Whatever that is, each image that a loss of power might have left anew opens with the
 -- records of the first transactions, with all of those that were committed before it.
-pub record Called (tells : Bool) (Opens : Shape → List ℕ → List ℕ → Type 0) (call : Call) (old new : StoreView) (before after : Work) (result : Result Reply Fault) : Type 0 where
-  pub shape : new.shape ≡ old.shape
-  pub cause : FaultCause old.faults new.faults result
+pub record Called (tells : Bool) (Opens : Shape → List ℕ → List ℕ → Type 0) (call : Call) (old new : PagesView) (before after : Work) (result : Result Reply Fault) : Type 0 where
+  pub shape : new.store.shape ≡ old.store.shape
+  pub cause : FaultCause old.store.faults new.store.faults result
   pub ready : OnOk result (IsReady new after)
-  pub keeps : IsTrue tells → (base : Table) → IsKept base old before → Keeps base old new before after call result
-  pub prefix : IsTrue tells → (base : Table) → IsKept base old before → LeavesOnly (HasPrefixOf Opens old.shape base after (length before.history)) old new
+  pub keeps : IsTrue tells → (base : Table) → IsKept base old.store before → Keeps base old.store new.store before after call result
+  pub prefix : IsTrue tells → (base : Table) → IsKept base old.store before → LeavesOnly (HasPrefixOf Opens old.store.shape base after (length before.history)) old.store new.store

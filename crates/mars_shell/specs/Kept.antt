@@ -1,5 +1,6 @@
 -- What a session over a store keeps true.
-use Rattle.std.specs.Prelude.{ℕ, ◌*◌, ◌≡◌, ◌<◌, ◌≤◌, Bool, false, IsTrue, List, [], ◌∷◌, Option, None, unwrap_or}
+use Rattle.std.specs.Prelude.{ℕ, ◌*◌, ◌≡◌, ◌<◌, ◌≤◌, false, nat_eq, List, [], length, map, filter, Option, None, unwrap_or}
+use Rattle.std.specs.List.{list_any}
 use Rattle.array_shape.specs.declared.shape.Shape.{Shape}
 use Rattle.array_shape.specs.Places.{page_count}
 use Rattle.array_shape.specs.Logged.{applied}
@@ -11,7 +12,8 @@ use Rattle.history.specs.declared.call.Call.{Call}
 use Rattle.history.specs.declared.call.Call.TheVariants.{Begin, Get, Put, Commit}
 use Rattle.history.specs.declared.call.Reply.{Reply}
 use Rattle.history.specs.declared.transaction.Done.{Done}
-use Rattle.mars_shell.specs.Session.{Limits, State, puts_of}
+use Rattle.page_store.specs.Shown.{PagesView}
+use Rattle.mars_shell.specs.Session.{Limits, State, has_put, is_key_on, taken_on}
 use Rattle.mars_shell.specs.Records.{slot_at, Holds}
 use Rattle.mars_shell.specs.declared.session.Session.{Session}
 
@@ -49,27 +51,27 @@ FitsCall slots (Get key) = key < slots
 FitsCall slots (Put key value) = key < slots
 FitsCall slots Commit = Unit {0}
 
--- where the slots of what was put lie
-abbrev pub slots_put : ℕ → List (ℕ × List ℕ) → List (ℕ × ℕ)
-slots_put slots [] = []
-slots_put slots (put ∷ puts) = (slot_at slots put.0, 64) ∷ slots_put slots puts
+-- These are the keys that calls have put, each once.
+pub record AreKeys (limits : Limits) (calls : List (Call × Reply)) (keys : List ℕ) : Type 0 where
+  pub all : (key : ℕ) → has_put calls key ≡ list_any (nat_eq key) keys
+  pub once : (g : ℕ) → taken_on limits g calls ≡ length (filter (is_key_on limits g) keys)
 
--- The store is not dead, and the caller's log has the slot of each put and nothing else. Each logger has room for its part of
--- that, and no commit is in doubt.
-pub record IsReady (store : StoreView) (work : Work) : Type 0 where
-  pub alive : store.is_dead ≡ false
-  pub logged : listed (store.ranges 0) ≡ slots_put (slots_of store.shape) (puts_of (calls_of work.live))
-  pub room : (g : ℕ) → g < store.shape.loggers → count_on store.shape g (listed (store.ranges 0)) ≤ store.shape.entries
+-- the range of the slot of a key
+abbrev pub slot_range : ℕ → ℕ → ℕ × ℕ
+slot_range slots key = (slot_at slots key, 64)
+
+-- The store is not dead; the caller has not saved, and its log has one part for the slot of each key that it has put, and nothing
+-- else. Each logger has room for its share of that, and no commit is in doubt.
+pub record IsReady (pages : PagesView) (work : Work) : Type 0 where
+  pub alive : pages.store.is_dead ≡ false
+  pub unsaved : (pages.counts 0 ≡ []) × (pages.top 0 ≡ None)
+  pub keys : List ℕ
+  pub are_keys : AreKeys (limits_of pages.store.shape) (calls_of work.live) keys
+  pub logged : listed (pages.store.ranges 0) ≡ map (slot_range (slots_of pages.store.shape)) keys
+  pub room : (g : ℕ) → g < pages.store.shape.loggers → count_on pages.store.shape g (listed (pages.store.ranges 0)) ≤ pages.store.shape.entries
   pub certain : work.doubt ≡ None
 
 -- The data has the records of the history, and with the log applied those that the caller sees.
 pub record IsKept (base : Table) (store : StoreView) (work : Work) : Type 0 where
   pub stored : Holds (slots_of store.shape) (records base work.history) store.state.bytes
   pub seen : Holds (slots_of store.shape) (left_by (records base work.history) (calls_of work.live)) (applied (listed (store.state.logs 0)) store.state.bytes)
-
--- The caller's log is empty, and what it had is in the data.
-pub record Empties (tells : Bool) (old new : StoreView) : Type 0 where
-  pub alive : new.is_dead ≡ false
-  pub ranges : listed (new.ranges 0) ≡ []
-  pub log : IsTrue tells → listed (new.state.logs 0) ≡ []
-  pub bytes : IsTrue tells → new.state.bytes ≡ applied (listed (old.state.logs 0)) old.state.bytes

@@ -1,6 +1,6 @@
 pub mod Records
-pub mod Live
 pub mod Session
+pub mod Live
 pub mod Lines
 pub mod Kept
 pub mod Prefix

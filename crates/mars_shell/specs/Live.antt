@@ -1,12 +1,13 @@
--- What was put last.
-use Rattle.std.specs.Prelude.{ℕ, nat_eq, if◌then◌else◌, List, [], ◌∷◌, Option, Some, None}
+-- A map of what calls have put.
+use Rattle.std.specs.Prelude.{ℕ, ◌≡◌, List}
+use Rattle.std.specs.BTreeMap as tree
+use Rattle.std.specs.BTreeMap.{BTreeMap}
+use Rattle.std.specs.FinMap.{get}
+use Rattle.std.specs.Ordering.{nat_cmp}
+use Rattle.history.specs.declared.call.Call.{Call}
+use Rattle.history.specs.declared.call.Reply.{Reply}
+use Rattle.mars_shell.specs.Session.{puts_of}
 
--- the first of two values that is there
-abbrev pub either : Option (List ℕ) → Option (List ℕ) → Option (List ℕ)
-either None other = other
-either (Some value) other = Some value
-
--- the value that was put last under a key
-abbrev pub last_put : List (ℕ × List ℕ) → ℕ → Option (List ℕ)
-last_put [] key = None
-last_put (put ∷ puts) key = either (last_put puts key) (if nat_eq put.0 key then Some put.1 else None)
+-- the map has what these calls put
+abbrev pub Mirrors : BTreeMap ℕ (List ℕ) → List (Call × Reply) → Type 0
+Mirrors map calls = (key : ℕ) → tree.get nat_cmp map key ≡ get (puts_of calls) key

@@ -8,14 +8,12 @@ ghost use Rattle.record_slots.specs.Slots.{slot_said};
 ghost use Rattle.mars_shell.specs.Kept.{slots_of};
 ghost use Rattle.mars_shell.specs.Records.{IsSoundIn, IsSoundData, IsFirstDamaged, reading};
 
-use crate::records::slot_count;
+use crate::records::{SLOTS_IN_PAGE, slot_count};
 use eaw_face::{EawFault, EawStore};
 use record_slots::{SLOT_LEN, Slot, read_slot};
 
-// Bytes of a page, and the slots in it.
+// Bytes of a page.
 const PAGE_LEN: usize = 512;
-
-const SLOTS_IN_PAGE: u64 = 8;
 
 /// The first page of records that is not sound, read page by page.
 pub fn first_damage<S: EawStore>(store: &mut S) -> Result<Option<u64>, EawFault>

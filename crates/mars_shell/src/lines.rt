@@ -10,6 +10,7 @@ use crate::opening::open;
 use crate::serve::serve;
 use crate::status::{Status, script_status};
 use outside::{Sink, Source};
+use page_store::SaveRoom;
 use pcm_media::Media;
 use std::alloc::Global;
 
@@ -29,13 +30,18 @@ pub(crate) fn run_lines<S: Source, K: Sink, M: Media>(
     ensures ran { Wrote K.tells (K.written sink.old) (K.written sink.new) (K.faults sink.old) (K.faults sink.new)
         (λ cut text. (input : List ℕ) × (IsTrue S.tells → S.left source.old ≡ input) × (IsTrue M.tells → Outcome (M.view media) result.0 (M.view result.1) input cut text)) }
 {
+    // The room for the pages is taken first, so that want of memory for it leaves the media alone.
+    let room = match SaveRoom::new(alloc) {
+        Ok(room) => room,
+        Err(_) => return (Status::NoMemory, media),
+    };
     let (input, mut store) = match open(alloc, source, media) {
         Ok(opened) => opened,
         Err(ended) => return ended,
     };
     match first_damage(&mut store) {
         Ok(None) => {
-            let (ended, store) = serve(alloc, &input, sink, store);
+            let (ended, store) = serve(alloc, &input, sink, room, store);
             (script_status(ended), store.into_media())
         }
         Ok(Some(page)) => (Status::Damaged { page: page as u32 }, store.into_media()),

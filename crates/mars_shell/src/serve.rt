@@ -11,14 +11,17 @@ use crate::session::Session;
 use eaw_face::EawStore;
 use history::History;
 use outside::Sink;
+use page_store::{Pages, SaveRoom};
 use script_run::{Ended, answer_lines};
 use std::alloc::Global;
 
-/// Answers the lines of the input over the records of a store that are sound, and gives the store back.
+/// Answers the lines of the input over the records of a store that are sound, and gives the store back. The pages over it lie in
+/// room that was taken before the store was opened.
 pub fn serve<K: Sink, S: EawStore>(
     alloc: Global,
     input: &[u8],
     sink: &mut K,
+    room: SaveRoom,
     store: S,
 ) -> (Ended, S)
     requires alive { IsAlive (S.view store) }
@@ -30,12 +33,12 @@ pub fn serve<K: Sink, S: EawStore>(
 {
     let mut session = Session {
         alloc,
-        store,
+        pages: Pages::attach_in(room, store),
         history: History::new(alloc),
         live: None,
         doubt: None,
     };
     let ended = answer_lines(alloc, input, sink, &mut session);
-    let Session { store, .. } = session;
-    (ended, store)
+    let Session { pages, .. } = session;
+    (ended, pages.into_store())
 }

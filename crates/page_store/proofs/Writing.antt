@@ -1,6 +1,7 @@
 -- A write as a number: an edit of a part, or a part more.
 use Rattle.std.proofs.Common.{◌≡◌, ℕ, ◌+◌, ◌-◌, ◌*◌, ◌%◌, ◌<◌, ◌≤◌, max, List, [], ◌∷◌, Bool, false, length, get_or, refl, sym, ◌∙◌, ap, subst, arith}
-use Rattle.std.specs.Prelude.{Option, Some, None, IsTrue}
+use Rattle.counted.specs.Bytes.{put}
+use Rattle.std.specs.Prelude.{Option, Some, None, IsTrue, Result, Ok, Err, OnOk}
 use Rattle.std.specs.Option.{unwrap_or}
 use Rattle.std.proofs.lemmas.Nat.{mod_below}
 use Rattle.array_shape.specs.declared.shape.Shape.{Shape}
@@ -17,9 +18,12 @@ use Rattle.page_store.specs.Device.{write_of}
 use Rattle.page_store.specs.Kept.{IsOrdered}
 use Rattle.page_store.specs.Marked.{Marked, floor_at}
 use Rattle.page_store.specs.Outline.{floor_in}
-use Rattle.page_store.specs.Does.{edits_at}
-use Rattle.page_store.specs.Shown.{PagesView, IsInPage, address, counts_in, top_in, outline_of}
-use Rattle.page_store.proofs.Shown.{IsTold}
+use Rattle.page_store.specs.State.{PagesState, view_of}
+use Rattle.page_store.specs.Does.{Does, edits_at}
+use Rattle.page_store.specs.Shown.{PagesView, IsInPage, address, counts_in, top_in, outline_of, state_of}
+use Rattle.page_store.specs.declared.fault.PageFault.{PageFault}
+use Rattle.page_store.proofs.Shown.{IsTold, kept}
+use Rattle.page_store.proofs.Views.{write_as_view}
 use Rattle.page_store.proofs.Exact.{edit_found}
 use Rattle.page_store.proofs.Writes.{one_write_part}
 use Rattle.page_store.proofs.Marking.{was}
@@ -85,3 +89,12 @@ edits_from store marks t k k_is there m m_is floor floor_at_is place addr len pl
     let kept = was marks t k k_is there m m m_is in
     let same : floor ≡ floor_in (outline_of pages) t = floor_at_is ∙ floor_is pages t m kept.0 kept.1 in
     sym (e_is ∙ ap (λ (f : ℕ). edit_pos f (place, len) (listed (store.ranges t))) same ∙ ap (λ (a : ℕ). edit_pos (floor_in (outline_of pages) t) (a, len) (listed (store.ranges t))) place_is)
+
+-- what the number sees behind a write
+pub seen_of : (tells : Bool) (Opens : List ℕ → List ℕ → Type 0) (old new : PagesView) (t addr : ℕ) (bytes : List ℕ) (result : Result (Unit {0}) PageFault)
+    → IsPlaced old.store.shape addr (length bytes) → (old.store.is_dead ≡ false → IsOrdered (outline_of old)) → (IsTrue tells → old.store.is_dead ≡ false → IsTold old.store)
+    → Does tells Opens (write_as t addr bytes) old new result → IsTrue tells → OnOk result (view_of t (state_of new) ≡ put (view_of t (state_of old)) addr bytes)
+seen_of tells Opens old new t addr bytes (Ok x) placed ordered told does tell =
+    let alive = does.cause.0 in
+    ap (λ (s : PagesState). view_of t s) (does.done.state tell) ∙ write_as_view old.store.shape (state_of old) (kept old (told tell alive) (ordered alive)) t addr bytes placed
+seen_of tells Opens old new t addr bytes (Err fault) placed ordered told does tell = tt

@@ -5,6 +5,7 @@ mod fault;
 mod laws;
 mod marks;
 mod pages;
+mod room;
 
 pub use fault::PageFault;
 pub use laws::{
@@ -12,3 +13,4 @@ pub use laws::{
     others_stay, parts_are_read, top_end_keeps_views, writes_edit_exactly,
 };
 pub use pages::Pages;
+pub use room::SaveRoom;

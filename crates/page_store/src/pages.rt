@@ -1,5 +1,5 @@
 // Pages over a store of editable atomic writes.
-ghost use Rattle.std.specs.Prelude.{◌≡◌, ◌≢◌, ◌↔◌, ◌+◌, ◌^◌, ◌<◌, ◌≤◌, ℕ, List, None, Some, is_some, filter, if◌then◌else◌, IsTrue, IsOk, IfOk, IfErr, OnErr, OnOk, length};
+ghost use Rattle.std.specs.Prelude.{◌≡◌, ◌≢◌, ◌↔◌, ◌+◌, ◌^◌, ◌<◌, ◌≤◌, ℕ, List, None, Some, is_some, filter, if◌then◌else◌, IsTrue, IsOk, IfOk, IfErr, OnErr, OnOk, IsErrOf, length};
 ghost use Rattle.counted.specs.Bytes.{put, range};
 ghost use Rattle.array_shape.specs.Places.{data_len};
 ghost use Rattle.array_shape.specs.Logged.{applied};
@@ -18,6 +18,7 @@ ghost use Rattle.page_store.specs.State.{view_of};
 
 use crate::fault::PageFault;
 use crate::marks::Marks;
+use crate::room::SaveRoom;
 use array_shape::Shape;
 use counted::NoMemory;
 use eaw_face::{EawFault, EawStore};
@@ -52,10 +53,19 @@ impl<S: EawStore> Pages<S> {
         ensures fresh { IfOk result (λ pages. (pages.store ≡ store) × IsUnmarked pages.marks) }
         ensures err { IfErr result (λ failed. failed.1 ≡ store) }
     {
-        match fresh_marks(alloc, store.shape().numbers) {
-            Ok(marks) => Ok(Pages { store, marks }),
+        match SaveRoom::new(alloc) {
+            Ok(room) => Ok(Pages::attach_in(room, store)),
             Err(_) => Err((NoMemory, store)),
         }
+    }
+
+    /// Pages over a store, without saves, in room that was taken before.
+    pub fn attach_in(room: SaveRoom, store: S) -> Pages<S>
+        ensures store { result.store ≡ store }
+        ensures fresh { IsUnmarked result.marks }
+    {
+        let marks = room.take(store.shape().numbers);
+        Pages { store, marks }
     }
 
     /// The shape of the array below.
@@ -130,6 +140,8 @@ impl<S: EawStore> Pages<S> {
         requires inside { IsInPage (S.view self.old.store) page at (length bytes.now) }
         ensures does { Does S.tells (S.opens (S.view self.old.store).shape) (write_as tid (address page at) bytes.now)
             (pages_of (S.view self.old.store) self.old) (pages_of (S.view self.new.store) self.new) result }
+        ensures seen { IsTrue S.tells → OnOk result (view_of tid (state_of (pages_of (S.view self.new.store) self.new))
+            ≡ put (view_of tid (state_of (pages_of (S.view self.old.store) self.old))) (address page at) bytes.now) }
         ensures refused { IfErr result (λ fault. fault ≢ PageFault.Media → self.new ≡ self.old) }
     {
         let addr = address(page, at);
@@ -205,6 +217,7 @@ impl<S: EawStore> Pages<S> {
         ensures does { Does S.tells (S.opens (S.view self.old.store).shape) (top_end tid mark)
             (pages_of (S.view self.old.store) self.old) (pages_of (S.view self.new.store) self.new) result }
         ensures refused { IfErr result (λ fault. fault ≢ PageFault.Media → self.new ≡ self.old) }
+        ensures due { IsErrOf result PageFault.Media → mark < log_len (S.view self.old.store) tid }
         ensures idle { log_len (S.view self.old.store) tid ≡ mark → (S.view self.new.store).moment ≡ (S.view self.old.store).moment }
     {
         if self.store.is_dead() {
@@ -222,6 +235,7 @@ impl<S: EawStore> Pages<S> {
         ensures does { Does S.tells (S.opens (S.view self.old.store).shape) (end tid commits)
             (pages_of (S.view self.old.store) self.old) (pages_of (S.view self.new.store) self.new) result }
         ensures refused { IfErr result (λ fault. fault ≢ PageFault.Media → self.new ≡ self.old) }
+        ensures due { IsErrOf result PageFault.Media → 0 < log_len (S.view self.old.store) tid }
         ensures idle { log_len (S.view self.old.store) tid ≡ 0 → (S.view self.new.store).moment ≡ (S.view self.old.store).moment }
     {
         if self.store.is_dead() {
@@ -264,17 +278,6 @@ impl<S: EawStore> Pages<S> {
         let Pages { store, marks: _ } = self;
         store
     }
-}
-
-// Marks for each number: none has saved, and no top action is open.
-fn fresh_marks(alloc: Global, numbers: u8) -> Result<Vec<Marks>, NoMemory>
-    ensures { IfOk result (λ marks. (length marks.items ≡ numbers) × IsUnmarked marks.items) }
-{
-    let mut marks = Vec::with_capacity(alloc, usize::from(numbers))?;
-    for _tid in 0..numbers {
-        marks.push(Marks::new())?;
-    }
-    Ok(marks)
 }
 
 // The address of a place in a page.
@@ -442,6 +445,7 @@ fn commit_from<S: EawStore>(store: &mut S, tid: u8, offset: u32) -> Result<(), P
     ensures does { DoesWhereLive ((S.view store.old).ranges tid) (store.new ≡ store.old) S.tells (S.opens (S.view store.old).shape) (nested_top tid offset)
         (S.view store.old) (S.view store.new) result }
     ensures refused { IfErr result (λ fault. fault ≢ PageFault.Media → store.new ≡ store.old) }
+    ensures due { IsErrOf result PageFault.Media → offset < log_len (S.view store.old) tid }
     ensures idle { log_len (S.view store.old) tid ≡ offset → (S.view store.new).moment ≡ (S.view store.old).moment }
 {
     if !store.is_live(tid) {
@@ -457,6 +461,7 @@ fn end_number<S: EawStore>(store: &mut S, tid: u8, commits: bool) -> Result<(), 
     ensures does { DoesWhereLive ((S.view store.old).ranges tid) (store.new ≡ store.old) S.tells (S.opens (S.view store.old).shape) (if commits then commit tid else abort tid)
         (S.view store.old) (S.view store.new) result }
     ensures refused { IfErr result (λ fault. fault ≢ PageFault.Media → store.new ≡ store.old) }
+    ensures due { IsErrOf result PageFault.Media → 0 < log_len (S.view store.old) tid }
     ensures idle { log_len (S.view store.old) tid ≡ 0 → (S.view store.new).moment ≡ (S.view store.old).moment }
 {
     if !store.is_live(tid) {

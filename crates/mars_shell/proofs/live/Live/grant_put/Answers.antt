@@ -1,11 +1,10 @@
-use Rattle.std.proofs.Common.{◌≡◌, ◌++◌, ◌∷◌, [], sym, ap, ◌∙◌, arith}
-use Rattle.std.proofs.lemmas.Grind.{common_steps}
+use Rattle.std.proofs.Common.{refl, sym, subst}
 use Rattle.history.specs.declared.call.Reply.TheVariants.{Fine}
-use Rattle.mars_shell.specs.Session.{puts_of}
-use Rattle.mars_shell.proofs.PutLemmas.{puts_of-put}
+use Rattle.mars_shell.specs.Live.{Mirrors}
+use Rattle.mars_shell.proofs.LiveLemmas.{mirrors_put}
 use Rattle.mars_shell.proofs.live.Live.grant_put.Goals as goal
 
-pub invariant_of-self-else-is_err : goal.invariant_of-self-else-is_err
-invariant_of-self-else-is_err c =
-    let pushed : c.push-2.new.self.items ≡ c.self.inside.puts.items ++ (c.args.key, c.args.value) ∷ [] = grind (arith, common_steps) in
-    pushed ∙ ap (λ l. l ++ (c.args.key, c.args.value) ∷ []) c.self.invariant ∙ sym (ap puts_of c.in_ok-push.ensures.ok ∙ puts_of-put c.self.inside.calls c.args.key c.args.value Fine)
+pub invariant_of-self-in-Ok : goal.invariant_of-self-in-Ok
+invariant_of-self-in-Ok c =
+    subst (Mirrors c.insert.new.self) (sym c.in_ok-push.ensures.ok)
+    (mirrors_put c.self.inside.puts c.insert.new.self c.args.key _ c.in-Ok.ensures.updates.0 c.self.inside.calls c.args.value Fine c.self.invariant refl)

@@ -12,7 +12,7 @@ use Rattle.page_store.specs.Does.{Does, edits_at}
 use Rattle.page_store.specs.Shown.{PagesView, address, counts_in, top_in, outline_of}
 use Rattle.page_store.proofs.Shown.{IsTold}
 use Rattle.page_store.proofs.Lifting.{lifted, ordered_now}
-use Rattle.page_store.proofs.Writing.{in_page_placed, makes_edit, makes_write, edit_there_is, edits_from}
+use Rattle.page_store.proofs.Writing.{in_page_placed, makes_edit, makes_write, edit_there_is, edits_from, seen_of}
 use Rattle.page_store.proofs.pages.Pages.write_as.Given as given
 use Rattle.page_store.proofs.pages.Pages.write_as.Goals as goal
 
@@ -122,6 +122,36 @@ returns-in-Some-clause-does g c = rw (← c.self.view_is) (edit_does g c)
 
 pub returns-in-None-clause-does : goal.returns-in-None-clause-does
 returns-in-None-clause-does g c = rw (← c.self.view_is) (write_does g c)
+
+pub returns-in-Some-clause-seen : goal.returns-in-Some-clause-seen
+returns-in-Some-clause-seen g c =
+    let view = g.S.EawStore.view in
+    let store = view c.self.inside.store in
+    let marks = c.self.inside.marks.items in
+    let old : PagesView = record { store = store; counts = counts_in marks; top = top_in marks } in
+    let new : PagesView = record { store = view c.log_edit.new.self; counts = counts_in marks; top = top_in marks } in
+    let placed = in_page_placed store c.args.page c.args.at (length c.args.bytes.now) c.requires.some (rw (← c.self.view_is) at c.requires.inside) in
+    let told : IsTrue g.S.EawStore.tells → store.is_dead ≡ false → IsTold store = λ tell alive. record {
+      long = g.met.S.EawStore.long c.self.inside.store tell;
+      outlines = λ u. g.met.S.EawStore.outlines c.self.inside.store u tell alive;
+      placed = g.met.S.EawStore.placed c.self.inside.store;
+    } in
+    rw (← c.self.view_is) (seen_of g.S.EawStore.tells (g.S.EawStore.opens store.shape) old new c.args.tid (address c.args.page c.args.at) c.args.bytes.now c.told.result placed c.self.invariant.ordered told (edit_does g c))
+
+pub returns-in-None-clause-seen : goal.returns-in-None-clause-seen
+returns-in-None-clause-seen g c =
+    let view = g.S.EawStore.view in
+    let store = view c.self.inside.store in
+    let marks = c.self.inside.marks.items in
+    let old : PagesView = record { store = store; counts = counts_in marks; top = top_in marks } in
+    let new : PagesView = record { store = view c.log_write.new.self; counts = counts_in marks; top = top_in marks } in
+    let placed = in_page_placed store c.args.page c.args.at (length c.args.bytes.now) c.requires.some (rw (← c.self.view_is) at c.requires.inside) in
+    let told : IsTrue g.S.EawStore.tells → store.is_dead ≡ false → IsTold store = λ tell alive. record {
+      long = g.met.S.EawStore.long c.self.inside.store tell;
+      outlines = λ u. g.met.S.EawStore.outlines c.self.inside.store u tell alive;
+      placed = g.met.S.EawStore.placed c.self.inside.store;
+    } in
+    rw (← c.self.view_is) (seen_of g.S.EawStore.tells (g.S.EawStore.opens store.shape) old new c.args.tid (address c.args.page c.args.at) c.args.bytes.now c.told-in-None.result placed c.self.invariant.ordered told (write_does g c))
 
 pub invariant_of-self-in-None : goal.invariant_of-self-in-None
 invariant_of-self-in-None g c =
