@@ -3,7 +3,7 @@ ghost use Rattle.std.specs.Prelude.{◌≡◌, ◌^◌, ◌<◌, ◌≤◌, ℕ,
 ghost use Rattle.history.specs.declared.call.Call.{Call};
 ghost use Rattle.script_text.specs.declared.line.Line.{Line};
 ghost use Rattle.script_text.specs.Line.{Says, IsCall, line_text};
-ghost use Rattle.script_text.specs.Eaw.{Command, IsCommand, eaw_line};
+ghost use Rattle.script_text.specs.Eaw.{Raw, IsLineOf};
 ghost use Rattle.script_text.specs.EawLines.{Meaning, Means};
 
 /// No line is the text of two callers' calls, so a line says one thing.
@@ -16,8 +16,8 @@ pub fn one_line()
 
 /// No line is the text of two numbers' raw commands, so such a line means one thing.
 pub fn one_raw_line()
-    ensures text { (c d : ℕ) (command other : Command) → c < 2 ^ 64 → d < 2 ^ 64 → IsCommand command → IsCommand other
-        → eaw_line c command ≡ eaw_line d other → (c ≡ d) × (command ≡ other) }
+    ensures text { (numbers c d : ℕ) (raw other : Raw) (line : List ℕ) → numbers ≤ 2 ^ 64 → IsLineOf numbers c raw line → IsLineOf numbers d other line
+        → (c ≡ d) × (raw ≡ other) }
     ensures means { (numbers : ℕ) (bytes : List ℕ) (meaning other : Meaning) → numbers ≤ 2 ^ 64
         → Means numbers bytes meaning → Means numbers bytes other → meaning ≡ other }
 {}
