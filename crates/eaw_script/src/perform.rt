@@ -1,6 +1,6 @@
 // A command of a script.
-ghost use Rattle.std.specs.Prelude.{◌≡◌, ◌<◌, false};
-ghost use Rattle.script_text.specs.Eaw.{Command, IsCommand};
+ghost use Rattle.std.specs.Prelude.{ℕ, ◌≡◌, ◌<◌, false, List};
+ghost use Rattle.script_text.specs.Eaw.{Raw, IsTextOf};
 ghost use Rattle.script_text.specs.EawLines.{ShowsCall};
 ghost use Rattle.eaw_script.specs.Performed.{Performed};
 
@@ -15,9 +15,9 @@ use script_text::{Answer, EawCall, block_of};
 pub fn perform<S: EawStore>(store: &mut S, number: u8, call: &EawCall<'_>) -> Result<Answer, Failed>
     requires number { number < (S.view store.old).shape.numbers }
     requires alive { (S.view store.old).is_dead ≡ false }
-    requires said { (command : Command) × ShowsCall call.now command × IsCommand command }
-    ensures { (command : Command) → ShowsCall call.now command → IsCommand command
-        → Performed S.tells (S.opens (S.view store.old).shape) (S.view store.old) (S.view store.new) number command result }
+    requires said { (raw : Raw) × (text : List ℕ) × ShowsCall number call.now raw × IsTextOf number raw text }
+    ensures { (raw : Raw) (text : List ℕ) → ShowsCall number call.now raw → IsTextOf number raw text
+        → Performed S.tells (S.opens (S.view store.old).shape) (S.view store.old) (S.view store.new) number raw result }
 {
     match call {
         EawCall::LogWrite { addr, hex } => {

@@ -1,6 +1,7 @@
 // Commands that read bytes or ask for a count.
 ghost use Rattle.std.specs.Prelude.{◌≡◌, ◌<◌, ◌≤◌, false};
-ghost use Rattle.script_text.specs.Eaw.{read_log, read, log_len, held};
+ghost use Rattle.eaw_face.specs.Command.{read};
+ghost use Rattle.script_text.specs.Eaw.{does, read_log, log_len, held};
 ghost use Rattle.eaw_script.specs.Performed.{Performed};
 
 use crate::in_data::is_in_data;
@@ -39,7 +40,7 @@ pub fn read<S: EawStore>(store: &mut S, number: u8, addr: u32, len: u32) -> Resu
     requires number { number < (S.view store.old).shape.numbers }
     requires alive { (S.view store.old).is_dead ≡ false }
     requires len { len ≤ 1024 }
-    ensures { Performed S.tells (S.opens (S.view store.old).shape) (S.view store.old) (S.view store.new) number (read addr len) result }
+    ensures { Performed S.tells (S.opens (S.view store.old).shape) (S.view store.old) (S.view store.new) number (does (read addr len)) result }
 {
     let count = len as usize;
     if !is_in_data(&store.shape(), addr, count) {

@@ -40,12 +40,12 @@ returns-in-Ok g c =
       shape = does.shape;
       cause = record { later = omega (arith, does.kept); failed = tt; kept = does.kept };
       alive = does.done.alive;
-      answers = λ told. record {
-        passes = record { known = search rules; there = there; free = tt; room = λ g lt. omega arith };
-        answer_is = ap (λ (xs : List ℕ). Part c.in-Ok.addr xs) (c.of.ensures ∙ ap (λ n. take n c.log_read.new.buf) c.from.ensures ∙ c.in-Ok.ensures.bytes told)
-            ∙ ap (λ (addr : ℕ). Part addr (part_at (listed (old.state.logs t)) pos).1) (ap (λ (p : ℕ × ℕ). p.0) its);
-        state = does.done.state told;
-      };
+      answers = λ told. (
+        (search rules, there, tt, λ g lt. omega arith),
+        ap (λ (xs : List ℕ). Part c.in-Ok.addr xs) (c.of.ensures ∙ ap (λ n. take n c.log_read.new.buf) c.from.ensures ∙ c.in-Ok.ensures.bytes told)
+            ∙ ap (λ (addr : ℕ). Part addr (part_at (listed (old.state.logs t)) pos).1) (ap (λ (p : ℕ × ℕ). p.0) its),
+        does.done.state told,
+      );
       fails = tt;
       time = λ told. subst (λ (d : State). LeavesOnly (IsEither (s.opens old.shape) old.state.bytes d.bytes) old (s.view c.log_read.new.self)) (sym (does.done.state told)) (does.time told c.requires.alive);
     }
