@@ -11,7 +11,7 @@ use Rattle.script_text.specs.Eaw.{Raw, does, read_log, log_len, held, IsTextOf, 
 use Rattle.script_text.specs.EawLines.{Meaning, nothing, told, bad, Means}
 use Rattle.script_text.proofs.Words.{first_space}
 use Rattle.script_text.proofs.Numbers.{decimal_is_word}
-use Rattle.script_text.proofs.OneLine.{first_digit}
+use Rattle.script_text.proofs.OneLine.{not_passed}
 use Rattle.script_text.proofs.HexTexts.{hex_of_injective}
 use Rattle.script_text.proofs.EawReads.{same_fields}
 
@@ -121,14 +121,6 @@ same_eaw_line numbers c d raw other line few is js =
     let both = first_space (decimal c) (decimal d) is.1 js.1 (decimal_is_word c cf) (decimal_is_word d df) (sym is.3 ∙ js.3) in
     let same : c ≡ d = decimal_injective c d cf df both.0 in
     (same, same_raw c raw other is.1 is.2 (subst (λ (text : List ℕ). IsTextOf c other text) (sym both.1) (subst (λ (t : ℕ). IsTextOf t other js.1) (sym same) js.2)))
-
--- a number's command is not passed over: it begins with a digit
-not_passed : (c : ℕ) (text line : List ℕ) → c < 2 ^ 64 → line ≡ decimal c ++ 32 ∷ text → IsPassedOver line → ⊥
-not_passed c text [] cf e over = omega (arith, decimal_nonempty c cf, simp length-append at (ap length e))
-not_passed c text (byte ∷ bytes) cf e over =
-    let head : byte ≡ get_or (decimal c ++ 32 ∷ text) 0 0 = ap (λ (l : List ℕ). get_or l 0 0) e in
-    let digit = get_or_append_left (decimal c) (32 ∷ text) 0 0 (decimal_nonempty c cf) in
-    omega (arith, over, head, digit, first_digit c cf)
 
 -- no two of the three cases hold of one line
 pub same_meaning : (numbers : ℕ) (bytes : List ℕ) (meaning other : Meaning) → numbers ≤ 2 ^ 64 → Means numbers bytes meaning → Means numbers bytes other → meaning ≡ other
