@@ -10,7 +10,7 @@ use eaw_face::EawStore;
 use script_text::Answer;
 
 /// Commits a log.
-pub fn commit<S: EawStore>(store: &mut S, number: u8) -> Result<Answer, Failed>
+pub fn commit<S: EawStore>(store: &mut S, number: u8) -> Result<Answer<'static>, Failed>
     requires number { number < (S.view store.old).shape.numbers }
     requires alive { (S.view store.old).is_dead ≡ false }
     ensures { Performed S.tells (S.opens (S.view store.old).shape) (S.view store.old) (S.view store.new) number (does (commit number)) result }
@@ -25,7 +25,7 @@ pub fn commit<S: EawStore>(store: &mut S, number: u8) -> Result<Answer, Failed>
 }
 
 /// Drops a log.
-pub fn abort<S: EawStore>(store: &mut S, number: u8) -> Result<Answer, Failed>
+pub fn abort<S: EawStore>(store: &mut S, number: u8) -> Result<Answer<'static>, Failed>
     requires number { number < (S.view store.old).shape.numbers }
     requires alive { (S.view store.old).is_dead ≡ false }
     ensures { Performed S.tells (S.opens (S.view store.old).shape) (S.view store.old) (S.view store.new) number (does (abort number)) result }
@@ -40,7 +40,11 @@ pub fn abort<S: EawStore>(store: &mut S, number: u8) -> Result<Answer, Failed>
 }
 
 /// Commits what a log has from an offset on.
-pub fn nested<S: EawStore>(store: &mut S, number: u8, offset: u32) -> Result<Answer, Failed>
+pub fn nested<S: EawStore>(
+    store: &mut S,
+    number: u8,
+    offset: u32,
+) -> Result<Answer<'static>, Failed>
     requires number { number < (S.view store.old).shape.numbers }
     requires alive { (S.view store.old).is_dead ≡ false }
     ensures { Performed S.tells (S.opens (S.view store.old).shape) (S.view store.old) (S.view store.new) number (does (nested_top number offset)) result }
@@ -58,7 +62,11 @@ pub fn nested<S: EawStore>(store: &mut S, number: u8, offset: u32) -> Result<Ans
 }
 
 /// Drops what a log has from an offset on.
-pub fn partial<S: EawStore>(store: &mut S, number: u8, offset: u32) -> Result<Answer, Failed>
+pub fn partial<S: EawStore>(
+    store: &mut S,
+    number: u8,
+    offset: u32,
+) -> Result<Answer<'static>, Failed>
     requires number { number < (S.view store.old).shape.numbers }
     requires alive { (S.view store.old).is_dead ≡ false }
     ensures { Performed S.tells (S.opens (S.view store.old).shape) (S.view store.old) (S.view store.new) number (does (partial_abort number offset)) result }

@@ -17,7 +17,7 @@ pub fn log_write<S: EawStore>(
     number: u8,
     addr: u32,
     bytes: &[u8],
-) -> Result<Answer, Failed>
+) -> Result<Answer<'static>, Failed>
     requires number { number < (S.view store.old).shape.numbers }
     requires alive { (S.view store.old).is_dead ≡ false }
     requires block { IsBlock bytes.now }
@@ -38,7 +38,7 @@ pub fn atomic<S: EawStore>(
     number: u8,
     addr: u32,
     bytes: &[u8],
-) -> Result<Answer, Failed>
+) -> Result<Answer<'static>, Failed>
     requires number { number < (S.view store.old).shape.numbers }
     requires alive { (S.view store.old).is_dead ≡ false }
     requires block { IsBlock bytes.now }
@@ -63,7 +63,7 @@ pub fn edit_log<S: EawStore>(
     pos: u32,
     at: u32,
     bytes: &[u8],
-) -> Result<Answer, Failed>
+) -> Result<Answer<'static>, Failed>
     requires number { number < (S.view store.old).shape.numbers }
     requires alive { (S.view store.old).is_dead ≡ false }
     requires block { IsBlock bytes.now }

@@ -6,7 +6,7 @@ ghost use Rattle.script_text.specs.HexText.{IsHex};
 ghost use Rattle.script_text.specs.Eaw.{IsTextOf};
 ghost use Rattle.script_text.specs.EawLines.{ShowsCall};
 
-use crate::block::BLOCK;
+use crate::lent::BLOCK;
 use crate::hex_text::is_hex;
 use crate::number::read_below;
 use crate::word::{after, is_text, split_word};

@@ -27,45 +27,45 @@ said_edit_log t pos at hex said = let is = subst (λ (r : Raw). IsTextOf t r sai
 copied : (hex read : List ℕ) → IsHex hex → ((bytes : List ℕ) → IsBlock bytes → hex ≡ hex_of bytes → read ≡ bytes) → IsBlock read
 copied hex read is says = subst IsBlock (sym (says is.0 is.1 is.2)) is.1
 
-pub block_of-requires : goal.block_of-requires
-block_of-requires g c = said_log_write c.args.number c.in-LogWrite.addr c.in-LogWrite.hex (subst (Said c.args.number) c.in-LogWrite.is c.requires.said)
+pub bytes_of-requires : goal.bytes_of-requires
+bytes_of-requires g c = said_log_write c.args.number c.in-LogWrite.addr c.in-LogWrite.hex (subst (Said c.args.number) c.in-LogWrite.is c.requires.said)
 
 pub log_write-requires-clause-block : goal.log_write-requires-clause-block
 log_write-requires-clause-block g c =
-    copied c.in-LogWrite.hex.now _ (said_log_write c.args.number c.in-LogWrite.addr c.in-LogWrite.hex (subst (Said c.args.number) c.in-LogWrite.is c.requires.said)) (λ bytes block is. c.as_bytes.ensures ∙ c.block_of.ensures bytes block is)
+    copied c.in-LogWrite.hex.now _ (said_log_write c.args.number c.in-LogWrite.addr c.in-LogWrite.hex (subst (Said c.args.number) c.in-LogWrite.is c.requires.said)) c.bytes_of.ensures
 
 pub returns-in-LogWrite : goal.returns-in-LogWrite
 returns-in-LogWrite g c = λ raw text shows is.
     let s = subst (λ (x : EawCall). ShowsCall c.args.number x raw) c.in-LogWrite.is shows in
     let block = (subst (λ (r : Raw). IsTextOf c.args.number r text) s.2 is).2 in
-    performed_as (does (log_write c.args.number c.in-LogWrite.addr c.as_bytes.result.now)) raw (s.2 ∙ ap (λ (b : List ℕ). does (log_write c.args.number c.in-LogWrite.addr b)) (sym (c.as_bytes.ensures ∙ c.block_of.ensures s.0 block s.1))) c.log_write.ensures
+    performed_as (does (log_write c.args.number c.in-LogWrite.addr c.bytes_of.result.now)) raw (s.2 ∙ ap (λ (b : List ℕ). does (log_write c.args.number c.in-LogWrite.addr b)) (sym (c.bytes_of.ensures s.0 block s.1))) c.log_write.ensures
 
-pub block_of-requires-in-Atomic : goal.block_of-requires-in-Atomic
-block_of-requires-in-Atomic g c = said_atomic c.args.number c.in-Atomic.addr c.in-Atomic.hex (subst (Said c.args.number) c.in-Atomic.is c.requires.said)
+pub bytes_of-requires-in-Atomic : goal.bytes_of-requires-in-Atomic
+bytes_of-requires-in-Atomic g c = said_atomic c.args.number c.in-Atomic.addr c.in-Atomic.hex (subst (Said c.args.number) c.in-Atomic.is c.requires.said)
 
 pub atomic-requires-clause-block : goal.atomic-requires-clause-block
 atomic-requires-clause-block g c =
-    copied c.in-Atomic.hex.now _ (said_atomic c.args.number c.in-Atomic.addr c.in-Atomic.hex (subst (Said c.args.number) c.in-Atomic.is c.requires.said)) (λ bytes block is. c.as_bytes-in-Atomic.ensures ∙ c.block_of-in-Atomic.ensures bytes block is)
+    copied c.in-Atomic.hex.now _ (said_atomic c.args.number c.in-Atomic.addr c.in-Atomic.hex (subst (Said c.args.number) c.in-Atomic.is c.requires.said)) c.bytes_of-in-Atomic.ensures
 
 pub returns-in-Atomic : goal.returns-in-Atomic
 returns-in-Atomic g c = λ raw text shows is.
     let s = subst (λ (x : EawCall). ShowsCall c.args.number x raw) c.in-Atomic.is shows in
     let block = (subst (λ (r : Raw). IsTextOf c.args.number r text) s.2 is).2 in
-    performed_as (does (atomic_write c.args.number c.in-Atomic.addr c.as_bytes-in-Atomic.result.now)) raw (s.2 ∙ ap (λ (b : List ℕ). does (atomic_write c.args.number c.in-Atomic.addr b)) (sym (c.as_bytes-in-Atomic.ensures ∙ c.block_of-in-Atomic.ensures s.0 block s.1))) c.atomic.ensures
+    performed_as (does (atomic_write c.args.number c.in-Atomic.addr c.bytes_of-in-Atomic.result.now)) raw (s.2 ∙ ap (λ (b : List ℕ). does (atomic_write c.args.number c.in-Atomic.addr b)) (sym (c.bytes_of-in-Atomic.ensures s.0 block s.1))) c.atomic.ensures
 
-pub block_of-requires-in-EditLog : goal.block_of-requires-in-EditLog
-block_of-requires-in-EditLog g c = said_edit_log c.args.number c.in-EditLog.pos c.in-EditLog.at c.in-EditLog.hex (subst (Said c.args.number) c.in-EditLog.is c.requires.said)
+pub bytes_of-requires-in-EditLog : goal.bytes_of-requires-in-EditLog
+bytes_of-requires-in-EditLog g c = said_edit_log c.args.number c.in-EditLog.pos c.in-EditLog.at c.in-EditLog.hex (subst (Said c.args.number) c.in-EditLog.is c.requires.said)
 
 pub edit_log-requires-clause-block : goal.edit_log-requires-clause-block
 edit_log-requires-clause-block g c =
-    copied c.in-EditLog.hex.now _ (said_edit_log c.args.number c.in-EditLog.pos c.in-EditLog.at c.in-EditLog.hex (subst (Said c.args.number) c.in-EditLog.is c.requires.said)) (λ bytes block is. c.as_bytes-in-EditLog.ensures ∙ c.block_of-in-EditLog.ensures bytes block is)
+    copied c.in-EditLog.hex.now _ (said_edit_log c.args.number c.in-EditLog.pos c.in-EditLog.at c.in-EditLog.hex (subst (Said c.args.number) c.in-EditLog.is c.requires.said)) c.bytes_of-in-EditLog.ensures
 
 pub returns-in-EditLog : goal.returns-in-EditLog
 returns-in-EditLog g c = λ raw text shows is.
     let s = subst (λ (x : EawCall). ShowsCall c.args.number x raw) c.in-EditLog.is shows in
     let block = (subst (λ (r : Raw). IsTextOf c.args.number r text) s.2 is).3 in
-    performed_as (does (log_edit c.args.number c.in-EditLog.pos c.in-EditLog.at c.as_bytes-in-EditLog.result.now)) raw
-    (s.2 ∙ ap (λ (b : List ℕ). does (log_edit c.args.number c.in-EditLog.pos c.in-EditLog.at b)) (sym (c.as_bytes-in-EditLog.ensures ∙ c.block_of-in-EditLog.ensures s.0 block s.1))) c.edit_log.ensures
+    performed_as (does (log_edit c.args.number c.in-EditLog.pos c.in-EditLog.at c.bytes_of-in-EditLog.result.now)) raw
+    (s.2 ∙ ap (λ (b : List ℕ). does (log_edit c.args.number c.in-EditLog.pos c.in-EditLog.at b)) (sym (c.bytes_of-in-EditLog.ensures s.0 block s.1))) c.edit_log.ensures
 
 pub returns-in-Commit : goal.returns-in-Commit
 returns-in-Commit g c = λ raw text shows is. performed_as (does (commit c.args.number)) raw (subst (λ (x : EawCall). ShowsCall c.args.number x raw) c.in-Commit.is shows) c.commit.ensures
