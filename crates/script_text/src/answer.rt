@@ -89,6 +89,3 @@ fn append_some_bytes(out: &mut Vec<u8>, front: &[&[u8]], bytes: &[u8]) -> Result
     append_hex(out, bytes)?;
     append(out, &[b"\n"])
 }
-
-#[cfg(test)]
-mod tests;

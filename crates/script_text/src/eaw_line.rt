@@ -39,6 +39,3 @@ fn read_eaw_told(bytes: &[u8], numbers: u8) -> Option<(u8, EawCall<'_>)>
     let call = read_eaw_call(rest)?;
     Some((number as u8, call))
 }
-
-#[cfg(test)]
-mod tests;

@@ -39,6 +39,3 @@ fn read_told(bytes: &[u8], callers: u8, keys: u64) -> Option<(u8, Call)>
     let call = read_call(rest, keys)?;
     Some((caller as u8, call))
 }
-
-#[cfg(test)]
-mod tests;

@@ -1,6 +1,4 @@
-use super::*;
-use crate::bytes_of;
-use crate::lent::BLOCK;
+use script_text::{BLOCK, EawCall, EawLine, bytes_of, read_eaw};
 
 #[test]
 fn raw_lines_say_their_commands(rt: HostRuntime) {

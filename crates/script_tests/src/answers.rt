@@ -1,4 +1,4 @@
-use super::*;
+use script_text::{Answer, Lent, write_answer};
 use std::test::Fail;
 
 #[test]
