@@ -7,8 +7,6 @@ mod part;
 mod parts;
 mod place;
 mod shape;
-#[cfg(test)]
-mod tests;
 
 pub use bad_shape::{BadShape, ShapeNumber};
 pub use laws::{addresses_are_apart, areas_are_apart};

@@ -110,6 +110,3 @@ fn number_or(options: &ArgMatches<'_>, name: &str, default: u16) -> Option<u16>
         None => Some(default),
     }
 }
-
-#[cfg(test)]
-mod tests;

@@ -48,12 +48,12 @@ cause_on tells old mid faults (BadShape bad) size touched later cause = (
 cause_on tells old mid faults (BadRow g t) size touched later cause = λ told.
     let same = same_bytes old.content mid.content (touched told) in
     let found = cause told in
-    record {
-      shape = found.shape;
-      header = subst (λ b. SaysShape (header_of b) found.shape) same found.header;
-      sized = sym size ∙ found.sized;
-      bad = subst (λ b. IsFirstBad found.shape b g t) same found.bad;
-    }
+    (
+      found.0,
+      subst (λ b. SaysShape (header_of b) found.0) same found.1,
+      sym size ∙ found.2,
+      subst (λ b. IsFirstBad found.0 b g t) same found.3,
+    )
 cause_on tells old mid faults Media size touched later cause = omega (arith, cause, later)
 cause_on tells old mid faults NoMemory size touched later cause = λ told.
     let same = same_bytes old.content mid.content (touched told) in
@@ -70,14 +70,14 @@ reading_leaves tells old new NoMemory touched = touched
 holds_before : (old mid : View) → mid.size ≡ old.size → Touched [] old.content mid.content → HoldsArray mid → HoldsArray old
 holds_before old mid size touched holds =
     let same = same_bytes old.content mid.content touched in
-    record {
-      shape = holds.shape;
-      array = record {
-        header = subst (λ b. SaysShape (header_of b) holds.shape) same holds.array.header;
-        sized = sym size ∙ holds.array.sized;
-        good = subst (λ b. AllGood holds.shape b holds.shape.numbers) same holds.array.good;
-      };
-    }
+    (
+      holds.0,
+      record {
+        header = subst (λ b. SaysShape (header_of b) holds.0) same holds.1.header;
+        sized = sym size ∙ holds.1.sized;
+        good = subst (λ b. AllGood holds.0 b holds.0.numbers) same holds.1.good;
+      },
+    )
 
 pub leaves_on : (tells : Bool) (old mid new : View) (fault : AttachFault) → mid.size ≡ old.size → (IsTrue tells → Touched [] old.content mid.content) → AttachLeaves tells mid new fault → AttachLeaves tells old new fault
 leaves_on tells old mid new NotMars size touched leaves = λ told. touched_after_nothing [] old.content mid.content new.content (touched told) (leaves told)
@@ -92,11 +92,11 @@ module _ (tells : Bool) (shape : Shape) (old new : View) where
       → (IsTrue tells → (g t : ℕ) → fault ≡ recovery.BadRow g t → IsFirstBad shape old.content.bytes g t)
       → (let r : Result T RecoverFault = Err fault in OnErr (recovered.media_answer r) (Rose old.faults new.faults))
       → AttachCause tells old new.faults (recovery_fault fault)
-  refusal_cause T (recovery.BadRow g t) size header bad rose = λ told. record { shape = shape; header = header told; sized = size; bad = bad told g t refl }
+  refusal_cause T (recovery.BadRow g t) size header bad rose = λ told. (shape, header told, size, bad told g t refl)
   refusal_cause T recovery.Media size header bad rose = rose
 
   pub refusal_leaves : (T : Type 0) (fault : RecoverFault) → old.size ≡ media_len shape → (IsTrue tells → SaysShape (header_of old.content.bytes) shape)
       → (IsTrue tells → let r : Result T RecoverFault = Err fault in OnErr r (Touched [] old.content new.content ⊎ AllGood shape old.content.bytes shape.numbers))
       → (IsTrue tells → (g t : ℕ) → fault ≡ recovery.BadRow g t → Touched [] old.content new.content) → AttachLeaves tells old new (recovery_fault fault)
   refusal_leaves T (recovery.BadRow g t) size header spared unwritten = λ told. unwritten told g t refl
-  refusal_leaves T recovery.Media size header spared unwritten = λ told. ⊎_elim (λ none. inl none) (λ good. inr (record { shape = shape; array = record { header = header told; sized = size; good = good } })) (spared told)
+  refusal_leaves T recovery.Media size header spared unwritten = λ told. ⊎_elim (λ none. inl none) (λ good. inr (shape, record { header = header told; sized = size; good = good })) (spared told)

@@ -35,7 +35,7 @@ fresh_opens shape content long fresh =
     let is = sure image left in
     record {
       long = ap length is ∙ long;
-      quiet = λ g t lt below. ap (λ (b : List ℕ). (row_of shape b g t).voted) is ∙ ap (λ (b : List ℕ). (row_said b).voted) (fresh.rows g t lt below) ∙ zero_row;
+      quiet = λ g t lt below. ap (λ (b : List ℕ). (row_of shape b g t).voted) is ∙ ap (λ (b : List ℕ). (row_said b).voted) (fresh.parts.rows g t lt below) ∙ zero_row;
       holds = ap (data_of shape) is;
     })
     (λ image left. subst (λ (h : List ℕ). SaysShape h shape) (sym (ap header_of (sure image left) ∙ fresh.header)) (header_bytes-says shape))
@@ -48,7 +48,7 @@ is_behind shape i lt = ((λ le past. omega arith), tt)
 pub parts_left : (shape : Shape) (old new : View) → length old.content.bytes ≡ media_len shape → LeavesOnly (MayLeave (partly (behind_header shape) old.content)) old new → LeavesOnly (IsHalfFresh shape old.content) old new
 parts_left shape old new long time = weaker (λ image left.
     let before = before_all old.content (behind_header shape) image (omega arith, tt) left in
-    inl (record { earlier = before.earlier; left = before.left; same = header_stays (behind_header shape) before.earlier image (is_behind shape) before.same })) time
+    inl (before.earlier, before.left, header_stays (behind_header shape) before.earlier image (is_behind shape) before.same)) time
 
 -- while it is
 pub header_left : (shape : Shape) (old new : View) → old.content.unsettled ≡ [] → HasParts shape old.content.bytes → LeavesOnly (MayLeave (partly ((0, 512) ∷ []) old.content)) old new → LeavesOnly (HasParts shape) old new

@@ -18,25 +18,25 @@ use Rattle.eaw_device.specs.Attaching.{AllSay, AllOpenWith}
 module _ (shape : Shape) (content : Content) (opens : AllOpen shape content) where
   -- what may be left opens with its own data
   pub like_itself : (image : List ℕ) → MayLeave content image → OpensLike shape content image
-  like_itself image left = let can = opens image left in record { earlier = image; left = left; bytes = can.bytes; was = can.opens; now = can.opens }
+  like_itself image left = let can = opens image left in (image, left, can.0, can.1, can.1)
 
   pub all_lawful : (image : List ℕ) → MayLeave content image → IsLawful shape image
-  all_lawful image left = (opens image left).opens.stands.lawful
+  all_lawful image left = (opens image left).1.stands.lawful
 
   -- so does what settles like it
   pub like_sense : (image : List ℕ) → KeepsSense shape content image → OpensLike shape content image
   like_sense image kept =
       let can = opens kept.earlier kept.left in
-      record {
-        earlier = kept.earlier;
-        left = kept.left;
-        bytes = can.bytes;
-        was = can.opens;
-        now = record {
-          header = subst (λ (h : List ℕ). SaysShape h shape) (sym kept.like.header) can.opens.header;
-          stands = record { lawful = kept.like.lawful; gives = kept.like.same ∙ can.opens.stands.gives };
-        };
-      }
+      (
+        kept.earlier,
+        kept.left,
+        can.0,
+        can.1,
+        record {
+          header = subst (λ (h : List ℕ). SaysShape h shape) (sym kept.like.header) can.1.header;
+          stands = record { lawful = kept.like.lawful; gives = kept.like.same ∙ can.1.stands.gives };
+        },
+      )
 
 -- a media that was only read, or made sure
 pub reading_keeps : {T E : Type 0} (tells : Bool) (old new : View) (r : Result T E) → Writes tells [] old new r → KeepsData tells old new.moment new.left_since
@@ -47,7 +47,7 @@ pub settling_keeps : (tells : Bool) (shape : Shape) (old new : View) → (IsTrue
     → (IsTrue tells → ((image : List ℕ) → MayLeave old.content image → IsLawful shape image) → LeavesOnly (KeepsSense shape old.content) old new)
     → KeepsData tells old new.moment new.left_since
 settling_keeps tells shape old new header sense told other opens =
-    let is : other ≡ shape = one_shape (header_of old.content.bytes) other shape (opens old.content.bytes (left_as_read old.content)).opens.header (header told) in
+    let is : other ≡ shape = one_shape (header_of old.content.bytes) other shape (opens old.content.bytes (left_as_read old.content)).1.header (header told) in
     let all : AllOpen shape old.content = subst (λ s. AllOpen s old.content) is opens in
     subst (λ s. LeavesOnly (OpensLike s old.content) old new) (sym is) (weaker (like_sense shape old.content all) (sense told (all_lawful shape old.content all)))
 
@@ -57,7 +57,7 @@ pub keeps_then : (tells : Bool) (old mid new : View) → (IsTrue tells → Touch
 keeps_then tells old mid new touched first second told shape opens =
     let was = left_before old.content mid.content (touched told) in
     then (first told shape opens)
-    (weaker (λ image like. record { earlier = like.earlier; left = was like.earlier like.left; bytes = like.bytes; was = like.was; now = like.now })
+    (weaker (λ image like. (like.0, was like.0 like.1, like.2, like.3, like.4))
     (second told shape (λ image left. opens image (was image left))))
 
 -- an array at rest opens with its data, where each image has its header

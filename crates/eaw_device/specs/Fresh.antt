@@ -34,12 +34,16 @@ HasPages shape n bytes = (p : ℕ) → p < n → range (data_of shape bytes) (51
 abbrev pub HasRows : Shape → ℕ → List ℕ → Type 0
 HasRows shape n bytes = (g t : ℕ) → g < n → t < shape.numbers → range bytes (row_at shape g t) 16 ≡ replicate 16 0
 
--- The header says the shape, each row is zero, each page is as at first, and all that is sure.
+-- so are all rows and all pages
+pub record HasParts (shape : Shape) (image : List ℕ) : Type 0 where
+  pub rows : HasRows shape shape.loggers image
+  pub pages : HasPages shape (page_count shape) image
+
+-- The header says the shape, all behind it is as at first, and that is sure.
 pub record IsFresh (shape : Shape) (content : Content) : Type 0 where
   pub settled : content.unsettled ≡ []
   pub header : range content.bytes 0 512 ≡ header_bytes shape
-  pub rows : HasRows shape shape.loggers content.bytes
-  pub pages : HasPages shape (page_count shape) content.bytes
+  pub parts : HasParts shape content.bytes
 
 -- a loss of power leaves what a read gives
 abbrev pub LeavesAsRead : Content → Type 0
@@ -49,20 +53,9 @@ LeavesAsRead content = (image : List ℕ) → MayLeave content image → image �
 abbrev pub behind_header : Shape → List (ℕ × ℕ)
 behind_header shape = (512, shape.loggers * region_len shape) ∷ []
 
--- each row is zero, and each page is as at first
-pub record HasParts (shape : Shape) (image : List ℕ) : Type 0 where
-  pub rows : HasRows shape shape.loggers image
-  pub pages : HasPages shape (page_count shape) image
-
--- the header is that of an image that could be left at first
-pub record HasOldHeader (content : Content) (image : List ℕ) : Type 0 where
-  pub earlier : List ℕ
-  pub left : MayLeave content earlier
-  pub same : header_of image ≡ header_of earlier
-
--- while an array is formatted: the header is an old one, until all that lies behind it is fresh
+-- while an array is formatted: the header is that of an image that could be left at first, until all that lies behind it is fresh
 abbrev pub IsHalfFresh : Shape → Content → List ℕ → Type 0
-IsHalfFresh shape content image = HasOldHeader content image ⊎ HasParts shape image
+IsHalfFresh shape content image = ((earlier : List ℕ) × MayLeave content earlier × (header_of image ≡ header_of earlier)) ⊎ HasParts shape image
 
 -- the media has another length than the shape, and that is told
 abbrev pub IsWrongLength : Shape → ℕ → FormatFault → Type 0

@@ -25,22 +25,13 @@ pub record Opens (shape : Shape) (image bytes : List ℕ) : Type 0 where
   pub header : SaysShape (header_of image) shape
   pub stands : StandsFor shape image bytes
 
--- it opens with some data
-pub record CanOpen (shape : Shape) (image : List ℕ) : Type 0 where
-  pub bytes : List ℕ
-  pub opens : Opens shape image bytes
-
--- so does each image that a loss of power may leave
+-- each image that a loss of power may leave opens with some data
 abbrev pub AllOpen : Shape → Content → Type 0
-AllOpen shape content = (image : List ℕ) → MayLeave content image → CanOpen shape image
+AllOpen shape content = (image : List ℕ) → MayLeave content image → (bytes : List ℕ) × Opens shape image bytes
 
--- it opens with the data of some image that could be left at first
-pub record OpensLike (shape : Shape) (content : Content) (image : List ℕ) : Type 0 where
-  pub earlier : List ℕ
-  pub left : MayLeave content earlier
-  pub bytes : List ℕ
-  pub was : Opens shape earlier bytes
-  pub now : Opens shape image bytes
+-- an image opens with the data of one that could be left at first
+abbrev pub OpensLike : Shape → Content → List ℕ → Type 0
+OpensLike shape content image = (earlier : List ℕ) × MayLeave content earlier × (bytes : List ℕ) × Opens shape earlier bytes × Opens shape image bytes
 
 -- An opening keeps what an array stands for, at each of its moments: where all that could be left at first opens, so does all
 -- that might be left anew, with data of the former.
@@ -67,12 +58,20 @@ pub record Attached (tells : Bool) (media : View) (store : StoreView) : Type 0 w
   pub faults : store.faults ≡ media.faults
   pub calls : IsTrue tells → HasNoVote store.shape media.content.bytes → store.moment ≡ media.moment + opening_calls store.shape
 
--- a decided row is bad, the first one
-pub record HasBadRow (media : View) (g t : ℕ) : Type 0 where
-  pub shape : Shape
+-- The media holds an array: its header says this shape, it has the length of that, and each decided row is good.
+pub record IsArray (shape : Shape) (media : View) : Type 0 where
   pub header : SaysShape (header_of media.content.bytes) shape
   pub sized : media.size ≡ media_len shape
-  pub bad : IsFirstBad shape media.content.bytes g t
+  pub good : AllGood shape media.content.bytes shape.numbers
+
+-- of some shape
+abbrev pub HoldsArray : View → Type 0
+HoldsArray media = (shape : Shape) × IsArray shape media
+
+-- it would, but for a decided row that is bad, the first one
+abbrev pub HasBadRow : View → ℕ → ℕ → Type 0
+HasBadRow media g t =
+    (shape : Shape) × SaysShape (header_of media.content.bytes) shape × (media.size ≡ media_len shape) × IsFirstBad shape media.content.bytes g t
 
 -- why a media is not opened, where so many faults are counted behind that
 abbrev pub AttachCause : Bool → View → ℕ → AttachFault → Type 0
@@ -81,17 +80,6 @@ AttachCause tells media faults (BadShape bad) = (512 ≤ media.size) × (IsTrue 
 AttachCause tells media faults (BadRow g t) = IsTrue tells → HasBadRow media g t
 AttachCause tells media faults Media = Rose media.faults faults
 AttachCause tells media faults NoMemory = IsTrue tells → (shape : Shape) × SaysShape (header_of media.content.bytes) shape × (media.size ≡ media_len shape)
-
--- The media holds an array: its header says this shape, it has the length of that, and each decided row is good.
-pub record IsArray (shape : Shape) (media : View) : Type 0 where
-  pub header : SaysShape (header_of media.content.bytes) shape
-  pub sized : media.size ≡ media_len shape
-  pub good : AllGood shape media.content.bytes shape.numbers
-
--- of some shape
-pub record HoldsArray (media : View) : Type 0 where
-  pub shape : Shape
-  pub array : IsArray shape media
 
 -- Nothing was written. Only where the media failed while an array was settled, some of that was done.
 abbrev pub AttachLeaves : Bool → View → View → AttachFault → Type 0

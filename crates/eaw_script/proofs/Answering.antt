@@ -8,7 +8,7 @@ use Rattle.array_shape.specs.declared.shape.Shape.{Shape}
 use Rattle.eaw_face.specs.State.{State}
 use Rattle.eaw_face.specs.StoreView.{StoreView, LeavesOnly}
 use Rattle.eaw_face.specs.Does.{IsEither}
-use Rattle.script_text.specs.Eaw.{Command}
+use Rattle.script_text.specs.Eaw.{Raw, IsTextOf}
 use Rattle.script_text.specs.EawLines.{nothing, told, bad, Means, ShowsCall, SaysEaw}
 use Rattle.script_text.specs.AnswerLines.{answer_line}
 use Rattle.script_text.specs.Replies.{bad_line}
@@ -18,8 +18,8 @@ use Rattle.script_text.specs.declared.eaw_line.EawLine.TheVariants.{Nothing, Tol
 use Rattle.script_run.specs.Answers.{Answers}
 use Rattle.script_run.specs.declared.responder.Stop.{Stop}
 use Rattle.script_run.specs.declared.responder.Stop.TheVariants.{Media, NoMemory}
-use Rattle.eaw_script.specs.Tests.{Log, log_of}
-use Rattle.eaw_script.specs.Answers.{AnswersWith, Passes, MayFail, done_by}
+use Rattle.eaw_script.specs.Tests.{log_of, asks, Passes}
+use Rattle.eaw_script.specs.Answers.{AnswersWith, done_by}
 use Rattle.eaw_script.specs.Lines.{LineGives, LineBreaks, raw_script}
 use Rattle.eaw_script.specs.Performed.{Performed}
 use Rattle.eaw_script.specs.Progress.{Progress, MayStand, IsMade, OpensWith, Shows, Comes, moved}
@@ -33,7 +33,7 @@ means_nothing : (numbers : ℕ) (line : List ℕ) → SaysEaw numbers line Nothi
 means_nothing numbers line says = subst (Means numbers line) says.2 says.1
 
 pub means_told : (numbers : ℕ) (line : List ℕ) (t : ℕ) (call : EawCall) → SaysEaw numbers line (Told t call)
-    → (command : Command) × ShowsCall call command × Means numbers line (told t command)
+    → (raw : Raw) × ShowsCall t call raw × Means numbers line (told t raw)
 means_told numbers line t call says = (says.2.0, says.2.1, subst (Means numbers line) says.2.2 says.1)
 
 -- what a responder answers
@@ -71,9 +71,9 @@ module _ (Opens : Shape → List ℕ → List ℕ → Type 0) (store : StoreView
   pub refused_short : (text : List ℕ) → SaysEaw store.shape.numbers line Bad → Answers raw_script (Shows store) (Comes Opens store (at store past) store) (at store past) n line text (let r : Reply = Err NoMemory in r)
   refused_short text says = (at store past, (bad_line n, (bad, means_bad store.shape.numbers line says, (refl, refl))), stays)
 
-module _ (tells : Bool) (tell : IsTrue tells) (Opens : Shape → List ℕ → List ℕ → Type 0) (old new : StoreView) (n : ℕ) (line : List ℕ) (t : ℕ) (command : Command)
-    (outline : old.ranges t ≡ log_of old.state t) (means : Means old.shape.numbers line (told t command)) (past : List (List ℕ)) where
-  module _ (answer : Answer) (did : Performed tells (Opens old.shape) old new t command (Ok answer)) (only : (image : List ℕ) → new.left_since new.moment image → Opens new.shape image new.state.bytes) where
+module _ (tells : Bool) (tell : IsTrue tells) (Opens : Shape → List ℕ → List ℕ → Type 0) (old new : StoreView) (n : ℕ) (line : List ℕ) (t : ℕ) (raw : Raw)
+    (outline : old.ranges t ≡ log_of old.state t) (means : Means old.shape.numbers line (told t raw)) (past : List (List ℕ)) where
+  module _ (answer : Answer) (did : Performed tells (Opens old.shape) old new t raw (Ok answer)) (only : (image : List ℕ) → new.left_since new.moment image → Opens new.shape image new.state.bytes) where
     -- what a command makes of a script
     moved_on : Comes Opens old (at old past) new (moved (at old past) new.state)
     moved_on =
@@ -93,9 +93,9 @@ module _ (tells : Bool) (tell : IsTrue tells) (Opens : Shape → List ℕ → Li
 
     gives : LineGives (at old past) n line (answer_line t answer) (moved (at old past) new.state)
     gives = (
-      told t command,
+      told t raw,
       means,
-      (answer, new.state, subst (λ (log : Log). AnswersWith old.shape log old.state t command answer new.state) outline (did.answers tell), refl, refl),
+      (answer, new.state, subst (λ (log : Option (List (ℕ × ℕ))). AnswersWith old.shape log old.state t raw answer new.state) outline (did.answers tell), refl, refl),
     )
 
     pub performed : (text : List ℕ) → text ≡ answer_line t answer → Answers raw_script (Shows new) (Comes Opens old (at old past) new) (at old past) n line text (let r : Reply = Ok tt in r)
@@ -111,14 +111,20 @@ module _ (tells : Bool) (tell : IsTrue tells) (Opens : Shape → List ℕ → Li
     performed_short text = (moved (at old past) new.state, (answer_line t answer, gives), moved_on)
 
   -- The media failed: what the command was to make may stand there or not.
-  module _ (e : Failed) (did : Performed tells (Opens old.shape) old new t command (Err e)) (only : (image : List ℕ) → old.left_since old.moment image → Opens old.shape image old.state.bytes)
+  module _ (e : Failed) (did : Performed tells (Opens old.shape) old new t raw (Err e)) (only : (image : List ℕ) → old.left_since old.moment image → Opens old.shape image old.state.bytes)
       (counts : (m : ℕ) (image : List ℕ) → m ≤ new.moment → new.left_since new.moment image → new.left_since m image) where
     pub failed : (text : List ℕ) → Answers raw_script (Shows new) (Comes Opens old (at old past) new) (at old past) n line text (let r : Reply = Err (Media t) in r)
     failed text =
-        let made = (done_by t command old.state).bytes in
+        let made = (done_by raw old.state).bytes in
         let time = did.time tell in (
           record { shape = old.shape; state = old.state; past = past; doubt = Some made },
-          (command, means, subst (λ (log : Log). Passes old.shape log command) outline did.fails.0, subst (λ (log : Log). MayFail log command) outline did.fails.1, refl),
+          (
+            raw,
+            means,
+            subst (λ (log : Option (List (ℕ × ℕ))). Passes old.shape (asks old.shape log raw)) outline did.fails.0,
+            subst (λ (log : Option (List (ℕ × ℕ))). (asks old.shape log raw).media) outline did.fails.1,
+            refl,
+          ),
           record {
             shape = refl;
             grows = λ bytes was. elim was [

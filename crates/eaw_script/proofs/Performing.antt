@@ -5,7 +5,7 @@ use Rattle.counted.specs.declared.Failed.{Failed}
 use Rattle.array_shape.specs.declared.shape.Shape.{Shape}
 use Rattle.eaw_face.specs.State.{range_at}
 use Rattle.eaw_face.specs.StoreView.{StoreView, ArePlaced}
-use Rattle.script_text.specs.Eaw.{Command}
+use Rattle.script_text.specs.Eaw.{Raw}
 use Rattle.script_text.specs.declared.answer.Answer.{Answer}
 use Rattle.eaw_script.specs.Performed.{Performed}
 
@@ -16,6 +16,6 @@ part_len shape (r ∷ rs) zero placed there = let page = placed.0.page in omega 
 part_len shape (r ∷ rs) (suc pos) placed there = part_len shape rs pos placed.1 (omega arith)
 
 -- the same command, named otherwise
-pub performed_as : {tells : Bool} {Opens : List ℕ → List ℕ → Type 0} {old new : StoreView} {t : ℕ} {result : Result Answer Failed} (k command : Command) → command ≡ k
-    → Performed tells Opens old new t k result → Performed tells Opens old new t command result
-performed_as {tells} {Opens} {old} {new} {t} {result} k command is performed = subst (λ (x : Command). Performed tells Opens old new t x result) (sym is) performed
+pub performed_as : {tells : Bool} {Opens : List ℕ → List ℕ → Type 0} {old new : StoreView} {t : ℕ} {result : Result Answer Failed} (k raw : Raw) → raw ≡ k
+    → Performed tells Opens old new t k result → Performed tells Opens old new t raw result
+performed_as {tells} {Opens} {old} {new} {t} {result} k raw is performed = subst (λ (x : Raw). Performed tells Opens old new t x result) (sym is) performed

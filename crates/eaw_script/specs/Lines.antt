@@ -1,22 +1,22 @@
 -- How the lines of a script of raw commands act.
 use Rattle.std.specs.Prelude.{ℕ, ◌≡◌, List, [], Some}
 use Rattle.eaw_face.specs.State.{State}
-use Rattle.script_text.specs.Eaw.{Command}
+use Rattle.script_text.specs.Eaw.{Raw}
 use Rattle.script_text.specs.EawLines.{Meaning, nothing, told, bad, Means}
 use Rattle.script_text.specs.AnswerLines.{answer_line}
 use Rattle.script_text.specs.Replies.{bad_line}
 use Rattle.script_text.specs.declared.answer.Answer.{Answer}
 use Rattle.script_run.specs.Script.{Script}
-use Rattle.eaw_script.specs.Tests.{log_of}
-use Rattle.eaw_script.specs.Answers.{Answers, Passes, MayFail, done_by}
+use Rattle.eaw_script.specs.Tests.{log_of, asks, Passes}
+use Rattle.eaw_script.specs.Answers.{AnswersWith, done_by}
 use Rattle.eaw_script.specs.Progress.{Progress, moved}
 
 -- the n-th line, which means this, is answered by this text, and leaves this
 abbrev pub Gives : Progress → ℕ → Meaning → List ℕ → Progress → Type 0
 Gives old n nothing text new = (text ≡ []) × (new ≡ old)
 Gives old n bad text new = (text ≡ bad_line n) × (new ≡ old)
-Gives old n (told t command) text new =
-    (answer : Answer) × (state : State) × Answers old.shape old.state t command answer state × (text ≡ answer_line t answer) × (new ≡ moved old state)
+Gives old n (told t raw) text new =
+    (answer : Answer) × (state : State) × AnswersWith old.shape (log_of old.state t) old.state t raw answer state × (text ≡ answer_line t answer) × (new ≡ moved old state)
 
 -- the same of what the line's bytes mean, where there are as many transaction numbers as the shape has
 abbrev pub LineGives : Progress → ℕ → List ℕ → List ℕ → Progress → Type 0
@@ -24,9 +24,9 @@ LineGives old n line text new = (meaning : Meaning) × Means old.shape.numbers l
 
 -- the media fails in number t's command, which passes each test and asks the media: the data that it was to make is in doubt
 abbrev pub LineBreaks : Progress → List ℕ → ℕ → Progress → Type 0
-LineBreaks old line t new = (command : Command) × Means old.shape.numbers line (told t command)
-    × Passes old.shape (log_of old.state t) command × MayFail (log_of old.state t) command
-    × (new ≡ record old { doubt = Some (done_by t command old.state).bytes })
+LineBreaks old line t new = (raw : Raw) × Means old.shape.numbers line (told t raw)
+    × Passes old.shape (asks old.shape (log_of old.state t) raw) × (asks old.shape (log_of old.state t) raw).media
+    × (new ≡ record old { doubt = Some (done_by raw old.state).bytes })
 
 -- there is no memory for the answer of a line that was done
 abbrev pub LineStops : Progress → ℕ → List ℕ → Progress → Type 0

@@ -7,10 +7,11 @@ use Rattle.eaw_face.specs.StoreView.{StoreView, LeavesOnly}
 use Rattle.eaw_face.specs.Does.{IsEither}
 use Rattle.eaw_face.specs.declared.fault.EawFault.{EawFault}
 use Rattle.eaw_face.specs.declared.fault.EawFault.TheVariants.{UnknownTid, LogFull as Full, Media, Dead}
-use Rattle.script_text.specs.Eaw.{Command}
+use Rattle.script_text.specs.Eaw.{Raw}
 use Rattle.script_text.specs.declared.answer.Answer.{Answer}
 use Rattle.script_text.specs.declared.answer.Answer.TheVariants.{Unknown, LogFull}
-use Rattle.eaw_script.specs.Answers.{AnswersWith, Passes, MayFail, done_by}
+use Rattle.eaw_script.specs.Tests.{asks, Passes}
+use Rattle.eaw_script.specs.Answers.{AnswersWith, done_by}
 
 -- how a refusal of a store is told
 abbrev pub refusal_of : EawFault → Result Answer Failed
@@ -20,17 +21,17 @@ refusal_of Media = Err (record {})
 refusal_of Dead = Err (record {})
 
 -- the state that a command made: the one that there is now, and where the media failed the one that it was to make
-abbrev pub made_by : State → State → ℕ → Command → Result Answer Failed → State
-made_by old new t command (Ok answer) = new
-made_by old new t command (Err failed) = done_by t command old
+abbrev pub made_by : State → State → Raw → Result Answer Failed → State
+made_by old new raw (Ok answer) = new
+made_by old new raw (Err failed) = done_by raw old
 
 -- Number t's command on a store, of which an image that a loss of power leaves is opened so. Its answer is the model's; an error
 -- comes only where the media failed, in a command that passed each test and asks the media. Whichever it is, each image that a
 -- loss of power might have left anew opens with the data before the command or the data that it made.
-pub record Performed (tells : Bool) (Opens : List ℕ → List ℕ → Type 0) (old new : StoreView) (t : ℕ) (command : Command) (result : Result Answer Failed) : Type 0 where
+pub record Performed (tells : Bool) (Opens : List ℕ → List ℕ → Type 0) (old new : StoreView) (t : ℕ) (raw : Raw) (result : Result Answer Failed) : Type 0 where
   pub shape : new.shape ≡ old.shape
   pub cause : HasCause old.faults new.faults result
   pub alive : OnOk result (new.is_dead ≡ false)
-  pub answers : IsTrue tells → IfOk result (λ answer. AnswersWith old.shape (old.ranges t) old.state t command answer new.state)
-  pub fails : OnErr result (Passes old.shape (old.ranges t) command × MayFail (old.ranges t) command)
-  pub time : IsTrue tells → LeavesOnly (IsEither Opens old.state.bytes (made_by old.state new.state t command result).bytes) old new
+  pub answers : IsTrue tells → IfOk result (λ answer. AnswersWith old.shape (old.ranges t) old.state t raw answer new.state)
+  pub fails : OnErr result (Passes old.shape (asks old.shape (old.ranges t) raw) × (asks old.shape (old.ranges t) raw).media)
+  pub time : IsTrue tells → LeavesOnly (IsEither Opens old.state.bytes (made_by old.state new.state raw result).bytes) old new

@@ -1,66 +1,64 @@
--- The tests of a number's raw command, in their order, each on the number's log alone.
-use Rattle.std.specs.Prelude.{ℕ, ◌≡◌, ◌+◌, ◌<◌, ◌≤◌, List, [], length, Option, None, IsSome}
+-- What a raw command asks for, by its number's log alone: None where that holds none, else where its parts lie.
+use Rattle.std.specs.Prelude.{ℕ, ◌≡◌, ◌+◌, ◌<◌, ◌≤◌, List, [], length, Option, None, IsSome, ⊤}
 use Rattle.std.specs.Option.{option_map}
 use Rattle.array_shape.specs.declared.shape.Shape.{Shape}
 use Rattle.array_shape.specs.Places.{data_len}
 use Rattle.array_shape.specs.Parts.{parts_of_write}
 use Rattle.array_shape.specs.Logged.{ranges_of}
 use Rattle.eaw_face.specs.State.{State, listed, range_at, count_on}
-use Rattle.script_text.specs.Eaw.{Command, log_write, commit, abort, nested, partial, atomic, edit_log, read_log, read, log_len, held}
+use Rattle.eaw_face.specs.Command.{log_write, log_edit, commit, abort, nested_top, partial_abort, atomic_write, read}
+use Rattle.script_text.specs.Eaw.{Raw, does, read_log, log_len, held}
 
--- where the parts lie that a number has logged; None where it holds no log
-abbrev pub Log : Type 0
-Log = Option (List (ℕ × ℕ))
-
--- what a number has of it in a state
-abbrev pub log_of : State → ℕ → Log
+-- what a number has logged in a state
+abbrev pub log_of : State → ℕ → Option (List (ℕ × ℕ))
 log_of state t = option_map ranges_of (state.logs t)
 
--- What is done with a log needs a number that holds one.
-abbrev pub IsKnown : Log → Command → Type 0
-IsKnown log (log_write addr bytes) = Unit {0}
-IsKnown log (atomic addr bytes) = Unit {0}
-IsKnown log (read addr len) = Unit {0}
-IsKnown log log_len = Unit {0}
-IsKnown log (held logger) = Unit {0}
-IsKnown log _ = IsSome log
+-- The tests of a command, in their order: the number holds a log, what is named is there, the number holds none, and each logger
+-- has room for what is needed behind what is held. And whether the media is asked for something.
+pub record Asks : Type 1 where
+  pub known : Type 0
+  pub there : Type 0
+  pub free : Type 0
+  pub held : List (ℕ × ℕ)
+  pub needed : List (ℕ × ℕ)
+  pub media : Type 0
 
--- A range lies in the data, an offset is at most the log's length, a position is below it and an edit lies within its part,
--- and a logger is one of the array's.
-abbrev pub IsThere : Shape → Log → Command → Type 0
-IsThere shape log (log_write addr bytes) = addr + length bytes ≤ data_len shape
-IsThere shape log (nested offset) = offset ≤ length (listed log)
-IsThere shape log (partial offset) = offset ≤ length (listed log)
-IsThere shape log (atomic addr bytes) = addr + length bytes ≤ data_len shape
-IsThere shape log (edit_log pos at bytes) = (pos < length (listed log)) × (at + length bytes ≤ (range_at (listed log) pos).1)
-IsThere shape log (read_log pos) = pos < length (listed log)
-IsThere shape log (read addr len) = addr + len ≤ data_len shape
-IsThere shape log (held logger) = logger < shape.loggers
-IsThere shape log _ = Unit {0}
+-- asks the media, and has no test
+abbrev pub untested : Asks
+untested = record { known = ⊤; there = ⊤; free = ⊤; held = []; needed = []; media = ⊤ }
 
--- A transaction of one write needs a number that holds no log.
-abbrev pub IsFree : Log → Command → Type 0
-IsFree log (atomic addr bytes) = log ≡ None
-IsFree log _ = Unit {0}
+-- A range lies in the data, an offset is at most the log's length, a position is below it and an edit lies within its part, and a
+-- logger is one of the array's. Parts that are dropped or counted, and a commit of none, ask nothing of the media.
+abbrev pub asks : Shape → Option (List (ℕ × ℕ)) → Raw → Asks
+asks shape log (does (log_write t addr bytes)) =
+    record untested { there = addr + length bytes ≤ data_len shape; held = listed log; needed = ranges_of (parts_of_write addr bytes) }
+asks shape log (does (log_edit t pos at bytes)) =
+    record untested { known = IsSome log; there = (pos < length (listed log)) × (at + length bytes ≤ (range_at (listed log) pos).1) }
+asks shape log (does (commit t)) = record untested { known = IsSome log; media = 0 < length (listed log) }
+asks shape log (does (abort t)) = record untested { known = IsSome log; media = ⊥ }
+asks shape log (does (nested_top t offset)) =
+    record untested { known = IsSome log; there = offset ≤ length (listed log); media = offset < length (listed log) }
+asks shape log (does (partial_abort t offset)) = record untested { known = IsSome log; there = offset ≤ length (listed log); media = ⊥ }
+asks shape log (does (atomic_write t addr bytes)) =
+    record untested { there = addr + length bytes ≤ data_len shape; free = log ≡ None; needed = ranges_of (parts_of_write addr bytes) }
+asks shape log (does (read addr len)) = record untested { there = addr + len ≤ data_len shape }
+asks shape log (read_log pos) = record untested { known = IsSome log; there = pos < length (listed log) }
+asks shape log log_len = record untested { media = ⊥ }
+asks shape log (held logger) = record untested { there = logger < shape.loggers; media = ⊥ }
+asks shape log _ = untested
 
--- the ranges that a command logs, and those of the number's log that stand before them
-abbrev pub needed : Command → List (ℕ × ℕ)
-needed (log_write addr bytes) = ranges_of (parts_of_write addr bytes)
-needed (atomic addr bytes) = ranges_of (parts_of_write addr bytes)
-needed _ = []
+-- logger g has room for its share
+abbrev pub HasRoom : Shape → Asks → ℕ → Type 0
+HasRoom shape asked g = count_on shape g asked.held + count_on shape g asked.needed ≤ shape.entries
 
-abbrev pub before_them : Log → Command → List (ℕ × ℕ)
-before_them log (log_write addr bytes) = listed log
-before_them log _ = []
-
--- each logger has room for its share of them
-abbrev pub HasRoom : Shape → Log → Command → Type 0
-HasRoom shape log command = (g : ℕ) → g < shape.loggers → count_on shape g (before_them log command) + count_on shape g (needed command) ≤ shape.entries
-
--- logger g is the first that has none: it holds so many parts of the number, and as many more are needed
-pub record IsFull (shape : Shape) (log : Log) (command : Command) (g h n : ℕ) : Type 0 where
+-- it is the first that has none: it holds so many parts of the number, and as many more are needed
+pub record IsFull (shape : Shape) (asked : Asks) (g h n : ℕ) : Type 0 where
   pub logger : g < shape.loggers
-  pub held_is : h ≡ count_on shape g (before_them log command)
-  pub needed_is : n ≡ count_on shape g (needed command)
+  pub held_is : h ≡ count_on shape g asked.held
+  pub needed_is : n ≡ count_on shape g asked.needed
   pub full : shape.entries < h + n
-  pub room_before : (k : ℕ) → k < g → count_on shape k (before_them log command) + count_on shape k (needed command) ≤ shape.entries
+  pub room_before : (k : ℕ) → k < g → HasRoom shape asked k
+
+-- each test is passed
+abbrev pub Passes : Shape → Asks → Type 0
+Passes shape asked = asked.known × asked.there × asked.free × ((g : ℕ) → g < shape.loggers → HasRoom shape asked g)

@@ -1,4 +1,5 @@
 // What answers the lines of raw commands.
+use crate::buffers::Buffers;
 use crate::perform::perform;
 use eaw_face::EawStore;
 use script_run::{Responder, Stop};
@@ -42,13 +43,16 @@ impl<S: EawStore> Responder for Commands<S> {
                 Ok(()) => Ok(()),
                 Err(_) => Err(Stop::NoMemory),
             },
-            EawLine::Told { number, call } => match perform(&mut self.store, number, &call) {
-                Ok(answer) => match write_answer(out, number, &answer) {
-                    Ok(()) => Ok(()),
-                    Err(_) => Err(Stop::NoMemory),
-                },
-                Err(_) => Err(Stop::Media { number }),
-            },
+            EawLine::Told { number, call } => {
+                let mut buffers = Buffers::new();
+                match perform(&mut self.store, number, &call, &mut buffers) {
+                    Ok(answer) => match write_answer(out, number, &answer) {
+                        Ok(()) => Ok(()),
+                        Err(_) => Err(Stop::NoMemory),
+                    },
+                    Err(_) => Err(Stop::Media { number }),
+                }
+            }
         }
     }
 }

@@ -1,6 +1,7 @@
 // Commands that end a log, or a rest of it.
 ghost use Rattle.std.specs.Prelude.{◌≡◌, ◌<◌, false};
-ghost use Rattle.script_text.specs.Eaw.{commit, abort, nested, partial};
+ghost use Rattle.eaw_face.specs.Command.{commit, abort, nested_top, partial_abort};
+ghost use Rattle.script_text.specs.Eaw.{does};
 ghost use Rattle.eaw_script.specs.Performed.{Performed};
 
 use crate::refusal::refusal;
@@ -9,10 +10,10 @@ use eaw_face::EawStore;
 use script_text::Answer;
 
 /// Commits a log.
-pub fn commit<S: EawStore>(store: &mut S, number: u8) -> Result<Answer, Failed>
+pub fn commit<S: EawStore>(store: &mut S, number: u8) -> Result<Answer<'static>, Failed>
     requires number { number < (S.view store.old).shape.numbers }
     requires alive { (S.view store.old).is_dead ≡ false }
-    ensures { Performed S.tells (S.opens (S.view store.old).shape) (S.view store.old) (S.view store.new) number commit result }
+    ensures { Performed S.tells (S.opens (S.view store.old).shape) (S.view store.old) (S.view store.new) number (does (commit number)) result }
 {
     if !store.is_live(number) {
         return Ok(Answer::Unknown);
@@ -24,10 +25,10 @@ pub fn commit<S: EawStore>(store: &mut S, number: u8) -> Result<Answer, Failed>
 }
 
 /// Drops a log.
-pub fn abort<S: EawStore>(store: &mut S, number: u8) -> Result<Answer, Failed>
+pub fn abort<S: EawStore>(store: &mut S, number: u8) -> Result<Answer<'static>, Failed>
     requires number { number < (S.view store.old).shape.numbers }
     requires alive { (S.view store.old).is_dead ≡ false }
-    ensures { Performed S.tells (S.opens (S.view store.old).shape) (S.view store.old) (S.view store.new) number abort result }
+    ensures { Performed S.tells (S.opens (S.view store.old).shape) (S.view store.old) (S.view store.new) number (does (abort number)) result }
 {
     if !store.is_live(number) {
         return Ok(Answer::Unknown);
@@ -39,10 +40,14 @@ pub fn abort<S: EawStore>(store: &mut S, number: u8) -> Result<Answer, Failed>
 }
 
 /// Commits what a log has from an offset on.
-pub fn nested<S: EawStore>(store: &mut S, number: u8, offset: u32) -> Result<Answer, Failed>
+pub fn nested<S: EawStore>(
+    store: &mut S,
+    number: u8,
+    offset: u32,
+) -> Result<Answer<'static>, Failed>
     requires number { number < (S.view store.old).shape.numbers }
     requires alive { (S.view store.old).is_dead ≡ false }
-    ensures { Performed S.tells (S.opens (S.view store.old).shape) (S.view store.old) (S.view store.new) number (nested offset) result }
+    ensures { Performed S.tells (S.opens (S.view store.old).shape) (S.view store.old) (S.view store.new) number (does (nested_top number offset)) result }
 {
     if !store.is_live(number) {
         return Ok(Answer::Unknown);
@@ -57,10 +62,14 @@ pub fn nested<S: EawStore>(store: &mut S, number: u8, offset: u32) -> Result<Ans
 }
 
 /// Drops what a log has from an offset on.
-pub fn partial<S: EawStore>(store: &mut S, number: u8, offset: u32) -> Result<Answer, Failed>
+pub fn partial<S: EawStore>(
+    store: &mut S,
+    number: u8,
+    offset: u32,
+) -> Result<Answer<'static>, Failed>
     requires number { number < (S.view store.old).shape.numbers }
     requires alive { (S.view store.old).is_dead ≡ false }
-    ensures { Performed S.tells (S.opens (S.view store.old).shape) (S.view store.old) (S.view store.new) number (partial offset) result }
+    ensures { Performed S.tells (S.opens (S.view store.old).shape) (S.view store.old) (S.view store.new) number (does (partial_abort number offset)) result }
 {
     if !store.is_live(number) {
         return Ok(Answer::Unknown);

@@ -1,6 +1,7 @@
 //! Scripts of raw commands, run over any store.
 #![tactic(auto)]
 
+mod buffers;
 mod commands;
 mod ends;
 mod in_data;

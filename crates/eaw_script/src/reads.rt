@@ -1,19 +1,23 @@
 // Commands that read bytes or ask for a count.
 ghost use Rattle.std.specs.Prelude.{◌≡◌, ◌<◌, ◌≤◌, false};
-ghost use Rattle.script_text.specs.Eaw.{read_log, read, log_len, held};
+ghost use Rattle.eaw_face.specs.Command.{read};
+ghost use Rattle.script_text.specs.Eaw.{does, read_log, log_len, held};
 ghost use Rattle.eaw_script.specs.Performed.{Performed};
 
+use crate::buffers::PART;
 use crate::in_data::is_in_data;
 use crate::refusal::refusal;
 use counted::Failed;
 use eaw_face::EawStore;
-use script_text::{Answer, BLOCK, Block};
-
-// How many bytes a part has at most.
-const PART: usize = 512;
+use script_text::{Answer, BLOCK, Lent};
 
 /// Reads a logged part.
-pub fn read_log<S: EawStore>(store: &mut S, number: u8, pos: u32) -> Result<Answer, Failed>
+pub fn read_log<'a, S: EawStore>(
+    store: &mut S,
+    number: u8,
+    pos: u32,
+    part: &'a mut [u8; PART],
+) -> Result<Answer<'a>, Failed>
     requires number { number < (S.view store.old).shape.numbers }
     requires alive { (S.view store.old).is_dead ≡ false }
     ensures { Performed S.tells (S.opens (S.view store.old).shape) (S.view store.old) (S.view store.new) number (read_log pos) result }
@@ -24,38 +28,42 @@ pub fn read_log<S: EawStore>(store: &mut S, number: u8, pos: u32) -> Result<Answ
     if pos >= store.log_len(number) {
         return Ok(Answer::BadRange);
     }
-    let mut part = [0; PART];
-    match store.log_read(number, pos, &mut part) {
+    match store.log_read(number, pos, part) {
         Ok((addr, len)) => Ok(Answer::Part {
             addr,
-            bytes: Block::of(&part[..usize::from(len)]),
+            bytes: Lent::of(&part[..usize::from(len)]),
         }),
         Err(fault) => refusal(fault),
     }
 }
 
 /// Reads committed data.
-pub fn read<S: EawStore>(store: &mut S, number: u8, addr: u32, len: u32) -> Result<Answer, Failed>
+pub fn read<'a, S: EawStore>(
+    store: &mut S,
+    number: u8,
+    addr: u32,
+    len: u32,
+    block: &'a mut [u8; BLOCK],
+) -> Result<Answer<'a>, Failed>
     requires number { number < (S.view store.old).shape.numbers }
     requires alive { (S.view store.old).is_dead ≡ false }
     requires len { len ≤ 1024 }
-    ensures { Performed S.tells (S.opens (S.view store.old).shape) (S.view store.old) (S.view store.new) number (read addr len) result }
+    ensures { Performed S.tells (S.opens (S.view store.old).shape) (S.view store.old) (S.view store.new) number (does (read addr len)) result }
 {
     let count = len as usize;
     if !is_in_data(&store.shape(), addr, count) {
         return Ok(Answer::BadRange);
     }
-    let mut bytes = [0; BLOCK];
-    match store.read(u64::from(addr), &mut bytes[..count]) {
+    match store.read(u64::from(addr), &mut block[..count]) {
         Ok(()) => Ok(Answer::Data {
-            bytes: Block::of(&bytes[..count]),
+            bytes: Lent::of(&block[..count]),
         }),
         Err(fault) => refusal(fault),
     }
 }
 
 /// How many parts a log has.
-pub fn log_len<S: EawStore>(store: &S, number: u8) -> Answer
+pub fn log_len<S: EawStore>(store: &S, number: u8) -> Answer<'static>
     requires number { number < (S.view store.now).shape.numbers }
     requires alive { (S.view store.now).is_dead ≡ false }
     ensures { Performed S.tells (S.opens (S.view store.now).shape) (S.view store.now) (S.view store.now) number log_len (Ok result) }
@@ -64,7 +72,7 @@ pub fn log_len<S: EawStore>(store: &S, number: u8) -> Answer
 }
 
 /// How many of them one logger holds.
-pub fn held<S: EawStore>(store: &S, number: u8, logger: u8) -> Answer
+pub fn held<S: EawStore>(store: &S, number: u8, logger: u8) -> Answer<'static>
     requires number { number < (S.view store.now).shape.numbers }
     requires alive { (S.view store.now).is_dead ≡ false }
     ensures { Performed S.tells (S.opens (S.view store.now).shape) (S.view store.now) (S.view store.now) number (held logger) (Ok result) }

@@ -6,7 +6,7 @@ use eaw_face::EawFault;
 use script_text::Answer;
 
 /// How a refusal of a store is told. A store that is dead has met a fault of the media before.
-pub fn refusal(fault: EawFault) -> Result<Answer, Failed>
+pub fn refusal(fault: EawFault) -> Result<Answer<'static>, Failed>
     ensures { result ≡ refusal_of fault }
 {
     match fault {

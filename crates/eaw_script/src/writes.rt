@@ -1,6 +1,7 @@
 // Commands that write bytes.
 ghost use Rattle.std.specs.Prelude.{◌≡◌, ◌<◌, false};
-ghost use Rattle.script_text.specs.Eaw.{log_write, atomic, edit_log};
+ghost use Rattle.eaw_face.specs.Command.{log_write, atomic_write, log_edit};
+ghost use Rattle.script_text.specs.Eaw.{does};
 ghost use Rattle.script_text.specs.HexText.{IsBlock};
 ghost use Rattle.eaw_script.specs.Performed.{Performed};
 
@@ -16,11 +17,11 @@ pub fn log_write<S: EawStore>(
     number: u8,
     addr: u32,
     bytes: &[u8],
-) -> Result<Answer, Failed>
+) -> Result<Answer<'static>, Failed>
     requires number { number < (S.view store.old).shape.numbers }
     requires alive { (S.view store.old).is_dead ≡ false }
     requires block { IsBlock bytes.now }
-    ensures { Performed S.tells (S.opens (S.view store.old).shape) (S.view store.old) (S.view store.new) number (log_write addr bytes.now) result }
+    ensures { Performed S.tells (S.opens (S.view store.old).shape) (S.view store.old) (S.view store.new) number (does (log_write number addr bytes.now)) result }
 {
     if !is_in_data(&store.shape(), addr, bytes.len()) {
         return Ok(Answer::BadRange);
@@ -37,11 +38,11 @@ pub fn atomic<S: EawStore>(
     number: u8,
     addr: u32,
     bytes: &[u8],
-) -> Result<Answer, Failed>
+) -> Result<Answer<'static>, Failed>
     requires number { number < (S.view store.old).shape.numbers }
     requires alive { (S.view store.old).is_dead ≡ false }
     requires block { IsBlock bytes.now }
-    ensures { Performed S.tells (S.opens (S.view store.old).shape) (S.view store.old) (S.view store.new) number (atomic addr bytes.now) result }
+    ensures { Performed S.tells (S.opens (S.view store.old).shape) (S.view store.old) (S.view store.new) number (does (atomic_write number addr bytes.now)) result }
 {
     if !is_in_data(&store.shape(), addr, bytes.len()) {
         return Ok(Answer::BadRange);
@@ -62,11 +63,11 @@ pub fn edit_log<S: EawStore>(
     pos: u32,
     at: u32,
     bytes: &[u8],
-) -> Result<Answer, Failed>
+) -> Result<Answer<'static>, Failed>
     requires number { number < (S.view store.old).shape.numbers }
     requires alive { (S.view store.old).is_dead ≡ false }
     requires block { IsBlock bytes.now }
-    ensures { Performed S.tells (S.opens (S.view store.old).shape) (S.view store.old) (S.view store.new) number (edit_log pos at bytes.now) result }
+    ensures { Performed S.tells (S.opens (S.view store.old).shape) (S.view store.old) (S.view store.new) number (does (log_edit number pos at bytes.now)) result }
 {
     if !store.is_live(number) {
         return Ok(Answer::Unknown);

@@ -4,7 +4,7 @@ use Rattle.std.specs.Ordering.{nat_cmp}
 use Rattle.std.specs.FinMap.{FinMap, get, insert, code}
 use Rattle.std.specs.Coded.{Coded, coded_ℕ, coded_list}
 use Rattle.history.specs.declared.call.Call.{Call}
-use Rattle.history.specs.declared.call.Call.TheVariants.{Begin, Get, Put, Commit}
+use Rattle.history.specs.declared.call.Call.TheVariants.{Get, Put}
 use Rattle.history.specs.declared.call.Reply.{Reply}
 use Rattle.history.specs.declared.call.Reply.TheVariants.{Fine, Found, Absent}
 
@@ -23,17 +23,14 @@ found (Some value) = Found value
 
 -- The table answers the call so. A begin and a commit are no calls of a table.
 abbrev pub Answers : Table → Call → Reply → Type 0
-Answers table Begin reply = ⊥
 Answers table (Get key) reply = reply ≡ found (get table key)
 Answers table (Put key value) reply = reply ≡ Fine
-Answers table Commit reply = ⊥
+Answers table _ reply = ⊥
 
 -- the table after a call
 abbrev pub after : Table → Call → Table
-after table Begin = table
-after table (Get key) = table
 after table (Put key value) = insert table key value
-after table Commit = table
+after table _ = table
 
 -- the table that calls leave
 abbrev pub left_by : Table → List (Call × Reply) → Table

@@ -122,6 +122,3 @@ impl History {
         self.items.len()
     }
 }
-
-#[cfg(test)]
-mod tests;

@@ -3,8 +3,6 @@
 
 mod logger;
 mod stage_fault;
-#[cfg(test)]
-mod tests;
 
 pub use logger::Logger;
 pub use stage_fault::StageFault;

@@ -1,5 +1,6 @@
 -- What can be done is done, or memory was short.
-use Rattle.std.proofs.Common.{◌≡◌, ℕ, ◌≤◌, inr, List, length, Bool, refl, ap, subst, ◌∙◌, arith}
+use Rattle.std.proofs.Common.{◌≡◌, ℕ, ◌≤◌, ◌⊎◌, inl, inr, List, length, Bool, refl, ap, subst, ◌∙◌, arith}
+use Rattle.counted.specs.Causes.{Rose}
 use Rattle.pcm_media.specs.View.{View}
 use Rattle.array_shape.specs.declared.shape.Shape.{Shape}
 use Rattle.array_shape.specs.declared.bad_shape.ShapeNumber.{ShapeNumber}
@@ -11,13 +12,13 @@ use Rattle.command_words.specs.Asked.{AsksFor}
 use Rattle.command_words.specs.declared.words.Words.{Words}
 use Rattle.script_run.specs.declared.ended.Ended.{Ended}
 use Rattle.script_io.specs.Input.{input_limit}
-use Rattle.mars_shell.specs.Asked.{WordsSay, NoneRose}
+use Rattle.mars_shell.specs.Asked.{WordsSay}
 use Rattle.mars_shell.specs.Input.{InputSays}
 use Rattle.mars_shell.specs.Kept.{slots_of}
 use Rattle.mars_shell.specs.Outcome.{OutcomeOf}
 use Rattle.mars_shell.specs.Records.{IsSoundData}
 use Rattle.mars_shell.specs.Run.{data_in, IsDamaged}
-use Rattle.mars_shell.specs.Statuses.{Counts, IsGoodOrShort}
+use Rattle.mars_shell.specs.Statuses.{Counts}
 use Rattle.mars_shell.specs.declared.status.Status.{Status}
 use Rattle.mars_shell.specs.declared.status.Status.TheVariants.{Good, Usage, TooLong, ReadFault, WriteFault, MediaFault, NoMemory, Damaged, BadRow, NotMars, BadShape}
 use Rattle.row_bytes.proofs.OneShape.{one_shape}
@@ -47,25 +48,25 @@ not_bad_in bytes size shape MediaLength given says sized bad = bad.1.2 (sized �
 
 no_bad_row : (media : View) (shape : Shape) (g t : ℕ) → IsArray shape media → HasBadRow media g t → ⊥
 no_bad_row media shape g t array row =
-    let same : shape ≡ row.shape = one_shape (header_of media.content.bytes) shape row.shape array.header row.header in
+    let same : shape ≡ row.0 = one_shape (header_of media.content.bytes) shape row.0 array.header row.1 in
     let own = subst (λ (s : Shape). IsArray s media) same array in
-    row.bad.here.bad (own.good g t row.bad.here.logger row.bad.number row.bad.here.is_decided)
+    row.3.here.bad (own.good g t row.3.here.logger row.3.number row.3.here.is_decided)
 
 pub no_damage : (media : View) (shape : Shape) (page : ℕ) → IsArray shape media → IsSoundData (slots_of shape) (data_in shape media) → IsDamaged media page → ⊥
 no_damage media shape page array sound is =
-    let same : shape ≡ is.shape = one_shape (header_of media.content.bytes) shape is.shape array.header is.array.header in
-    is.first.damaged (subst (λ (s : Shape). IsSoundData (slots_of s) (data_in s media)) same sound is.first.slot is.first.below)
+    let same : shape ≡ is.0 = one_shape (header_of media.content.bytes) shape is.0 array.header is.1.header in
+    is.2.damaged (subst (λ (s : Shape). IsSoundData (slots_of s) (data_in s media)) same sound is.2.slot is.2.below)
 
 module _ (Works : Ended → Type 0) (Broken : ℕ → Type 0) (looks : Shape → ℕ) (old new : View) (cut : Bool) (text : List ℕ) (given left : List ℕ) (s s' k k' m m' : ℕ)
-    (short : length given ≤ input_limit) (shape : Shape) (array : IsArray shape old) (whole : (page : ℕ) → Broken page → ⊥) (none : NoneRose s s' k k' m m') where
-  pub complete_of : (status : Status) → (status ≡ Usage → ⊥) → Counts status s s' k k' m m' → InputSays status given left → OutcomeOf Works Broken looks old status new cut text → IsGoodOrShort status
-  complete_of Good other counts input outcome = tt
-  complete_of NoMemory other counts input outcome = tt
+    (short : length given ≤ input_limit) (shape : Shape) (array : IsArray shape old) (whole : (page : ℕ) → Broken page → ⊥) (no_source : Rose s s' → ⊥) (no_sink : Rose k k' → ⊥) (no_media : Rose m m' → ⊥) where
+  pub complete_of : (status : Status) → (status ≡ Usage → ⊥) → Counts status s s' k k' m m' → InputSays status given left → OutcomeOf Works Broken looks old status new cut text → (status ≡ Good) ⊎ (status ≡ NoMemory)
+  complete_of Good other counts input outcome = inl refl
+  complete_of NoMemory other counts input outcome = inr refl
   complete_of Usage other counts input outcome = absurd (other refl)
   complete_of TooLong other counts input outcome = absurd (omega (arith, short, input))
-  complete_of ReadFault other counts input outcome = absurd (none.0 counts.0)
-  complete_of WriteFault other counts input outcome = absurd (none.1 counts.1)
-  complete_of MediaFault other counts input outcome = absurd (none.2 counts.1)
+  complete_of ReadFault other counts input outcome = absurd (no_source counts.0)
+  complete_of WriteFault other counts input outcome = absurd (no_sink counts.1)
+  complete_of MediaFault other counts input outcome = absurd (no_media counts.1)
   complete_of (Damaged page) other counts input outcome = absurd (whole page outcome.1)
   complete_of (BadRow logger tid) other counts input outcome = absurd (no_bad_row old shape logger tid array outcome.cause)
   complete_of NotMars other counts input outcome = absurd (outcome.cause (omega (arith, array.sized)) array.header.has_mark)

@@ -26,7 +26,7 @@ use Rattle.mars_shell.specs.Lines.{call_script}
 use Rattle.mars_shell.specs.Outcome.{Idle, Fails}
 use Rattle.mars_shell.specs.PrefixLaw.{Recovers}
 use Rattle.mars_shell.specs.Records.{records_of, IsSoundData, IsFirstDamaged, reading}
-use Rattle.mars_shell.specs.Run.{data_in, records_in, IsDamaged, Answers}
+use Rattle.mars_shell.specs.Run.{data_in, IsDamaged, Answers}
 use Rattle.mars_shell.specs.Served.{first_state, Served}
 use Rattle.mars_shell.specs.Session.{State, opened}
 use Rattle.mars_shell.proofs.Acknowledged.{committed_kept}
@@ -50,18 +50,18 @@ module _ (tells : Bool) (told : IsTrue tells) (old : View) (only_now : (image : 
   like_data : (shape : Shape) → AllOpen shape old.content → (image : List ℕ) → Opens store.shape image store.state.bytes → OpensLike shape old.content image
   like_data shape all image opens =
       let first = all old.content.bytes (left_as_read old.content) in
-      let same : store.shape ≡ shape = one_shape (header_of old.content.bytes) store.shape shape (attached.shape_is told) first.opens.header in
+      let same : store.shape ≡ shape = one_shape (header_of old.content.bytes) store.shape shape (attached.shape_is told) first.1.header in
       let first_opens : Opens store.shape old.content.bytes store.state.bytes = record {
         header = attached.shape_is told;
-        stands = record { lawful = subst (λ (s : Shape). IsLawful s old.content.bytes) (sym same) first.opens.stands.lawful; gives = sym (attached.bytes told) };
+        stands = record { lawful = subst (λ (s : Shape). IsLawful s old.content.bytes) (sym same) first.1.stands.lawful; gives = sym (attached.bytes told) };
       } in
-      record {
-        earlier = old.content.bytes;
-        left = left_as_read old.content;
-        bytes = store.state.bytes;
-        was = subst (λ (s : Shape). Opens s old.content.bytes store.state.bytes) same first_opens;
-        now = subst (λ (s : Shape). Opens s image store.state.bytes) same opens;
-      }
+      (
+        old.content.bytes,
+        left_as_read old.content,
+        store.state.bytes,
+        subst (λ (s : Shape). Opens s old.content.bytes store.state.bytes) same first_opens,
+        subst (λ (s : Shape). Opens s image store.state.bytes) same opens,
+      )
 
   module _ (mid : StoreView) (r : Result (Option ℕ) EawFault) (does : Does tells (Opens store.shape) reading store mid r) where
     time : LeavesOnly (λ image. Opens store.shape image store.state.bytes) store mid
@@ -76,16 +76,16 @@ module _ (tells : Bool) (told : IsTrue tells) (old : View) (only_now : (image : 
       uncut = refl;
       silent = refl;
       keeps = λ shape all image left. looked shape all image (behind.left old.moment image left);
-      spared = inr (record { shape = store.shape; array = array });
     }
 
     pub damaged : (o : Option ℕ) (page : ℕ) → o ≡ Some page → IfSome o (IsFirstDamaged (slots_of store.shape) store.state.bytes) → IsDamaged old page
-    damaged o page is found = let first = subst (λ (p : Option ℕ). IfSome p (IsFirstDamaged (slots_of store.shape) store.state.bytes)) is found in record { shape = store.shape; array = array; first = subst (λ (b : List ℕ). IsFirstDamaged (slots_of store.shape) b page) (attached.bytes told) first }
+    damaged o page is found = let first = subst (λ (p : Option ℕ). IfSome p (IsFirstDamaged (slots_of store.shape) store.state.bytes)) is found in (store.shape, array, subst (λ (b : List ℕ). IsFirstDamaged (slots_of store.shape) b page) (attached.bytes told) first)
 
     -- the media failed then
     pub failed_looking : (looks : Shape → ℕ) (new : View) → IsBehind tells mid new → ((shape : Shape) → shape ≡ store.shape → mid.moment ≤ store.moment + looks shape) → Fails looks old new false []
     failed_looking looks new behind costs = record {
       idle = idle_looked new behind;
+      spared = inr (store.shape, array);
       within = λ shape says quiet.
           let same : shape ≡ store.shape = one_shape (header_of old.content.bytes) shape store.shape says (attached.shape_is told) in
           let calls = attached.calls told (subst (λ (s : Shape). HasNoVote s old.content.bytes) same quiet) in
@@ -113,7 +113,7 @@ module _ (tells : Bool) (told : IsTrue tells) (old : View) (only_now : (image : 
       data_is : mid.state.bytes ≡ data_in store.shape old
       data_is = ap (λ (d : Data). d.bytes) same ∙ attached.bytes told
 
-      first_is : first_state mid ≡ opened (limits_of store.shape) (records_in store.shape old)
+      first_is : first_state mid ≡ opened (limits_of store.shape) (records_of (slots_of store.shape) (data_in store.shape old))
       first_is = λ i. opened (limits_of (shape i)) (records_of (slots_of (shape i)) (data_is i))
 
       final_is : served.ran.final ≡ state_over mid.shape (first_state mid).base served.work

@@ -21,37 +21,29 @@ module _ (tells : Bool) (told : IsTrue tells) (old : View) (only_now : (image : 
   first_like shape all image left =
       let may = only_now image told left in
       let can = all image may in
-      record { earlier = image; left = may; bytes = can.bytes; was = can.opens; now = can.opens }
+      (image, may, can.0, can.1, can.1)
 
   -- a media that nothing was done to
   pub idle_same : Idle old old false []
-  idle_same = record { uncut = refl; silent = refl; keeps = first_like; spared = inl (touched_by_nothing [] old.content) }
+  idle_same = record { uncut = refl; silent = refl; keeps = first_like }
 
   -- one that was not opened
-  idle_kept : (new : View) (fault : AttachFault) → AttachLeaves tells old new fault → KeepsData tells old new.moment new.left_since → Idle old new false []
-  idle_kept new fault leaves keeps = record {
+  idle_kept : (new : View) → KeepsData tells old new.moment new.left_since → Idle old new false []
+  idle_kept new keeps = record {
     uncut = refl;
     silent = refl;
     keeps = λ shape all image left. ⊎_elim (first_like shape all image) (λ like. like) ((keeps told shape all).only old.moment image (omega arith) left);
-    spared = spares fault leaves;
   }
-    where
-      spares : (fault : AttachFault) → AttachLeaves tells old new fault → Touched [] old.content new.content ⊎ HoldsArray old
-      spares opening.NotMars leaves = inl (leaves told)
-      spares (opening.BadShape bad) leaves = inl (leaves told)
-      spares (opening.BadRow logger tid) leaves = inl (leaves told)
-      spares opening.Media leaves = leaves told
-      spares opening.NoMemory leaves = inl (leaves told)
 
   pub unopened_of : (new : View) (fault : AttachFault) → AttachCause tells old new.faults fault → AttachLeaves tells old new fault → KeepsData tells old new.moment new.left_since
       → OpensWithin tells old new.moment → (fault ≡ opening.NoMemory → new.moment ≡ old.moment + 1) → Unopened old (status_of fault) new
-  unopened_of new opening.NotMars cause leaves keeps within early = record { idle = idle_kept new opening.NotMars leaves keeps; untouched = leaves told; cause = λ long mark. cause long told mark }
+  unopened_of new opening.NotMars cause leaves keeps within early = record { idle = idle_kept new keeps; untouched = leaves told; cause = λ long mark. cause long told mark }
   unopened_of new (opening.BadShape bad) cause leaves keeps within early =
-      record { idle = idle_kept new (opening.BadShape bad) leaves keeps; untouched = leaves told; cause = (cause.0, (cause.1 told).0, (cause.1 told).1) }
-  unopened_of new (opening.BadRow logger tid) cause leaves keeps within early = record { idle = idle_kept new (opening.BadRow logger tid) leaves keeps; untouched = leaves told; cause = cause told }
-  unopened_of new opening.Media cause leaves keeps within early = inl (record { idle = idle_kept new opening.Media leaves keeps; within = λ shape says quiet. omega (arith, within told shape says quiet) })
+      record { idle = idle_kept new keeps; untouched = leaves told; cause = (cause.0, (cause.1 told).0, (cause.1 told).1) }
+  unopened_of new (opening.BadRow logger tid) cause leaves keeps within early = record { idle = idle_kept new keeps; untouched = leaves told; cause = cause told }
+  unopened_of new opening.Media cause leaves keeps within early = inl (record { idle = idle_kept new keeps; spared = leaves told; within = λ shape says quiet. omega (arith, within told shape says quiet) })
   unopened_of new opening.NoMemory cause leaves keeps within early =
-      inl (record { idle = idle_kept new opening.NoMemory leaves keeps; untouched = leaves told; calls = inr (early refl, (cause told).0, (cause told).1, (cause told).2) })
+      inl (record { idle = idle_kept new keeps; untouched = leaves told; cause = inr (early refl, (cause told).0, (cause told).1, (cause told).2) })
 
 -- nothing was done, whatever the work is
 pub unopened_as : (Works : Ended → Type 0) (Broken : ℕ → Type 0) (looks : Shape → ℕ) (old : View) (status : Status) (new : View) → IsUnopened status → Unopened old status new → OutcomeOf Works Broken looks old status new false []
@@ -60,7 +52,7 @@ unopened_as Works Broken looks old Usage new kind outcome = absurd kind
 unopened_as Works Broken looks old TooLong new kind outcome = outcome
 unopened_as Works Broken looks old ReadFault new kind outcome = outcome
 unopened_as Works Broken looks old WriteFault new kind outcome = absurd kind
-unopened_as Works Broken looks old MediaFault new kind (inl fails) = inl (record { idle = fails.idle; within = λ shape says quiet. omega (arith, fails.within shape says quiet) })
+unopened_as Works Broken looks old MediaFault new kind (inl fails) = inl (record { idle = fails.idle; spared = fails.spared; within = λ shape says quiet. omega (arith, fails.within shape says quiet) })
 unopened_as Works Broken looks old MediaFault new kind (inr none) = absurd none
 unopened_as Works Broken looks old NoMemory new kind (inl short) = inl short
 unopened_as Works Broken looks old NoMemory new kind (inr none) = absurd none

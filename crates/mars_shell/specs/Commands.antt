@@ -6,7 +6,6 @@ use Rattle.pcm_media.specs.View.{View}
 use Rattle.array_shape.specs.declared.shape.Shape.{Shape}
 use Rattle.array_image.specs.Image.{data_of}
 use Rattle.device_recovery.specs.Recovered.{HasNoVote}
-use Rattle.eaw_face.specs.State.{State}
 use Rattle.eaw_device.specs.Opens.{Opens, AllOpen, OpensLike, IsArray}
 use Rattle.eaw_script.specs.Lines.{raw_script}
 use Rattle.eaw_script.specs.Progress.{Progress, MayStand, IsMade, OpensWith, begun}
@@ -14,17 +13,11 @@ use Rattle.script_io.specs.Lines.{lines_of}
 use Rattle.script_run.specs.Transcript.{Answered}
 use Rattle.script_run.specs.declared.ended.Ended.{Ended}
 use Rattle.script_run.specs.declared.ended.Ended.TheVariants.{All}
-use Rattle.mars_shell.specs.Outcome.{OutcomeOf}
 use Rattle.mars_shell.specs.Run.{data_in}
-use Rattle.mars_shell.specs.declared.status.Status.{Status}
 
--- this data, and no number holds a log
-abbrev pub unlogged : List ℕ → State
-unlogged bytes = record { bytes = bytes; logs = λ t. None }
-
--- The lines of the input were answered by the model, from the data of the array on. What a loss of power may leave at the end opens
--- with data that may stand there; what it might have left since the start opens with data that the script has made, or with that
--- of an image that could be left at first: where all of these open.
+-- The lines of the input were answered by the model, from the data of the array on, where no number holds a log. What a loss of
+-- power may leave at the end opens with data that may stand there; what it might have left since the start opens with data that the
+-- script has made, or with that of an image that could be left at first: where all of these open.
 pub record Obeys (old : View) (input : List ℕ) (ended : Ended) (new : View) (cut : Bool) (text : List ℕ) : Type 0 where
   pub shape : Shape
   pub array : IsArray shape old
@@ -32,13 +25,10 @@ pub record Obeys (old : View) (input : List ℕ) (ended : Ended) (new : View) (c
   pub rest : List ℕ
   pub text_is : text ≡ concat answers ++ rest
   pub final : Progress
-  pub answered : Answered raw_script (begun shape (unlogged (data_in shape old))) 1 (lines_of input) ended cut answers rest final
+  pub answered :
+      Answered raw_script (begun shape (record { bytes = data_in shape old; logs = λ t. None })) 1 (lines_of input) ended cut answers rest final
   pub now : (image : List ℕ) → MayLeave new.content image → OpensWith (Opens shape) (MayStand final) image
   pub since : AllOpen shape old.content → (image : List ℕ) → new.left_since old.moment image
       → OpensLike shape old.content image ⊎ OpensWith (Opens shape) (IsMade final) image
   pub quiet : ended ≡ All → HasNoVote shape new.content.bytes
   pub left : ended ≡ All → data_of shape new.content.bytes ≡ final.state.bytes
-
--- by the status; no page is ever named
-abbrev pub CommandOutcome : View → Status → View → List ℕ → Bool → List ℕ → Type 0
-CommandOutcome old status new input cut text = OutcomeOf (λ ended. Obeys old input ended new cut text) (λ page. ⊥) (λ shape. 0) old status new cut text

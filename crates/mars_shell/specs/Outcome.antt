@@ -13,29 +13,28 @@ use Rattle.mars_shell.specs.declared.status.Status.{Status}
 use Rattle.mars_shell.specs.declared.status.Status.TheVariants.{Good, WriteFault, MediaFault, NoMemory, Damaged, BadRow, NotMars, BadShape}
 
 -- Nothing was told. Where all that a loss of power could leave at first opens, all that it might have left since opens with data
--- of the former. A media that holds no array, or one with a bad row, is untouched.
+-- of the former.
 pub record Idle (old new : View) (cut : Bool) (text : List ℕ) : Type 0 where
   pub uncut : cut ≡ false
   pub silent : text ≡ []
   pub keeps : (shape : Shape) → AllOpen shape old.content → (image : List ℕ) → new.left_since old.moment image → OpensLike shape old.content image
-  pub spared : Touched [] old.content new.content ⊎ HoldsArray old
 
--- the media holds no array that can be opened, for this cause, and nothing was written to it
+-- for this cause, and nothing was written to the media
 pub record Refuses (Cause : Type 0) (old new : View) (cut : Bool) (text : List ℕ) : Type 0 where
   pub idle : Idle old new cut text
   pub untouched : Touched [] old.content new.content
   pub cause : Cause
 
--- Memory was short before the first line: no call of the media was made, or one, and its header says the shape of an array.
-pub record IsShort (old new : View) (cut : Bool) (text : List ℕ) : Type 0 where
-  pub idle : Idle old new cut text
-  pub untouched : Touched [] old.content new.content
-  pub calls : (new.moment ≡ old.moment) ⊎ ((new.moment ≡ old.moment + 1) × (shape : Shape) × SaysShape (header_of old.content.bytes) shape × (old.size ≡ media_len shape))
+-- memory was short before the first line: no call of the media was made, or one, and its header says the shape of an array
+abbrev pub IsShort : View → View → Type 0
+IsShort old new = (new.moment ≡ old.moment)
+    ⊎ ((new.moment ≡ old.moment + 1) × (shape : Shape) × SaysShape (header_of old.content.bytes) shape × (old.size ≡ media_len shape))
 
 -- The media failed before the first line: within the calls of an opening, where no row is voted, and so many that look at the
--- records.
+-- records. One that holds no array, or one with a bad row, is untouched.
 pub record Fails (looks : Shape → ℕ) (old new : View) (cut : Bool) (text : List ℕ) : Type 0 where
   pub idle : Idle old new cut text
+  pub spared : Touched [] old.content new.content ⊎ HoldsArray old
   pub within : (shape : Shape) → SaysShape (header_of old.content.bytes) shape → HasNoVote shape old.content.bytes → new.moment ≤ old.moment + (opening_calls shape + looks shape)
 
 -- What was written and done, by the status: the work over an array that was opened, or that there was none to open. Broken says
@@ -44,7 +43,7 @@ abbrev pub OutcomeOf : (Ended → Type 0) → (ℕ → Type 0) → (Shape → �
 OutcomeOf Works Broken looks old Good new cut text = Works script.All
 OutcomeOf Works Broken looks old WriteFault new cut text = Works script.WriteFault
 OutcomeOf Works Broken looks old MediaFault new cut text = Fails looks old new cut text ⊎ Works script.MediaFault
-OutcomeOf Works Broken looks old NoMemory new cut text = IsShort old new cut text ⊎ Works script.NoMemory
+OutcomeOf Works Broken looks old NoMemory new cut text = Refuses (IsShort old new) old new cut text ⊎ Works script.NoMemory
 OutcomeOf Works Broken looks old (Damaged page) new cut text = Idle old new cut text × Broken page
 OutcomeOf Works Broken looks old (BadRow logger tid) new cut text = Refuses (HasBadRow old logger tid) old new cut text
 OutcomeOf Works Broken looks old NotMars new cut text = Refuses (512 ≤ old.size → HasMark (header_of old.content.bytes) → ⊥) old new cut text

@@ -23,12 +23,6 @@ IsRefusal NotMars = Unit {0}
 IsRefusal (BadShape which given) = Unit {0}
 IsRefusal _ = ⊥
 
--- all was done, or memory was short
-abbrev pub IsGoodOrShort : Status → Type 0
-IsGoodOrShort Good = Unit {0}
-IsGoodOrShort NoMemory = Unit {0}
-IsGoodOrShort _ = ⊥
-
 -- the status of a script that ended so
 abbrev pub script_status : Ended → Status
 script_status script.All = Good

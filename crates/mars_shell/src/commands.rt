@@ -1,7 +1,8 @@
 // A run of raw commands.
 ghost use Rattle.std.specs.Prelude.{◌≡◌, ℕ, List, IsTrue};
 ghost use Rattle.script_io.specs.Written.{Wrote};
-ghost use Rattle.mars_shell.specs.Commands.{CommandOutcome};
+ghost use Rattle.command_words.specs.declared.words.Words.TheVariants.{Eaw};
+ghost use Rattle.mars_shell.specs.Asked.{OutcomeFor};
 ghost use Rattle.mars_shell.specs.Input.{InputSays};
 ghost use Rattle.mars_shell.specs.Statuses.{Counts, IsEarly, IsRefusal};
 
@@ -26,7 +27,7 @@ pub(crate) fn run_commands<S: Source, K: Sink, M: Media>(
     ensures steady { IsTrue (S.steady source.old) → result.0 ≡ Status.ReadFault → ⊥ }
     ensures input { IsTrue S.tells → InputSays result.0 (S.left source.old) (S.left source.new) }
     ensures ran { Wrote K.tells (K.written sink.old) (K.written sink.new) (K.faults sink.old) (K.faults sink.new)
-        (λ cut text. (input : List ℕ) × (IsTrue S.tells → S.left source.old ≡ input) × (IsTrue M.tells → CommandOutcome (M.view media) result.0 (M.view result.1) input cut text)) }
+        (λ cut text. (input : List ℕ) × (IsTrue S.tells → S.left source.old ≡ input) × (IsTrue M.tells → OutcomeFor Eaw (M.view media) result.0 (M.view result.1) input cut text)) }
 {
     let (input, store) = match open(alloc, source, media) {
         Ok(opened) => opened,

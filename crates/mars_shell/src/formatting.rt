@@ -1,8 +1,9 @@
 // A fresh array is made on the media, and its lengths are told.
 ghost use Rattle.std.specs.Prelude.{◌≡◌, ◌↔◌, ◌+◌, ◌≤◌, ◌++◌, length, take, IsOk, IfOk, IfErr, IsTrue};
 ghost use Rattle.array_shape.specs.declared.shape.Shape.{Shape};
+ghost use Rattle.array_shape.specs.Numbers.{IsFirstBad};
 ghost use Rattle.array_shape.specs.Places.{media_len};
-ghost use Rattle.mars_shell.specs.Formats.{CanBe, HasAsked, IsFirstWrong, asked_for, formatted_line, FormatOutcome, IsOfFormat, SizeSays};
+ghost use Rattle.mars_shell.specs.Formats.{CanBe, HasAsked, asked_for, formatted_line, FormatSays, FormatOutcome};
 ghost use Rattle.mars_shell.specs.Statuses.{Counts, IsRefusal};
 ghost use Rattle.script_io.specs.Written.{Wrote};
 
@@ -32,11 +33,9 @@ pub(crate) fn run_format<K: Sink, M: Media>(
     mut media: M,
     asked: &FormatNumbers,
 ) -> (Status, M)
-    ensures kind { IsOfFormat result.0 }
     // Where a number or the media's length is wrong, all is left alone. Of an array that was not made nothing is told.
-    ensures refused { IsRefusal result.0 → (sink.new ≡ sink.old) × (result.1 ≡ media) }
-    ensures untold { result.0 ≡ Status.MediaFault → sink.new ≡ sink.old }
-    ensures sized { SizeSays asked.now (M.view media).size result.0 }
+    ensures refused { IsRefusal result.0 → sink.new ≡ sink.old }
+    ensures says { FormatSays asked.now (M.view media).size result.0 (sink.new ≡ sink.old) (result.1 ≡ media) }
     ensures counts { Counts result.0 0 0 (K.faults sink.old) (K.faults sink.new) (M.view media).faults (M.view result.1).faults }
     // Some text was written, cut short only where the sink failed, and each status has its cause.
     ensures ran { Wrote K.tells (K.written sink.old) (K.written sink.new) (K.faults sink.old) (K.faults sink.new)
@@ -64,7 +63,7 @@ pub(crate) fn run_format<K: Sink, M: Media>(
 fn shape_of(asked: &FormatNumbers) -> Result<Shape, BadShape>
     ensures good { IsOk result ↔ CanBe asked.now }
     ensures shape { IfOk result (HasAsked asked.now) }
-    ensures bad { IfErr result (λ bad. IsFirstWrong asked.now bad.which bad.given) }
+    ensures bad { IfErr result (λ bad. IsFirstBad asked.now.loggers asked.now.numbers asked.now.entries asked.now.pages bad.which bad.given) }
 {
     // What no byte holds is out of range, as 255 is, but it is told as it was asked for.
     let loggers = asked.loggers.min(255) as u8;

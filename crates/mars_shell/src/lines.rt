@@ -1,8 +1,9 @@
 // A run over records.
 ghost use Rattle.std.specs.Prelude.{◌≡◌, ℕ, List, IsTrue};
 ghost use Rattle.script_io.specs.Written.{Wrote};
+ghost use Rattle.command_words.specs.declared.words.Words.TheVariants.{Run};
+ghost use Rattle.mars_shell.specs.Asked.{OutcomeFor};
 ghost use Rattle.mars_shell.specs.Input.{InputSays};
-ghost use Rattle.mars_shell.specs.Run.{Outcome};
 ghost use Rattle.mars_shell.specs.Statuses.{Counts, IsEarly, IsRefusal};
 
 use crate::damage::first_damage;
@@ -28,7 +29,7 @@ pub(crate) fn run_lines<S: Source, K: Sink, M: Media>(
     ensures steady { IsTrue (S.steady source.old) → result.0 ≡ Status.ReadFault → ⊥ }
     ensures input { IsTrue S.tells → InputSays result.0 (S.left source.old) (S.left source.new) }
     ensures ran { Wrote K.tells (K.written sink.old) (K.written sink.new) (K.faults sink.old) (K.faults sink.new)
-        (λ cut text. (input : List ℕ) × (IsTrue S.tells → S.left source.old ≡ input) × (IsTrue M.tells → Outcome (M.view media) result.0 (M.view result.1) input cut text)) }
+        (λ cut text. (input : List ℕ) × (IsTrue S.tells → S.left source.old ≡ input) × (IsTrue M.tells → OutcomeFor Run (M.view media) result.0 (M.view result.1) input cut text)) }
 {
     // The room for the pages is taken first, so that want of memory for it leaves the media alone.
     let room = match SaveRoom::new(alloc) {

@@ -18,6 +18,3 @@ pub fn room(alloc: Global, words: &[String]) -> Result<u64, NoMemory>
         Err(WordsFault::NoMemory) => Err(NoMemory),
     }
 }
-
-#[cfg(test)]
-mod tests;

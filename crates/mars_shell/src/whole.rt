@@ -1,10 +1,11 @@
 // The whole run.
-ghost use Rattle.std.specs.Prelude.{◌≡◌, ℕ, List, map, IsTrue, string_bytes};
+ghost use Rattle.std.specs.Prelude.{◌≡◌, ◌⊎◌, ℕ, List, map, IsTrue, string_bytes};
+ghost use Rattle.counted.specs.Causes.{Rose};
 ghost use Rattle.script_io.specs.Written.{Wrote};
-ghost use Rattle.mars_shell.specs.Asked.{WordsSay, IfReads, IfFormat, Formats, OutcomeFor, IsFit, NoneRose};
+ghost use Rattle.mars_shell.specs.Asked.{WordsSay, IfFormat, OutcomeFor, IsFit};
+ghost use Rattle.mars_shell.specs.Formats.{FormatSays};
 ghost use Rattle.mars_shell.specs.Input.{InputSays};
-ghost use Rattle.mars_shell.specs.Run.{Outcome};
-ghost use Rattle.mars_shell.specs.Statuses.{Counts, IsEarly, IsRefusal, IsGoodOrShort};
+ghost use Rattle.mars_shell.specs.Statuses.{Counts, IsRefusal};
 
 use crate::commands::run_commands;
 use crate::formatting::run_format;
@@ -33,22 +34,24 @@ pub fn run<R: AllocGlobal, S: Source, K: Sink, M: Media, G: Gate>(
     // Other words touch nothing, what ends the run before the media is opened leaves that and the sink alone, and of an
     // array that is not opened nothing is told.
     ensures usage { result.0 ≡ Status.Usage → (source.new ≡ source.old) × (sink.new ≡ sink.old) × (result.1 ≡ media) }
-    ensures early { IsEarly result.0 → (sink.new ≡ sink.old) × (result.1 ≡ media) }
+    ensures early { (result.0 ≡ Status.TooLong) ⊎ (result.0 ≡ Status.ReadFault) → (sink.new ≡ sink.old) × (result.1 ≡ media) }
     ensures refused { IsRefusal result.0 → sink.new ≡ sink.old }
     // A fault is told as what it is, and none is hidden.
     ensures counts { Counts result.0 (S.faults source.old) (S.faults source.new) (K.faults sink.old) (K.faults sink.new) (M.view media).faults (M.view result.1).faults }
     ensures steady { IsTrue (S.steady source.old) → result.0 ≡ Status.ReadFault → ⊥ }
-    // An input is too long exactly where it is; and all of it was read where a command that reads it ends well.
-    ensures input { IsTrue S.tells → WordsSay (map string_bytes words.now) result.0 (Unit {0}) (λ asked. IfReads asked (InputSays result.0 (S.left source.old) (S.left source.new))) }
-    ensures formats { WordsSay (map string_bytes words.now) result.0 ((source.new ≡ source.old) × (sink.new ≡ sink.old) × (result.1 ≡ media)) (λ asked. IfFormat asked (λ numbers.
-        Formats numbers (M.view media).size result.0 (source.new ≡ source.old) (sink.new ≡ sink.old) (result.1 ≡ media))) }
+    // An input is too long exactly where it is; and all of it was read where a command that reads it ends well. A format reads none.
+    ensures input { WordsSay (map string_bytes words.now) result.0 (source.new ≡ source.old) (λ asked. IfFormat asked
+        (λ numbers. source.new ≡ source.old) (IsTrue S.tells → InputSays result.0 (S.left source.old) (S.left source.new))) }
+    ensures formats { WordsSay (map string_bytes words.now) result.0 ((sink.new ≡ sink.old) × (result.1 ≡ media)) (λ asked. IfFormat asked
+        (λ numbers. FormatSays numbers (M.view media).size result.0 (sink.new ≡ sink.old) (result.1 ≡ media)) (Unit {0})) }
     // What the words ask for was done. Each status has its cause. Of a run the text answers the lines of the input one by one, the
     // history is legal, and the prefix law holds of it; of raw commands it answers them by the model.
     ensures ran { WordsSay (map string_bytes words.now) result.0 ((source.new ≡ source.old) × (sink.new ≡ sink.old) × (result.1 ≡ media)) (λ asked. Wrote K.tells (K.written sink.old) (K.written sink.new) (K.faults sink.old) (K.faults sink.new)
         (λ cut text. (input : List ℕ) × (IsTrue S.tells → S.left source.old ≡ input) × (IsTrue M.tells → OutcomeFor asked (M.view media) result.0 (M.view result.1) input cut text))) }
     // What can be done is done, or memory was short.
     ensures complete { WordsSay (map string_bytes words.now) result.0 (Unit {0}) (λ asked. IsFit asked S.tells (S.left source.old) M.tells (M.view media)
-        → NoneRose (S.faults source.old) (S.faults source.new) (K.faults sink.old) (K.faults sink.new) (M.view media).faults (M.view result.1).faults → IsGoodOrShort result.0) }
+        → (Rose (S.faults source.old) (S.faults source.new) → ⊥) → (Rose (K.faults sink.old) (K.faults sink.new) → ⊥) → (Rose (M.view media).faults (M.view result.1).faults → ⊥)
+        → (result.0 ≡ Status.Good) ⊎ (result.0 ≡ Status.NoMemory)) }
 {
     match read_words(rt.alloc(), words) {
         Err(WordsFault::NoCommand) => (Status::Usage, media),

@@ -7,6 +7,3 @@ mod log;
 mod part;
 
 pub use eaw::MemoryEaw;
-
-#[cfg(test)]
-mod tests;

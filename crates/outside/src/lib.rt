@@ -13,6 +13,3 @@ pub use memory_source::MemorySource;
 pub use sink::Sink;
 pub use source::Source;
 pub use standard::{StdSink, StdSource};
-
-#[cfg(test)]
-mod tests;

@@ -12,6 +12,3 @@ pub use call::{Call, Record};
 pub use fused_media::FusedMedia;
 pub use media::Media;
 pub use memory_media::MemoryMedia;
-
-#[cfg(test)]
-mod tests;

@@ -3,8 +3,6 @@
 
 mod laws;
 mod slot;
-#[cfg(test)]
-mod tests;
 mod value;
 
 pub use laws::slot_round_trip;

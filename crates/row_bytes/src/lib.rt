@@ -4,8 +4,6 @@
 mod head;
 mod header;
 mod row;
-#[cfg(test)]
-mod tests;
 
 pub use head::{Head, read_head, write_head};
 pub use header::{HeaderFault, read_array_header, write_array_header};

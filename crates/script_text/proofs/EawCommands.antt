@@ -1,9 +1,10 @@
 -- Texts that are those of a command, and texts that are those of none.
-use Rattle.std.proofs.Common.{◌≡◌, ℕ, ◌^◌, ◌<◌, ◌≤◌, List, ◌∷◌, ◌++◌, refl, ap, ◌∙◌}
+use Rattle.std.proofs.Common.{◌≡◌, ℕ, ◌^◌, ◌<◌, ◌≤◌, List, ◌∷◌, ◌++◌, refl, sym, ap, subst, ◌∙◌}
 use Rattle.std.specs.Prelude.{codes}
 use Rattle.std.specs.Fmt.{decimal}
+use Rattle.eaw_face.specs.Command.{log_write, log_edit, commit, abort, nested_top, partial_abort, atomic_write, log_read, read}
 use Rattle.script_text.specs.HexText.{hex_of, IsHex}
-use Rattle.script_text.specs.Eaw.{Command, log_write, commit, abort, nested, partial, atomic, edit_log, read_log, read, log_len, held, IsCommand, eaw_text, eaw_line}
+use Rattle.script_text.specs.Eaw.{Raw, does, read_log, log_len, held, IsTextOf}
 
 -- a front, a number, a space and bytes as text, told by those bytes
 pub write_told : (front text hex : List ℕ) (addr : ℕ) (is : IsHex hex) → text ≡ front ++ (decimal addr ++ 32 ∷ hex) → text ≡ front ++ (decimal addr ++ 32 ∷ hex_of is.0)
@@ -11,7 +12,7 @@ write_told front text hex addr is e = e ∙ ap (λ h. front ++ (decimal addr ++ 
 
 -- the same with a place in the part
 pub edit_told : (text hex : List ℕ) (pos place : ℕ) (is : IsHex hex) → text ≡ codes "editlog " ++ (decimal pos ++ 32 ∷ (decimal place ++ 32 ∷ hex))
-    → text ≡ eaw_text (edit_log pos place is.0)
+    → text ≡ codes "editlog " ++ (decimal pos ++ 32 ∷ (decimal place ++ 32 ∷ hex_of is.0))
 edit_told text hex pos place is e = e ∙ ap (λ h. codes "editlog " ++ (decimal pos ++ 32 ∷ (decimal place ++ 32 ∷ h))) is.2
 
 -- bytes that no reader of a verb reads
@@ -29,19 +30,23 @@ pub record IsUnread (text : List ℕ) : Type 0 where
   pub held : (g : ℕ) → g < 8 → text ≡ codes "held " ++ decimal g → ⊥
 
 -- they are the text of no command
-pub no_command : (text : List ℕ) → IsUnread text → (command : Command) → IsCommand command → text ≡ eaw_text command → ⊥
-no_command text none (log_write addr bytes) is e = none.log_write (addr, hex_of bytes) (is.0, (bytes, is.1, refl)) e
-no_command text none commit is e = none.commit e
-no_command text none abort is e = none.abort e
-no_command text none (nested offset) is e = none.nested offset is e
-no_command text none (partial offset) is e = none.partial offset is e
-no_command text none (atomic addr bytes) is e = none.atomic (addr, hex_of bytes) (is.0, (bytes, is.1, refl)) e
-no_command text none (edit_log pos place bytes) is e = none.edit_log (pos, place, hex_of bytes) (is.0, is.1, (bytes, is.2, refl)) e
-no_command text none (read_log pos) is e = none.read_log pos is e
-no_command text none (read addr len) is e = none.read (addr, len) is e
-no_command text none log_len is e = none.log_len e
-no_command text none (held logger) is e = none.held logger is e
+pub no_command : (text : List ℕ) → IsUnread text → (t : ℕ) (raw : Raw) → IsTextOf t raw text → ⊥
+no_command text none t (does (log_write u addr bytes)) is = none.log_write (addr, hex_of bytes) (is.1, (bytes, is.2, refl)) is.3
+no_command text none t (does (commit u)) is = none.commit is.1
+no_command text none t (does (abort u)) is = none.abort is.1
+no_command text none t (does (nested_top u offset)) is = none.nested offset is.1 is.2
+no_command text none t (does (partial_abort u offset)) is = none.partial offset is.1 is.2
+no_command text none t (does (atomic_write u addr bytes)) is = none.atomic (addr, hex_of bytes) (is.1, (bytes, is.2, refl)) is.3
+no_command text none t (does (log_edit u pos place bytes)) is = none.edit_log (pos, place, hex_of bytes) (is.1, is.2, (bytes, is.3, refl)) is.4
+no_command text none t (does (log_read u)) is = is
+no_command text none t (does (read addr len)) is = none.read (addr, len) (is.0, is.1, is.2) is.3
+no_command text none t (read_log pos) is = none.read_log pos is.0 is.1
+no_command text none t log_len is = none.log_len is
+no_command text none t (held logger) is = none.held logger is.0 is.1
 
--- a number's text, a space and a command's text
-pub line_told : (line word rest : List ℕ) (number : ℕ) (command : Command) → line ≡ word ++ 32 ∷ rest → word ≡ decimal number → rest ≡ eaw_text command → line ≡ eaw_line number command
-line_told line word rest number command split first behind = split ∙ rw (first, behind) refl
+-- a number's text, a space and what stands behind it
+pub line_told : (line word rest : List ℕ) (t : ℕ) → line ≡ word ++ 32 ∷ rest → word ≡ decimal t → line ≡ decimal t ++ 32 ∷ rest
+line_told line word rest t split first = split ∙ ap (λ (w : List ℕ). w ++ 32 ∷ rest) first
+
+pub text_behind : (t : ℕ) (raw : Raw) (rest text : List ℕ) → rest ≡ text → IsTextOf t raw text → IsTextOf t raw rest
+text_behind t raw rest text same is = subst (IsTextOf t raw) (sym same) is

@@ -1,16 +1,17 @@
 -- The text of a number's command is that of no other, and a line means one thing.
-use Rattle.std.proofs.Common.{◌≡◌, ℕ, ◌+◌, ◌*◌, ◌<◌, ◌≤◌, ◌^◌, List, [], ◌∷◌, ◌++◌, length, get_or, refl, ap, sym, ◌∙◌, arith}
+use Rattle.std.proofs.Common.{◌≡◌, ℕ, ◌+◌, ◌*◌, ◌<◌, ◌≤◌, ◌^◌, List, [], ◌∷◌, ◌++◌, length, get_or, refl, ap, sym, ◌∙◌, subst, arith}
 use Rattle.std.specs.Prelude.{codes}
 use Rattle.std.specs.Fmt.{decimal}
 use Rattle.std.proofs.lemmas.Fmt.{decimal_injective, decimal_nonempty}
 use Rattle.std.proofs.lemmas.List.{append_cancel_left, get_or_append_left, length-append}
+use Rattle.eaw_face.specs.Command.{Command, log_write, log_edit, commit, abort, nested_top, partial_abort, atomic_write, log_read, read}
 use Rattle.script_text.specs.Line.{IsPassedOver}
 use Rattle.script_text.specs.HexText.{hex_of, IsBlock}
-use Rattle.script_text.specs.Eaw.{Command, log_write, commit, abort, nested, partial, atomic, edit_log, read_log, read, log_len, held, IsCommand, eaw_text, eaw_line}
+use Rattle.script_text.specs.Eaw.{Raw, does, read_log, log_len, held, IsTextOf, IsLineOf}
 use Rattle.script_text.specs.EawLines.{Meaning, nothing, told, bad, Means}
 use Rattle.script_text.proofs.Words.{first_space}
 use Rattle.script_text.proofs.Numbers.{decimal_is_word}
-use Rattle.script_text.proofs.OneLine.{first_digit}
+use Rattle.script_text.proofs.OneLine.{not_passed}
 use Rattle.script_text.proofs.HexTexts.{hex_of_injective}
 use Rattle.script_text.proofs.EawReads.{same_fields}
 
@@ -19,35 +20,50 @@ mark : List ℕ → ℕ
 mark text = get_or text 0 0 + 2 * get_or text 4 0
 
 -- they tell the verb
-letters : Command → ℕ
-letters (log_write addr bytes) = 336
-letters commit = 309
-letters abort = 329
-letters (nested offset) = 312
-letters (partial offset) = 322
-letters (atomic addr bytes) = 307
-letters (edit_log pos place bytes) = 317
+letters : Raw → ℕ
+letters (does (log_write u addr bytes)) = 336
+letters (does (commit u)) = 309
+letters (does (abort u)) = 329
+letters (does (nested_top u offset)) = 312
+letters (does (partial_abort u offset)) = 322
+letters (does (atomic_write u addr bytes)) = 307
+letters (does (log_edit u pos place bytes)) = 317
+letters (does (log_read u)) = 0
+letters (does (read addr len)) = 178
 letters (read_log pos) = 330
-letters (read addr len) = 178
 letters log_len = 310
 letters (held logger) = 168
 
-mark_of : (command : Command) → mark (eaw_text command) ≡ letters command
+mark_of : (t : ℕ) (raw : Raw) (text : List ℕ) → IsTextOf t raw text → mark text ≡ letters raw
 unfolding mark letters
-mark_of (log_write addr bytes) = refl
-mark_of commit = refl
-mark_of abort = refl
-mark_of (nested offset) = refl
-mark_of (partial offset) = refl
-mark_of (atomic addr bytes) = refl
-mark_of (edit_log pos place bytes) = refl
-mark_of (read_log pos) = refl
-mark_of (read addr len) = refl
-mark_of log_len = refl
-mark_of (held logger) = refl
+mark_of t (does (log_write u addr bytes)) text is = ap mark is.3
+mark_of t (does (commit u)) text is = ap mark is.1
+mark_of t (does (abort u)) text is = ap mark is.1
+mark_of t (does (nested_top u offset)) text is = ap mark is.2
+mark_of t (does (partial_abort u offset)) text is = ap mark is.2
+mark_of t (does (atomic_write u addr bytes)) text is = ap mark is.3
+mark_of t (does (log_edit u pos place bytes)) text is = ap mark is.4
+mark_of t (does (log_read u)) text is = absurd is
+mark_of t (does (read addr len)) text is = ap mark is.3
+mark_of t (read_log pos) text is = ap mark is.1
+mark_of t log_len text is = ap mark is
+mark_of t (held logger) text is = ap mark is.1
 
-same_letters : (command other : Command) → eaw_text command ≡ eaw_text other → letters command ≡ letters other
-same_letters command other e = sym (mark_of command) ∙ ap mark e ∙ mark_of other
+same_letters : (t : ℕ) (raw other : Raw) (text : List ℕ) → IsTextOf t raw text → IsTextOf t other text → letters raw ≡ letters other
+same_letters t raw other text is js = sym (mark_of t raw text is) ∙ mark_of t other text js
+
+-- no command of the store has those of a question
+does_letters : (command : Command) → (letters (does command) ≡ 330 → ⊥) × (letters (does command) ≡ 310 → ⊥) × (letters (does command) ≡ 168 → ⊥)
+unfolding letters
+does_letters (log_write u addr bytes) = (λ e. omega (arith, e), λ e. omega (arith, e), λ e. omega (arith, e))
+does_letters (log_edit u pos place bytes) = (λ e. omega (arith, e), λ e. omega (arith, e), λ e. omega (arith, e))
+does_letters (commit u) = (λ e. omega (arith, e), λ e. omega (arith, e), λ e. omega (arith, e))
+does_letters (abort u) = (λ e. omega (arith, e), λ e. omega (arith, e), λ e. omega (arith, e))
+does_letters (nested_top u offset) = (λ e. omega (arith, e), λ e. omega (arith, e), λ e. omega (arith, e))
+does_letters (partial_abort u offset) = (λ e. omega (arith, e), λ e. omega (arith, e), λ e. omega (arith, e))
+does_letters (atomic_write u addr bytes) = (λ e. omega (arith, e), λ e. omega (arith, e), λ e. omega (arith, e))
+does_letters (log_read u) = (λ e. omega (arith, e), λ e. omega (arith, e), λ e. omega (arith, e))
+does_letters (read addr len) = (λ e. omega (arith, e), λ e. omega (arith, e), λ e. omega (arith, e))
 
 same_bytes : (a b : List ℕ) → IsBlock a → IsBlock b → hex_of a ≡ hex_of b → a ≡ b
 same_bytes a b is js e = hex_of_injective a b is.fits js.fits e
@@ -62,54 +78,60 @@ same_write front a b m n is js e =
     let both = same_fields _ (hex_of a) (hex_of b) m n is.0 js.0 refl (append_cancel_left front _ _ e) in
     (both.0, same_bytes a b is.1 js.1 both.1)
 
-same_command : (command other : Command) → IsCommand command → IsCommand other → eaw_text command ≡ eaw_text other → command ≡ other
+same_raw : (t : ℕ) (raw other : Raw) (text : List ℕ) → IsTextOf t raw text → IsTextOf t other text → raw ≡ other
 unfolding letters
-same_command (log_write m a) (log_write n b) is js e =
-    let same = same_write (codes "logwrite ") a b m n is js e in
-    ap (λ (p : ℕ × List ℕ). log_write p.0 p.1) (λ i. (same.0 i, same.1 i))
-same_command commit commit is js e = refl
-same_command abort abort is js e = refl
-same_command (nested m) (nested n) is js e = ap nested (same_number (codes "nested ") m n is js e)
-same_command (partial m) (partial n) is js e = ap partial (same_number (codes "partial ") m n is js e)
-same_command (atomic m a) (atomic n b) is js e =
-    let same = same_write (codes "atomic ") a b m n is js e in
-    ap (λ (p : ℕ × List ℕ). atomic p.0 p.1) (λ i. (same.0 i, same.1 i))
-same_command (edit_log p m a) (edit_log q n b) is js e =
-    let first = same_fields _ (decimal m ++ 32 ∷ hex_of a) (decimal n ++ 32 ∷ hex_of b) p q is.0 js.0 refl (append_cancel_left (codes "editlog ") _ _ e) in
-    let same = same_write [] a b m n (is.1, is.2) (js.1, js.2) first.1 in
-    ap (λ (t : ℕ × ℕ × List ℕ). edit_log t.0 t.1 t.2) (λ i. (first.0 i, same.0 i, same.1 i))
-same_command (read_log m) (read_log n) is js e = ap read_log (same_number (codes "readlog ") m n is js e)
-same_command (read m a) (read n b) is js e =
-    let first = same_fields _ (decimal a) (decimal b) m n is.0 js.0 refl (append_cancel_left (codes "read ") _ _ e) in
+same_raw t (does (log_write u m a)) (does (log_write v n b)) text is js =
+    let same = same_write (codes "logwrite ") a b m n (is.1, is.2) (js.1, js.2) (sym is.3 ∙ js.3) in
+    ap (λ (p : ℕ × ℕ × List ℕ). does (log_write p.0 p.1 p.2)) (λ i. ((is.0 ∙ sym js.0) i, same.0 i, same.1 i))
+same_raw t (does (commit u)) (does (commit v)) text is js = ap (λ (n : ℕ). does (commit n)) (is.0 ∙ sym js.0)
+same_raw t (does (abort u)) (does (abort v)) text is js = ap (λ (n : ℕ). does (abort n)) (is.0 ∙ sym js.0)
+same_raw t (does (nested_top u m)) (does (nested_top v n)) text is js =
+    let same = same_number (codes "nested ") m n is.1 js.1 (sym is.2 ∙ js.2) in
+    ap (λ (p : ℕ × ℕ). does (nested_top p.0 p.1)) (λ i. ((is.0 ∙ sym js.0) i, same i))
+same_raw t (does (partial_abort u m)) (does (partial_abort v n)) text is js =
+    let same = same_number (codes "partial ") m n is.1 js.1 (sym is.2 ∙ js.2) in
+    ap (λ (p : ℕ × ℕ). does (partial_abort p.0 p.1)) (λ i. ((is.0 ∙ sym js.0) i, same i))
+same_raw t (does (atomic_write u m a)) (does (atomic_write v n b)) text is js =
+    let same = same_write (codes "atomic ") a b m n (is.1, is.2) (js.1, js.2) (sym is.3 ∙ js.3) in
+    ap (λ (p : ℕ × ℕ × List ℕ). does (atomic_write p.0 p.1 p.2)) (λ i. ((is.0 ∙ sym js.0) i, same.0 i, same.1 i))
+same_raw t (does (log_edit u p m a)) (does (log_edit v q n b)) text is js =
+    let first = same_fields _ (decimal m ++ 32 ∷ hex_of a) (decimal n ++ 32 ∷ hex_of b) p q is.1 js.1 refl (append_cancel_left (codes "editlog ") _ _ (sym is.4 ∙ js.4)) in
+    let same = same_write [] a b m n (is.2, is.3) (js.2, js.3) first.1 in
+    ap (λ (x : ℕ × ℕ × ℕ × List ℕ). does (log_edit x.0 x.1 x.2 x.3)) (λ i. ((is.0 ∙ sym js.0) i, first.0 i, same.0 i, same.1 i))
+same_raw t (does (read m a)) (does (read n b)) text is js =
+    let first = same_fields _ (decimal a) (decimal b) m n is.0 js.0 refl (append_cancel_left (codes "read ") _ _ (sym is.3 ∙ js.3)) in
     let same : a ≡ b = decimal_injective a b (omega (arith, is.2)) (omega (arith, js.2)) first.1 in
-    ap (λ (p : ℕ × ℕ). read p.0 p.1) (λ i. (first.0 i, same i))
-same_command log_len log_len is js e = refl
-same_command (held m) (held n) is js e = ap held (same_number (codes "held ") m n (omega (arith, is)) (omega (arith, js)) e)
-same_command command other is js e = absurd (let h : letters command ≡ letters other = same_letters command other e in omega (arith, h))
+    ap (λ (p : ℕ × ℕ). does (read p.0 p.1)) (λ i. (first.0 i, same i))
+same_raw t (read_log m) (read_log n) text is js = ap read_log (same_number (codes "readlog ") m n is.0 js.0 (sym is.1 ∙ js.1))
+same_raw t log_len log_len text is js = refl
+same_raw t (held m) (held n) text is js = ap held (same_number (codes "held ") m n (omega (arith, is.0)) (omega (arith, js.0)) (sym is.1 ∙ js.1))
+same_raw t (does (log_read u)) (does other) text is js = absurd is
+same_raw t (does command) (read_log n) text is js = absurd ((does_letters command).0 (same_letters t (does command) (read_log n) text is js))
+same_raw t (does command) log_len text is js = absurd ((does_letters command).1 (same_letters t (does command) log_len text is js))
+same_raw t (does command) (held n) text is js = absurd ((does_letters command).2 (same_letters t (does command) (held n) text is js))
+same_raw t (read_log n) (does command) text is js = absurd ((does_letters command).0 (same_letters t (does command) (read_log n) text js is))
+same_raw t log_len (does command) text is js = absurd ((does_letters command).1 (same_letters t (does command) log_len text js is))
+same_raw t (held n) (does command) text is js = absurd ((does_letters command).2 (same_letters t (does command) (held n) text js is))
+same_raw t raw other text is js = absurd (let h : letters raw ≡ letters other = same_letters t raw other text is js in omega (arith, h))
 
-pub same_eaw_line : (c d : ℕ) (command other : Command) → c < 2 ^ 64 → d < 2 ^ 64 → IsCommand command → IsCommand other → eaw_line c command ≡ eaw_line d other → (c ≡ d) × (command ≡ other)
-same_eaw_line c d command other cf df is js e =
-    let both = first_space (decimal c) (decimal d) (eaw_text command) (eaw_text other) (decimal_is_word c cf) (decimal_is_word d df) e in
-    (decimal_injective c d cf df both.0, same_command command other is js both.1)
-
--- a number's command is not passed over: it begins with a digit
-not_passed : (c : ℕ) (command : Command) (bytes : List ℕ) → c < 2 ^ 64 → bytes ≡ eaw_line c command → IsPassedOver bytes → ⊥
-not_passed c command [] cf e over = omega (arith, decimal_nonempty c cf, simp length-append at (ap length e))
-not_passed c command (byte ∷ bytes) cf e over =
-    let head : byte ≡ get_or (decimal c ++ 32 ∷ eaw_text command) 0 0 = ap (λ (l : List ℕ). get_or l 0 0) e in
-    let digit = get_or_append_left (decimal c) (32 ∷ eaw_text command) 0 0 (decimal_nonempty c cf) in
-    omega (arith, over, head, digit, first_digit c cf)
+pub same_eaw_line : (numbers c d : ℕ) (raw other : Raw) (line : List ℕ) → numbers ≤ 2 ^ 64 → IsLineOf numbers c raw line → IsLineOf numbers d other line → (c ≡ d) × (raw ≡ other)
+same_eaw_line numbers c d raw other line few is js =
+    let cf : c < 2 ^ 64 = omega (arith, few, is.0) in
+    let df : d < 2 ^ 64 = omega (arith, few, js.0) in
+    let both = first_space (decimal c) (decimal d) is.1 js.1 (decimal_is_word c cf) (decimal_is_word d df) (sym is.3 ∙ js.3) in
+    let same : c ≡ d = decimal_injective c d cf df both.0 in
+    (same, same_raw c raw other is.1 is.2 (subst (λ (text : List ℕ). IsTextOf c other text) (sym both.1) (subst (λ (t : ℕ). IsTextOf t other js.1) (sym same) js.2)))
 
 -- no two of the three cases hold of one line
 pub same_meaning : (numbers : ℕ) (bytes : List ℕ) (meaning other : Meaning) → numbers ≤ 2 ^ 64 → Means numbers bytes meaning → Means numbers bytes other → meaning ≡ other
 same_meaning numbers bytes nothing nothing few is js = refl
-same_meaning numbers bytes nothing (told c command) few is js = absurd (not_passed c command bytes (omega (arith, js.0)) js.2 is)
+same_meaning numbers bytes nothing (told c raw) few is js = absurd (not_passed c js.1 bytes (omega (arith, js.0)) js.3 is)
 same_meaning numbers bytes nothing bad few is js = absurd (js.0 is)
-same_meaning numbers bytes (told c command) nothing few is js = absurd (not_passed c command bytes (omega (arith, is.0)) is.2 js)
-same_meaning numbers bytes (told c command) (told d other) few is js =
-    let both = same_eaw_line c d command other (omega (arith, is.0)) (omega (arith, js.0)) is.1 js.1 (sym is.2 ∙ js.2) in
-    ap (λ (t : ℕ × Command). told t.0 t.1) (λ i. (both.0 i, both.1 i))
-same_meaning numbers bytes (told c command) bad few is js = absurd (js.1 c command is.0 is.1 is.2)
+same_meaning numbers bytes (told c raw) nothing few is js = absurd (not_passed c is.1 bytes (omega (arith, is.0)) is.3 js)
+same_meaning numbers bytes (told c raw) (told d other) few is js =
+    let both = same_eaw_line numbers c d raw other bytes few is js in
+    ap (λ (t : ℕ × Raw). told t.0 t.1) (λ i. (both.0 i, both.1 i))
+same_meaning numbers bytes (told c raw) bad few is js = absurd (js.1 c raw is)
 same_meaning numbers bytes bad nothing few is js = absurd (is.0 js)
-same_meaning numbers bytes bad (told c command) few is js = absurd (is.1 c command js.0 js.1 js.2)
+same_meaning numbers bytes bad (told c raw) few is js = absurd (is.1 c raw js)
 same_meaning numbers bytes bad bad few is js = refl

@@ -1,50 +1,32 @@
--- The raw commands of the array, and how they are written.
-use Rattle.std.specs.Prelude.{ℕ, ◌≤◌, ◌<◌, ◌^◌, List, ◌∷◌, ◌++◌, codes}
+-- The raw commands of a script, and how they are written.
+use Rattle.std.specs.Prelude.{ℕ, ◌≡◌, ◌≤◌, ◌<◌, ◌^◌, List, ◌∷◌, ◌++◌, codes}
 use Rattle.std.specs.Fmt.{decimal}
+use Rattle.eaw_face.specs.Command.{Command, log_write, log_edit, commit, abort, nested_top, partial_abort, atomic_write, log_read, read}
 use Rattle.script_text.specs.HexText.{hex_of, IsBlock}
 
--- a command: addresses, offsets, places and lengths are numbers, and what is written is bytes
-pub data Command : Type 0 where
-  log_write : (addr : ℕ) (bytes : List ℕ) → Command
-  commit : Command
-  abort : Command
-  nested : (offset : ℕ) → Command
-  partial : (offset : ℕ) → Command
-  atomic : (addr : ℕ) (bytes : List ℕ) → Command
-  edit_log : (pos at : ℕ) (bytes : List ℕ) → Command
-  read_log : (pos : ℕ) → Command
-  read : (addr len : ℕ) → Command
-  log_len : Command
-  held : (logger : ℕ) → Command
+-- a command of the store, or a question about a number's log: a part of it, how many it has, and how many of them a logger holds
+pub data Raw : Type 0 where
+  does : (command : Command) → Raw
+  read_log : (pos : ℕ) → Raw
+  log_len : Raw
+  held : (logger : ℕ) → Raw
 
--- how a command is written
-abbrev pub eaw_text : Command → List ℕ
-eaw_text (log_write addr bytes) = codes "logwrite " ++ (decimal addr ++ 32 ∷ hex_of bytes)
-eaw_text commit = codes "commit"
-eaw_text abort = codes "abort"
-eaw_text (nested offset) = codes "nested " ++ decimal offset
-eaw_text (partial offset) = codes "partial " ++ decimal offset
-eaw_text (atomic addr bytes) = codes "atomic " ++ (decimal addr ++ 32 ∷ hex_of bytes)
-eaw_text (edit_log pos at bytes) = codes "editlog " ++ (decimal pos ++ 32 ∷ (decimal at ++ 32 ∷ hex_of bytes))
-eaw_text (read_log pos) = codes "readlog " ++ decimal pos
-eaw_text (read addr len) = codes "read " ++ (decimal addr ++ 32 ∷ decimal len)
-eaw_text log_len = codes "loglen"
-eaw_text (held logger) = codes "held " ++ decimal logger
+-- Behind number t a command of it is written so. Its numbers are in range, and what it writes is 1 to 1,024 bytes.
+abbrev pub IsTextOf : ℕ → Raw → List ℕ → Type 0
+IsTextOf t (does (log_write u addr bytes)) text = (u ≡ t) × (addr < 2 ^ 32) × IsBlock bytes × (text ≡ codes "logwrite " ++ (decimal addr ++ 32 ∷ hex_of bytes))
+IsTextOf t (does (commit u)) text = (u ≡ t) × (text ≡ codes "commit")
+IsTextOf t (does (abort u)) text = (u ≡ t) × (text ≡ codes "abort")
+IsTextOf t (does (nested_top u offset)) text = (u ≡ t) × (offset < 2 ^ 32) × (text ≡ codes "nested " ++ decimal offset)
+IsTextOf t (does (partial_abort u offset)) text = (u ≡ t) × (offset < 2 ^ 32) × (text ≡ codes "partial " ++ decimal offset)
+IsTextOf t (does (atomic_write u addr bytes)) text = (u ≡ t) × (addr < 2 ^ 32) × IsBlock bytes × (text ≡ codes "atomic " ++ (decimal addr ++ 32 ∷ hex_of bytes))
+IsTextOf t (does (log_edit u pos at bytes)) text =
+    (u ≡ t) × (pos < 2 ^ 32) × (at < 2 ^ 32) × IsBlock bytes × (text ≡ codes "editlog " ++ (decimal pos ++ 32 ∷ (decimal at ++ 32 ∷ hex_of bytes)))
+IsTextOf t (does (log_read u)) text = ⊥
+IsTextOf t (does (read addr len)) text = (addr < 2 ^ 32) × (1 ≤ len) × (len ≤ 1024) × (text ≡ codes "read " ++ (decimal addr ++ 32 ∷ decimal len))
+IsTextOf t (read_log pos) text = (pos < 2 ^ 32) × (text ≡ codes "readlog " ++ decimal pos)
+IsTextOf t log_len text = text ≡ codes "loglen"
+IsTextOf t (held logger) text = (logger < 8) × (text ≡ codes "held " ++ decimal logger)
 
--- its numbers are in range, and what it writes is 1 to 1,024 bytes
-abbrev pub IsCommand : Command → Type 0
-IsCommand (log_write addr bytes) = (addr < 2 ^ 32) × IsBlock bytes
-IsCommand commit = Unit {0}
-IsCommand abort = Unit {0}
-IsCommand (nested offset) = offset < 2 ^ 32
-IsCommand (partial offset) = offset < 2 ^ 32
-IsCommand (atomic addr bytes) = (addr < 2 ^ 32) × IsBlock bytes
-IsCommand (edit_log pos at bytes) = (pos < 2 ^ 32) × (at < 2 ^ 32) × IsBlock bytes
-IsCommand (read_log pos) = pos < 2 ^ 32
-IsCommand (read addr len) = (addr < 2 ^ 32) × (1 ≤ len) × (len ≤ 1024)
-IsCommand log_len = Unit {0}
-IsCommand (held logger) = logger < 8
-
--- how a number's command is written
-abbrev pub eaw_line : ℕ → Command → List ℕ
-eaw_line number command = decimal number ++ 32 ∷ eaw_text command
+-- a line of number t's command, where there are so many numbers
+abbrev pub IsLineOf : ℕ → ℕ → Raw → List ℕ → Type 0
+IsLineOf numbers t raw line = (t < numbers) × (text : List ℕ) × IsTextOf t raw text × (line ≡ decimal t ++ 32 ∷ text)

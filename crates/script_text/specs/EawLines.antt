@@ -1,8 +1,9 @@
 -- What a line of raw commands means, and what tells it.
-use Rattle.std.specs.Prelude.{ℕ, ◌≡◌, ◌<◌, List}
+use Rattle.std.specs.Prelude.{ℕ, ◌≡◌, List}
+use Rattle.eaw_face.specs.Command.{log_write, log_edit, commit, abort, nested_top, partial_abort, atomic_write, read}
 use Rattle.script_text.specs.Line.{IsPassedOver}
 use Rattle.script_text.specs.HexText.{hex_of}
-use Rattle.script_text.specs.Eaw.{Command, log_write, commit, abort, nested, partial, atomic, edit_log, read_log, read, log_len, held, IsCommand, eaw_line}
+use Rattle.script_text.specs.Eaw.{Raw, does, read_log, log_len, held, IsLineOf}
 use Rattle.script_text.specs.declared.eaw_call.EawCall.{EawCall}
 use Rattle.script_text.specs.declared.eaw_call.EawCall.TheVariants.{LogWrite, Commit, Abort, Nested, Partial, Atomic, EditLog, ReadLog, Read, LogLen, Held}
 use Rattle.script_text.specs.declared.eaw_line.EawLine.{EawLine}
@@ -11,37 +12,37 @@ use Rattle.script_text.specs.declared.eaw_line.EawLine.TheVariants.{Nothing, Tol
 -- what a line may mean: nothing, a number's command, or it is no line
 pub data Meaning : Type 0 where
   nothing : Meaning
-  told : (number : ℕ) (command : Command) → Meaning
+  told : (number : ℕ) (raw : Raw) → Meaning
   bad : Meaning
 
--- a line's meaning: it is passed over, it is the text of that command, or neither that nor the text of any
+-- a line's meaning: it is passed over, it is that of a number's command, or neither that nor of any
 abbrev pub Means : ℕ → List ℕ → Meaning → Type 0
-Means numbers bytes nothing = IsPassedOver bytes
-Means numbers bytes (told number command) = (number < numbers) × IsCommand command × (bytes ≡ eaw_line number command)
-Means numbers bytes bad = (IsPassedOver bytes → ⊥) × ((number : ℕ) (command : Command) → number < numbers → IsCommand command → bytes ≡ eaw_line number command → ⊥)
+Means numbers line nothing = IsPassedOver line
+Means numbers line (told t raw) = IsLineOf numbers t raw line
+Means numbers line bad = (IsPassedOver line → ⊥) × ((t : ℕ) (raw : Raw) → IsLineOf numbers t raw line → ⊥)
 
--- A call shows a command: it has its numbers, and the text of its bytes.
-abbrev pub ShowsCall : EawCall → Command → Type 0
-ShowsCall (LogWrite addr hex) command = (bytes : List ℕ) × (hex.now ≡ hex_of bytes) × (command ≡ log_write addr bytes)
-ShowsCall Commit command = command ≡ commit
-ShowsCall Abort command = command ≡ abort
-ShowsCall (Nested offset) command = command ≡ nested offset
-ShowsCall (Partial offset) command = command ≡ partial offset
-ShowsCall (Atomic addr hex) command = (bytes : List ℕ) × (hex.now ≡ hex_of bytes) × (command ≡ atomic addr bytes)
-ShowsCall (EditLog pos at hex) command = (bytes : List ℕ) × (hex.now ≡ hex_of bytes) × (command ≡ edit_log pos at bytes)
-ShowsCall (ReadLog pos) command = command ≡ read_log pos
-ShowsCall (Read addr len) command = command ≡ read addr len
-ShowsCall LogLen command = command ≡ log_len
-ShowsCall (Held logger) command = command ≡ held logger
+-- A call shows a command of number t: it has its numbers, and the text of its bytes.
+abbrev pub ShowsCall : ℕ → EawCall → Raw → Type 0
+ShowsCall t (LogWrite addr hex) raw = (bytes : List ℕ) × (hex.now ≡ hex_of bytes) × (raw ≡ does (log_write t addr bytes))
+ShowsCall t Commit raw = raw ≡ does (commit t)
+ShowsCall t Abort raw = raw ≡ does (abort t)
+ShowsCall t (Nested offset) raw = raw ≡ does (nested_top t offset)
+ShowsCall t (Partial offset) raw = raw ≡ does (partial_abort t offset)
+ShowsCall t (Atomic addr hex) raw = (bytes : List ℕ) × (hex.now ≡ hex_of bytes) × (raw ≡ does (atomic_write t addr bytes))
+ShowsCall t (EditLog pos at hex) raw = (bytes : List ℕ) × (hex.now ≡ hex_of bytes) × (raw ≡ does (log_edit t pos at bytes))
+ShowsCall t (ReadLog pos) raw = raw ≡ read_log pos
+ShowsCall t (Read addr len) raw = raw ≡ does (read addr len)
+ShowsCall t LogLen raw = raw ≡ log_len
+ShowsCall t (Held logger) raw = raw ≡ held logger
 
--- the same of a number's call
-abbrev pub ShowsTold : ℕ × EawCall → ℕ × Command → Type 0
-ShowsTold call command = (call.0 ≡ command.0) × ShowsCall call.1 command.1
+-- the same of a number and its call
+abbrev pub ShowsTold : ℕ × EawCall → ℕ × Raw → Type 0
+ShowsTold call raw = (call.0 ≡ raw.0) × ShowsCall raw.0 call.1 raw.1
 
 -- what was read shows a meaning
 abbrev pub ShowsLine : EawLine → Meaning → Type 0
 ShowsLine Nothing meaning = meaning ≡ nothing
-ShowsLine (Told number call) meaning = (command : Command) × ShowsCall call command × (meaning ≡ told number command)
+ShowsLine (Told number call) meaning = (raw : Raw) × ShowsCall number call raw × (meaning ≡ told number raw)
 ShowsLine Bad meaning = meaning ≡ bad
 
 -- what was read shows what the line means

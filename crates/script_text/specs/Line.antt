@@ -7,23 +7,16 @@ use Rattle.history.specs.declared.call.Call.TheVariants.{Begin, Get, Put, Commit
 use Rattle.script_text.specs.declared.line.Line.{Line}
 use Rattle.script_text.specs.declared.line.Line.TheVariants.{Nothing, Told, Bad}
 
--- how a call is written
-abbrev pub call_text : Call → List ℕ
-call_text Begin = codes "begin"
-call_text (Get key) = codes "get " ++ decimal key
-call_text (Put key value) = codes "put " ++ (decimal key ++ 32 ∷ value)
-call_text Commit = codes "commit"
+-- A call is written so: its key is below the bound, and its value is one.
+abbrev pub IsCallText : ℕ → Call → List ℕ → Type 0
+IsCallText keys Begin text = text ≡ codes "begin"
+IsCallText keys (Get key) text = (key < keys) × (text ≡ codes "get " ++ decimal key)
+IsCallText keys (Put key value) text = (key < keys) × IsValue value × (text ≡ codes "put " ++ (decimal key ++ 32 ∷ value))
+IsCallText keys Commit text = text ≡ codes "commit"
 
--- its key is below the bound, and its value is one
-abbrev pub IsCall : ℕ → Call → Type 0
-IsCall keys Begin = Unit {0}
-IsCall keys (Get key) = key < keys
-IsCall keys (Put key value) = (key < keys) × IsValue value
-IsCall keys Commit = Unit {0}
-
--- how a caller's call is written
-abbrev pub line_text : ℕ → Call → List ℕ
-line_text caller call = decimal caller ++ 32 ∷ call_text call
+-- a line of a caller's call, where there are so many callers
+abbrev pub IsCallLine : ℕ → ℕ → ℕ → Call → List ℕ → Type 0
+IsCallLine callers keys caller call line = (caller < callers) × (text : List ℕ) × IsCallText keys call text × (line ≡ decimal caller ++ 32 ∷ text)
 
 -- no bytes, or a # before all others
 abbrev pub IsPassedOver : List ℕ → Type 0
@@ -32,6 +25,6 @@ IsPassedOver (byte ∷ bytes) = byte ≡ 35
 
 -- What a line says: nothing, a call of a caller, or it is no line.
 abbrev pub Says : ℕ → ℕ → List ℕ → Line → Type 0
-Says callers keys bytes Nothing = IsPassedOver bytes
-Says callers keys bytes (Told caller call) = (caller < callers) × IsCall keys call × (bytes ≡ line_text caller call)
-Says callers keys bytes Bad = (IsPassedOver bytes → ⊥) × ((caller : ℕ) (call : Call) → caller < callers → IsCall keys call → bytes ≡ line_text caller call → ⊥)
+Says callers keys line Nothing = IsPassedOver line
+Says callers keys line (Told caller call) = IsCallLine callers keys caller call line
+Says callers keys line Bad = (IsPassedOver line → ⊥) × ((caller : ℕ) (call : Call) → IsCallLine callers keys caller call line → ⊥)

@@ -7,10 +7,15 @@ abbrev pub Reads : {X : Type 0} → (X → Type 0) → (X → List ℕ) → List
 Reads {X} IsOne text bytes None = (x : X) → IsOne x → bytes ≡ text x → ⊥
 Reads {X} IsOne text bytes (Some x) = IsOne x × (bytes ≡ text x)
 
--- the same, where what is read shows one of the kind
-abbrev pub ReadsShown : {X Y : Type 0} → (X → Y → Type 0) → (Y → Type 0) → (Y → List ℕ) → List ℕ → Option X → Type 0
-ReadsShown {X} {Y} Shows IsOne text bytes None = (y : Y) → IsOne y → bytes ≡ text y → ⊥
-ReadsShown {X} {Y} Shows IsOne text bytes (Some x) = (y : Y) × Shows x y × IsOne y × (bytes ≡ text y)
+-- The same, where each thing of a kind is told by its texts.
+abbrev pub ReadsText : {X : Type 0} → (X → List ℕ → Type 0) → List ℕ → Option X → Type 0
+ReadsText {X} IsText bytes None = (x : X) → IsText x bytes → ⊥
+ReadsText {X} IsText bytes (Some x) = IsText x bytes
+
+-- The same, where what is read shows one of the kind.
+abbrev pub ReadsShown : {X Y : Type 0} → (X → Y → Type 0) → (Y → List ℕ → Type 0) → List ℕ → Option X → Type 0
+ReadsShown {X} {Y} Shows IsText bytes None = (y : Y) → IsText y bytes → ⊥
+ReadsShown {X} {Y} Shows IsText bytes (Some x) = (y : Y) × Shows x y × IsText y bytes
 
 -- no space
 abbrev pub IsWord : List ℕ → Type 0

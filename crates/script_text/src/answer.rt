@@ -4,22 +4,22 @@ ghost use Rattle.script_text.specs.HexText.{hex_of};
 ghost use Rattle.script_text.specs.AnswerLines.{answer_line};
 
 use crate::append::append;
-use crate::block::Block;
 use crate::hex_text::append_hex;
+use crate::lent::Lent;
 use crate::reply::{append_log_full, append_number};
 use counted::NoMemory;
 use itoa::Buffer;
 
 /// What answers a raw command.
 #[derive(Drop)]
-pub enum Answer {
+pub enum Answer<'a> {
     /// The write is logged; the number has so many parts now.
     Logged(u32),
     Fine,
     /// A logged part.
-    Part { addr: u64, bytes: Block },
+    Part { addr: u64, bytes: Lent<'a> },
     /// Committed data.
-    Data { bytes: Block },
+    Data { bytes: Lent<'a> },
     /// How many parts a number has logged.
     Len(u32),
     /// How many of them one logger holds.
@@ -34,7 +34,7 @@ pub enum Answer {
 }
 
 /// Appends an answer's line, bytes in hexadecimal.
-pub fn write_answer(out: &mut Vec<u8>, number: u8, answer: &Answer) -> Result<(), NoMemory>
+pub fn write_answer(out: &mut Vec<u8>, number: u8, answer: &Answer<'_>) -> Result<(), NoMemory>
     ensures ok { OnOk result (out.new.items ≡ out.old.items ++ answer_line number answer.now) }
     ensures err { OnErr result (out.new.items ≡ out.old.items) }
 {
@@ -89,6 +89,3 @@ fn append_some_bytes(out: &mut Vec<u8>, front: &[&[u8]], bytes: &[u8]) -> Result
     append_hex(out, bytes)?;
     append(out, &[b"\n"])
 }
-
-#[cfg(test)]
-mod tests;

@@ -1,8 +1,8 @@
 ghost use Rattle.std.specs.Prelude.{◌<◌, ◌∷◌, ◌++◌, codes};
 ghost use Rattle.std.specs.Fmt.{decimal};
 ghost use Rattle.record_slots.specs.Text.{IsValue};
-ghost use Rattle.script_text.specs.Reads.{Reads};
-ghost use Rattle.script_text.specs.Line.{IsCall, call_text};
+ghost use Rattle.script_text.specs.Reads.{Reads, ReadsText};
+ghost use Rattle.script_text.specs.Line.{IsCallText};
 
 use crate::number::read_below;
 use crate::word::{after, is_text, split_word};
@@ -11,7 +11,7 @@ use record_slots::Value;
 
 /// A call on keys below `keys`.
 pub fn read_call(bytes: &[u8], keys: u64) -> Option<Call>
-    ensures { Reads (IsCall keys) call_text bytes.now result }
+    ensures { ReadsText (IsCallText keys) bytes.now result }
 {
     if is_text(bytes, b"begin") {
         return Some(Call::Begin);

@@ -1,12 +1,12 @@
-ghost use Rattle.std.specs.Prelude.{◌≡◌, ◌^◌, ◌<◌, ◌≤◌, ◌∷◌, ◌++◌, codes};
+ghost use Rattle.std.specs.Prelude.{ℕ, ◌≡◌, ◌^◌, ◌<◌, ◌≤◌, ◌∷◌, ◌++◌, codes};
 ghost use Rattle.std.specs.Fmt.{decimal};
 ghost use Rattle.std.specs.Option.{option_map};
 ghost use Rattle.script_text.specs.Reads.{Reads, ReadsShown, place_and_bytes, edit_and_bytes};
 ghost use Rattle.script_text.specs.HexText.{IsHex};
-ghost use Rattle.script_text.specs.Eaw.{IsCommand, eaw_text};
+ghost use Rattle.script_text.specs.Eaw.{IsTextOf};
 ghost use Rattle.script_text.specs.EawLines.{ShowsCall};
 
-use crate::block::BLOCK;
+use crate::lent::BLOCK;
 use crate::hex_text::is_hex;
 use crate::number::read_below;
 use crate::word::{after, is_text, split_word};
@@ -34,7 +34,7 @@ pub enum EawCall<'a> {
 const MAX_LOGGERS: u64 = 8;
 
 pub fn read_eaw_call(bytes: &[u8]) -> Option<EawCall<'_>>
-    ensures { ReadsShown ShowsCall IsCommand eaw_text bytes.now result }
+    ensures { (t : ℕ) → ReadsShown (ShowsCall t) (IsTextOf t) bytes.now result }
 {
     if is_text(bytes, b"commit") {
         return Some(EawCall::Commit);

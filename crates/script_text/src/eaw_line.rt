@@ -1,6 +1,5 @@
-ghost use Rattle.std.specs.Prelude.{◌<◌};
 ghost use Rattle.script_text.specs.Reads.{ReadsShown};
-ghost use Rattle.script_text.specs.Eaw.{IsCommand, eaw_line};
+ghost use Rattle.script_text.specs.Eaw.{IsLineOf};
 ghost use Rattle.script_text.specs.EawLines.{SaysEaw, ShowsTold};
 
 use crate::eaw_call::{EawCall, read_eaw_call};
@@ -33,13 +32,10 @@ pub fn read_eaw(bytes: &[u8], numbers: u8) -> EawLine<'_>
 }
 
 fn read_eaw_told(bytes: &[u8], numbers: u8) -> Option<(u8, EawCall<'_>)>
-    ensures { ReadsShown ShowsTold (λ m. (m.0 < numbers) × IsCommand m.1) (λ m. eaw_line m.0 m.1) bytes.now result }
+    ensures { ReadsShown ShowsTold (λ m. IsLineOf numbers m.0 m.1) bytes.now result }
 {
     let (word, rest) = split_word(bytes)?;
     let number = read_below(word, u64::from(numbers))?;
     let call = read_eaw_call(rest)?;
     Some((number as u8, call))
 }
-
-#[cfg(test)]
-mod tests;

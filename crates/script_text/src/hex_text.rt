@@ -2,17 +2,16 @@
 ghost use Rattle.std.specs.Prelude.{◌≡◌, ◌*◌, ◌≤◌, ◌++◌, ◌↔◌, List, ℕ, length, drop, All, IsTrue, MatchBool, OnOk, OnErr};
 ghost use Rattle.script_text.specs.HexText.{hex_of, IsBlock, IsHex, IsDigit};
 
-use crate::block::{BLOCK, Block};
+use crate::lent::BLOCK;
 use counted::NoMemory;
 
-/// The bytes that a text says.
-pub fn block_of(hex: &[u8]) -> Block
+/// The bytes that a text says. They stand at the front of `buf`.
+pub fn bytes_of<'a>(hex: &[u8], buf: &'a mut [u8; BLOCK]) -> &'a [u8]
     requires { IsHex hex.now }
-    ensures { (bytes : List ℕ) → IsBlock bytes → hex.now ≡ hex_of bytes → result ≡ bytes }
+    ensures { (bytes : List ℕ) → IsBlock bytes → hex.now ≡ hex_of bytes → result.now ≡ bytes }
 {
-    let mut buf = [0; BLOCK];
-    let len = hex_into(hex, &mut buf);
-    Block::of(&buf[..len])
+    let len = hex_into(hex, buf);
+    &buf[..len]
 }
 
 // Writes the bytes that a text says to the front of `buf`, and tells how many they are.

@@ -2,22 +2,22 @@
 ghost use Rattle.std.specs.Prelude.{◌≡◌, ◌^◌, ◌<◌, ◌≤◌, ℕ, List};
 ghost use Rattle.history.specs.declared.call.Call.{Call};
 ghost use Rattle.script_text.specs.declared.line.Line.{Line};
-ghost use Rattle.script_text.specs.Line.{Says, IsCall, line_text};
-ghost use Rattle.script_text.specs.Eaw.{Command, IsCommand, eaw_line};
+ghost use Rattle.script_text.specs.Line.{Says, IsCallLine};
+ghost use Rattle.script_text.specs.Eaw.{Raw, IsLineOf};
 ghost use Rattle.script_text.specs.EawLines.{Meaning, Means};
 
 /// No line is the text of two callers' calls, so a line says one thing.
 pub fn one_line()
-    ensures text { (c d keys : ℕ) (call other : Call) → c < 2 ^ 64 → d < 2 ^ 64 → keys ≤ 2 ^ 64 → IsCall keys call → IsCall keys other
-        → line_text c call ≡ line_text d other → (c ≡ d) × (call ≡ other) }
+    ensures text { (callers keys c d : ℕ) (call other : Call) (line : List ℕ) → callers ≤ 2 ^ 64 → keys ≤ 2 ^ 64
+        → IsCallLine callers keys c call line → IsCallLine callers keys d other line → (c ≡ d) × (call ≡ other) }
     ensures says { (callers keys : ℕ) (bytes : List ℕ) (line other : Line) → callers ≤ 2 ^ 64 → keys ≤ 2 ^ 64
         → Says callers keys bytes line → Says callers keys bytes other → line ≡ other }
 {}
 
 /// No line is the text of two numbers' raw commands, so such a line means one thing.
 pub fn one_raw_line()
-    ensures text { (c d : ℕ) (command other : Command) → c < 2 ^ 64 → d < 2 ^ 64 → IsCommand command → IsCommand other
-        → eaw_line c command ≡ eaw_line d other → (c ≡ d) × (command ≡ other) }
+    ensures text { (numbers c d : ℕ) (raw other : Raw) (line : List ℕ) → numbers ≤ 2 ^ 64 → IsLineOf numbers c raw line → IsLineOf numbers d other line
+        → (c ≡ d) × (raw ≡ other) }
     ensures means { (numbers : ℕ) (bytes : List ℕ) (meaning other : Meaning) → numbers ≤ 2 ^ 64
         → Means numbers bytes meaning → Means numbers bytes other → meaning ≡ other }
 {}

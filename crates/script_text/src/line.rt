@@ -1,6 +1,5 @@
-ghost use Rattle.std.specs.Prelude.{◌<◌};
-ghost use Rattle.script_text.specs.Reads.{Reads};
-ghost use Rattle.script_text.specs.Line.{Says, IsCall, line_text};
+ghost use Rattle.script_text.specs.Reads.{ReadsText};
+ghost use Rattle.script_text.specs.Line.{Says, IsCallLine};
 
 use crate::call::read_call;
 use crate::number::read_below;
@@ -33,13 +32,10 @@ pub fn read_line(bytes: &[u8], callers: u8, keys: u64) -> Line
 }
 
 fn read_told(bytes: &[u8], callers: u8, keys: u64) -> Option<(u8, Call)>
-    ensures { Reads (λ t. (t.0 < callers) × IsCall keys t.1) (λ t. line_text t.0 t.1) bytes.now result }
+    ensures { ReadsText (λ t. IsCallLine callers keys t.0 t.1) bytes.now result }
 {
     let (word, rest) = split_word(bytes)?;
     let caller = read_below(word, u64::from(callers))?;
     let call = read_call(rest, keys)?;
     Some((caller as u8, call))
 }
-
-#[cfg(test)]
-mod tests;

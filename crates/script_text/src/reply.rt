@@ -90,6 +90,3 @@ pub fn media_fault_line(caller: u8, buf: &mut [u8; 16]) -> &[u8]
     buf[middle..end].copy_from_slice(words);
     &buf[..end]
 }
-
-#[cfg(test)]
-mod tests;

@@ -24,7 +24,7 @@ fresh_with shape old header sized long is parts =
     let fits : 0 + length header ≤ length old.bytes = omega (arith, sized, long) in
     let same : SameOutside ((0, 512) ∷ []) old.bytes (put old.bytes 0 header) = subst (λ k. SameOutside ((0, k) ∷ []) old.bytes (put old.bytes 0 header)) long (same_outside-put old.bytes 0 header fits) in
     let still = header_parts shape old.bytes (put old.bytes 0 header) same parts in
-    record { settled = refl; header = range-put old.bytes header 0 512 (sym long) fits ∙ is; rows = still.rows; pages = still.pages }
+    record { settled = refl; header = range-put old.bytes header 0 512 (sym long) fits ∙ is; parts = still }
 
 pub returns-in_err-write-clause-any_moment : goal.returns-in_err-write-clause-any_moment
 returns-in_err-write-clause-any_moment g c = λ told.

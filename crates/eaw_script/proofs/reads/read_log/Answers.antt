@@ -12,20 +12,10 @@ use Rattle.eaw_script.proofs.reads.read_log.Goals as goal
 short : (shape : Shape) (ranges : List (ℕ × ℕ)) (pos addr len : ℕ) → ArePlaced shape ranges → pos < length ranges → (addr, len) ≡ range_at ranges pos → len ≤ 512
 short shape ranges pos addr len placed there is = subst (λ (n : ℕ). n ≤ 512) (sym (ap (λ (p : ℕ × ℕ). p.1) is)) (part_len shape ranges pos placed there)
 
-pub slice_bounds-part-end : goal.slice_bounds-part-end
-slice_bounds-part-end g c =
+pub shared_ref_as_front-of : goal.shared_ref_as_front-of
+shared_ref_as_front-of g c =
     let there : c.args.pos < length (listed ((g.S.EawStore.view c.args.store.now).ranges c.args.number)) = omega (arith, c.if-pos-log_len.false, c.log_len.ensures) in
     omega (arith, short _ _ c.args.pos c.in-Ok.addr c.in-Ok.len (g.met.S.EawStore.placed c.args.store.now c.args.number) there c.in-Ok.ensures.part, c.from.ensures, c.log_read.array_long)
-
-pub slice_bounds-of-end : goal.slice_bounds-of-end
-slice_bounds-of-end g c =
-    let there : c.args.pos < length (listed ((g.S.EawStore.view c.args.store.now).ranges c.args.number)) = omega (arith, c.if-pos-log_len.false, c.log_len.ensures) in
-    let fits : c.from.result ≤ length c.log_read.new.buf =
-    omega (arith, short _ _ c.args.pos c.in-Ok.addr c.in-Ok.len (g.met.S.EawStore.placed c.args.store.now c.args.number) there c.in-Ok.ensures.part, c.from.ensures, c.log_read.array_long) in
-    sym (length-take-le c.from.result c.log_read.new.buf fits)
-
-pub of-requires : goal.of-requires
-of-requires g c = omega (arith, length-take c.from.result c.log_read.new.buf, c.log_read.array_long)
 
 pub returns-in-Ok : goal.returns-in-Ok
 returns-in-Ok g c =
@@ -40,12 +30,12 @@ returns-in-Ok g c =
       shape = does.shape;
       cause = record { later = omega (arith, does.kept); failed = tt; kept = does.kept };
       alive = does.done.alive;
-      answers = λ told. record {
-        passes = record { known = search rules; there = there; free = tt; room = λ g lt. omega arith };
-        answer_is = ap (λ (xs : List ℕ). Part c.in-Ok.addr xs) (c.of.ensures ∙ ap (λ n. take n c.log_read.new.buf) c.from.ensures ∙ c.in-Ok.ensures.bytes told)
-            ∙ ap (λ (addr : ℕ). Part addr (part_at (listed (old.state.logs t)) pos).1) (ap (λ (p : ℕ × ℕ). p.0) its);
-        state = does.done.state told;
-      };
+      answers = λ told. (
+        (search rules, there, tt, λ g lt. omega arith),
+        ap (λ (xs : List ℕ). Part c.in-Ok.addr xs) (c.of.ensures ∙ ap (λ n. take n c.log_read.new.buf) c.from.ensures ∙ c.in-Ok.ensures.bytes told)
+            ∙ ap (λ (addr : ℕ). Part addr (part_at (listed (old.state.logs t)) pos).1) (ap (λ (p : ℕ × ℕ). p.0) its),
+        does.done.state told,
+      );
       fails = tt;
       time = λ told. subst (λ (d : State). LeavesOnly (IsEither (s.opens old.shape) old.state.bytes d.bytes) old (s.view c.log_read.new.self)) (sym (does.done.state told)) (does.time told c.requires.alive);
     }

@@ -1,6 +1,8 @@
 use Rattle.std.proofs.Common.{[], false, refl, sym, subst}
 use Rattle.std.proofs.lemmas.List.{append-nil}
-use Rattle.mars_shell.specs.Commands.{Obeys, CommandOutcome}
+use Rattle.command_words.specs.declared.words.Words.TheVariants.{Eaw}
+use Rattle.mars_shell.specs.Asked.{OutcomeFor}
+use Rattle.mars_shell.specs.Commands.{Obeys}
 use Rattle.mars_shell.specs.declared.status.Status.{Status}
 use Rattle.mars_shell.proofs.Commanding.{obeys}
 use Rattle.mars_shell.proofs.Statuses.{outcome_of}
@@ -37,7 +39,7 @@ returns-clause-ran g c =
         input,
         c.in-Ok.ensures.read,
         λ told.
-            subst (λ (s : Status). CommandOutcome old s new input said.ran.cut said.ran.text) (sym c.script_status.ensures)
+            subst (λ (s : Status). OutcomeFor Eaw old s new input said.ran.cut said.ran.text) (sym c.script_status.ensures)
             (outcome_of (λ end. Obeys old input end new said.ran.cut said.ran.text) (λ page. ⊥) (λ shape. 0) old new said.ran.cut said.ran.text ended
             (obeys media.tells told old (g.met.M.Media.only_now c.args.media) _ c.in-Ok.ensures.attached c.in-Ok.ensures.keeps _ new c.into_media.ensures (g.met.M.Media.counts_now c.into_media.result)
             input ended said.ran.cut said.ran.text (rw c.deref.ensures.value at (said.ran.holds told)) said.alive)),

@@ -1,38 +1,55 @@
-use Rattle.std.proofs.Common.{◌⊎◌, inr, [], false, true, refl, sym, subst}
+use Rattle.std.proofs.Common.{◌≡◌, ◌⊎◌, ℕ, inr, [], false, true, refl, sym, subst, ◌∙◌}
 use Rattle.std.proofs.lemmas.List.{append-nil}
 use Rattle.array_shape.specs.declared.bad_shape.BadShape.{BadShape}
+use Rattle.array_shape.specs.declared.bad_shape.ShapeNumber.TheVariants.{MediaLength}
+use Rattle.array_shape.specs.declared.shape.Shape.{Shape}
+use Rattle.array_shape.specs.Numbers.{IsFirstBad}
+use Rattle.array_shape.specs.Places.{media_len}
+use Rattle.command_words.specs.declared.words.FormatNumbers.{FormatNumbers}
 use Rattle.script_io.specs.Written.{IsCut}
-use Rattle.mars_shell.specs.Formats.{IsFirstWrong, IsOtherLength}
-use Rattle.mars_shell.proofs.FormatLemmas.{begun}
+use Rattle.mars_shell.specs.Formats.{HasAsked}
+use Rattle.mars_shell.proofs.FormatLemmas.{half_fresh}
 use Rattle.mars_shell.proofs.formatting.run_format.Goals as goal
 
-pub returns-in-Err-BadShape-clause-sized : goal.returns-in-Err-BadShape-clause-sized
-returns-in-Err-BadShape-clause-sized g c =
+-- what `bad shape` says
+abbrev Wrong : FormatNumbers → ℕ → BadShape → Type 0
+Wrong asked size bad = IsFirstBad asked.loggers asked.numbers asked.entries asked.pages bad.which bad.given
+    ⊎ ((bad.which ≡ MediaLength) × (bad.given ≡ size) × (shape : Shape) × HasAsked asked shape × (size ≡ media_len shape → ⊥))
+
+pub returns-in-Err-BadShape-clause-says : goal.returns-in-Err-BadShape-clause-says
+returns-in-Err-BadShape-clause-says g c =
     let old = g.M.Media.view c.args.media in
     let asked = c.args.asked.now in
     let wrong = rw c.in-Err-BadShape.field-0-is at c.in-Err-BadShape.ensures.bad_shape in
-    subst (λ (bad : BadShape). IsFirstWrong asked bad.which bad.given ⊎ IsOtherLength asked old.size bad.which bad.given) (sym c.in-Err-BadShape.field-0-0-is)
-    (inr (c.in-Ok.shape, c.in-Ok.ensures.shape, wrong.0, wrong.1, wrong.2))
+    (
+      c.in-Err-BadShape.ensures.untouched (λ is. let e = sym c.in-Err-BadShape.field-0-is ∙ is in cc),
+      subst (Wrong asked old.size) (sym c.in-Err-BadShape.field-0-0-is)
+          (inr (wrong.0, wrong.1, c.in-Ok.shape, c.in-Ok.ensures.shape, wrong.2)),
+    )
 
-pub returns-in-Err-Media-clause-sized : goal.returns-in-Err-Media-clause-sized
-returns-in-Err-Media-clause-sized g c = (c.in-Ok.shape, c.in-Ok.ensures.shape, rw c.in-Err-Media.field-0-is at c.in-Err-Media.ensures.bad_shape)
+pub returns-in-Err-Media-clause-says : goal.returns-in-Err-Media-clause-says
+returns-in-Err-Media-clause-says g c = ((c.in-Ok.shape, c.in-Ok.ensures.shape, rw c.in-Err-Media.field-0-is at c.in-Err-Media.ensures.bad_shape), refl)
 
 pub returns-in-Err-Media-clause-ran : goal.returns-in-Err-Media-clause-ran
 returns-in-Err-Media-clause-ran g c =
     let media = g.M.Media in
     let shape = c.in-Ok.shape in
-    let sized = rw c.in-Err-Media.field-0-is at c.in-Err-Media.ensures.bad_shape in
     record {
       cut = false;
       text = [];
       wrote = λ _. sym (append-nil _);
       counts = refl;
       holds = λ told.
-          (refl, refl, (shape, begun c.args.asked.now media.tells told shape (media.view c.args.media) (media.view c.format.new.media) (g.met.M.Media.only_now c.args.media) c.in-Ok.ensures.shape sized (c.format.ensures.cells told) (c.format.ensures.any_moment told)));
+          (refl, refl, record {
+            shape = shape;
+            numbers = c.in-Ok.ensures.shape;
+            cells = c.format.ensures.cells told;
+            since = half_fresh media.tells told shape (media.view c.args.media) (media.view c.format.new.media) (g.met.M.Media.only_now c.args.media) (c.format.ensures.any_moment told);
+          });
     }
 
-pub returns-in-Ok-write_whole-clause-sized : goal.returns-in-Ok-write_whole-clause-sized
-returns-in-Ok-write_whole-clause-sized g c = (c.in-Ok.shape, c.in-Ok.ensures.shape, c.in-Ok-format.ensures.sized)
+pub returns-in-Ok-write_whole-clause-says : goal.returns-in-Ok-write_whole-clause-says
+returns-in-Ok-write_whole-clause-says g c = (c.in-Ok.shape, c.in-Ok.ensures.shape, c.in-Ok-format.ensures.sized)
 
 pub returns-in-Ok-write_whole-clause-ran : goal.returns-in-Ok-write_whole-clause-ran
 returns-in-Ok-write_whole-clause-ran g c =
@@ -46,18 +63,21 @@ returns-in-Ok-write_whole-clause-ran g c =
       holds = λ told. (
         refl,
         record {
-          shape = shape;
-          begun = begun c.args.asked.now media.tells told shape (media.view c.args.media) (media.view c.format.new.media) (g.met.M.Media.only_now c.args.media) c.in-Ok.ensures.shape c.in-Ok-format.ensures.sized (c.format.ensures.cells told) (c.format.ensures.any_moment told);
+          begun = record {
+            shape = shape;
+            numbers = c.in-Ok.ensures.shape;
+            cells = c.format.ensures.cells told;
+            since = half_fresh media.tells told shape (media.view c.args.media) (media.view c.format.new.media) (g.met.M.Media.only_now c.args.media) (c.format.ensures.any_moment told);
+          };
           fresh = c.in-Ok-format.ensures.fresh told;
-          sure = c.in-Ok-format.ensures.sure told;
           opens = c.in-Ok-format.ensures.opens told;
           wrote = c.formatted_line.ensures;
         },
       );
     }
 
-pub returns-in-Err-write_whole-clause-sized : goal.returns-in-Err-write_whole-clause-sized
-returns-in-Err-write_whole-clause-sized g c = (c.in-Ok.shape, c.in-Ok.ensures.shape, c.in-Ok-format.ensures.sized)
+pub returns-in-Err-write_whole-clause-says : goal.returns-in-Err-write_whole-clause-says
+returns-in-Err-write_whole-clause-says g c = (c.in-Ok.shape, c.in-Ok.ensures.shape, c.in-Ok-format.ensures.sized)
 
 pub returns-in-Err-write_whole-clause-ran : goal.returns-in-Err-write_whole-clause-ran
 returns-in-Err-write_whole-clause-ran g c =
@@ -72,10 +92,13 @@ returns-in-Err-write_whole-clause-ran g c =
       holds = λ told. (
         refl,
         record {
-          shape = shape;
-          begun = begun c.args.asked.now media.tells told shape (media.view c.args.media) (media.view c.format.new.media) (g.met.M.Media.only_now c.args.media) c.in-Ok.ensures.shape c.in-Ok-format.ensures.sized (c.format.ensures.cells told) (c.format.ensures.any_moment told);
+          begun = record {
+            shape = shape;
+            numbers = c.in-Ok.ensures.shape;
+            cells = c.format.ensures.cells told;
+            since = half_fresh media.tells told shape (media.view c.args.media) (media.view c.format.new.media) (g.met.M.Media.only_now c.args.media) (c.format.ensures.any_moment told);
+          };
           fresh = c.in-Ok-format.ensures.fresh told;
-          sure = c.in-Ok-format.ensures.sure told;
           opens = c.in-Ok-format.ensures.opens told;
           wrote = subst (IsCut part.0) c.formatted_line.ensures part.1;
         },

@@ -1,8 +1,11 @@
-use Rattle.std.proofs.Common.{[], false, Option, Result, Ok, Err, ℕ, inl, refl, sym, ap, subst, arith}
+use Rattle.std.proofs.Common.{[], false, Option, Result, Ok, Err, ℕ, ◌/◌, inl, refl, sym, ap, subst, arith}
 use Rattle.std.proofs.lemmas.List.{append-nil}
 use Rattle.pcm_media.proofs.Left.{touched_by_nothing}
 use Rattle.eaw_face.specs.declared.fault.EawFault.{EawFault}
-use Rattle.mars_shell.specs.Run.{Answers, IsDamaged, Outcome, looking_calls}
+use Rattle.array_shape.specs.Places.{page_count}
+use Rattle.command_words.specs.declared.words.Words.TheVariants.{Run}
+use Rattle.mars_shell.specs.Asked.{OutcomeFor}
+use Rattle.mars_shell.specs.Run.{Answers, IsDamaged}
 use Rattle.mars_shell.specs.declared.status.Status.{Status}
 use Rattle.mars_shell.proofs.Looking.{one_part}
 use Rattle.mars_shell.proofs.Running.{answers, sound_behind, idle_looked, damaged, failed_looking}
@@ -35,7 +38,7 @@ returns-in-Err-open-clause-ran g c =
       text = [];
       wrote = λ _. sym (append-nil _);
       counts = refl;
-      holds = (input, (λ _. refl), λ told. unopened_as (λ ended. Answers old input ended new false []) (IsDamaged old) looking_calls old c.in-Err-open.ended.0 new c.in-Err-open.ensures.kind (c.in-Err-open.ensures.unopened told));
+      holds = (input, (λ _. refl), λ told. unopened_as (λ ended. Answers old input ended new false []) (IsDamaged old) (λ shape. page_count shape / 2) old c.in-Err-open.ended.0 new c.in-Err-open.ensures.kind (c.in-Err-open.ensures.unopened told));
     }
 
 pub returns-in-Ok-None-clause-ran : goal.returns-in-Ok-None-clause-ran
@@ -57,8 +60,8 @@ returns-in-Ok-None-clause-ran g c =
         input,
         c.in-Ok-open.ensures.read,
         λ told.
-            subst (λ (s : Status). Outcome old s new input said.served.cut said.served.text) (sym c.script_status.ensures)
-            (outcome_of (λ end. Answers old input end new said.served.cut said.served.text) (IsDamaged old) looking_calls old new said.served.cut said.served.text ended
+            subst (λ (s : Status). OutcomeFor Run old s new input said.served.cut said.served.text) (sym c.script_status.ensures)
+            (outcome_of (λ end. Answers old input end new said.served.cut said.served.text) (IsDamaged old) (λ shape. page_count shape / 2) old new said.served.cut said.served.text ended
             (answers media.tells told old (g.met.M.Media.only_now c.args.media) _ attached c.in-Ok-open.ensures.keeps _ c.in-Ok-None.field-0 looked.does c.in-Ok-None.field-0-is (looked.sound told)
             _ new c.into_media.ensures (g.met.M.Media.counts_now c.into_media.result)
             input ended said.served.cut said.served.text (rw c.deref.ensures.value at (said.served.holds told
@@ -106,6 +109,6 @@ returns-in-Err-first_damage-clause-ran g c =
         c.in-Ok-open.ensures.read,
         λ told.
             inl (failed_looking media.tells told old (g.met.M.Media.only_now c.args.media) _ attached c.in-Ok-open.ensures.keeps _ (let r : Result (Option ℕ) EawFault = Err c.in-Err-first_damage.field-0 in r) looked.does
-            looking_calls new c.into_media-in-Err-first_damage.ensures (λ shape same. omega (arith, looked.costs 1 (λ page store. one_part store.shape page), ap looking_calls same))),
+            (λ shape. page_count shape / 2) new c.into_media-in-Err-first_damage.ensures (λ shape same. omega (arith, looked.costs 1 (λ page store. one_part store.shape page), ap page_count same))),
       );
     }

@@ -14,7 +14,7 @@ returns-in-Err-Failed-clause-unopened g c = λ told. idle_same g.M.Media.tells t
 pub returns-in-Err-NoMemory-clause-unopened : goal.returns-in-Err-NoMemory-clause-unopened
 returns-in-Err-NoMemory-clause-unopened g c = λ told.
     let media = g.M.Media.view c.args.media in
-    inl (record { idle = idle_same g.M.Media.tells told media (g.met.M.Media.only_now c.args.media); untouched = touched_by_nothing _ media.content; calls = inl refl })
+    inl (record { idle = idle_same g.M.Media.tells told media (g.met.M.Media.only_now c.args.media); untouched = touched_by_nothing _ media.content; cause = inl refl })
 
 pub returns-in-Err-clause-unopened : goal.returns-in-Err-clause-unopened
 returns-in-Err-clause-unopened g c = λ told.

@@ -1,9 +1,10 @@
-use Rattle.std.proofs.Common.{refl, subst}
+use Rattle.std.proofs.Common.{◌/◌, refl, subst}
+use Rattle.array_shape.specs.Places.{page_count}
 use Rattle.std.specs.Prelude.{map, string_bytes}
 use Rattle.command_words.specs.declared.words.Words.TheVariants.{Run, Eaw, Format}
 use Rattle.mars_shell.specs.Commands.{Obeys}
-use Rattle.mars_shell.specs.Formats.{IsOfFormat}
-use Rattle.mars_shell.specs.Run.{Answers, IsDamaged, looking_calls}
+use Rattle.mars_shell.proofs.FormatLemmas.{no_usage}
+use Rattle.mars_shell.specs.Run.{Answers, IsDamaged}
 use Rattle.mars_shell.proofs.Completing.{words_say, no_damage, complete_of}
 use Rattle.mars_shell.proofs.whole.run.Goals as goal
 
@@ -11,7 +12,7 @@ pub returns-in-Err-NoCommand-clause-words : goal.returns-in-Err-NoCommand-clause
 returns-in-Err-NoCommand-clause-words g c = c.in-Err-NoCommand.ensures.refused c.in-Err-NoCommand.field-0-is
 
 pub returns-in-Err-NoCommand-clause-input : goal.returns-in-Err-NoCommand-clause-input
-returns-in-Err-NoCommand-clause-input g c = λ tells. c.in-Err-NoCommand.ensures.refused c.in-Err-NoCommand.field-0-is
+returns-in-Err-NoCommand-clause-input g c = c.in-Err-NoCommand.ensures.refused c.in-Err-NoCommand.field-0-is
 
 pub returns-in-Err-NoCommand-clause-formats : goal.returns-in-Err-NoCommand-clause-formats
 returns-in-Err-NoCommand-clause-formats g c = c.in-Err-NoCommand.ensures.refused c.in-Err-NoCommand.field-0-is
@@ -29,10 +30,10 @@ returns-in-Ok-Run-clause-complete g c =
     let given = g.S.Source.left c.args.source.now in
     let said = c.run_lines.ensures in
     words_say (map string_bytes c.args.words.now) c.run_lines.result.0 (Unit {0}) _ Run said.no_usage (rw c.in-Ok-Run.field-0-is at c.in-Ok-Run.ensures.asked)
-    (λ fit none.
+    (λ fit no_source no_sink no_media.
     let input = said.ran.holds.0 in
-    complete_of (λ ended. Answers old input ended new said.ran.cut said.ran.text) (IsDamaged old) looking_calls old new said.ran.cut said.ran.text given _ _ _ _ _ _ _
-    fit.1 fit.3.0 fit.3.1 (λ page is. no_damage old fit.3.0 page fit.3.1 fit.3.2 is) none c.run_lines.result.0 said.no_usage said.counts (said.input fit.0) (said.ran.holds.2 fit.2))
+    complete_of (λ ended. Answers old input ended new said.ran.cut said.ran.text) (IsDamaged old) (λ shape. page_count shape / 2) old new said.ran.cut said.ran.text given _ _ _ _ _ _ _
+    fit.1 fit.3.0 fit.3.1 (λ page is. no_damage old fit.3.0 page fit.3.1 fit.3.2 is) no_source no_sink no_media c.run_lines.result.0 said.no_usage said.counts (said.input fit.0) (said.ran.holds.2 fit.2))
 
 pub returns-in-Ok-Eaw-clause-complete : goal.returns-in-Ok-Eaw-clause-complete
 returns-in-Ok-Eaw-clause-complete g c =
@@ -41,14 +42,14 @@ returns-in-Ok-Eaw-clause-complete g c =
     let given = g.S.Source.left c.args.source.now in
     let said = c.run_commands.ensures in
     words_say (map string_bytes c.args.words.now) c.run_commands.result.0 (Unit {0}) _ Eaw said.no_usage (rw c.in-Ok-Eaw.field-0-is at c.in-Ok-Eaw.ensures.asked)
-    (λ fit none.
+    (λ fit no_source no_sink no_media.
     let input = said.ran.holds.0 in
     complete_of (λ ended. Obeys old input ended new said.ran.cut said.ran.text) (λ page. ⊥) (λ shape. 0) old new said.ran.cut said.ran.text given _ _ _ _ _ _ _
-    fit.1 fit.3.shape fit.3.array (λ page is. is) none c.run_commands.result.0 said.no_usage said.counts (said.input fit.0) (said.ran.holds.2 fit.2))
+    fit.1 fit.3.0 fit.3.1 (λ page is. is) no_source no_sink no_media c.run_commands.result.0 said.no_usage said.counts (said.input fit.0) (said.ran.holds.2 fit.2))
 
 pub returns-in-Ok-Format-clause-ran : goal.returns-in-Ok-Format-clause-ran
 returns-in-Ok-Format-clause-ran g c =
     let ran = c.run_format.ensures.ran in
-    words_say (map string_bytes c.args.words.now) c.run_format.result.0 _ _ (Format c.in-Ok-Format.numbers) (λ is. subst IsOfFormat is c.run_format.ensures.kind)
+    words_say (map string_bytes c.args.words.now) c.run_format.result.0 _ _ (Format c.in-Ok-Format.numbers) (no_usage c.in-Ok-Format.numbers _ c.run_format.result.0 _ _ c.run_format.ensures.says)
     (rw c.in-Ok-Format.field-0-is at c.in-Ok-Format.ensures.asked)
     (record { cut = ran.cut; text = ran.text; wrote = ran.wrote; counts = ran.counts; holds = (g.S.Source.left c.args.source.now, (λ _. refl), ran.holds) })

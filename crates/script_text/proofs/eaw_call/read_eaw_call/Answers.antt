@@ -1,27 +1,28 @@
 use Rattle.std.proofs.Common.{refl}
 use Rattle.std.specs.Prelude.{codes}
-use Rattle.script_text.specs.Eaw.{log_write, atomic, edit_log}
+use Rattle.eaw_face.specs.Command.{log_write, atomic_write, log_edit}
+use Rattle.script_text.specs.Eaw.{does}
 use Rattle.script_text.proofs.EawCommands.{write_told, edit_told, no_command}
 use Rattle.script_text.proofs.eaw_call.read_eaw_call.Goals as goal
 
 pub returns-in-Some : goal.returns-in-Some
-returns-in-Some c =
+returns-in-Some c t =
     let read = c.in-Some.ensures in
     let bytes = read.0.1 in
-    (log_write c.in-Some.addr bytes.0, (bytes.0, bytes.2, refl), (read.0.0, bytes.1), write_told (codes "logwrite ") _ _ c.in-Some.addr bytes read.1)
+    (does (log_write t c.in-Some.addr bytes.0), (bytes.0, bytes.2, refl), (refl, read.0.0, bytes.1, write_told (codes "logwrite ") _ _ c.in-Some.addr bytes read.1))
 
 pub returns-in-Some-read_write : goal.returns-in-Some-read_write
-returns-in-Some-read_write c =
+returns-in-Some-read_write c t =
     let read = c.in-Some-read_write.ensures in
     let bytes = read.0.1 in
-    (atomic c.in-Some-read_write.addr bytes.0, (bytes.0, bytes.2, refl), (read.0.0, bytes.1), write_told (codes "atomic ") _ _ c.in-Some-read_write.addr bytes read.1)
+    (does (atomic_write t c.in-Some-read_write.addr bytes.0), (bytes.0, bytes.2, refl), (refl, read.0.0, bytes.1, write_told (codes "atomic ") _ _ c.in-Some-read_write.addr bytes read.1))
 
 pub returns-in-Some-read_edit : goal.returns-in-Some-read_edit
-returns-in-Some-read_edit c =
+returns-in-Some-read_edit c t =
     let read = c.in-Some-read_edit.ensures in
     let bytes = read.0.2 in
     let edit = c.in-Some-read_edit in
-    (edit_log edit.pos edit.at bytes.0, (bytes.0, bytes.2, refl), (read.0.0, read.0.1, bytes.1), edit_told _ _ edit.pos edit.at bytes read.1)
+    (does (log_edit t edit.pos edit.at bytes.0), (bytes.0, bytes.2, refl), (refl, read.0.0, read.0.1, bytes.1, edit_told _ _ edit.pos edit.at bytes read.1))
 
 pub returns-in_err-logger : goal.returns-in_err-logger
 returns-in_err-logger c = rw c.from_residual.ensures (no_command c.args.bytes.now (record {

@@ -40,7 +40,7 @@ returns-in-Ok-write_answer-clause-answers g c = λ tell.
     let t = c.in-Told.number in
     let says = subst (λ (shape : Shape). SaysEaw shape.numbers c.args.line.now (Told t c.in-Told.call)) c.shape.ensures c.in-Told.ensures in
     let is = means_told _ _ t c.in-Told.call says in
-    let did = c.in-Ok-perform.ensures is.0 is.1 is.2.1 in
+    let did = c.in-Ok-perform.ensures is.0 is.2.1 is.1 is.2.2 in
     let new = c.perform.new.store in
     let text = c.in-Ok-write_answer.ensures.ok ∙ ap (λ xs. xs ++ answer_line t c.in-Ok-perform.answer) c.clear.ensures.items in
     from_past s.opens (s.view store) (s.view new) c.args.n c.args.line.now c.write_answer.new.out.items (let r : Reply = Ok tt in r)
@@ -54,7 +54,7 @@ returns-in-Err-write_answer-clause-answers g c = λ tell.
     let t = c.in-Told.number in
     let says = subst (λ (shape : Shape). SaysEaw shape.numbers c.args.line.now (Told t c.in-Told.call)) c.shape.ensures c.in-Told.ensures in
     let is = means_told _ _ t c.in-Told.call says in
-    let did = c.in-Ok-perform.ensures is.0 is.1 is.2.1 in
+    let did = c.in-Ok-perform.ensures is.0 is.2.1 is.1 is.2.2 in
     let new = c.perform.new.store in
     from_past s.opens (s.view store) (s.view new) c.args.n c.args.line.now c.write_answer.new.out.items (let r : Reply = Err NoMemory in r)
     (λ past. performed_short s.tells tell s.opens (s.view store) (s.view new) c.args.n c.args.line.now t is.0 (g.met.S.EawStore.outlines store t tell c.requires) is.2 past
@@ -70,4 +70,4 @@ returns-in-Err-perform-clause-answers g c = λ tell.
     let new = c.perform.new.store in
     from_past s.opens (s.view store) (s.view new) c.args.n c.args.line.now c.clear.new.self.items (let r : Reply = Err (Media t) in r)
     (λ past. failed s.tells tell s.opens (s.view store) (s.view new) c.args.n c.args.line.now t is.0 (g.met.S.EawStore.outlines store t tell c.requires) is.2 past
-    c.in-Err-perform.field-0 (c.in-Err-perform.ensures is.0 is.1 is.2.1) (λ image left. g.met.S.EawStore.only_now store image tell c.requires left) (λ m image le left. g.met.S.EawStore.counts_now new m image tell le left) c.clear.new.self.items)
+    c.in-Err-perform.field-0 (c.in-Err-perform.ensures is.0 is.2.1 is.1 is.2.2) (λ image left. g.met.S.EawStore.only_now store image tell c.requires left) (λ m image le left. g.met.S.EawStore.counts_now new m image tell le left) c.clear.new.self.items)

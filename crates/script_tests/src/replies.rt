@@ -1,5 +1,6 @@
-use super::*;
+use history::Reply;
 use record_slots::Value;
+use script_text::{media_fault_line, write_bad_line, write_reply};
 use std::test::Fail;
 
 #[test]

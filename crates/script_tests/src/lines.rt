@@ -1,5 +1,6 @@
-use super::*;
+use history::Call;
 use record_slots::Value;
+use script_text::{Line, read_line};
 use std::test::Fail;
 
 fn told(caller: u8, call: Call) -> Line {

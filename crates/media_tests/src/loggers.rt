@@ -2,9 +2,9 @@ ghost use Rattle.std.specs.Prelude.{◌≡◌};
 ghost use Rattle.array_shape.specs.Places.{media_len};
 ghost use Rattle.pcm_media.specs.Memory.{view_of};
 
-use crate::{Logger, StageFault};
 use array_shape::Shape;
 use counted::{Failed, NoMemory};
+use logger::{Logger, StageFault};
 use pcm_media::{Media, MemoryMedia};
 use row_bytes::Head;
 use std::alloc::Global;

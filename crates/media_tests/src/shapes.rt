@@ -1,4 +1,4 @@
-use crate::{BadShape, Part, Place, Shape, ShapeNumber};
+use array_shape::{BadShape, Part, Place, Shape, ShapeNumber};
 use std::test::Fail;
 
 #[test]

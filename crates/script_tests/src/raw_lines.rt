@@ -1,5 +1,4 @@
-use super::*;
-use crate::block_of;
+use script_text::{BLOCK, EawCall, EawLine, bytes_of, read_eaw};
 
 #[test]
 fn raw_lines_say_their_commands(rt: HostRuntime) {
@@ -121,6 +120,6 @@ fn bytes_are_read_from_their_text(rt: HostRuntime) {
     else {
         panic!(rt; "no such line");
     };
-    let block = block_of(hex);
-    assert_eq!(rt; block.as_bytes(), [0, 255, 122, 30].as_slice());
+    let mut buf = [0; BLOCK];
+    assert_eq!(rt; bytes_of(hex, &mut buf), [0, 255, 122, 30].as_slice());
 }

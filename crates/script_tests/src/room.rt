@@ -1,5 +1,6 @@
-use super::*;
-use std::alloc::AllocError;
+use counted::NoMemory;
+use mars_shell::room;
+use std::alloc::{AllocError, Global};
 use std::test::Fail;
 
 // The room of some words.

@@ -1,5 +1,5 @@
-use crate::{Call, FusedMedia, Media, MemoryMedia, Record};
 use counted::{Failed, NoMemory};
+use pcm_media::{Call, FusedMedia, Media, MemoryMedia, Record};
 use std::alloc::Global;
 use std::process::Abort;
 use std::test::Fail;

@@ -1,4 +1,4 @@
-use super::*;
+use history::{Call, Calls, Done, History, Reply};
 use record_slots::Value;
 use std::test::Fail;
 
@@ -7,7 +7,6 @@ fn calls_come_off_in_reverse(rt: HostRuntime) -> Result<(), Fail> {
     let value = Value::of(b"abc").ok_or("a value")?;
     let mut calls = Calls::new(rt.alloc());
     calls.push(Call::Put { key: 5, value }, Reply::Fine)?;
-    assert_eq!(rt; calls.entries.capacity(), 1, "room for one call alone");
     calls.push(Call::Get { key: 5 }, Reply::Found(value))?;
     assert_eq!(rt;
         calls.entries(),

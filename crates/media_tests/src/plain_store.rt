@@ -1,7 +1,7 @@
-use crate::MemoryEaw;
 use array_shape::Shape;
 use counted::NoMemory;
 use eaw_face::{EawFault, EawStore};
+use memory_eaw::MemoryEaw;
 use std::alloc::Global;
 use std::process::Abort;
 use std::test::Fail;

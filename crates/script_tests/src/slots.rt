@@ -1,4 +1,4 @@
-use crate::{SLOT_LEN, Slot, Value, read_slot, write_slot};
+use record_slots::{SLOT_LEN, Slot, Value, read_slot, write_slot};
 use std::test::Fail;
 
 #[test]

@@ -1,4 +1,4 @@
-use super::*;
+use script_text::{Answer, Lent, write_answer};
 use std::test::Fail;
 
 #[test]
@@ -10,12 +10,12 @@ fn each_answer_has_its_line(rt: HostRuntime) -> Result<(), Fail> {
     };
     let part = Answer::Part {
         addr: 102402,
-        bytes: Block::of(b"zb"),
+        bytes: Lent::of(b"zb"),
     };
     let data = Answer::Data {
-        bytes: Block::of(b"\x00\x00aa\xff"),
+        bytes: Lent::of(b"\x00\x00aa\xff"),
     };
-    let rows: [(u8, Answer, &[u8]); 10] = [
+    let rows: [(u8, Answer<'_>, &[u8]); 10] = [
         (0, Answer::Logged(3), b"0 logged 3\n"),
         (0, Answer::Fine, b"0 ok\n"),
         (1, part, b"1 part 102402 7a62\n"),

@@ -1,4 +1,4 @@
-use super::*;
+use command_words::{FormatNumbers, Words, WordsFault, read_words};
 use std::alloc::{AllocError, Global};
 use std::test::Fail;
 

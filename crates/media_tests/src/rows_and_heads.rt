@@ -1,8 +1,8 @@
-use crate::{
+use array_shape::{BadShape, Shape, ShapeNumber};
+use row_bytes::{
     Head, HeaderFault, Row, read_array_header, read_head, read_row, write_array_header, write_head,
     write_row,
 };
-use array_shape::{BadShape, Shape, ShapeNumber};
 use std::test::Fail;
 
 #[test]

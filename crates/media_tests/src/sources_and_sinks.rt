@@ -1,5 +1,5 @@
-use crate::{MemorySink, MemorySource, Sink, Source, StdSink, StdSource};
 use counted::Failed;
+use outside::{MemorySink, MemorySource, Sink, Source, StdSink, StdSource};
 use std::io;
 use std::io::{ErrorKind, Read, Write};
 use std::test::Fail;
