@@ -12,30 +12,28 @@ use Rattle.script_run.specs.declared.ended.Ended.TheVariants as script
 use Rattle.mars_shell.specs.declared.status.Status.{Status}
 use Rattle.mars_shell.specs.declared.status.Status.TheVariants.{Good, WriteFault, MediaFault, NoMemory, Damaged, BadRow, NotMars, BadShape}
 
--- Nothing was told. Where all that a loss of power could leave at first opens, all that it might have left since opens with data
--- of the former.
-pub record Idle (old new : View) (cut : Bool) (text : List ℕ) : Type 0 where
+-- No line was answered, for this cause. Nothing was told; where all that a loss of power could leave at first opens, all that it might
+-- have left since opens with data of the former; and of what was written to the media this holds.
+pub record Idle (Spared Cause : Type 0) (old new : View) (cut : Bool) (text : List ℕ) : Type 0 where
   pub uncut : cut ≡ false
   pub silent : text ≡ []
   pub keeps : (shape : Shape) → AllOpen shape old.content → (image : List ℕ) → new.left_since old.moment image → OpensLike shape old.content image
-
--- for this cause, and nothing was written to the media
-pub record Refuses (Cause : Type 0) (old new : View) (cut : Bool) (text : List ℕ) : Type 0 where
-  pub idle : Idle old new cut text
-  pub untouched : Touched [] old.content new.content
+  pub spared : Spared
   pub cause : Cause
+
+-- nothing was written to the media
+abbrev pub Untouched : View → View → Type 0
+Untouched old new = Touched [] old.content new.content
 
 -- memory was short before the first line: no call of the media was made, or one, and its header says the shape of an array
 abbrev pub IsShort : View → View → Type 0
 IsShort old new = (new.moment ≡ old.moment)
     ⊎ ((new.moment ≡ old.moment + 1) × (shape : Shape) × SaysShape (header_of old.content.bytes) shape × (old.size ≡ media_len shape))
 
--- The media failed before the first line: within the calls of an opening, where no row is voted, and so many that look at the
--- records. One that holds no array, or one with a bad row, is untouched.
-pub record Fails (looks : Shape → ℕ) (old new : View) (cut : Bool) (text : List ℕ) : Type 0 where
-  pub idle : Idle old new cut text
-  pub spared : Touched [] old.content new.content ⊎ HoldsArray old
-  pub within : (shape : Shape) → SaysShape (header_of old.content.bytes) shape → HasNoVote shape old.content.bytes → new.moment ≤ old.moment + (opening_calls shape + looks shape)
+-- the media failed before the first line: within the calls of an opening, where no row is voted, and so many that look at the records
+abbrev pub IsWithin : (Shape → ℕ) → View → View → Type 0
+IsWithin looks old new = (shape : Shape) → SaysShape (header_of old.content.bytes) shape → HasNoVote shape old.content.bytes
+    → new.moment ≤ old.moment + (opening_calls shape + looks shape)
 
 -- What was written and done, by the status: the work over an array that was opened, or that there was none to open. Broken says
 -- which page may be named as damaged.
