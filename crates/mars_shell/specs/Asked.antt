@@ -3,7 +3,7 @@ use Rattle.std.specs.Prelude.{ℕ, ◌≡◌, ◌/◌, ◌≤◌, ◌⊎◌, Lis
 use Rattle.pcm_media.specs.View.{View}
 use Rattle.array_shape.specs.declared.shape.Shape.{Shape}
 use Rattle.array_shape.specs.Places.{page_count}
-use Rattle.command_words.specs.Asked.{AsksFor, AskForNothing}
+use Rattle.command_words.specs.Asked.{AsksFor}
 use Rattle.command_words.specs.declared.words.FormatNumbers.{FormatNumbers}
 use Rattle.command_words.specs.declared.words.Words.{Words}
 use Rattle.command_words.specs.declared.words.Words.TheVariants.{Run, Eaw, Format}
@@ -21,7 +21,7 @@ use Rattle.mars_shell.specs.declared.status.Status.TheVariants.{Usage, NoMemory}
 -- Usage comes exactly where the words ask for nothing. Else they ask for something, of which this holds; but where memory was
 -- short they may be unread.
 abbrev pub WordsSay : List (List ℕ) → Status → Type 0 → (Words → Type 0) → Type 0
-WordsSay words Usage Unread Holds = AskForNothing words
+WordsSay words Usage Unread Holds = (asked : Words) → AsksFor words asked → ⊥
 WordsSay words NoMemory Unread Holds = Unread ⊎ ((asked : Words) × AsksFor words asked × Holds asked)
 WordsSay words _ Unread Holds = (asked : Words) × AsksFor words asked × Holds asked
 
