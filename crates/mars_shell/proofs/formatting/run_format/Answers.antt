@@ -6,7 +6,7 @@ use Rattle.array_shape.specs.declared.shape.Shape.{Shape}
 use Rattle.array_shape.specs.Numbers.{IsFirstBad}
 use Rattle.array_shape.specs.Places.{media_len}
 use Rattle.command_words.specs.declared.words.FormatNumbers.{FormatNumbers}
-use Rattle.script_io.specs.Written.{IsCut}
+use Rattle.script_io.specs.Written.{IsWritten}
 use Rattle.mars_shell.specs.Formats.{HasAsked}
 use Rattle.mars_shell.proofs.FormatLemmas.{half_fresh}
 use Rattle.mars_shell.proofs.formatting.run_format.Goals as goal
@@ -100,7 +100,7 @@ returns-in-Err-write_whole-clause-ran g c =
           };
           fresh = c.in-Ok-format.ensures.fresh told;
           opens = c.in-Ok-format.ensures.opens told;
-          wrote = subst (IsCut part.0) c.formatted_line.ensures part.1;
+          wrote = subst (IsWritten true part.0) c.formatted_line.ensures part.1;
         },
       );
     }
