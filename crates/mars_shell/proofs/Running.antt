@@ -54,8 +54,7 @@ module _ (tells : Bool) (told : IsTrue tells) (old : View) (only_now : (image : 
       let first_opens : Opens store.shape old.content.bytes store.state.bytes = record {
         header = attached.shape_is told;
         stands = record { lawful = subst (λ (s : Shape). IsLawful s old.content.bytes) (sym same) first.1.stands.lawful; gives = sym (attached.bytes told) };
-      } in
-      (
+      } in (
         old.content.bytes,
         left_as_read old.content,
         store.state.bytes,
