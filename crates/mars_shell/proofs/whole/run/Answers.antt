@@ -1,4 +1,4 @@
-use Rattle.std.proofs.Common.{◌/◌, refl, subst}
+use Rattle.std.proofs.Common.{◌/◌, refl}
 use Rattle.array_shape.specs.Places.{page_count}
 use Rattle.std.specs.Prelude.{map, string_bytes}
 use Rattle.command_words.specs.declared.words.Words.TheVariants.{Run, Eaw, Format}
