@@ -47,8 +47,7 @@ cause_on tells old mid faults (BadShape bad) size touched later cause = (
 )
 cause_on tells old mid faults (BadRow g t) size touched later cause = λ told.
     let same = same_bytes old.content mid.content (touched told) in
-    let found = cause told in
-    (
+    let found = cause told in (
       found.0,
       subst (λ b. SaysShape (header_of b) found.0) same found.1,
       sym size ∙ found.2,
@@ -69,8 +68,7 @@ reading_leaves tells old new NoMemory touched = touched
 
 holds_before : (old mid : View) → mid.size ≡ old.size → Touched [] old.content mid.content → HoldsArray mid → HoldsArray old
 holds_before old mid size touched holds =
-    let same = same_bytes old.content mid.content touched in
-    (
+    let same = same_bytes old.content mid.content touched in (
       holds.0,
       record {
         header = subst (λ b. SaysShape (header_of b) holds.0) same holds.1.header;

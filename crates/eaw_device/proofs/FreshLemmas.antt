@@ -12,7 +12,7 @@ use Rattle.array_shape.specs.Places.{media_len, row_at, data_at, page_count, dat
 use Rattle.array_shape.proofs.Apart.{row_end, data_end, region_end, region_fits, place_start, place_end, place_below, place_along}
 use Rattle.array_image.specs.Image.{data_of}
 use Rattle.array_image.proofs.Data.{length-data_of, data_put, data_away}
-use Rattle.eaw_device.specs.Fresh.{fresh_page, super_page, empty_index, behind_header, HasPages, HasRows, HasParts}
+use Rattle.eaw_device.specs.Fresh.{fresh_page, behind_header, HasPages, HasRows, HasParts}
 
 -- pages of the same data
 pub same_pages : (shape : Shape) (n : ℕ) (old new : List ℕ) → data_of shape new ≡ data_of shape old → HasPages shape n old → HasPages shape n new
@@ -32,7 +32,6 @@ other_page (suc zero) not_first not_second = absurd (not_second refl)
 other_page (suc (suc p)) not_first not_second = refl
 
 pub length-fresh_page : (p : ℕ) → length (fresh_page p) ≡ 512
-unfolding super_page empty_index
 length-fresh_page zero = refl
 length-fresh_page (suc zero) = refl
 length-fresh_page (suc (suc p)) = length-replicate {A = ℕ} 512 0

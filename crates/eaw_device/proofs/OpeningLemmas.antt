@@ -26,8 +26,7 @@ module _ (shape : Shape) (content : Content) (opens : AllOpen shape content) whe
   -- so does what settles like it
   pub like_sense : (image : List ℕ) → KeepsSense shape content image → OpensLike shape content image
   like_sense image kept =
-      let can = opens kept.earlier kept.left in
-      (
+      let can = opens kept.earlier kept.left in (
         kept.earlier,
         kept.left,
         can.0,

@@ -12,18 +12,11 @@ use Rattle.eaw_device.specs.declared.fresh.FormatFault.{FormatFault}
 use Rattle.eaw_device.specs.declared.fresh.FormatFault.TheVariants.{BadShape, Media}
 use Rattle.eaw_device.specs.Opens.{header_of}
 
--- the super page: its mark, the version 1, the form 0, no slot given and 2 the next page to give
-unfoldable pub super_page : List ℕ
-super_page = codes "MREC" ++ 1 ∷ 0 ∷ 0 ∷ 0 ∷ (little_bytes 4 0 ++ little_bytes 4 2 ++ replicate 496 0)
-
--- an index page without pairs
-unfoldable pub empty_index : List ℕ
-empty_index = 1 ∷ replicate 511 0
-
--- page 0 is the super page, page 1 the first index page, and all others are zero
+-- Page 0 is the super page: its mark, the version 1, the form 0, no slot given and 2 the next page to give. Page 1 is an index page
+-- without pairs, and all others are zero.
 abbrev pub fresh_page : ℕ → List ℕ
-fresh_page zero = super_page
-fresh_page (suc zero) = empty_index
+fresh_page zero = codes "MREC" ++ 1 ∷ 0 ∷ 0 ∷ 0 ∷ (little_bytes 4 0 ++ little_bytes 4 2 ++ replicate 496 0)
+fresh_page (suc zero) = 1 ∷ replicate 511 0
 fresh_page (suc (suc p)) = replicate 512 0
 
 -- the first n pages are as at first

@@ -7,7 +7,7 @@ ghost use Rattle.array_shape.specs.Places.{media_len, row_at, page_count};
 ghost use Rattle.array_image.specs.Image.{data_of};
 ghost use Rattle.array_image.specs.Standing.{SameCells};
 ghost use Rattle.eaw_device.specs.Attaching.{AllOpenWith};
-ghost use Rattle.eaw_device.specs.Fresh.{IsFresh, LeavesAsRead, IsHalfFresh, HasParts, HasPages, HasRows, behind_header, fresh_page, super_page, empty_index, IsWrongLength};
+ghost use Rattle.eaw_device.specs.Fresh.{IsFresh, LeavesAsRead, IsHalfFresh, HasParts, HasPages, HasRows, behind_header, fresh_page, IsWrongLength};
 
 use array_shape::{BadShape, Shape, ShapeNumber};
 use counted::Failed;
@@ -144,7 +144,7 @@ fn fresh_page(page: u64) -> [u8; 512]
 }
 
 fn super_page() -> [u8; 512]
-    ensures { result ≡ super_page }
+    ensures { result ≡ fresh_page 0 }
 {
     let mut bytes = [0; 512];
     bytes[..16].copy_from_slice(b"MREC\x01\0\0\0\0\0\0\0\x02\0\0\0");
@@ -152,7 +152,7 @@ fn super_page() -> [u8; 512]
 }
 
 fn empty_index() -> [u8; 512]
-    ensures { result ≡ empty_index }
+    ensures { result ≡ fresh_page 1 }
 {
     let mut bytes = [0; 512];
     bytes[0] = 1;

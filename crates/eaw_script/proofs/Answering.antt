@@ -8,7 +8,7 @@ use Rattle.array_shape.specs.declared.shape.Shape.{Shape}
 use Rattle.eaw_face.specs.State.{State}
 use Rattle.eaw_face.specs.StoreView.{StoreView, LeavesOnly}
 use Rattle.eaw_face.specs.Does.{IsEither}
-use Rattle.script_text.specs.Eaw.{Raw, IsTextOf}
+use Rattle.script_text.specs.Eaw.{Raw}
 use Rattle.script_text.specs.EawLines.{nothing, told, bad, Means, ShowsCall, SaysEaw}
 use Rattle.script_text.specs.AnswerLines.{answer_line}
 use Rattle.script_text.specs.Replies.{bad_line}

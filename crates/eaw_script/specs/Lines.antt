@@ -28,9 +28,6 @@ LineBreaks old line t new = (raw : Raw) × Means old.shape.numbers line (told t 
     × Passes old.shape (asks old.shape (log_of old.state t) raw) × (asks old.shape (log_of old.state t) raw).media
     × (new ≡ record old { doubt = Some (done_by raw old.state).bytes })
 
--- there is no memory for the answer of a line that was done
-abbrev pub LineStops : Progress → ℕ → List ℕ → Progress → Type 0
-LineStops old n line new = (text : List ℕ) × LineGives old n line text new
-
+-- where memory is short, it is for the answer of a line that was done
 abbrev pub raw_script : Script Progress
-raw_script = record { gives = LineGives; breaks = LineBreaks; stops = LineStops }
+raw_script = record { gives = LineGives; breaks = LineBreaks; stops = λ old n line new. (text : List ℕ) × LineGives old n line text new }

@@ -36,9 +36,8 @@ asks shape log (does (log_edit t pos at bytes)) =
     record untested { known = IsSome log; there = (pos < length (listed log)) × (at + length bytes ≤ (range_at (listed log) pos).1) }
 asks shape log (does (commit t)) = record untested { known = IsSome log; media = 0 < length (listed log) }
 asks shape log (does (abort t)) = record untested { known = IsSome log; media = ⊥ }
-asks shape log (does (nested_top t offset)) =
-    record untested { known = IsSome log; there = offset ≤ length (listed log); media = offset < length (listed log) }
-asks shape log (does (partial_abort t offset)) = record untested { known = IsSome log; there = offset ≤ length (listed log); media = ⊥ }
+asks shape log (does (nested_top t o)) = record untested { known = IsSome log; there = o ≤ length (listed log); media = o < length (listed log) }
+asks shape log (does (partial_abort t o)) = record untested { known = IsSome log; there = o ≤ length (listed log); media = ⊥ }
 asks shape log (does (atomic_write t addr bytes)) =
     record untested { there = addr + length bytes ≤ data_len shape; free = log ≡ None; needed = ranges_of (parts_of_write addr bytes) }
 asks shape log (does (read addr len)) = record untested { there = addr + len ≤ data_len shape }

@@ -1,12 +1,12 @@
 -- Histories, and which are legal: each transaction is right on what those before it leave.
 use Rattle.std.specs.Prelude.{ℕ, ◌≡◌, ◌+◌, List, [], ◌∷◌}
+use Rattle.std.specs.List.{fold}
 use Rattle.history.specs.Table.{Table, left_by, IsRight}
 use Rattle.history.specs.declared.transaction.Done.{Done}
 
 -- the table after a history
 abbrev pub records : Table → List Done → Table
-records base [] = base
-records base (done ∷ history) = records (left_by base done.calls) history
+records base history = fold (λ was done. left_by was done.calls) base history
 
 -- transactions numbered from n on, each right on what those before it leave
 abbrev pub IsLegalFrom : ℕ → Table → List Done → Type 0

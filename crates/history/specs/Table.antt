@@ -1,5 +1,7 @@
 -- The one-thread table: what it answers, and what calls leave of it.
-use Rattle.std.specs.Prelude.{ℕ, ◌≡◌, List, [], ◌∷◌, Option, Some, None}
+use Rattle.std.specs.Prelude.{ℕ, ◌≡◌, List, [], ◌∷◌, Option, unwrap_or}
+use Rattle.std.specs.List.{fold}
+use Rattle.std.specs.Option.{option_map}
 use Rattle.std.specs.Ordering.{nat_cmp}
 use Rattle.std.specs.FinMap.{FinMap, get, insert, code}
 use Rattle.std.specs.Coded.{Coded, coded_ℕ, coded_list}
@@ -18,8 +20,7 @@ table_code = code coded_ℕ (coded_list coded_ℕ)
 
 -- the reply to a get that finds this
 abbrev pub found : Option (List ℕ) → Reply
-found None = Absent
-found (Some value) = Found value
+found value = unwrap_or (option_map Found value) Absent
 
 -- The table answers the call so. A begin and a commit are no calls of a table.
 abbrev pub Answers : Table → Call → Reply → Type 0
@@ -34,8 +35,7 @@ after table _ = table
 
 -- the table that calls leave
 abbrev pub left_by : Table → List (Call × Reply) → Table
-left_by table [] = table
-left_by table (entry ∷ entries) = left_by (after table entry.0) entries
+left_by table entries = fold (λ was entry. after was entry.0) table entries
 
 -- the table gives these replies to these calls, one after another
 abbrev pub IsRight : Table → List (Call × Reply) → Type 0

@@ -67,7 +67,7 @@ module _ (Works : Ended → Type 0) (Broken : ℕ → Type 0) (looks : Shape →
   complete_of ReadFault other counts input outcome = absurd (no_source counts.0)
   complete_of WriteFault other counts input outcome = absurd (no_sink counts.1)
   complete_of MediaFault other counts input outcome = absurd (no_media counts.1)
-  complete_of (Damaged page) other counts input outcome = absurd (whole page outcome.1)
+  complete_of (Damaged page) other counts input outcome = absurd (whole page outcome.cause)
   complete_of (BadRow logger tid) other counts input outcome = absurd (no_bad_row old shape logger tid array outcome.cause)
   complete_of NotMars other counts input outcome = absurd (outcome.cause (omega (arith, array.sized)) array.header.has_mark)
   complete_of (BadShape which bad) other counts input outcome = absurd (not_bad_in (header_of old.content.bytes) old.size shape which bad array.header array.sized outcome.cause.2)

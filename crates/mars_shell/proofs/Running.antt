@@ -14,7 +14,7 @@ use Rattle.eaw_face.specs.State.{State as Data}
 use Rattle.eaw_face.specs.StoreView.{StoreView, LeavesOnly}
 use Rattle.eaw_face.specs.Does.{Does}
 use Rattle.eaw_face.specs.declared.fault.EawFault.{EawFault}
-use Rattle.eaw_device.specs.Opens.{header_of, Opens, AllOpen, OpensLike, KeepsData, Attached, IsArray, IsBehind, opening_calls}
+use Rattle.eaw_device.specs.Opens.{header_of, Opens, AllOpen, OpensLike, KeepsData, Attached, IsArray, HoldsArray, IsBehind, opening_calls}
 use Rattle.history.specs.Legal.{records}
 use Rattle.script_io.specs.Lines.{lines_of}
 use Rattle.script_run.specs.Transcript.{Answered}
@@ -23,7 +23,7 @@ use Rattle.script_run.specs.declared.ended.Ended.TheVariants.{All}
 use Rattle.mars_shell.specs.Called.{HasPrefixOf}
 use Rattle.mars_shell.specs.Kept.{limits_of, slots_of, state_over}
 use Rattle.mars_shell.specs.Lines.{call_script}
-use Rattle.mars_shell.specs.Outcome.{Idle, Fails}
+use Rattle.mars_shell.specs.Outcome.{Idle, IsWithin}
 use Rattle.mars_shell.specs.PrefixLaw.{Recovers}
 use Rattle.mars_shell.specs.Records.{records_of, IsSoundData, IsFirstDamaged, reading}
 use Rattle.mars_shell.specs.Run.{data_in, IsDamaged, Answers}
@@ -54,8 +54,7 @@ module _ (tells : Bool) (told : IsTrue tells) (old : View) (only_now : (image : 
       let first_opens : Opens store.shape old.content.bytes store.state.bytes = record {
         header = attached.shape_is told;
         stands = record { lawful = subst (λ (s : Shape). IsLawful s old.content.bytes) (sym same) first.1.stands.lawful; gives = sym (attached.bytes told) };
-      } in
-      (
+      } in (
         old.content.bytes,
         left_as_read old.content,
         store.state.bytes,
@@ -71,26 +70,25 @@ module _ (tells : Bool) (told : IsTrue tells) (old : View) (only_now : (image : 
     looked : (shape : Shape) → AllOpen shape old.content → (image : List ℕ) → mid.left_since old.moment image → OpensLike shape old.content image
     looked shape all image left = ⊎_elim (at_entry shape all image) (like_data shape all image) (time.only old.moment image (keeps told shape all).later left)
 
-    pub idle_looked : (new : View) → IsBehind tells mid new → Idle old new false []
-    idle_looked new behind = record {
+    pub idle_looked : (Cause : Type 0) (new : View) → IsBehind tells mid new → Cause → Idle (HoldsArray old) Cause old new false []
+    idle_looked Cause new behind cause = record {
       uncut = refl;
       silent = refl;
       keeps = λ shape all image left. looked shape all image (behind.left old.moment image left);
+      spared = inr (store.shape, array);
+      cause = cause;
     }
 
     pub damaged : (o : Option ℕ) (page : ℕ) → o ≡ Some page → IfSome o (IsFirstDamaged (slots_of store.shape) store.state.bytes) → IsDamaged old page
     damaged o page is found = let first = subst (λ (p : Option ℕ). IfSome p (IsFirstDamaged (slots_of store.shape) store.state.bytes)) is found in (store.shape, array, subst (λ (b : List ℕ). IsFirstDamaged (slots_of store.shape) b page) (attached.bytes told) first)
 
     -- the media failed then
-    pub failed_looking : (looks : Shape → ℕ) (new : View) → IsBehind tells mid new → ((shape : Shape) → shape ≡ store.shape → mid.moment ≤ store.moment + looks shape) → Fails looks old new false []
-    failed_looking looks new behind costs = record {
-      idle = idle_looked new behind;
-      spared = inr (store.shape, array);
-      within = λ shape says quiet.
-          let same : shape ≡ store.shape = one_shape (header_of old.content.bytes) shape store.shape says (attached.shape_is told) in
-          let calls = attached.calls told (subst (λ (s : Shape). HasNoVote s old.content.bytes) same quiet) in
-          omega (arith, calls, costs shape same, ap opening_calls same, behind.moment);
-    }
+    pub failed_looking : (looks : Shape → ℕ) (new : View) → IsBehind tells mid new → ((shape : Shape) → shape ≡ store.shape → mid.moment ≤ store.moment + looks shape)
+        → Idle (HoldsArray old) (IsWithin looks old new) old new false []
+    failed_looking looks new behind costs = idle_looked _ new behind (λ shape says quiet.
+        let same : shape ≡ store.shape = one_shape (header_of old.content.bytes) shape store.shape says (attached.shape_is told) in
+        let calls = attached.calls told (subst (λ (s : Shape). HasNoVote s old.content.bytes) same quiet) in
+        omega (arith, calls, costs shape same, ap opening_calls same, behind.moment))
 
   module _ (mid : StoreView) (o : Option ℕ) (does : Does tells (Opens store.shape) reading store mid (let r : Result (Option ℕ) EawFault = Ok o in r)) (none : o ≡ None)
       (found : IfNone o (IsSoundData (slots_of store.shape) store.state.bytes)) where

@@ -5,7 +5,7 @@ use Rattle.pcm_media.specs.Images.{MayLeave, Touched}
 use Rattle.pcm_media.specs.View.{View}
 use Rattle.pcm_media.proofs.Left.{touched_by_nothing}
 use Rattle.array_shape.specs.declared.shape.Shape.{Shape}
-use Rattle.eaw_device.specs.Opens.{AllOpen, OpensLike, KeepsData, OpensWithin, AttachCause, AttachLeaves, HoldsArray}
+use Rattle.eaw_device.specs.Opens.{AllOpen, OpensLike, KeepsData, OpensWithin, AttachCause, AttachLeaves}
 use Rattle.eaw_device.specs.declared.fault.AttachFault.{AttachFault}
 use Rattle.eaw_device.specs.declared.fault.AttachFault.TheVariants as opening
 use Rattle.script_run.specs.declared.ended.Ended.{Ended}
@@ -24,26 +24,27 @@ module _ (tells : Bool) (told : IsTrue tells) (old : View) (only_now : (image : 
       (image, may, can.0, can.1, can.1)
 
   -- a media that nothing was done to
-  pub idle_same : Idle old old false []
-  idle_same = record { uncut = refl; silent = refl; keeps = first_like }
+  pub idle_same : (MayWrite Cause : Type 0) → Cause → Idle MayWrite Cause old old false []
+  idle_same MayWrite Cause cause = record { uncut = refl; silent = refl; keeps = first_like; spared = inl (touched_by_nothing [] old.content); cause = cause }
 
   -- one that was not opened
-  idle_kept : (new : View) → KeepsData tells old new.moment new.left_since → Idle old new false []
-  idle_kept new keeps = record {
+  idle_kept : (MayWrite Cause : Type 0) (new : View) → KeepsData tells old new.moment new.left_since → Touched [] old.content new.content ⊎ MayWrite → Cause → Idle MayWrite Cause old new false []
+  idle_kept MayWrite Cause new keeps spared cause = record {
     uncut = refl;
     silent = refl;
     keeps = λ shape all image left. ⊎_elim (first_like shape all image) (λ like. like) ((keeps told shape all).only old.moment image (omega arith) left);
+    spared = spared;
+    cause = cause;
   }
 
   pub unopened_of : (new : View) (fault : AttachFault) → AttachCause tells old new.faults fault → AttachLeaves tells old new fault → KeepsData tells old new.moment new.left_since
       → OpensWithin tells old new.moment → (fault ≡ opening.NoMemory → new.moment ≡ old.moment + 1) → Unopened old (status_of fault) new
-  unopened_of new opening.NotMars cause leaves keeps within early = record { idle = idle_kept new keeps; untouched = leaves told; cause = λ long mark. cause long told mark }
-  unopened_of new (opening.BadShape bad) cause leaves keeps within early =
-      record { idle = idle_kept new keeps; untouched = leaves told; cause = (cause.0, (cause.1 told).0, (cause.1 told).1) }
-  unopened_of new (opening.BadRow logger tid) cause leaves keeps within early = record { idle = idle_kept new keeps; untouched = leaves told; cause = cause told }
-  unopened_of new opening.Media cause leaves keeps within early = inl (record { idle = idle_kept new keeps; spared = leaves told; within = λ shape says quiet. omega (arith, within told shape says quiet) })
+  unopened_of new opening.NotMars cause leaves keeps within early = idle_kept _ _ new keeps (inl (leaves told)) (λ long mark. cause long told mark)
+  unopened_of new (opening.BadShape bad) cause leaves keeps within early = idle_kept _ _ new keeps (inl (leaves told)) (cause.0, (cause.1 told).0, (cause.1 told).1)
+  unopened_of new (opening.BadRow logger tid) cause leaves keeps within early = idle_kept _ _ new keeps (inl (leaves told)) (cause told)
+  unopened_of new opening.Media cause leaves keeps within early = inl (idle_kept _ _ new keeps (leaves told) (λ shape says quiet. omega (arith, within told shape says quiet)))
   unopened_of new opening.NoMemory cause leaves keeps within early =
-      inl (record { idle = idle_kept new keeps; untouched = leaves told; cause = inr (early refl, (cause told).0, (cause told).1, (cause told).2) })
+      inl (idle_kept _ _ new keeps (inl (leaves told)) (inr (early refl, (cause told).0, (cause told).1, (cause told).2)))
 
 -- nothing was done, whatever the work is
 pub unopened_as : (Works : Ended → Type 0) (Broken : ℕ → Type 0) (looks : Shape → ℕ) (old : View) (status : Status) (new : View) → IsUnopened status → Unopened old status new → OutcomeOf Works Broken looks old status new false []
@@ -52,7 +53,8 @@ unopened_as Works Broken looks old Usage new kind outcome = absurd kind
 unopened_as Works Broken looks old TooLong new kind outcome = outcome
 unopened_as Works Broken looks old ReadFault new kind outcome = outcome
 unopened_as Works Broken looks old WriteFault new kind outcome = absurd kind
-unopened_as Works Broken looks old MediaFault new kind (inl fails) = inl (record { idle = fails.idle; spared = fails.spared; within = λ shape says quiet. omega (arith, fails.within shape says quiet) })
+unopened_as Works Broken looks old MediaFault new kind (inl fails) =
+    inl (record { uncut = fails.uncut; silent = fails.silent; keeps = fails.keeps; spared = fails.spared; cause = λ shape says quiet. omega (arith, fails.cause shape says quiet) })
 unopened_as Works Broken looks old MediaFault new kind (inr none) = absurd none
 unopened_as Works Broken looks old NoMemory new kind (inl short) = inl short
 unopened_as Works Broken looks old NoMemory new kind (inr none) = absurd none

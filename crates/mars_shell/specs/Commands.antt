@@ -1,5 +1,5 @@
 -- What a run of raw commands does on a media that tells its bytes.
-use Rattle.std.specs.Prelude.{ℕ, ◌≡◌, ◌⊎◌, List, ◌++◌, Bool, None}
+use Rattle.std.specs.Prelude.{ℕ, ◌≡◌, ◌⊎◌, List, [], ◌++◌, Bool, None}
 use Rattle.std.specs.List.{concat}
 use Rattle.pcm_media.specs.Images.{MayLeave}
 use Rattle.pcm_media.specs.View.{View}
@@ -8,7 +8,7 @@ use Rattle.array_image.specs.Image.{data_of}
 use Rattle.device_recovery.specs.Recovered.{HasNoVote}
 use Rattle.eaw_device.specs.Opens.{Opens, AllOpen, OpensLike, IsArray}
 use Rattle.eaw_script.specs.Lines.{raw_script}
-use Rattle.eaw_script.specs.Progress.{Progress, MayStand, IsMade, OpensWith, begun}
+use Rattle.eaw_script.specs.Progress.{Progress, MayStand, IsMade}
 use Rattle.script_io.specs.Lines.{lines_of}
 use Rattle.script_run.specs.Transcript.{Answered}
 use Rattle.script_run.specs.declared.ended.Ended.{Ended}
@@ -25,10 +25,10 @@ pub record Obeys (old : View) (input : List ℕ) (ended : Ended) (new : View) (c
   pub rest : List ℕ
   pub text_is : text ≡ concat answers ++ rest
   pub final : Progress
-  pub answered :
-      Answered raw_script (begun shape (record { bytes = data_in shape old; logs = λ t. None })) 1 (lines_of input) ended cut answers rest final
-  pub now : (image : List ℕ) → MayLeave new.content image → OpensWith (Opens shape) (MayStand final) image
+  pub answered : Answered raw_script (record { shape = shape; state = record { bytes = data_in shape old; logs = λ t. None }; past = []; doubt = None })
+      1 (lines_of input) ended cut answers rest final
+  pub now : (image : List ℕ) → MayLeave new.content image → (bytes : List ℕ) × Opens shape image bytes × MayStand final bytes
   pub since : AllOpen shape old.content → (image : List ℕ) → new.left_since old.moment image
-      → OpensLike shape old.content image ⊎ OpensWith (Opens shape) (IsMade final) image
+      → OpensLike shape old.content image ⊎ ((bytes : List ℕ) × Opens shape image bytes × IsMade final bytes)
   pub quiet : ended ≡ All → HasNoVote shape new.content.bytes
   pub left : ended ≡ All → data_of shape new.content.bytes ≡ final.state.bytes

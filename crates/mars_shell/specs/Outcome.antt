@@ -1,5 +1,5 @@
 -- What a run leaves on a media that tells its bytes, and what it has written, by its status.
-use Rattle.std.specs.Prelude.{ℕ, ◌≡◌, ◌+◌, ◌≤◌, ◌⊎◌, List, [], Bool, false}
+use Rattle.std.specs.Prelude.{ℕ, ◌≡◌, ◌+◌, ◌≤◌, ◌⊎◌, List, [], Bool, false, ⊤}
 use Rattle.pcm_media.specs.Images.{Touched}
 use Rattle.pcm_media.specs.View.{View}
 use Rattle.array_shape.specs.declared.shape.Shape.{Shape}
@@ -12,41 +12,35 @@ use Rattle.script_run.specs.declared.ended.Ended.TheVariants as script
 use Rattle.mars_shell.specs.declared.status.Status.{Status}
 use Rattle.mars_shell.specs.declared.status.Status.TheVariants.{Good, WriteFault, MediaFault, NoMemory, Damaged, BadRow, NotMars, BadShape}
 
--- Nothing was told. Where all that a loss of power could leave at first opens, all that it might have left since opens with data
--- of the former.
-pub record Idle (old new : View) (cut : Bool) (text : List ℕ) : Type 0 where
+-- No line was answered, for this cause, and nothing was told. Where all that a loss of power could leave at first opens, all that it
+-- might have left since opens with data of the former. Nothing was written to the media, if that is not as may be.
+pub record Idle (MayWrite Cause : Type 0) (old new : View) (cut : Bool) (text : List ℕ) : Type 0 where
   pub uncut : cut ≡ false
   pub silent : text ≡ []
   pub keeps : (shape : Shape) → AllOpen shape old.content → (image : List ℕ) → new.left_since old.moment image → OpensLike shape old.content image
-
--- for this cause, and nothing was written to the media
-pub record Refuses (Cause : Type 0) (old new : View) (cut : Bool) (text : List ℕ) : Type 0 where
-  pub idle : Idle old new cut text
-  pub untouched : Touched [] old.content new.content
+  pub spared : Touched [] old.content new.content ⊎ MayWrite
   pub cause : Cause
 
--- memory was short before the first line: no call of the media was made, or one, and its header says the shape of an array
+-- memory was short: no call of the media was made, or one, and its header says the shape of an array
 abbrev pub IsShort : View → View → Type 0
 IsShort old new = (new.moment ≡ old.moment)
     ⊎ ((new.moment ≡ old.moment + 1) × (shape : Shape) × SaysShape (header_of old.content.bytes) shape × (old.size ≡ media_len shape))
 
--- The media failed before the first line: within the calls of an opening, where no row is voted, and so many that look at the
--- records. One that holds no array, or one with a bad row, is untouched.
-pub record Fails (looks : Shape → ℕ) (old new : View) (cut : Bool) (text : List ℕ) : Type 0 where
-  pub idle : Idle old new cut text
-  pub spared : Touched [] old.content new.content ⊎ HoldsArray old
-  pub within : (shape : Shape) → SaysShape (header_of old.content.bytes) shape → HasNoVote shape old.content.bytes → new.moment ≤ old.moment + (opening_calls shape + looks shape)
+-- the media failed within the calls of an opening, where no row is voted, and so many that look at the records
+abbrev pub IsWithin : (Shape → ℕ) → View → View → Type 0
+IsWithin looks old new = (shape : Shape) → SaysShape (header_of old.content.bytes) shape → HasNoVote shape old.content.bytes
+    → new.moment ≤ old.moment + (opening_calls shape + looks shape)
 
--- What was written and done, by the status: the work over an array that was opened, or that there was none to open. Broken says
--- which page may be named as damaged.
+-- What was written and done, by the status: the work over an array that was opened, or that there was none to open. Only over a
+-- media that holds an array something may be written. Broken says which page may be named as damaged.
 abbrev pub OutcomeOf : (Ended → Type 0) → (ℕ → Type 0) → (Shape → ℕ) → View → Status → View → Bool → List ℕ → Type 0
 OutcomeOf Works Broken looks old Good new cut text = Works script.All
 OutcomeOf Works Broken looks old WriteFault new cut text = Works script.WriteFault
-OutcomeOf Works Broken looks old MediaFault new cut text = Fails looks old new cut text ⊎ Works script.MediaFault
-OutcomeOf Works Broken looks old NoMemory new cut text = Refuses (IsShort old new) old new cut text ⊎ Works script.NoMemory
-OutcomeOf Works Broken looks old (Damaged page) new cut text = Idle old new cut text × Broken page
-OutcomeOf Works Broken looks old (BadRow logger tid) new cut text = Refuses (HasBadRow old logger tid) old new cut text
-OutcomeOf Works Broken looks old NotMars new cut text = Refuses (512 ≤ old.size → HasMark (header_of old.content.bytes) → ⊥) old new cut text
+OutcomeOf Works Broken looks old MediaFault new cut text = Idle (HoldsArray old) (IsWithin looks old new) old new cut text ⊎ Works script.MediaFault
+OutcomeOf Works Broken looks old NoMemory new cut text = Idle ⊥ (IsShort old new) old new cut text ⊎ Works script.NoMemory
+OutcomeOf Works Broken looks old (Damaged page) new cut text = Idle (HoldsArray old) (Broken page) old new cut text
+OutcomeOf Works Broken looks old (BadRow logger tid) new cut text = Idle ⊥ (HasBadRow old logger tid) old new cut text
+OutcomeOf Works Broken looks old NotMars new cut text = Idle ⊥ (512 ≤ old.size → HasMark (header_of old.content.bytes) → ⊥) old new cut text
 OutcomeOf Works Broken looks old (BadShape which given) new cut text =
-    Refuses ((512 ≤ old.size) × HasMark (header_of old.content.bytes) × IsBadIn (header_of old.content.bytes) old.size which given) old new cut text
-OutcomeOf Works Broken looks old _ new cut text = Idle old new cut text
+    Idle ⊥ ((512 ≤ old.size) × HasMark (header_of old.content.bytes) × IsBadIn (header_of old.content.bytes) old.size which given) old new cut text
+OutcomeOf Works Broken looks old _ new cut text = Idle (HoldsArray old) ⊤ old new cut text

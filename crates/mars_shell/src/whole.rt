@@ -1,11 +1,11 @@
 // The whole run.
-ghost use Rattle.std.specs.Prelude.{◌≡◌, ◌⊎◌, ℕ, List, map, IsTrue, string_bytes};
+ghost use Rattle.std.specs.Prelude.{◌≡◌, ◌≢◌, ◌⊎◌, ℕ, List, map, IsTrue, string_bytes};
 ghost use Rattle.counted.specs.Causes.{Rose};
 ghost use Rattle.script_io.specs.Written.{Wrote};
 ghost use Rattle.mars_shell.specs.Asked.{WordsSay, IfFormat, OutcomeFor, IsFit};
 ghost use Rattle.mars_shell.specs.Formats.{FormatSays};
 ghost use Rattle.mars_shell.specs.Input.{InputSays};
-ghost use Rattle.mars_shell.specs.Statuses.{Counts, IsRefusal};
+ghost use Rattle.mars_shell.specs.Statuses.{Counts};
 
 use crate::commands::run_commands;
 use crate::formatting::run_format;
@@ -31,11 +31,11 @@ pub fn run<R: AllocGlobal, S: Source, K: Sink, M: Media, G: Gate>(
 ) -> (Status, M)
     // Usage comes exactly where the words ask for nothing.
     ensures words { WordsSay (map string_bytes words.now) result.0 (Unit {0}) (λ asked. Unit {0}) }
-    // Other words touch nothing, what ends the run before the media is opened leaves that and the sink alone, and of an
-    // array that is not opened nothing is told.
+    // Other words touch nothing, what ends the run before the media is opened leaves that alone, and where no line is answered
+    // and no array made nothing is told.
     ensures usage { result.0 ≡ Status.Usage → (source.new ≡ source.old) × (sink.new ≡ sink.old) × (result.1 ≡ media) }
-    ensures early { (result.0 ≡ Status.TooLong) ⊎ (result.0 ≡ Status.ReadFault) → (sink.new ≡ sink.old) × (result.1 ≡ media) }
-    ensures refused { IsRefusal result.0 → sink.new ≡ sink.old }
+    ensures early { (result.0 ≡ Status.TooLong) ⊎ (result.0 ≡ Status.ReadFault) → result.1 ≡ media }
+    ensures silent { result.0 ≢ Status.Good → result.0 ≢ Status.WriteFault → result.0 ≢ Status.MediaFault → result.0 ≢ Status.NoMemory → sink.new ≡ sink.old }
     // A fault is told as what it is, and none is hidden.
     ensures counts { Counts result.0 (S.faults source.old) (S.faults source.new) (K.faults sink.old) (K.faults sink.new) (M.view media).faults (M.view result.1).faults }
     ensures steady { IsTrue (S.steady source.old) → result.0 ≡ Status.ReadFault → ⊥ }

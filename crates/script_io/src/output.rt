@@ -1,6 +1,6 @@
-ghost use Rattle.std.specs.Prelude.{◌≡◌, List, ℕ, ◌++◌, OnOk, OnErr, IsTrue};
+ghost use Rattle.std.specs.Prelude.{◌≡◌, List, ℕ, ◌++◌, OnOk, OnErr, IsTrue, true};
 ghost use Rattle.counted.specs.Causes.{HasCause};
-ghost use Rattle.script_io.specs.Written.{IsCut, IsWritten, Wrote};
+ghost use Rattle.script_io.specs.Written.{IsWritten, Wrote};
 
 use counted::Failed;
 use outside::Sink;
@@ -8,7 +8,7 @@ use outside::Sink;
 /// Writes the whole piece.
 pub fn write_whole<K: Sink>(sink: &mut K, piece: &[u8]) -> Result<(), Failed>
     ensures whole { OnOk result (IsTrue K.tells → K.written sink.new ≡ K.written sink.old ++ piece.now) }
-    ensures part { OnErr result ((part : List ℕ) × IsCut part piece.now × (IsTrue K.tells → K.written sink.new ≡ K.written sink.old ++ part)) }
+    ensures part { OnErr result ((part : List ℕ) × IsWritten true part piece.now × (IsTrue K.tells → K.written sink.new ≡ K.written sink.old ++ part)) }
     ensures cause { HasCause (K.faults sink.old) (K.faults sink.new) result }
 {
     let mut rest = piece;

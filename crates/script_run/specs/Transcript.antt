@@ -3,7 +3,7 @@ use Rattle.std.specs.Prelude.{ℕ, ◌≡◌, ◌+◌, List, [], ◌∷◌, ◌+
 use Rattle.std.specs.List.{concat}
 use Rattle.history.specs.declared.call.Reply.TheVariants.{Media}
 use Rattle.script_text.specs.Replies.{reply_line}
-use Rattle.script_io.specs.Written.{IsCut, IsWritten}
+use Rattle.script_io.specs.Written.{IsWritten}
 use Rattle.script_run.specs.Script.{Script}
 use Rattle.script_run.specs.declared.ended.Ended.{Ended}
 use Rattle.script_run.specs.declared.ended.Ended.TheVariants.{All, WriteFault, MediaFault, NoMemory}
@@ -12,7 +12,7 @@ use Rattle.script_run.specs.declared.ended.Ended.TheVariants.{All, WriteFault, M
 -- that it leaves.
 abbrev pub Ends : {State : Type 0} → Script State → State → ℕ → List ℕ → Ended → Bool → List ℕ → State → Type 0
 -- the answer is cut short; what the line asks for has been done
-Ends script old n line WriteFault cut rest new = (cut ≡ true) × (answer : List ℕ) × script.gives old n line answer new × IsCut rest answer
+Ends script old n line WriteFault cut rest new = (cut ≡ true) × (answer : List ℕ) × script.gives old n line answer new × IsWritten true rest answer
 -- the media failed, and the answer says so; it too may be cut short
 Ends script old n line MediaFault cut rest new = (number : ℕ) × script.breaks old line number new × IsWritten cut rest (reply_line number Media)
 -- nothing of an answer is written

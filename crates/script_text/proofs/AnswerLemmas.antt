@@ -2,7 +2,6 @@
 use Rattle.std.proofs.Common.{◌≡◌, ℕ, List, [], ◌∷◌, ◌++◌, refl, sym, ◌∙◌, ap, subst, append_assoc}
 use Rattle.std.specs.Prelude.{codes, Result, OnOk}
 use Rattle.std.specs.Fmt.{decimal}
-use Rattle.std.proofs.lemmas.List.{append-nil}
 use Rattle.script_text.specs.HexText.{hex_of}
 use Rattle.script_text.specs.AnswerLines.{answer_text, answer_line}
 use Rattle.script_text.specs.declared.answer.Answer.{Answer}

@@ -1,11 +1,10 @@
 -- The text of a number's command is that of no other, and a line means one thing.
-use Rattle.std.proofs.Common.{◌≡◌, ℕ, ◌+◌, ◌*◌, ◌<◌, ◌≤◌, ◌^◌, List, [], ◌∷◌, ◌++◌, length, get_or, refl, ap, sym, ◌∙◌, subst, arith}
+use Rattle.std.proofs.Common.{◌≡◌, ℕ, ◌+◌, ◌*◌, ◌<◌, ◌≤◌, ◌^◌, List, [], ◌∷◌, ◌++◌, get_or, refl, ap, sym, ◌∙◌, subst, arith}
 use Rattle.std.specs.Prelude.{codes}
 use Rattle.std.specs.Fmt.{decimal}
-use Rattle.std.proofs.lemmas.Fmt.{decimal_injective, decimal_nonempty}
-use Rattle.std.proofs.lemmas.List.{append_cancel_left, get_or_append_left, length-append}
+use Rattle.std.proofs.lemmas.Fmt.{decimal_injective}
+use Rattle.std.proofs.lemmas.List.{append_cancel_left}
 use Rattle.eaw_face.specs.Command.{Command, log_write, log_edit, commit, abort, nested_top, partial_abort, atomic_write, log_read, read}
-use Rattle.script_text.specs.Line.{IsPassedOver}
 use Rattle.script_text.specs.HexText.{hex_of, IsBlock}
 use Rattle.script_text.specs.Eaw.{Raw, does, read_log, log_len, held, IsTextOf, IsLineOf}
 use Rattle.script_text.specs.EawLines.{Meaning, nothing, told, bad, Means}

@@ -1,7 +1,7 @@
 -- How the answers to raw commands are written.
 use Rattle.std.specs.Prelude.{ℕ, List, [], ◌∷◌, ◌++◌, codes}
 use Rattle.std.specs.Fmt.{decimal}
-use Rattle.script_text.specs.HexText.{hex_of}
+use Rattle.hex.specs.Hex.{encode_lower as hex_of}
 use Rattle.script_text.specs.declared.answer.Answer.{Answer}
 use Rattle.script_text.specs.declared.answer.Answer.TheVariants.{Logged, Fine, Part, Data, Len, Held, Unknown, BadRange, Live, LogFull}
 

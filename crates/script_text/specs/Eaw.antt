@@ -2,7 +2,8 @@
 use Rattle.std.specs.Prelude.{ℕ, ◌≡◌, ◌≤◌, ◌<◌, ◌^◌, List, ◌∷◌, ◌++◌, codes}
 use Rattle.std.specs.Fmt.{decimal}
 use Rattle.eaw_face.specs.Command.{Command, log_write, log_edit, commit, abort, nested_top, partial_abort, atomic_write, log_read, read}
-use Rattle.script_text.specs.HexText.{hex_of, IsBlock}
+use Rattle.hex.specs.Hex.{encode_lower as hex_of}
+use Rattle.script_text.specs.HexText.{IsBlock}
 
 -- a command of the store, or a question about a number's log: a part of it, how many it has, and how many of them a logger holds
 pub data Raw : Type 0 where
@@ -11,7 +12,8 @@ pub data Raw : Type 0 where
   log_len : Raw
   held : (logger : ℕ) → Raw
 
--- Behind number t a command of it is written so. Its numbers are in range, and what it writes is 1 to 1,024 bytes.
+-- Behind number t a command of it is written so. Its numbers are in range, and what it writes is 1 to 1,024 bytes, each two digits in
+-- lower-case hexadecimal.
 abbrev pub IsTextOf : ℕ → Raw → List ℕ → Type 0
 IsTextOf t (does (log_write u addr bytes)) text = (u ≡ t) × (addr < 2 ^ 32) × IsBlock bytes × (text ≡ codes "logwrite " ++ (decimal addr ++ 32 ∷ hex_of bytes))
 IsTextOf t (does (commit u)) text = (u ≡ t) × (text ≡ codes "commit")

@@ -1,5 +1,5 @@
 // Laws of the grammars.
-ghost use Rattle.std.specs.Prelude.{◌≡◌, ◌^◌, ◌<◌, ◌≤◌, ℕ, List};
+ghost use Rattle.std.specs.Prelude.{◌≡◌, ◌^◌, ◌≤◌, ℕ, List};
 ghost use Rattle.history.specs.declared.call.Call.{Call};
 ghost use Rattle.script_text.specs.declared.line.Line.{Line};
 ghost use Rattle.script_text.specs.Line.{Says, IsCallLine};

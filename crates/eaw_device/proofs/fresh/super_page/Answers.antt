@@ -1,7 +1,5 @@
 use Rattle.std.proofs.Common.{ap, List, ℕ, ◌++◌, drop, replicate}
-use Rattle.eaw_device.specs.Fresh.{super_page}
 use Rattle.eaw_device.proofs.fresh.super_page.Goals as goal
 
 pub returns : goal.returns
-unfolding super_page
 returns c = ap (λ (l : List ℕ). l ++ drop 16 (replicate 512 0)) c.copy_from_slice.ensures.after

@@ -1,7 +1,7 @@
 use Rattle.std.proofs.Common.{◌≡◌, List, ℕ, ap, sym, subst, ◌∙◌}
 use Rattle.std.specs.Borrow.{Bor}
 use Rattle.eaw_face.specs.Command.{log_write, log_edit, commit, abort, nested_top, partial_abort, atomic_write}
-use Rattle.script_text.specs.Eaw.{Raw, does, read_log, log_len, held, IsTextOf}
+use Rattle.script_text.specs.Eaw.{Raw, does, log_len, held, IsTextOf}
 use Rattle.script_text.specs.EawLines.{ShowsCall}
 use Rattle.script_text.specs.HexText.{IsBlock, IsHex, hex_of}
 use Rattle.script_text.specs.declared.eaw_call.EawCall.{EawCall}

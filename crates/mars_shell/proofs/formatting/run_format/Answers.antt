@@ -6,7 +6,7 @@ use Rattle.array_shape.specs.declared.shape.Shape.{Shape}
 use Rattle.array_shape.specs.Numbers.{IsFirstBad}
 use Rattle.array_shape.specs.Places.{media_len}
 use Rattle.command_words.specs.declared.words.FormatNumbers.{FormatNumbers}
-use Rattle.script_io.specs.Written.{IsCut}
+use Rattle.script_io.specs.Written.{IsWritten}
 use Rattle.mars_shell.specs.Formats.{HasAsked}
 use Rattle.mars_shell.proofs.FormatLemmas.{half_fresh}
 use Rattle.mars_shell.proofs.formatting.run_format.Goals as goal
@@ -20,8 +20,7 @@ pub returns-in-Err-BadShape-clause-says : goal.returns-in-Err-BadShape-clause-sa
 returns-in-Err-BadShape-clause-says g c =
     let old = g.M.Media.view c.args.media in
     let asked = c.args.asked.now in
-    let wrong = rw c.in-Err-BadShape.field-0-is at c.in-Err-BadShape.ensures.bad_shape in
-    (
+    let wrong = rw c.in-Err-BadShape.field-0-is at c.in-Err-BadShape.ensures.bad_shape in (
       c.in-Err-BadShape.ensures.untouched (λ is. let e = sym c.in-Err-BadShape.field-0-is ∙ is in cc),
       subst (Wrong asked old.size) (sym c.in-Err-BadShape.field-0-0-is)
           (inr (wrong.0, wrong.1, c.in-Ok.shape, c.in-Ok.ensures.shape, wrong.2)),
@@ -39,13 +38,16 @@ returns-in-Err-Media-clause-ran g c =
       text = [];
       wrote = λ _. sym (append-nil _);
       counts = refl;
-      holds = λ told.
-          (refl, refl, record {
-            shape = shape;
-            numbers = c.in-Ok.ensures.shape;
-            cells = c.format.ensures.cells told;
-            since = half_fresh media.tells told shape (media.view c.args.media) (media.view c.format.new.media) (g.met.M.Media.only_now c.args.media) (c.format.ensures.any_moment told);
-          });
+      holds = λ told. (
+        refl,
+        refl,
+        record {
+          shape = shape;
+          numbers = c.in-Ok.ensures.shape;
+          cells = c.format.ensures.cells told;
+          since = half_fresh media.tells told shape (media.view c.args.media) (media.view c.format.new.media) (g.met.M.Media.only_now c.args.media) (c.format.ensures.any_moment told);
+        },
+      );
     }
 
 pub returns-in-Ok-write_whole-clause-says : goal.returns-in-Ok-write_whole-clause-says
@@ -100,7 +102,7 @@ returns-in-Err-write_whole-clause-ran g c =
           };
           fresh = c.in-Ok-format.ensures.fresh told;
           opens = c.in-Ok-format.ensures.opens told;
-          wrote = subst (IsCut part.0) c.formatted_line.ensures part.1;
+          wrote = subst (IsWritten true part.0) c.formatted_line.ensures part.1;
         },
       );
     }

@@ -84,11 +84,11 @@ returns-in-Ok-Some-clause-ran g c =
       holds = (
         c.in-Ok-open.opened.0.items,
         c.in-Ok-open.ensures.read,
-        λ told. (
-          idle_looked media.tells told old (g.met.M.Media.only_now c.args.media) _ attached c.in-Ok-open.ensures.keeps _ (let r : Result (Option ℕ) EawFault = Ok c.in-Ok-Some.field-0 in r) looked.does new c.into_media-in-Ok-Some.ensures,
-          damaged media.tells told old (g.met.M.Media.only_now c.args.media) _ attached c.in-Ok-open.ensures.keeps _ (let r : Result (Option ℕ) EawFault = Ok c.in-Ok-Some.field-0 in r) looked.does
-              c.in-Ok-Some.field-0 c.in-Ok-Some.page c.in-Ok-Some.field-0-is (looked.damaged told),
-        ),
+        λ told.
+            let r : Result (Option ℕ) EawFault = Ok c.in-Ok-Some.field-0 in
+            idle_looked media.tells told old (g.met.M.Media.only_now c.args.media) _ attached c.in-Ok-open.ensures.keeps _ r looked.does _ new c.into_media-in-Ok-Some.ensures
+            (damaged media.tells told old (g.met.M.Media.only_now c.args.media) _ attached c.in-Ok-open.ensures.keeps _ r looked.does
+            c.in-Ok-Some.field-0 c.in-Ok-Some.page c.in-Ok-Some.field-0-is (looked.damaged told)),
       );
     }
 

@@ -1,20 +1,18 @@
 use Rattle.std.proofs.Common.{inl, refl, sym, subst}
-use Rattle.pcm_media.proofs.Left.{touched_by_nothing}
 use Rattle.mars_shell.specs.Opening.{Unopened}
 use Rattle.mars_shell.specs.declared.status.Status.{Status}
 use Rattle.mars_shell.proofs.Unopened.{idle_same, unopened_of}
 use Rattle.mars_shell.proofs.opening.open.Goals as goal
 
 pub returns-in-Err-TooLong-clause-unopened : goal.returns-in-Err-TooLong-clause-unopened
-returns-in-Err-TooLong-clause-unopened g c = λ told. idle_same g.M.Media.tells told (g.M.Media.view c.args.media) (g.met.M.Media.only_now c.args.media)
+returns-in-Err-TooLong-clause-unopened g c = λ told. idle_same g.M.Media.tells told (g.M.Media.view c.args.media) (g.met.M.Media.only_now c.args.media) _ _ tt
 
 pub returns-in-Err-Failed-clause-unopened : goal.returns-in-Err-Failed-clause-unopened
-returns-in-Err-Failed-clause-unopened g c = λ told. idle_same g.M.Media.tells told (g.M.Media.view c.args.media) (g.met.M.Media.only_now c.args.media)
+returns-in-Err-Failed-clause-unopened g c = λ told. idle_same g.M.Media.tells told (g.M.Media.view c.args.media) (g.met.M.Media.only_now c.args.media) _ _ tt
 
 pub returns-in-Err-NoMemory-clause-unopened : goal.returns-in-Err-NoMemory-clause-unopened
 returns-in-Err-NoMemory-clause-unopened g c = λ told.
-    let media = g.M.Media.view c.args.media in
-    inl (record { idle = idle_same g.M.Media.tells told media (g.met.M.Media.only_now c.args.media); untouched = touched_by_nothing _ media.content; cause = inl refl })
+    inl (idle_same g.M.Media.tells told (g.M.Media.view c.args.media) (g.met.M.Media.only_now c.args.media) _ _ (inl refl))
 
 pub returns-in-Err-clause-unopened : goal.returns-in-Err-clause-unopened
 returns-in-Err-clause-unopened g c = λ told.

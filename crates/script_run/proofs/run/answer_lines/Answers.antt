@@ -1,8 +1,9 @@
 use Rattle.std.proofs.Common.{false, ◌≡◌, ℕ, [], ◌∷◌, ◌++◌, List, Err, refl, ap, sym, subst, ◌∙◌, arith}
+use Rattle.std.specs.Prelude.{MatchBool}
 use Rattle.std.specs.List.{concat}
+use Rattle.counted.specs.Causes.{Rose}
 use Rattle.std.proofs.lemmas.List.{append_assoc, append-nil}
 use Rattle.script_io.specs.Lines.{lines_of}
-use Rattle.script_io.specs.Written.{CutCounts}
 use Rattle.script_run.specs.Counts.{Counts}
 use Rattle.script_run.specs.Transcript.{Answered}
 use Rattle.script_run.specs.declared.ended.Ended.TheVariants.{All}
@@ -36,7 +37,7 @@ returns-in-Err-clause-ran g c =
       cut = end.cut;
       text = concat so_far.0 ++ end.text;
       wrote = λ tells. end.wrote tells ∙ ap (λ x. x ++ end.text) (so_far.1 tells) ∙ append_assoc _ (concat so_far.0) end.text;
-      counts = subst (λ (n : ℕ). CutCounts end.cut n (g.K.Sink.faults c.answer_line.new.sink)) c.loop-line.invariant.sink end.counts;
+      counts = subst (λ (n : ℕ). let now = g.K.Sink.faults c.answer_line.new.sink in MatchBool end.cut (Rose n now) (now ≡ n)) c.loop-line.invariant.sink end.counts;
       holds = λ told first stands.
           let now = so_far.2 told first stands in
           let ends = end.holds told now.0 now.1 in

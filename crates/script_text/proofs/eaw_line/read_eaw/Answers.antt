@@ -13,8 +13,7 @@ returns-in-None c =
 pub returns-in-Some : goal.returns-in-Some
 returns-in-Some c =
     let read = c.in-Some.ensures in
-    let raw = read.0.1 in
-    (
+    let raw = read.0.1 in (
       told read.0.0 raw,
       read.2,
       (raw, subst (λ (t : ℕ). ShowsCall t c.in-Some.call raw) (sym read.1.0) read.1.1, ap (λ number. told number raw) (sym read.1.0)),

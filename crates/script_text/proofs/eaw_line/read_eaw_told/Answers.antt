@@ -1,6 +1,5 @@
-use Rattle.std.proofs.Common.{◌<◌, ◌++◌, ◌∷◌, refl, ap, ◌∙◌, arith}
+use Rattle.std.proofs.Common.{◌<◌, refl, arith}
 use Rattle.std.specs.Fmt.{decimal}
-use Rattle.script_text.specs.Eaw.{IsTextOf}
 use Rattle.script_text.proofs.Words.{no_space}
 use Rattle.script_text.proofs.Numbers.{fields}
 use Rattle.script_text.proofs.EawCommands.{text_behind, line_told}

@@ -1,4 +1,4 @@
-use Rattle.std.proofs.Common.{◌<◌, ◌++◌, ◌∷◌, arith}
+use Rattle.std.proofs.Common.{◌<◌, arith}
 use Rattle.std.specs.Fmt.{decimal}
 use Rattle.script_text.proofs.EawCommands.{line_told}
 use Rattle.script_text.proofs.Lines.{text_behind}
