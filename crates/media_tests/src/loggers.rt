@@ -4,7 +4,7 @@ ghost use Rattle.pcm_media.specs.Memory.{view_of};
 
 use array_shape::Shape;
 use counted::{Failed, NoMemory};
-use logger::{Logger, StageFault};
+use logger::Logger;
 use pcm_media::{Media, MemoryMedia};
 use row_bytes::Head;
 use std::alloc::Global;
@@ -83,34 +83,5 @@ fn cells_are_edited_and_read(rt: HostRuntime) -> Result<(), Fail> {
     let head = Head { addr: 510, len: 2 };
     assert_eq!(rt; logger.read_entry(&mut media, 1, 7, &mut bytes), Ok(head));
     assert!(rt; bytes.starts_with(b"az\0"));
-    Ok(())
-}
-
-#[test]
-fn too_few_cells(rt: HostRuntime) -> Result<(), Fail> {
-    let mut media = zeros(rt.alloc())?;
-    let logger = logger(&rt, &media, 0);
-    assert!(rt; 1 < logger.shape.numbers);
-    assert!(rt; 1_600 <= logger.shape.data_len());
-    assert_eq!(rt; logger.cells_needed(0, 1_600), 2);
-    let full = StageFault::Full { held: 7, needed: 2 };
-    assert_eq!(rt; logger.stage(&mut media, 1, 7, 0, &[1; 1_600]), Err(full));
-    assert_eq!(rt; media.moment(), 0);
-    assert_eq!(rt; logger.stage(&mut media, 1, 6, 0, &[1; 1_600]), Ok(2));
-    Ok(())
-}
-
-#[test]
-fn a_media_that_fails(rt: HostRuntime) -> Result<(), Fail> {
-    let mut media = zeros(rt.alloc())?;
-    let logger = logger(&rt, &media, 0);
-    media.fail(2)?;
-    assert!(rt; logger.shape.media_len() == media.len());
-    assert!(rt; 1 < logger.shape.numbers);
-    assert!(rt; 4 <= logger.shape.data_len());
-    assert_eq!(rt;
-        logger.stage(&mut media, 1, 0, 0, b"abcd"),
-        Err(StageFault::Media)
-    );
     Ok(())
 }
