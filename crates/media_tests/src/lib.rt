@@ -6,6 +6,8 @@ mod loggers;
 #[cfg(test)]
 mod media;
 #[cfg(test)]
+mod plain_store;
+#[cfg(test)]
 mod rows_and_heads;
 #[cfg(test)]
 mod shapes;
