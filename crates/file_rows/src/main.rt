@@ -26,9 +26,8 @@ fn main(rt: HostRuntime) -> Result<()> {
         passed,
         failed,
         runs,
-        calls,
     } = run_folder(&rt, folder)?;
-    println!(rt; "{runs} runs, {calls} calls of a file")?;
+    println!(rt; "{runs} runs over a file")?;
     println!(rt; "{passed} rows passed")?;
     ensure!(failed == 0, "{failed} rows failed");
     Ok(())

@@ -21,8 +21,6 @@ pub struct Ran {
     pub sink: MemorySink,
     /// A media with what it left.
     pub media: MemoryMedia,
-    /// How many calls of the file it made.
-    pub calls: u64,
 }
 
 /// Makes a run over a file with these bytes, whose calls are answered in this way, but that the `nth` may fail.
@@ -43,11 +41,9 @@ pub fn run_over_file<R: AllocGlobal>(
     match FileMedia::over(file, room(alloc, &asked.words)?) {
         Ok(media) => {
             let (status, media, sink) = run_fused(rt, asked, passes(asked, nth), media, sink)?;
-            let file = media.into_calls();
-            let calls = file.calls().len() as u64;
-            outcome(alloc, status, sink, same_as(alloc, &file)?, calls)
+            outcome(alloc, status, sink, same_as(alloc, &media.into_calls())?)
         }
-        Err(_) => outcome(alloc, Status::MediaFault, sink, media_of(alloc, image)?, 0),
+        Err(_) => outcome(alloc, Status::MediaFault, sink, media_of(alloc, image)?),
     }
 }
 
@@ -62,7 +58,7 @@ pub fn run_over_memory<R: AllocGlobal>(
     let sink = MemorySink::new(alloc, TEXT)?;
     let media = lengthened(alloc, image, room(alloc, &asked.words)? as usize)?;
     let (status, media, sink) = run_fused(rt, asked, passes(asked, nth), media, sink)?;
-    outcome(alloc, status, sink, media, 0)
+    outcome(alloc, status, sink, media)
 }
 
 // How many calls the media takes before power is lost.
@@ -92,7 +88,6 @@ fn outcome(
     status: Status,
     sink: MemorySink,
     media: MemoryMedia,
-    calls: u64,
 ) -> Result<Ran, RowFault> {
     let mut buf = [0; 64];
     let len = fault_text(&status, &mut buf);
@@ -101,6 +96,5 @@ fn outcome(
         fault: Vec::from_slice(alloc, &buf[..len])?,
         sink,
         media,
-        calls,
     })
 }

@@ -7,22 +7,15 @@ use crate::way::Way;
 use pcm_media::MemoryMedia;
 use row_files::{Row, Run, TroubleKind};
 
-/// How many runs were made, and how many calls of a file.
-#[derive(Clone, Copy)]
-pub struct Progress {
-    pub runs: u64,
-    pub calls: u64,
-}
-
 /// Makes the runs of a row over files whose calls are answered in this way, up to one that does not come to what the row says.
 pub fn run_row<R: AllocGlobal>(
     rt: &R,
     row: &Row,
     way: Way,
-    progress: &mut Progress,
+    runs_made: &mut u64,
 ) -> Result<(), RowFault> {
     let media = first_media(rt.alloc(), row.image)?;
-    follow(rt, &row.runs, &media, way, progress)
+    follow(rt, &row.runs, &media, way, runs_made)
 }
 
 // Makes the first of these runs over what was left, once for each choice of what is not sure and for each call that is to fail,
@@ -32,14 +25,14 @@ fn follow<R: AllocGlobal>(
     runs: &[Run],
     left: &MemoryMedia,
     way: Way,
-    progress: &mut Progress,
+    runs_made: &mut u64,
 ) -> Result<(), RowFault> {
     let Some((run, later)) = runs.split_first() else {
         return Ok(());
     };
     for (image, nth) in &trials_of(rt, run, left)? {
-        let media = make_trial(rt, run, image, *nth, way, progress)?;
-        follow(rt, later, &media, way, progress)?;
+        let media = make_trial(rt, run, image, *nth, way, runs_made)?;
+        follow(rt, later, &media, way, runs_made)?;
     }
     Ok(())
 }
@@ -77,11 +70,10 @@ fn make_trial<R: AllocGlobal>(
     image: &[u8],
     nth: u64,
     way: Way,
-    progress: &mut Progress,
+    runs_made: &mut u64,
 ) -> Result<MemoryMedia, RowFault> {
     let ran = run_over_file(rt, run, image, nth, way)?;
-    progress.runs = progress.runs.saturating_add(1);
-    progress.calls = progress.calls.saturating_add(ran.calls);
+    *runs_made = runs_made.saturating_add(1);
     compare(run, &ran)?;
     match run.trouble.kind {
         TroubleKind::Media => {}

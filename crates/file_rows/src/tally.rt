@@ -1,19 +1,18 @@
 // All rows of a folder.
 use crate::fault::RowFault;
-use crate::rows::{Progress, run_row};
+use crate::rows::run_row;
 use crate::way::WAYS;
 use anyhow::Result;
 use row_files::{Row, read_rows};
 use std::fs;
 use std::rt::Files;
 
-/// How many rows came to what they say, how many did not, how many runs it took, and how many calls of a file.
+/// How many rows came to what they say, how many did not, and how many runs it took.
 #[derive(Clone, Copy)]
 pub struct Tally {
     pub passed: u64,
     pub failed: u64,
     pub runs: u64,
-    pub calls: u64,
 }
 
 /// Runs the rows of each file of a folder whose name ends in `.rows`, in the order of the names.
@@ -25,7 +24,6 @@ where
         passed: 0,
         failed: 0,
         runs: 0,
-        calls: 0,
     };
     for path in &paths_in(rt, folder)? {
         run_file(rt, path.as_str(), &mut tally)?;
@@ -58,11 +56,7 @@ where
 {
     let text = fs::read_to_string(rt, path)?;
     for row in &read_rows(rt.alloc(), path, text.as_str())? {
-        let mut progress = Progress { runs: 0, calls: 0 };
-        let ended = run_ways(rt, row, &mut progress);
-        tally.runs = tally.runs.saturating_add(progress.runs);
-        tally.calls = tally.calls.saturating_add(progress.calls);
-        match ended {
+        match run_ways(rt, row, &mut tally.runs) {
             Ok(()) => tally.passed = tally.passed.saturating_add(1),
             Err(fault) => {
                 tally.failed = tally.failed.saturating_add(1);
@@ -74,9 +68,9 @@ where
 }
 
 // Runs a row in each way. A wrong row passes where it is refused for what it says.
-fn run_ways<R: AllocGlobal>(rt: &R, row: &Row, progress: &mut Progress) -> Result<(), RowFault> {
+fn run_ways<R: AllocGlobal>(rt: &R, row: &Row, runs: &mut u64) -> Result<(), RowFault> {
     for way in WAYS {
-        match (&row.wrong, run_row(rt, row, way, progress)) {
+        match (&row.wrong, run_row(rt, row, way, runs)) {
             (None, ended) => ended?,
             (Some(_), Ok(())) => return Err(RowFault::Passed),
             (Some(wrong), Err(fault)) if fault.is_of(wrong.as_str()) => {}
