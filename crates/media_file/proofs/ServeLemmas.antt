@@ -1,9 +1,9 @@
 -- Calls one after another that serve one call of the media.
-use Rattle.std.proofs.Common.{◌≡◌, ℕ, ◌+◌, ◌<◌, ◌≤◌, inl, inr, List, [], sym, subst, arith}
+use Rattle.std.proofs.Common.{◌≡◌, ℕ, ◌+◌, ◌<◌, ◌≤◌, inl, inr, List, subst, arith}
 use Rattle.std.proofs.lemmas.List.Elements.{All-cons}
 use Rattle.pcm_media.specs.Images.{Touched}
-use Rattle.pcm_media.proofs.Left.{touched_by_nothing, touched_by_barrier, left_partly}
-use Rattle.media_file.specs.Past.{Event, Made, Past, synced, noted, held, AreBefore, Answers, IsHonest}
+use Rattle.pcm_media.proofs.Left.{touched_by_nothing, left_partly}
+use Rattle.media_file.specs.Past.{Event, Made, Past, noted, held, AreBefore, Answers, IsHonest}
 use Rattle.media_file.specs.Transfer.{Serves}
 
 pub before_later : (now then : ℕ) (calls : List Made) → now ≤ then → AreBefore now calls → AreBefore then calls
@@ -41,13 +41,3 @@ pub honest_last : (moment : ℕ) (event : Event) (now past : Past) → past ≡ 
 honest_last moment event now past is honest =
     let all = subst (λ (p : Past). IsHonest p.first p.calls) is honest in
     all.0
-
--- a sync alone
-pub serves_sync : (moment : ℕ) (old new : Past) → AreBefore moment old.calls → new ≡ noted moment synced old → Serves moment [] old new
-serves_sync moment old new before is =
-    subst (λ (p : Past). Serves moment [] old p) (sym is)
-    (serves_more moment [] old old synced (serves_none moment [] old before) (touched_by_barrier (held old)))
-
--- no call that was noted
-pub serves_same : (moment : ℕ) (old new : Past) → AreBefore moment old.calls → new ≡ old → Serves moment [] old new
-serves_same moment old new before is = subst (λ (p : Past). Serves moment [] old p) (sym is) (serves_none moment [] old before)

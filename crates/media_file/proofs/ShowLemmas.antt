@@ -1,10 +1,9 @@
 -- What a call of the media does to what it shows.
-use Rattle.std.proofs.Common.{◌≡◌, ℕ, ◌+◌, ◌≤◌, Bool, IsTrue, inl, List, Result, Err, refl, subst, sym, arith}
-use Rattle.counted.specs.Causes.{HasCause, Rose}
+use Rattle.std.proofs.Common.{◌≡◌, ℕ, ◌≤◌, Bool, inl, List, Result, Err, refl, subst, sym}
+use Rattle.counted.specs.Causes.{Rose}
 use Rattle.pcm_media.specs.View.{Writes}
 use Rattle.pcm_media.proofs.Left.{touched_by_nothing}
 use Rattle.media_file.specs.Past.{Past, held}
-use Rattle.media_file.specs.Transfer.{Serves}
 use Rattle.media_file.specs.Shown.{view_over}
 
 module _ {T E : Type 0} (tells : Bool) (ranges : List (ℕ × ℕ)) (old new : Past) (size moment later faults more : ℕ) where

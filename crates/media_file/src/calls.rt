@@ -1,5 +1,5 @@
 // What is asked of a file.
-ghost use Rattle.std.specs.Prelude.{◌≡◌, ◌≤◌, ◌⊎◌, List, ℕ, Bool, length, take, IsTrue, IfOk, OnOk, MatchResult};
+ghost use Rattle.std.specs.Prelude.{◌≡◌, ◌≤◌, ◌⊎◌, List, ℕ, Bool, length, take, IsTrue, IfOk, MatchResult};
 ghost use Rattle.media_file.specs.Past.{Past, measured, came, stands, resized, synced, noted, IsHonest};
 
 /// Why a call of a file did not do its work.
@@ -20,7 +20,9 @@ pub trait Calls {
 
     /// How many bytes it has.
     fn len(&mut self, moment: u64) -> Result<u64, CallFault>
-        ensures noted { IsTrue trusted → IfOk result (λ len. past self.new ≡ noted moment (measured len) (past self.old)) };
+        ensures noted { IsTrue trusted → MatchResult result
+            (λ len. past self.new ≡ noted moment (measured len) (past self.old))
+            (λ _. past self.new ≡ past self.old) };
 
     /// Reads bytes from the place `at` on, and tells how many came.
     fn read_at(&mut self, moment: u64, at: u64, buf: &mut [u8]) -> Result<usize, CallFault>
@@ -38,7 +40,9 @@ pub trait Calls {
 
     /// Cuts it to so many bytes, or makes it so long with zeros.
     fn set_len(&mut self, moment: u64, len: u64) -> Result<(), CallFault>
-        ensures noted { IsTrue trusted → OnOk result (past self.new ≡ noted moment (resized len) (past self.old)) };
+        ensures noted { IsTrue trusted → MatchResult result
+            (λ _. past self.new ≡ noted moment (resized len) (past self.old))
+            (λ _. past self.new ≡ past self.old) };
 
     /// Waits until what was written, and the length, are sure.
     fn sync_data(&mut self, moment: u64) -> Result<(), CallFault>

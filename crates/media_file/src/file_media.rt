@@ -4,8 +4,8 @@ ghost use Rattle.counted.specs.Causes.{Rose};
 ghost use Rattle.counted.specs.Moments.{Ticks};
 ghost use Rattle.media_file.specs.Past.{held, AreBefore};
 
+use crate::again::{measure, resize, sync};
 use crate::reading::read_all;
-use crate::settling::settle;
 use crate::writing::write_all;
 use crate::{Calls, FileCalls};
 use counted::Failed;
@@ -38,9 +38,7 @@ impl<C: Calls + Drop> FileMedia<C> {
         ensures content { IsTrue C.trusted → IfOk result (λ media. (shown media).content ≡ opened least (C.past calls).first) }
     {
         let mut calls = calls;
-        let Ok(size) = calls.len(0) else {
-            return Err(Failed);
-        };
+        let size = measure(&mut calls, 0)?;
         if size >= least {
             return Ok(FileMedia {
                 calls,
@@ -49,9 +47,8 @@ impl<C: Calls + Drop> FileMedia<C> {
                 faults: 0,
             });
         }
-        if calls.set_len(0, least).is_err() || calls.sync_data(0).is_err() {
-            return Err(Failed);
-        }
+        resize(&mut calls, 0, least)?;
+        sync(&mut calls, 0)?;
         Ok(FileMedia {
             calls,
             size: least,
@@ -174,7 +171,7 @@ impl<C: Calls> Media for FileMedia<C> {
 
     fn barrier(&mut self) -> Result<(), Failed> {
         self.tick()?;
-        match settle(&mut self.calls, self.moment) {
+        match sync(&mut self.calls, self.moment) {
             Ok(()) => Ok(()),
             Err(_) => Err(self.fault()),
         }

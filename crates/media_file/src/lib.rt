@@ -1,13 +1,13 @@
 //! A media over a file: over one of the system, and over one in memory that is known to be honest.
 #![tactic(auto)]
 
+mod again;
 mod calls;
 mod file_calls;
 mod file_media;
 mod honest_call;
 mod honest_calls;
 mod reading;
-mod settling;
 mod writing;
 
 pub use calls::{CallFault, Calls};

@@ -1,5 +1,5 @@
 use Rattle.std.proofs.Common.{◌≡◌, IsTrue}
-use Rattle.media_file.proofs.settling.settle.Given as goal
+use Rattle.media_file.proofs.again.sync.Given as goal
 
 abbrev pub invariant-turns : goal.invariant-turns
 invariant-turns g l = IsTrue g.C.Calls.trusted → g.C.Calls.past l.calls ≡ g.C.Calls.past l.fn.calls

@@ -1,0 +1,81 @@
+// All rows of a folder.
+use crate::fault::RowFault;
+use crate::rows::run_row;
+use crate::way::WAYS;
+use anyhow::Result;
+use row_files::{Row, read_rows};
+use std::fs;
+use std::rt::Files;
+
+/// How many rows came to what they say, how many did not, and how many runs it took.
+#[derive(Clone, Copy)]
+pub struct Tally {
+    pub passed: u64,
+    pub failed: u64,
+    pub runs: u64,
+}
+
+/// Runs the rows of each file of a folder whose name ends in `.rows`, in the order of the names.
+pub fn run_folder<R>(rt: &R, folder: &str) -> Result<Tally>
+where
+    R: AllocGlobal + Files + Print + Clone + Drop,
+{
+    let mut tally = Tally {
+        passed: 0,
+        failed: 0,
+        runs: 0,
+    };
+    for path in &paths_in(rt, folder)? {
+        run_file(rt, path.as_str(), &mut tally)?;
+    }
+    Ok(tally)
+}
+
+fn paths_in<R>(rt: &R, folder: &str) -> Result<Vec<String>>
+where
+    R: AllocGlobal + Files + Clone + Drop,
+{
+    let mut paths = Vec::new(rt.alloc());
+    for entry in fs::read_dir(rt, folder)? {
+        let entry = entry?;
+        if !entry.file_name().ends_with(".rows") {
+            continue;
+        }
+        let mut path = String::from_str(rt.alloc(), folder)?;
+        path.push('/')?;
+        path.push_str(entry.file_name())?;
+        paths.push(path)?;
+    }
+    paths.sort()?;
+    Ok(paths)
+}
+
+fn run_file<R>(rt: &R, path: &str, tally: &mut Tally) -> Result<()>
+where
+    R: AllocGlobal + Files + Print,
+{
+    let text = fs::read_to_string(rt, path)?;
+    for row in &read_rows(rt.alloc(), path, text.as_str())? {
+        match run_ways(rt, row, &mut tally.runs) {
+            Ok(()) => tally.passed = tally.passed.saturating_add(1),
+            Err(fault) => {
+                tally.failed = tally.failed.saturating_add(1);
+                println!(rt; "{path}:{}: {}: {fault}", row.line, row.name)?;
+            }
+        }
+    }
+    Ok(())
+}
+
+// Runs a row in each way. A wrong row passes where it is refused for what it says.
+fn run_ways<R: AllocGlobal>(rt: &R, row: &Row, runs: &mut u64) -> Result<(), RowFault> {
+    for way in WAYS {
+        match (&row.wrong, run_row(rt, row, way, runs)) {
+            (None, ended) => ended?,
+            (Some(_), Ok(())) => return Err(RowFault::Passed),
+            (Some(wrong), Err(fault)) if fault.is_of(wrong.as_str()) => {}
+            (Some(_), Err(fault)) => return Err(fault),
+        }
+    }
+    Ok(())
+}

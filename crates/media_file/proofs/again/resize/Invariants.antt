@@ -1,0 +1,5 @@
+use Rattle.std.proofs.Common.{◌≡◌, IsTrue}
+use Rattle.media_file.proofs.again.resize.Given as goal
+
+abbrev pub invariant-turns : goal.invariant-turns
+invariant-turns g l = IsTrue g.C.Calls.trusted → g.C.Calls.past l.calls ≡ g.C.Calls.past l.fn.calls

@@ -1,0 +1,50 @@
+// Calls of a file that are made again where they are interrupted.
+ghost use Rattle.std.specs.Prelude.{◌≡◌, IsTrue, MatchResult, IfOk, OnOk};
+ghost use Rattle.media_file.specs.Past.{noted, measured, resized, synced};
+
+use crate::{CallFault, Calls};
+use counted::Failed;
+
+/// How many bytes the file has.
+pub fn measure<C: Calls>(calls: &mut C, moment: u64) -> Result<u64, Failed>
+    ensures { IsTrue C.trusted → IfOk result (λ len. C.past calls.new ≡ noted moment (measured len) (C.past calls.old)) }
+{
+    'turns: for _ in 0..u64::MAX {
+        match calls.len(moment) {
+            Ok(len) => return Ok(len),
+            Err(CallFault::Interrupted) => {}
+            Err(CallFault::Failed) => return Err(Failed),
+        }
+    }
+    Err(Failed)
+}
+
+/// Cuts the file to so many bytes, or makes it so long with zeros.
+pub fn resize<C: Calls>(calls: &mut C, moment: u64, len: u64) -> Result<(), Failed>
+    ensures { IsTrue C.trusted → OnOk result (C.past calls.new ≡ noted moment (resized len) (C.past calls.old)) }
+{
+    'turns: for _ in 0..u64::MAX {
+        match calls.set_len(moment, len) {
+            Ok(()) => return Ok(()),
+            Err(CallFault::Interrupted) => {}
+            Err(CallFault::Failed) => return Err(Failed),
+        }
+    }
+    Err(Failed)
+}
+
+/// Waits until all that was written, and the length, are sure.
+pub fn sync<C: Calls>(calls: &mut C, moment: u64) -> Result<(), Failed>
+    ensures { IsTrue C.trusted → MatchResult result
+        (λ _. C.past calls.new ≡ noted moment synced (C.past calls.old))
+        (λ _. C.past calls.new ≡ C.past calls.old) }
+{
+    'turns: for _ in 0..u64::MAX {
+        match calls.sync_data(moment) {
+            Ok(()) => return Ok(()),
+            Err(CallFault::Interrupted) => {}
+            Err(CallFault::Failed) => return Err(Failed),
+        }
+    }
+    Err(Failed)
+}
