@@ -1,6 +1,5 @@
 use Rattle.std.proofs.Common.{[], false, Option, Result, Ok, Err, ℕ, ◌/◌, inl, refl, sym, ap, subst, arith}
 use Rattle.std.proofs.lemmas.List.{append-nil}
-use Rattle.pcm_media.proofs.Left.{touched_by_nothing}
 use Rattle.eaw_face.specs.declared.fault.EawFault.{EawFault}
 use Rattle.array_shape.specs.Places.{page_count}
 use Rattle.command_words.specs.declared.words.Words.TheVariants.{Run}
@@ -24,7 +23,7 @@ returns-in-Err-clause-ran g c =
       holds = (
         g.S.Source.left c.args.source.now,
         (λ _. refl),
-        λ told. inl (record { idle = idle_same g.M.Media.tells told media (g.met.M.Media.only_now c.args.media); untouched = touched_by_nothing _ media.content; calls = inl refl }),
+        λ told. inl (idle_same g.M.Media.tells told media (g.met.M.Media.only_now c.args.media) _ _ (inl refl)),
       );
     }
 
