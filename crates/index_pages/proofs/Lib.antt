@@ -1,0 +1,10 @@
+pub mod Rising
+pub mod Tiling
+pub mod PageFacts
+pub mod Kept
+pub mod Given
+pub mod Halves
+pub mod ChainFacts
+pub mod ChainActions
+pub mod FailingFacts
+pub mod Fresh
