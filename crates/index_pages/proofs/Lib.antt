@@ -8,3 +8,5 @@ pub mod ChainFacts
 pub mod ChainActions
 pub mod FailingFacts
 pub mod Fresh
+pub mod Reading
+pub mod Writing

@@ -6,3 +6,4 @@ pub mod Ways
 pub mod Changes
 pub mod Failing
 pub mod Props
+pub mod Written

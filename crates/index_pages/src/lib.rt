@@ -1,2 +1,6 @@
 //! What the pages of an index say: pairs of keys and slots, and a chain of such pages; their laws, and the codec of a page.
 #![tactic(auto)]
+
+mod page;
+
+pub use page::{LeafHead, PAGE_LEN, PAIRS_MAX, Pairs, read_leaf_head, read_pair, read_pairs, write_leaf};
