@@ -1,10 +1,11 @@
 -- What a page says, pair by pair.
-use Rattle.std.proofs.Common.{◌≡◌, ℕ, zero, suc, ◌+◌, ◌-◌, ◌*◌, ◌<◌, ◌≤◌, List, [], ◌∷◌, take, drop, refl, sym, ◌∙◌, ap, arith}
-use Rattle.std.specs.Prelude.{slice_index}
+use Rattle.std.proofs.Common.{◌≡◌, ℕ, zero, suc, ◌+◌, ◌-◌, ◌*◌, ◌<◌, ◌≤◌, true, false, List, [], ◌∷◌, take, drop, Some, refl, sym, ◌∙◌, ap, arith}
+use Rattle.std.specs.Prelude.{slice_index, nat_le}
+use Rattle.std.proofs.lemmas.Bool.Decides.{nat_tests}
 use Rattle.std.proofs.lemmas.List.{get_or-drop}
 use Rattle.byteorder.specs.Endian.{little_from}
 use Rattle.byteorder.specs.Numbers.{little_from-take}
-use Rattle.page_store.specs.Pairs.{Pair}
+use Rattle.page_store.specs.Pairs.{Pair, next}
 use Rattle.index_pages.specs.Page.{kind_said, level_said, count_said, link_said, pair_said, pairs_from, pairs_said}
 use Rattle.index_pages.specs.Written.{IsLeaf, SaysLeaf}
 use Rattle.index_pages.specs.declared.page.LeafHead.{LeafHead}
@@ -73,3 +74,9 @@ from_step page i n lt = ap (λ (m : ℕ). pairs_from page i m) (let e : n - i �
 
 pub from_end : (page : List ℕ) (i n : ℕ) → n ≤ i → pairs_from page i (n - i) ≡ []
 from_end page i n le = ap (λ (m : ℕ). pairs_from page i m) (let e : n - i ≡ 0 = omega arith in e)
+
+pub next_here : (page : List ℕ) (i n from : ℕ) → i < n → from ≤ (pair_said page i).0 → next (pairs_from page i (n - i)) from ≡ Some (pair_said page i)
+next_here page i n from lt e = let b : nat_le from (pair_said page i).0 ≡ true = grind (arith, nat_tests) in ap (λ (ps : List Pair). next ps from) (from_step page i n lt) ∙ (rw b refl)
+
+pub next_later : (page : List ℕ) (i n from : ℕ) → i < n → (pair_said page i).0 < from → next (pairs_from page i (n - i)) from ≡ next (pairs_from page (suc i) (n - suc i)) from
+next_later page i n from lt e = let b : nat_le from (pair_said page i).0 ≡ false = grind (arith, nat_tests) in ap (λ (ps : List Pair). next ps from) (from_step page i n lt) ∙ (rw b refl)

@@ -3,4 +3,4 @@
 
 mod page;
 
-pub use page::{LeafHead, PAGE_LEN, PAIRS_MAX, Pairs, read_leaf_head, read_pair, read_pairs, write_leaf};
+pub use page::{LeafHead, PAGE_LEN, PAIRS_MAX, Pairs, next_pair, read_leaf_head, read_pair, read_pairs, write_leaf};

@@ -1,6 +1,7 @@
 // The bytes of a page of an index.
 ghost use Rattle.std.specs.Prelude.{◌≡◌, ◌+◌, ◌*◌, ◌≤◌, ◌<◌, IfSome, IfNone, length};
 ghost use Rattle.counted.specs.Bytes.{put};
+ghost use Rattle.page_store.specs.Pairs.{next};
 ghost use Rattle.index_pages.specs.Page.{count_said, pair_said, pairs_said};
 ghost use Rattle.index_pages.specs.Written.{IsLeaf, SaysLeaf, front_bytes, leaf_bytes, pair_bytes};
 
@@ -77,6 +78,21 @@ pub fn read_pairs(page: &[u8; PAGE_LEN], count: u16) -> Pairs
         pairs.push(read_pair(page, i));
     }
     pairs
+}
+
+/// The first pair of a page whose key is not below this one.
+pub fn next_pair(page: &[u8; PAGE_LEN], count: u16, from: u64) -> Option<(u64, u64)>
+    requires count { count ≡ count_said page.now }
+    requires most { count ≤ 30 }
+    ensures { result ≡ next (pairs_said page.now) from }
+{
+    for i in 0..count {
+        let pair = read_pair(page, i);
+        if from <= pair.0 {
+            return Some(pair);
+        }
+    }
+    None
 }
 
 /// Writes a page of kind 1 and level 0 with this link and these pairs, and zeros behind them.
