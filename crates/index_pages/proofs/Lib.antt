@@ -10,3 +10,5 @@ pub mod FailingFacts
 pub mod Fresh
 pub mod Reading
 pub mod Writing
+pub mod Looking
+pub mod Sizes

@@ -7,3 +7,4 @@ pub mod Changes
 pub mod Failing
 pub mod Props
 pub mod Written
+pub mod Fetched

@@ -1,6 +1,8 @@
 //! What the pages of an index say: pairs of keys and slots, and a chain of such pages; their laws, and the codec of a page.
 #![tactic(auto)]
 
+mod fetch;
 mod page;
 
+pub use fetch::{fetch_page, fetch_slot, fetch_super, index_page_count};
 pub use page::{LeafHead, PAGE_LEN, PAIRS_MAX, Pairs, next_pair, read_leaf_head, read_pair, read_pairs, write_leaf};
