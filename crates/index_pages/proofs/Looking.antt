@@ -4,6 +4,7 @@ use Rattle.std.specs.Prelude.{Some, None, IsTrue, IsFalse}
 use Rattle.std.proofs.lemmas.Bool.{false≢true}
 use Rattle.counted.specs.Causes.{Rose}
 use Rattle.counted.proofs.Going.{stays, then, weaker}
+use Rattle.array_shape.specs.declared.shape.Shape.{Shape}
 use Rattle.eaw_face.specs.State.{State}
 use Rattle.eaw_face.specs.StoreView.{StoreView, LeavesOnly}
 use Rattle.eaw_face.specs.Causes.{IsAlive}
@@ -81,3 +82,9 @@ module _ (tells : Bool) (Opens : List ℕ → List ℕ → Type 0) where
   looks_read old new (Err (LogFull g h n)) does same = absurd does.cause.1
   looks_read old new (Err SavesFull) does same = absurd does.cause.1
   looks_read old new (Err (Damaged page)) does same = absurd does.cause
+
+-- the same where the second begins with the shape of its own store
+pub looks_next : (tells : Bool) (Opens : Shape → List ℕ → List ℕ → Type 0) (failed : Bool) (old mid new : PagesView) → Looks tells (Opens old.store.shape) false old mid
+    → Looks tells (Opens mid.store.shape) failed mid new → Looks tells (Opens old.store.shape) failed old new
+looks_next tells Opens failed old mid new first second =
+    looks_then tells (Opens old.store.shape) failed old mid new first (subst (λ (s : Shape). Looks tells (Opens s) failed mid new) first.shape second)

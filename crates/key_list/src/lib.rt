@@ -1,0 +1,4 @@
+//! An index that is a chain of pages in the order of their keys.
+#![tactic(auto)]
+
+mod look;
