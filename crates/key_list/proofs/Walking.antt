@@ -5,7 +5,8 @@ use Rattle.std.proofs.lemmas.Bool.Decides.{nat_tests, eqb_tells, leb_tells}
 use Rattle.std.proofs.lemmas.List.{append-nil}
 use Rattle.page_store.specs.Pairs.{Pair, Rise, found, next}
 use Rattle.record_slots.specs.Places.{page_bytes, next_slot, next_page, AreGiven, first_slot_page}
-use Rattle.index_pages.specs.Page.{page_pairs, link_of, kind_of, level_of, count_of}
+use Rattle.index_pages.specs.Page.{page_pairs, link_of, kind_of, level_of, count_of, count_said, pair_said, pairs_from, pairs_said}
+use Rattle.index_pages.proofs.Reading.{from_first}
 use Rattle.index_pages.specs.Pieces.{Piece, joined}
 use Rattle.index_pages.specs.Chain.{key_end, behind, IsChain, IsChainPage, chain_pieces, first_key, IsSoundChain, pairs_of_chain}
 use Rattle.index_pages.specs.Ways.{chain_page_for, page_of_key}
@@ -138,3 +139,85 @@ found_other low high (q ∷ qs) key p rises some other =
           let e : next qs key ≡ Some p = (let some' : (if nat_le key q.0 then Some q else next qs key) ≡ Some p = some in rw b at some') in
           rw b' (found_other (suc q.0) high qs key p rises.1 e other)
     ]
+
+-- on the way to the page of a key: this page was read, and the one behind it is next
+pub record Place (bytes : List ℕ) (key steps page link : ℕ) : Type 0 where
+  pub n : ℕ
+  pub low : ℕ
+  pub chain : IsChain (suc n) bytes page low
+  pub left : suc n + steps ≡ next_page bytes
+  pub link_is : link ≡ link_of bytes page
+  pub answers : page_of_key bytes key ≡ chain_page_for (suc n) bytes page key
+
+pub place_first : (bytes : List ℕ) (key link : ℕ) → IsSoundChain bytes → link ≡ link_of bytes 1 → Place bytes key 0 1 link
+place_first bytes key link sound link_is =
+    let e : next_page bytes ≡ suc (next_page bytes - 1) = omega (arith, sound.front.some_pages) in
+    record {
+      n = next_page bytes - 1;
+      low = 0;
+      chain = subst (λ (n : ℕ). IsChain n bytes 1 0) e sound.pages;
+      left = omega arith;
+      link_is = link_is;
+      answers = ap (λ (n : ℕ). chain_page_for n bytes 1 key) e;
+    }
+
+pub first_linked : (bytes : List ℕ) (pages : ℕ) → IsSoundChain bytes → first_slot_page bytes ≡ pages → IsLinked pages (page_bytes bytes 1)
+first_linked bytes pages sound is = page_linked bytes pages 1 0 sound is (chain_head (next_page bytes) bytes 1 0 sound.pages)
+
+-- the chain behind the page
+link_chain : (n : ℕ) (bytes : List ℕ) (page low link : ℕ) → IsChain (suc n) bytes page low → link ≡ link_of bytes page → link ≢ 0 → IsChainPage bytes link (behind low (page_pairs bytes page)) × (2 ≤ link)
+link_chain n bytes page low link chain is more =
+    let more' : link_of bytes page ≢ 0 = λ e. more (is ∙ e) in
+    subst (λ (x : ℕ). IsChainPage bytes x (behind low (page_pairs bytes page)) × (2 ≤ x)) (sym is)
+    (chain_head n bytes (link_of bytes page) (behind low (page_pairs bytes page)) (chain.1 more'), (chain.0.link more').0)
+
+pub place_linked : (bytes : List ℕ) (pages key steps page link : ℕ) → IsSoundChain bytes → first_slot_page bytes ≡ pages → Place bytes key steps page link → link ≢ 0 → IsLinked pages (page_bytes bytes link)
+place_linked bytes pages key steps page link sound is at more =
+    page_linked bytes pages link (behind at.low (page_pairs bytes page)) sound is (link_chain at.n bytes page at.low link at.chain at.link_is more).0
+
+pub place_some : (bytes : List ℕ) (key steps page link : ℕ) → Place bytes key steps page link → link ≢ 0 → count_of bytes link ≢ 0
+place_some bytes key steps page link at more none =
+    let head = link_chain at.n bytes page at.low link at.chain at.link_is more in
+    omega (arith, head.1, (head.0.some none).0)
+
+pub place_last : (bytes : List ℕ) (key steps page link : ℕ) → Place bytes key steps page link → link ≡ 0 → page_of_key bytes key ≡ page
+place_last bytes key steps page link at last =
+    let e : link_of bytes page ≡ 0 = sym at.link_is ∙ last in
+    let b : nat_eq (link_of bytes page) 0 ≡ true = grind (arith, nat_tests) in
+    at.answers ∙ (rw b refl)
+
+pub place_here : (bytes : List ℕ) (key steps page link : ℕ) → Place bytes key steps page link → link ≢ 0 → key < first_key (page_pairs bytes link) → page_of_key bytes key ≡ page
+place_here bytes key steps page link at more lt =
+    let other : link_of bytes page ≢ 0 = λ e. more (at.link_is ∙ e) in
+    let b : nat_eq (link_of bytes page) 0 ≡ false = grind (arith, nat_tests) in
+    let below : key < first_key (page_pairs bytes (link_of bytes page)) = subst (λ (x : ℕ). key < first_key (page_pairs bytes x)) at.link_is lt in
+    let b' : nat_lt key (first_key (page_pairs bytes (link_of bytes page))) ≡ true = grind (arith, nat_tests) in
+    at.answers ∙ (rw b (rw b' refl))
+
+place_on : (n : ℕ) (bytes : List ℕ) (key steps page low link : ℕ) → IsChain (suc n) bytes page low → suc n + steps ≡ next_page bytes → page_of_key bytes key ≡ chain_page_for (suc n) bytes page key
+    → link_of bytes page ≢ 0 → first_key (page_pairs bytes (link_of bytes page)) ≤ key → link ≡ link_of bytes (link_of bytes page) → Place bytes key (steps + 1) (link_of bytes page) link
+place_on zero bytes key steps page low link chain left answers other le is = absurd (chain.1 other)
+place_on (suc n) bytes key steps page low link chain left answers other le is =
+    let b : nat_eq (link_of bytes page) 0 ≡ false = grind (arith, nat_tests) in
+    let b' : nat_lt key (first_key (page_pairs bytes (link_of bytes page))) ≡ false = grind (arith, nat_tests) in
+    record {
+      n = n;
+      low = behind low (page_pairs bytes page);
+      chain = chain.1 other;
+      left = omega arith;
+      link_is = is;
+      answers = answers ∙ (rw b (rw b' refl));
+    }
+
+pub place_step : (bytes : List ℕ) (key steps page link next : ℕ) → Place bytes key steps page link → link ≢ 0 → first_key (page_pairs bytes link) ≤ key → next ≡ link_of bytes link → Place bytes key (steps + 1) link next
+place_step bytes key steps page link next at more le is =
+    subst (λ (x : ℕ). Place bytes key (steps + 1) x next) (sym at.link_is)
+    (place_on at.n bytes key steps page at.low next at.chain at.left at.answers (λ e. more (at.link_is ∙ e)) (subst (λ (x : ℕ). first_key (page_pairs bytes x) ≤ key) at.link_is le) (is ∙ ap (λ (x : ℕ). link_of bytes x) at.link_is))
+
+-- the first key of a page with pairs
+first_from_some : (page : List ℕ) (n : ℕ) → n ≢ 0 → first_key (pairs_from page 0 n) ≡ (pair_said page 0).0
+first_from_some page zero some = absurd (some refl)
+first_from_some page (suc n) some = refl
+
+pub first_said : (page : List ℕ) → count_said page ≢ 0 → first_key (pairs_said page) ≡ (pair_said page 0).0
+first_said page some = ap (λ (ps : List Pair). first_key ps) (from_first page) ∙ first_from_some page (count_said page) some
