@@ -12,3 +12,4 @@ pub mod Reading
 pub mod Writing
 pub mod Looking
 pub mod Sizes
+pub mod Acting

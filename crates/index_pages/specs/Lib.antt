@@ -8,3 +8,4 @@ pub mod Failing
 pub mod Props
 pub mod Written
 pub mod Fetched
+pub mod Acts
