@@ -13,3 +13,5 @@ pub mod Writing
 pub mod Looking
 pub mod Sizes
 pub mod Acting
+pub mod Ranges
+pub mod Fronts

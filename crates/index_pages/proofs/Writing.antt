@@ -1,11 +1,12 @@
 -- What a written page says.
-use Rattle.std.proofs.Common.{◌≡◌, ℕ, zero, suc, ◌+◌, ◌-◌, ◌*◌, ◌^◌, ◌<◌, ◌≤◌, List, [], ◌∷◌, ◌++◌, length, get_or, take, drop, replicate, refl, sym, ◌∙◌, ap, subst, append_assoc, arith}
+use Rattle.std.proofs.Common.{◌≡◌, ℕ, zero, suc, ◌+◌, ◌-◌, ◌*◌, ◌^◌, ◌<◌, ◌≤◌, true, false, nat_lt, inl, inr, List, [], ◌∷◌, ◌++◌, length, get_or, take, drop, replicate, refl, sym, ◌∙◌, ap, subst, append_assoc, arith}
 use Rattle.std.proofs.lemmas.List.{append-nil, length-append, take_at, drop_at, drop-drop, drop-replicate, length-take-le}
 use Rattle.std.proofs.lemmas.List.{take_more}
 use Rattle.byteorder.specs.Endian.{little_from, little_bytes}
 use Rattle.byteorder.specs.Numbers.{little_number-reads_back, length-bytes_low_first}
 use Rattle.counted.specs.Bytes.{put}
-use Rattle.page_store.specs.Pairs.{Pair}
+use Rattle.page_store.specs.Pairs.{Pair, inserted}
+use Rattle.std.proofs.lemmas.Bool.Decides.{leb_tells}
 use Rattle.index_pages.specs.Page.{kind_said, level_said, count_said, link_said, pair_said, pairs_from, pairs_said}
 use Rattle.index_pages.specs.Written.{pair_bytes, pairs_bytes, front_bytes, leaf_bytes, AreSmall}
 use Rattle.index_pages.proofs.Reading.{little_from-drop}
@@ -125,3 +126,19 @@ module _ (link : ℕ) (ps : List Pair) (few : length ps ≤ 30) (fits : link < 2
       length_replicate : (n : ℕ) → length {A = ℕ} (replicate n 0) ≡ n
       length_replicate zero = refl
       length_replicate (suc n) = ap suc (length_replicate n)
+
+pub small_more : (ps : List Pair) (p : Pair) → AreSmall ps → p.0 < 2 ^ 64 → p.1 < 2 ^ 64 → AreSmall (ps ++ p ∷ [])
+small_more [] p small a b = (a, b, tt)
+small_more (q ∷ qs) p small a b = (small.0, small.1, small_more qs p small.2 a b)
+
+pub small_take : (n : ℕ) (ps : List Pair) → AreSmall ps → AreSmall (take n ps) × AreSmall (drop n ps)
+small_take zero ps small = (tt, small)
+small_take (suc n) [] small = (tt, tt)
+small_take (suc n) (p ∷ ps) small = let rest = small_take n ps small.2 in ((small.0, small.1, rest.0), rest.1)
+
+pub small_inserted : (key to : ℕ) (ps : List Pair) → AreSmall ps → key < 2 ^ 64 → to < 2 ^ 64 → AreSmall (inserted ps key to)
+small_inserted key to [] small a b = (a, b, tt)
+small_inserted key to (p ∷ ps) small a b = elim (leb_tells (suc key) p.0) [
+  | inl h ↦ let e : nat_lt key p.0 ≡ true = h.0 in rw e (a, b, small)
+  | inr h ↦ let e : nat_lt key p.0 ≡ false = h.0 in rw e (small.0, small.1, small_inserted key to ps small.2 a b)
+]

@@ -1,9 +1,9 @@
 // The bytes of a page of an index.
-ghost use Rattle.std.specs.Prelude.{◌≡◌, ◌+◌, ◌*◌, ◌≤◌, ◌<◌, IfSome, IfNone, length};
+ghost use Rattle.std.specs.Prelude.{◌≡◌, ◌+◌, ◌*◌, ◌^◌, ◌≤◌, ◌<◌, IfSome, IfNone, length};
 ghost use Rattle.counted.specs.Bytes.{put};
 ghost use Rattle.page_store.specs.Pairs.{next};
 ghost use Rattle.index_pages.specs.Page.{count_said, pair_said, pairs_said};
-ghost use Rattle.index_pages.specs.Written.{IsLeaf, SaysLeaf, front_bytes, leaf_bytes, pair_bytes};
+ghost use Rattle.index_pages.specs.Written.{IsLeaf, SaysLeaf, AreSmall, front_bytes, leaf_bytes, pair_bytes};
 
 use arrayvec::ArrayVec;
 use byteorder::{ByteOrder, LittleEndian};
@@ -58,7 +58,8 @@ pub fn read_leaf_head(page: &[u8; PAGE_LEN]) -> Option<LeafHead>
 /// Pair `i` of a page.
 pub fn read_pair(page: &[u8; PAGE_LEN], i: u16) -> (u64, u64)
     requires { i < 30 }
-    ensures { result ≡ pair_said page.now i }
+    ensures pair { result ≡ pair_said page.now i }
+    ensures small { (result.0 < 2 ^ 64) × (result.1 < 2 ^ 64) }
 {
     let at = PAIRS_AT + PAIR_LEN * usize::from(i);
     (
@@ -71,7 +72,8 @@ pub fn read_pair(page: &[u8; PAGE_LEN], i: u16) -> (u64, u64)
 pub fn read_pairs(page: &[u8; PAGE_LEN], count: u16) -> Pairs
     requires count { count ≡ count_said page.now }
     requires most { count ≤ 30 }
-    ensures { result.items ≡ pairs_said page.now }
+    ensures pairs { result.items ≡ pairs_said page.now }
+    ensures small { AreSmall result.items }
 {
     let mut pairs = Pairs::new();
     for i in 0..count {

@@ -11,13 +11,13 @@ loop-i-init c =
 
 pub returns-then-from-pair : goal.returns-then-from-pair
 returns-then-from-pair c =
-    let key : c.args.from ≤ (pair_said c.args.page.now c.loop-i.i).0 = subst (λ (p : Pair). c.args.from ≤ p.0) c.read_pair-pair.ensures c.if-from-pair.true in
-    ap (λ (p : Pair). Some p) c.read_pair-pair.ensures ∙ sym (next_here c.args.page.now c.loop-i.i c.args.count c.args.from c.loop-i-test.true key) ∙ c.loop-i.invariant
+    let key : c.args.from ≤ (pair_said c.args.page.now c.loop-i.i).0 = subst (λ (p : Pair). c.args.from ≤ p.0) c.read_pair-pair.ensures.pair c.if-from-pair.true in
+    ap (λ (p : Pair). Some p) c.read_pair-pair.ensures.pair ∙ sym (next_here c.args.page.now c.loop-i.i c.args.count c.args.from c.loop-i-test.true key) ∙ c.loop-i.invariant
 
 pub loop-i-preserved : goal.loop-i-preserved
 loop-i-preserved c =
     let next_is : c.loop-i.i + 1 ≡ suc c.loop-i.i = omega arith in
-    let key : (pair_said c.args.page.now c.loop-i.i).0 < c.args.from = subst (λ (p : Pair). p.0 < c.args.from) c.read_pair-pair.ensures c.if-from-pair.false in
+    let key : (pair_said c.args.page.now c.loop-i.i).0 < c.args.from = subst (λ (p : Pair). p.0 < c.args.from) c.read_pair-pair.ensures.pair c.if-from-pair.false in
     ap (λ (j : ℕ). next (pairs_from c.args.page.now j (c.args.count - j)) c.args.from) next_is
     ∙ sym (next_later c.args.page.now c.loop-i.i c.args.count c.args.from c.loop-i-test.true key) ∙ c.loop-i.invariant
 

@@ -4,8 +4,8 @@ use Rattle.index_pages.specs.Page.{pair_said}
 use Rattle.index_pages.proofs.Reading.{piece, pair_is}
 use Rattle.index_pages.proofs.page.read_pair.Goals as goal
 
-pub returns : goal.returns
-returns c =
+pub returns-clause-pair : goal.returns-clause-pair
+returns-clause-pair c =
     let i = c.from.result in
     let at : (8 + 16 * i) + 8 ≡ 16 + 16 * i = omega arith in
     pair_is c.args.page.now i _ _ (c.read_u64.ensures ∙ piece (8 + 16 * i) 8 (512 - (8 + 16 * i)) c.args.page.now (omega arith))
