@@ -31,18 +31,18 @@ behind_same : (low from high : ℕ) (ps : List Pair) → 1 ≤ length ps → Ris
 behind_same low from high [] some r = absurd (omega arith)
 behind_same low from high (p ∷ ps) some r = refl
 
-first_below : (low high : ℕ) (ps : List Pair) → 1 ≤ length ps → Rise low high ps → first_key ps < behind low ps
+pub first_below : (low high : ℕ) (ps : List Pair) → 1 ≤ length ps → Rise low high ps → first_key ps < behind low ps
 first_below low high [] some r = absurd (omega arith)
 first_below low high (p ∷ ps) some r = let h = rise_from (suc p.0) high ps r.1 in omega arith
 
 -- a page that another page of the chain names has pairs
-later_some : (bytes : List ℕ) (page low : ℕ) → 2 ≤ page → IsChainPage bytes page low → 1 ≤ length (page_pairs bytes page)
+pub later_some : (bytes : List ℕ) (page low : ℕ) → 2 ≤ page → IsChainPage bytes page low → 1 ≤ length (page_pairs bytes page)
 later_some bytes page low two t = omega (arith, length-page_pairs bytes page, some_of (count_of bytes page) ((page ≡ 1) × (link_of bytes page ≡ 0)) t.some (λ h. omega (arith, h.0)))
 
-linked_some : (bytes : List ℕ) (page low : ℕ) → link_of bytes page ≢ 0 → IsChainPage bytes page low → 1 ≤ length (page_pairs bytes page)
+pub linked_some : (bytes : List ℕ) (page low : ℕ) → link_of bytes page ≢ 0 → IsChainPage bytes page low → 1 ≤ length (page_pairs bytes page)
 linked_some bytes page low linked t = omega (arith, length-page_pairs bytes page, some_of (count_of bytes page) ((page ≡ 1) × (link_of bytes page ≡ 0)) t.some (λ h. linked h.1))
 
-joined_from : (n : ℕ) (bytes : List ℕ) (page a b : ℕ) → joined (chain_pieces n bytes page a) ≡ joined (chain_pieces n bytes page b)
+pub joined_from : (n : ℕ) (bytes : List ℕ) (page a b : ℕ) → joined (chain_pieces n bytes page a) ≡ joined (chain_pieces n bytes page b)
 joined_from zero bytes page a b = refl
 joined_from (suc n) bytes page a b = refl
 
@@ -115,7 +115,7 @@ above_one zero = refl
 above_one (suc n) = ap suc (above_one n)
 
 -- the first key of a chain's page is behind all pages before it
-far_first : (n : ℕ) (bytes : List ℕ) (page low key : ℕ) → 2 ≤ page → IsChain n bytes page low → low ≤ first_key (page_pairs bytes (chain_page_for n bytes page key))
+pub far_first : (n : ℕ) (bytes : List ℕ) (page low key : ℕ) → 2 ≤ page → IsChain n bytes page low → low ≤ first_key (page_pairs bytes (chain_page_for n bytes page key))
 far_first zero bytes page low key two c = absurd c
 far_first (suc n) bytes page low key two c =
     let some = later_some bytes page low two c.0 in
@@ -195,7 +195,7 @@ rest_kept old new keeps n q low low' c linked le kept =
     (first_below low key_end (page_pairs old q) (linked_some old q low linked c.0) c.0.rises) kept
 
 -- the first page behind one begins behind all its keys
-next_first : (bytes : List ℕ) (n q low : ℕ) → IsChain (suc n) bytes q low → link_of bytes q ≢ 0
+pub next_first : (bytes : List ℕ) (n q low : ℕ) → IsChain (suc n) bytes q low → link_of bytes q ≢ 0
     → (behind low (page_pairs bytes q) ≤ first_key (page_pairs bytes (link_of bytes q))) × Rise (first_key (page_pairs bytes (link_of bytes q))) key_end (page_pairs bytes (link_of bytes q))
     × (first_key (page_pairs bytes (link_of bytes q)) < key_end)
 next_first bytes n q low c linked =

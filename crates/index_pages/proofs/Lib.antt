@@ -15,3 +15,4 @@ pub mod Sizes
 pub mod Acting
 pub mod Ranges
 pub mod Fronts
+pub mod Resting

@@ -8,6 +8,7 @@ use eaw_face::EawStore;
 use page_store::{PageFault, Pages};
 
 /// Bytes that are to stand at a place of a page.
+#[derive(Clone, Copy)]
 pub struct PagePart<'a> {
     pub page: u32,
     pub at: u32,

@@ -1,2 +1,4 @@
 pub mod Walking
 pub mod Causing
+pub mod Placing
+pub mod Chains

@@ -221,3 +221,25 @@ first_from_some page (suc n) some = refl
 
 pub first_said : (page : List ℕ) → count_said page ≢ 0 → first_key (pairs_said page) ≡ (pair_said page 0).0
 first_said page some = ap (λ (ps : List Pair). first_key ps) (from_first page) ∙ first_from_some page (count_said page) some
+
+-- the page of a key is one of the chain
+page_on_chain : (n : ℕ) (bytes : List ℕ) (page low key : ℕ) → IsChain n bytes page low → (l : ℕ) × IsChainPage bytes (chain_page_for n bytes page key) l
+page_on_chain zero bytes page low key chain = absurd chain
+page_on_chain (suc n) bytes page low key chain =
+    elim (eqb_tells (link_of bytes page) 0) [
+      | inl last ↦ let b : nat_eq (link_of bytes page) 0 ≡ true = last.0 in rw b (low, chain.0)
+      | inr more ↦
+          let b : nat_eq (link_of bytes page) 0 ≡ false = more.0 in
+          elim (leb_tells (suc key) (first_key (page_pairs bytes (link_of bytes page)))) [
+            | inl h ↦ let b' : nat_lt key (first_key (page_pairs bytes (link_of bytes page))) ≡ true = h.0 in rw b (rw b' (low, chain.0))
+            | inr h ↦
+                let b' : nat_lt key (first_key (page_pairs bytes (link_of bytes page))) ≡ false = h.0 in
+                rw b (rw b' (page_on_chain n bytes (link_of bytes page) (behind low (page_pairs bytes page)) key (chain.1 more.1)))
+          ]
+    ]
+
+pub key_page : (bytes : List ℕ) (key : ℕ) → IsSoundChain bytes → (l : ℕ) × IsChainPage bytes (page_of_key bytes key) l
+key_page bytes key sound = page_on_chain (next_page bytes) bytes 1 0 key sound.pages
+
+pub key_page_linked : (bytes : List ℕ) (pages key : ℕ) → IsSoundChain bytes → first_slot_page bytes ≡ pages → IsLinked pages (page_bytes bytes (page_of_key bytes key))
+key_page_linked bytes pages key sound is = let at = key_page bytes key sound in page_linked bytes pages (page_of_key bytes key) at.0 sound is at.1

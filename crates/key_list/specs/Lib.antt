@@ -1,1 +1,3 @@
 pub mod Linked
+pub mod Index
+pub mod Located

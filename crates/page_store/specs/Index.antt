@@ -42,7 +42,7 @@ pub record KeepsIndex (old new : List ℕ) : Type 0 where
   pub carried : (pair : Pair) → pair.1 < next_slot old → Carries old pair → Carries new pair
 
 -- Data within or behind an insertion: it is sound, slots that were given before are as they were, at most nine pages more are given,
--- each of them one of the index, and it has no fewer levels.
+-- each of them one of the index, which loses none; and it has no fewer levels.
 pub record Grows (index : Index) (old new : List ℕ) : Type 0 where
   pub sound : index.sound new
   pub size : length new ≡ length old
@@ -50,6 +50,7 @@ pub record Grows (index : Index) (old new : List ℕ) : Type 0 where
   pub later : next_page old ≤ next_page new
   pub few : next_page new ≤ next_page old + 9
   pub named : (page : ℕ) → next_page old ≤ page → page < next_page new → index.has_page new page
+  pub kept : (page : ℕ) → index.has_page old page → index.has_page new page
   pub levels : index.level old ≤ index.level new
 
 -- the pairs are those before, and no slot more is given

@@ -68,7 +68,7 @@ returns-then-key-read_pair-clause-page g c = λ told.
     let some : count_said c.read_page-in-loop-step.new.bytes ≢ 0 = λ e. c.if-head-eq0.false (c.in-Ok-read_page.ensures.head.count ∙ e) in
     let first : first_key (page_pairs view.state.bytes c.loop-step.behind) ≡ (pair_said c.read_page-in-loop-step.new.bytes 0).0 =
     ap (λ (b : List ℕ). first_key (pairs_said b)) (sym buf) ∙ first_said c.read_page-in-loop-step.new.bytes some in
-    let lt : c.args.key < first_key (page_pairs view.state.bytes c.loop-step.behind) = omega (arith, c.if-key-read_pair.true, ap (λ (p : Pair). p.0) c.read_pair.ensures, first) in
+    let lt : c.args.key < first_key (page_pairs view.state.bytes c.loop-step.behind) = omega (arith, c.if-key-read_pair.true, ap (λ (p : Pair). p.0) c.read_pair.ensures.pair, first) in
     sym (place_here view.state.bytes c.args.key c.loop-step._step c.loop-step.page c.loop-step.behind (c.loop-step.invariant.place told) c.if-behind-eq0.false lt)
 
 pub loop-step-preserved : goal.loop-step-preserved
@@ -88,7 +88,7 @@ loop-step-preserved g c =
           let some : count_said c.read_page-in-loop-step.new.bytes ≢ 0 = λ e. c.if-head-eq0.false (c.in-Ok-read_page.ensures.head.count ∙ e) in
           let first : first_key (page_pairs view.state.bytes c.loop-step.behind) ≡ (pair_said c.read_page-in-loop-step.new.bytes 0).0 =
           ap (λ (b : List ℕ). first_key (pairs_said b)) (sym buf) ∙ first_said c.read_page-in-loop-step.new.bytes some in
-          let le : first_key (page_pairs view.state.bytes c.loop-step.behind) ≤ c.args.key = omega (arith, c.if-key-read_pair.false, ap (λ (p : Pair). p.0) c.read_pair.ensures, first) in
+          let le : first_key (page_pairs view.state.bytes c.loop-step.behind) ≤ c.args.key = omega (arith, c.if-key-read_pair.false, ap (λ (p : Pair). p.0) c.read_pair.ensures.pair, first) in
           place_step view.state.bytes c.args.key c.loop-step._step c.loop-step.page c.loop-step.behind c.in-Ok-read_page.head.link (c.loop-step.invariant.place told) c.if-behind-eq0.false le
           (c.in-Ok-read_page.ensures.head.link ∙ ap link_said buf);
     }
