@@ -141,3 +141,57 @@ module _ (old new : List ℕ) (q : ℕ) (cut : SplitsPage old new q) (two : 2 �
               let low' : nat_lt key (first_key (page_pairs new (link_of new q))) ≡ false = ap (λ (x : ℕ). nat_lt key (first_key (page_pairs new x))) cut.link ∙ ap (nat_lt key) first_new ∙ low in
               rw low (rw b (rw low' (ap (λ (x : ℕ). chain_page_for (suc n) new x key) cut.link ∙ here)))
         ]
+
+    first_take : (ps : List Pair) → first_key (take 15 ps) ≡ first_key ps
+    first_take [] = refl
+    first_take (p ∷ ps) = refl
+
+    -- the first keys of the old pages stay
+    first_stays : (p : ℕ) → IsOwn old p → first_key (page_pairs new p) ≡ first_key (page_pairs old p)
+    first_stays p own = elim (eqb_tells p q) [
+      | inl same ↦ ap (λ (x : ℕ). first_key (page_pairs new x)) same.1 ∙ ap (λ (ps : List Pair). first_key ps) cut.pairs ∙ first_take (page_pairs old q) ∙ ap (λ (x : ℕ). first_key (page_pairs old x)) (sym same.1)
+      | inr other ↦ ap (λ (b : List ℕ). first_key (pairs_said b)) (kept p own.0 own.1 other.1)
+    ]
+
+    -- the way to the key's page ends in its half
+    half_on_way : (n page low : ℕ) → IsOwn old page → IsChain n old page low → q ≡ chain_page_for n old page key → chain_page_for (suc n) new page key ≡ half
+    half_on_way zero page low own chain is = absurd chain
+    half_on_way (suc n) page low own chain is =
+        elim (eqb_tells (link_of old page) 0) [
+          | inl last ↦
+              let b : nat_eq (link_of old page) 0 ≡ true = last.0 in
+              let is' : q ≡ page = is ∙ (rw b refl) in
+              let none : link_of new (next_page old) ≡ 0 = cut.link' ∙ ap (λ (x : ℕ). link_of old x) is' ∙ last.1 in
+              let b' : nat_eq (link_of new (next_page old)) 0 ≡ true = ap (λ (x : ℕ). nat_eq x 0) none in
+              ap (λ (x : ℕ). chain_page_for (suc (suc n)) new x key) (sym is') ∙ at_cut n (rw b' refl)
+          | inr more ↦
+              let b : nat_eq (link_of old page) 0 ≡ false = more.0 in
+              let to = chain.0.link more.1 in
+              let own' : IsOwn old (link_of old page) = (omega (arith, to.0), to.1) in
+              let some = linked_some old page low more.1 chain.0 in
+              let near = first_below low key_end (page_pairs old page) some chain.0.rises in
+              elim (leb_tells (suc key) (first_key (page_pairs old (link_of old page)))) [
+                | inl h ↦
+                    let b' : nat_lt key (first_key (page_pairs old (link_of old page))) ≡ true = h.0 in
+                    let is' : q ≡ page = is ∙ (rw b (rw b' refl)) in
+                    let link : link_of new (next_page old) ≡ link_of old page = cut.link' ∙ ap (λ (x : ℕ). link_of old x) is' in
+                    let c : nat_eq (link_of new (next_page old)) 0 ≡ false = ap (λ (x : ℕ). nat_eq x 0) link ∙ b in
+                    let c' : nat_lt key (first_key (page_pairs new (link_of new (next_page old)))) ≡ true =
+                    ap (λ (x : ℕ). nat_lt key (first_key (page_pairs new x))) link ∙ ap (nat_lt key) (first_stays (link_of old page) own') ∙ b' in
+                    ap (λ (x : ℕ). chain_page_for (suc (suc n)) new x key) (sym is') ∙ at_cut n (rw c (rw c' refl))
+                | inr h ↦
+                    let b' : nat_lt key (first_key (page_pairs old (link_of old page))) ≡ false = h.0 in
+                    let is' : q ≡ chain_page_for n old (link_of old page) key = is ∙ (rw b (rw b' refl)) in
+                    let far = far_first n old (link_of old page) (behind low (page_pairs old page)) key to.0 (chain.1 more.1) in
+                    let other : page ≢ q = λ e. omega (arith, ap (λ (x : ℕ). first_key (page_pairs old x)) (e ∙ is'), far, near) in
+                    let link = link_same page own other in
+                    let c : nat_eq (link_of new page) 0 ≡ false = ap (λ (x : ℕ). nat_eq x 0) link ∙ b in
+                    let c' : nat_lt key (first_key (page_pairs new (link_of new page))) ≡ false =
+                    ap (λ (x : ℕ). nat_lt key (first_key (page_pairs new x))) link ∙ ap (nat_lt key) (first_stays (link_of old page) own') ∙ b' in
+                    rw c (rw c' (ap (λ (x : ℕ). chain_page_for (suc n) new x key) link ∙ half_on_way n (link_of old page) (behind low (page_pairs old page)) own' (chain.1 more.1) is'))
+              ]
+        ]
+
+    pub half_after : IsSoundChain old → q ≡ page_of_key old key → page_of_key new key ≡ half_for old q key
+    unfolding half
+    half_after sound is = ap (λ (n : ℕ). chain_page_for n new 1 key) cut.one_more ∙ half_on_way (next_page old) 1 0 (omega arith, omega arith) sound.pages is

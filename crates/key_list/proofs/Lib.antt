@@ -2,3 +2,4 @@ pub mod Walking
 pub mod Causing
 pub mod Placing
 pub mod Chains
+pub mod Data
