@@ -122,3 +122,132 @@ module _ (shape : Shape) (old : List ℕ) (half : ℕ) (long : length old ≡ da
     apart23 : Apart a2 (length b2) (address 0 8) (length b3)
     unfolding a2
     apart23 = inr (omega (arith, len3, loc.some))
+
+    away : (at n : ℕ) → Apart at n a1 (length b1) → Apart at n a2 (length b2) → Apart at n (address 0 8) (length b3) → range added at n ≡ range old at n
+    unfolding a1 b1 a2 b2 b3 added
+    away at n x y z = three_away old a1 b1 a2 b2 (address 0 8) b3 fits1 fits2 fits3 apart12 apart13 apart23 at n x y z
+
+    added_long : length added ≡ length old
+    unfolding a1 b1 a2 b2 b3 added
+    added_long = three_long old a1 b1 a2 b2 (address 0 8) b3 fits1 fits2 fits3 apart12 apart13 apart23
+
+    added_count : page_count added ≡ half + half
+    added_count = omega (arith, added_long, size)
+
+    slot_place : slot_at added front.next_slot ≡ a1
+    unfolding a1
+    slot_place = omega (arith, added_count)
+
+    slot_new : slot_of added front.next_slot ≡ slot_bytes (Absent key)
+    unfolding slot_of a1 b1 a2 b2 b3 added
+    slot_new = ap (λ (x : ℕ). range added x 64) slot_place ∙ three_first old a1 b1 a2 b2 (address 0 8) b3 fits1 fits2 fits3 apart12 apart13 apart23 64 (sym len1)
+
+    page_new : page_bytes added page ≡ leaf_bytes link (inserted pairs key front.next_slot)
+    unfolding page_bytes a1 b1 a2 b2 b3 added
+    page_new =
+        ap (λ (x : ℕ). range added x 512) (let e : 512 * page ≡ address page 0 = omega arith in e)
+        ∙ three_second old a1 b1 a2 b2 (address 0 8) b3 fits1 fits2 fits3 apart12 apart13 apart23 512 (sym len2)
+
+    counts_new : range added 8 8 ≡ count_bytes (front.next_slot + 1) front.next_page
+    unfolding a1 b1 a2 b2 b3 added
+    counts_new = three_third old a1 b1 a2 b2 (address 0 8) b3 fits1 fits2 fits3 apart12 apart13 apart23 8 (sym len3)
+
+    zero_new : range added 0 8 ≡ range old 0 8
+    unfolding a1 a2
+    zero_new = away 0 8 (inl (omega (arith, page_below, loc.some))) (inl (omega (arith, loc.some))) (inl (omega arith))
+
+    page_old : (x : ℕ) → 1 ≤ x → x < half → x ≢ page → page_bytes added x ≡ page_bytes old x
+    unfolding page_bytes a1 a2
+    page_old x some lt other =
+        let apart : Apart (512 * x) 512 (address page 0) (length b2) = elim (cases_lt x page) [
+          | inl below ↦ inl (omega arith)
+          | inr above ↦ (let ne : x ≡ page → ⊥ = other in inr (omega (arith, len2)))
+        ] in
+        away (512 * x) 512 (inl (omega arith)) apart (inr (omega (arith, len3)))
+
+    slot_old : (j : ℕ) → j < 8 * half → j ≢ front.next_slot → slot_of added j ≡ slot_of old j
+    unfolding slot_of a1 a2
+    slot_old j lt other =
+        let place : slot_at added j ≡ 512 * half + 64 * j = omega (arith, added_count) in
+        let place' : slot_at old j ≡ 512 * half + 64 * j = omega (arith, count) in
+        let apart : Apart (512 * half + 64 * j) 64 (address (half + front.next_slot / 8) (front.next_slot % 8 * 64)) (length b1) = elim (cases_lt j front.next_slot) [
+          | inl below ↦ inl (omega arith)
+          | inr above ↦ (let ne : j ≡ front.next_slot → ⊥ = other in inr (omega (arith, len1)))
+        ] in
+        ap (λ (x : ℕ). range added x 64) place ∙ away (512 * half + 64 * j) 64 apart (inr (omega (arith, len2, page_below))) (inr (omega (arith, len3, page_below))) ∙ ap (λ (x : ℕ). range old x 64) (sym place')
+
+    slot_now : next_slot added ≡ front.next_slot + 1
+    slot_now = slot_written added (front.next_slot + 1) front.next_page (omega (arith, eight)) (omega (arith, loc.front_is.pages, half_is)) counts_new
+
+    page_now : next_page added ≡ front.next_page
+    page_now = page_written added (front.next_slot + 1) front.next_page (omega (arith, eight)) (omega (arith, loc.front_is.pages, half_is)) counts_new
+
+    front_now : IsSuper 0 added
+    front_now = record {
+      has_mark = mark_kept old added zero_new sound.front.has_mark;
+      form_is = form_kept old added zero_new ∙ sound.front.form_is;
+      slots = omega (arith, slot_now, added_count, eight);
+      some_pages = omega (arith, page_now, loc.front_is.some);
+      pages = omega (arith, page_now, added_count, loc.front_is.pages, half_is);
+    }
+
+    slots_stay : (j : ℕ) → j < next_slot old → slot_of added j ≡ slot_of old j
+    slots_stay j lt = slot_old j (omega (arith, eight, says.slot_is)) (λ e. omega (arith, says.slot_is))
+
+    keeps : Keeps old added
+    keeps = record {
+      pages = omega (arith, page_now, says.next_is);
+      slots = omega (arith, slot_now, says.slot_is);
+      carried = λ p lt carries. carries_on old added p (slots_stay p.1 lt) carries;
+    }
+
+    small : AreSmall (inserted pairs key front.next_slot)
+    small = small_inserted key front.next_slot pairs loc.small fits (omega (arith, eight))
+
+    takes : TakesPairInChain old added page key front.next_slot
+    takes = record {
+      room = omega (arith, room, ap (λ (ps : List Pair). length ps) says.pairs_are, length-page_pairs old page);
+      kind = ap kind_said page_new ∙ leaf_kind link (inserted pairs key front.next_slot) many link_fits;
+      level = ap level_said page_new ∙ leaf_level link (inserted pairs key front.next_slot) many link_fits;
+      link = ap link_said page_new ∙ leaf_link link (inserted pairs key front.next_slot) many link_fits ∙ says.link_is;
+      pairs = ap pairs_said page_new ∙ leaf_pairs link (inserted pairs key front.next_slot) many link_fits small ∙ ap (λ (ps : List Pair). inserted ps key front.next_slot) says.pairs_are;
+      given = omega (arith, slot_now);
+      carries = carries_absent added key front.next_slot fits slot_new;
+    }
+
+    pages_stay : (x : ℕ) → 1 ≤ x → x < next_page old → x ≢ page → page_bytes added x ≡ page_bytes old x
+    pages_stay x some lt other = page_old x some (omega (arith, sound.front.pages, first)) other
+
+    adds : IsSoundChain added × (pairs_of_chain added ≡ inserted (pairs_of_chain old) key front.next_slot)
+    adds = sound_chain_takes old added key front.next_slot sound keeps front_now (page_now ∙ says.next_is) fits none
+        (subst (λ (x : ℕ). TakesPairInChain old added x key front.next_slot) says.page_is takes)
+        (subst (λ (x : ℕ). (y : ℕ) → 1 ≤ y → y < next_page old → y ≢ x → page_bytes added y ≡ page_bytes old y) says.page_is pages_stay)
+
+    links_stay : (p : ℕ) → 1 ≤ p → p < next_page old → link_of added p ≡ link_of old p
+    links_stay p some lt = elim (eqb_tells p page) [
+      | inl same ↦ ap (λ (x : ℕ). link_of added x) same.1 ∙ takes.link ∙ ap (λ (x : ℕ). link_of old x) (sym same.1)
+      | inr other ↦ ap link_said (pages_stay p some lt other.1)
+    ]
+
+    -- what an added pair makes of the data
+    pub adding_grows : Grows chain old (applied (adding_parts half front page link pairs key) old) × Gains chain key old (applied (adding_parts half front page link pairs key) old)
+        × (next_page (applied (adding_parts half front page link pairs key) old) ≡ next_page old)
+    unfolding added
+    adding_grows = (
+      record {
+        sound = adds.0;
+        size = added_long;
+        slots = slots_stay;
+        later = omega (arith, page_now, says.next_is);
+        few = omega (arith, page_now, says.next_is);
+        named = λ x from to. absurd (omega (arith, page_now, says.next_is));
+        kept = pages_same old added sound (page_now ∙ says.next_is) links_stay;
+        levels = omega arith;
+      },
+      record {
+        pairs = adds.1 ∙ ap (λ (s : ℕ). inserted (pairs_of_chain old) key s) says.slot_is;
+        slots = slot_now ∙ (let e : front.next_slot + 1 ≡ suc (next_slot old) = omega (arith, says.slot_is) in e);
+        fresh = subst (λ (s : ℕ). slot_of added s ≡ slot_bytes (Absent key)) says.slot_is slot_new;
+      },
+      page_now ∙ says.next_is,
+    )
