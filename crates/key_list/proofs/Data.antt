@@ -251,3 +251,180 @@ module _ (shape : Shape) (old : List ℕ) (half : ℕ) (long : length old ≡ da
       },
       page_now ∙ says.next_is,
     )
+
+  -- a full page is cut
+  module _ (full : length pairs ≡ 30) (next : front.next_page < index_pages_of shape) where
+    c1 : List ℕ
+    c1 = leaf_bytes front.next_page (take 15 pairs)
+
+    c2 : List ℕ
+    c2 = leaf_bytes link (drop 15 pairs)
+
+    c3 : List ℕ
+    c3 = count_bytes front.next_slot (front.next_page + 1)
+
+    cut : List ℕ
+    cut = applied (cutting_parts front page link pairs) old
+
+    lower_many : length (take 15 pairs) ≤ 30
+    lower_many = omega (arith, length-take-le 15 pairs (omega arith))
+
+    upper_many : length (drop 15 pairs) ≤ 30
+    upper_many = omega (arith, length-drop 15 pairs)
+
+    next_fits : front.next_page < 2 ^ 32
+    next_fits = omega (arith, next, half_is)
+
+    link_fits' : link < 2 ^ 32
+    link_fits' = omega (arith, loc.link_inside, half_is)
+
+    next_below : front.next_page < half
+    next_below = omega (arith, next, half_is)
+
+    page_first : page < front.next_page
+    page_first = omega (arith, own_page.1, says.next_is)
+
+    clen1 : length c1 ≡ 512
+    unfolding c1
+    clen1 = length-leaf_bytes front.next_page (take 15 pairs) lower_many next_fits
+
+    clen2 : length c2 ≡ 512
+    unfolding c2
+    clen2 = length-leaf_bytes link (drop 15 pairs) upper_many link_fits'
+
+    clen3 : length c3 ≡ 8
+    unfolding c3
+    clen3 = length-count_bytes front.next_slot (front.next_page + 1)
+
+    cfits1 : address page 0 + length c1 ≤ length old
+    cfits1 = omega (arith, clen1, size, page_first, next_below)
+
+    cfits2 : address front.next_page 0 + length c2 ≤ length old
+    cfits2 = omega (arith, clen2, size, next_below)
+
+    cfits3 : address 0 8 + length c3 ≤ length old
+    cfits3 = omega (arith, clen3, size, next_below)
+
+    capart12 : Apart (address page 0) (length c1) (address front.next_page 0) (length c2)
+    capart12 = inl (omega (arith, clen1, page_first))
+
+    capart13 : Apart (address page 0) (length c1) (address 0 8) (length c3)
+    capart13 = inr (omega (arith, clen3, loc.some))
+
+    capart23 : Apart (address front.next_page 0) (length c2) (address 0 8) (length c3)
+    capart23 = inr (omega (arith, clen3, loc.front_is.some))
+
+    caway : (at n : ℕ) → Apart at n (address page 0) (length c1) → Apart at n (address front.next_page 0) (length c2) → Apart at n (address 0 8) (length c3) → range cut at n ≡ range old at n
+    unfolding c1 c2 c3 cut
+    caway at n x y z = three_away old (address page 0) c1 (address front.next_page 0) c2 (address 0 8) c3 cfits1 cfits2 cfits3 capart12 capart13 capart23 at n x y z
+
+    cut_long : length cut ≡ length old
+    unfolding c1 c2 c3 cut
+    cut_long = three_long old (address page 0) c1 (address front.next_page 0) c2 (address 0 8) c3 cfits1 cfits2 cfits3 capart12 capart13 capart23
+
+    cut_count : page_count cut ≡ half + half
+    cut_count = omega (arith, cut_long, size)
+
+    lower_new : page_bytes cut page ≡ leaf_bytes front.next_page (take 15 pairs)
+    unfolding page_bytes c1 c2 c3 cut
+    lower_new =
+        ap (λ (x : ℕ). range cut x 512) (let e : 512 * page ≡ address page 0 = omega arith in e)
+        ∙ three_first old (address page 0) c1 (address front.next_page 0) c2 (address 0 8) c3 cfits1 cfits2 cfits3 capart12 capart13 capart23 512 (sym clen1)
+
+    upper_new : page_bytes cut front.next_page ≡ leaf_bytes link (drop 15 pairs)
+    unfolding page_bytes c1 c2 c3 cut
+    upper_new =
+        ap (λ (x : ℕ). range cut x 512) (let e : 512 * front.next_page ≡ address front.next_page 0 = omega arith in e)
+        ∙ three_second old (address page 0) c1 (address front.next_page 0) c2 (address 0 8) c3 cfits1 cfits2 cfits3 capart12 capart13 capart23 512 (sym clen2)
+
+    counts_cut : range cut 8 8 ≡ count_bytes front.next_slot (front.next_page + 1)
+    unfolding c1 c2 c3 cut
+    counts_cut = three_third old (address page 0) c1 (address front.next_page 0) c2 (address 0 8) c3 cfits1 cfits2 cfits3 capart12 capart13 capart23 8 (sym clen3)
+
+    zero_cut : range cut 0 8 ≡ range old 0 8
+    zero_cut = caway 0 8 (inl (omega (arith, loc.some))) (inl (omega (arith, loc.front_is.some))) (inl (omega arith))
+
+    others_cut : (x : ℕ) → 1 ≤ x → x < next_page old → x ≢ page → page_bytes cut x ≡ page_bytes old x
+    unfolding page_bytes
+    others_cut x some lt other =
+        let apart : Apart (512 * x) 512 (address page 0) (length c1) = elim (cases_lt x page) [
+          | inl below ↦ inl (omega arith)
+          | inr above ↦ (let ne : x ≡ page → ⊥ = other in inr (omega (arith, clen1)))
+        ] in
+        caway (512 * x) 512 apart (inl (omega (arith, says.next_is))) (inr (omega (arith, clen3)))
+
+    slots_cut : (j : ℕ) → slot_of cut j ≡ slot_of old j
+    unfolding slot_of
+    slots_cut j =
+        let place : slot_at cut j ≡ 512 * half + 64 * j = omega (arith, cut_count) in
+        let place' : slot_at old j ≡ 512 * half + 64 * j = omega (arith, count) in
+        ap (λ (x : ℕ). range cut x 64) place
+        ∙ caway (512 * half + 64 * j) 64 (inr (omega (arith, clen1, page_first, next_below))) (inr (omega (arith, clen2, next_below))) (inr (omega (arith, clen3, next_below)))
+        ∙ ap (λ (x : ℕ). range old x 64) (sym place')
+
+    slot_cut : next_slot cut ≡ front.next_slot
+    slot_cut = slot_written cut front.next_slot (front.next_page + 1) (omega (arith, loc.front_is.slots, all)) (omega (arith, next_below)) counts_cut
+
+    page_cut : next_page cut ≡ front.next_page + 1
+    page_cut = page_written cut front.next_slot (front.next_page + 1) (omega (arith, loc.front_is.slots, all)) (omega (arith, next_below)) counts_cut
+
+    front_cut : IsSuper 0 cut
+    front_cut = record {
+      has_mark = mark_kept old cut zero_cut sound.front.has_mark;
+      form_is = form_kept old cut zero_cut ∙ sound.front.form_is;
+      slots = omega (arith, slot_cut, cut_count, loc.front_is.slots, all);
+      some_pages = omega (arith, page_cut);
+      pages = omega (arith, page_cut, cut_count, next_below);
+    }
+
+    keeps_cut : Keeps old cut
+    keeps_cut = record {
+      pages = omega (arith, page_cut, says.next_is);
+      slots = omega (arith, slot_cut, says.slot_is);
+      carried = λ p lt carries. carries_on old cut p (slots_cut p.1) carries;
+    }
+
+    splits : SplitsPage old cut page
+    splits =
+        let upper : (x : ℕ) → x ≡ front.next_page → page_bytes cut x ≡ leaf_bytes link (drop 15 pairs) = λ x is. ap (λ (y : ℕ). page_bytes cut y) is ∙ upper_new in
+        let there = upper (next_page old) (sym says.next_is) in
+        record {
+          full = ap (λ (ps : List Pair). length ps) (sym says.pairs_are) ∙ full;
+          kind = ap kind_said lower_new ∙ leaf_kind front.next_page (take 15 pairs) lower_many next_fits;
+          level = ap level_said lower_new ∙ leaf_level front.next_page (take 15 pairs) lower_many next_fits;
+          link = ap link_said lower_new ∙ leaf_link front.next_page (take 15 pairs) lower_many next_fits ∙ says.next_is;
+          pairs = ap pairs_said lower_new ∙ leaf_pairs front.next_page (take 15 pairs) lower_many next_fits (small_take 15 pairs loc.small).0 ∙ ap (take 15) says.pairs_are;
+          kind' = ap kind_said there ∙ leaf_kind link (drop 15 pairs) upper_many link_fits';
+          level' = ap level_said there ∙ leaf_level link (drop 15 pairs) upper_many link_fits';
+          link' = ap link_said there ∙ leaf_link link (drop 15 pairs) upper_many link_fits' ∙ says.link_is;
+          pairs' = ap pairs_said there ∙ leaf_pairs link (drop 15 pairs) upper_many link_fits' (small_take 15 pairs loc.small).1 ∙ ap (drop 15) says.pairs_are;
+          one_more = page_cut ∙ (let e : front.next_page + 1 ≡ suc (next_page old) = omega (arith, says.next_is) in e);
+        }
+
+    cuts : IsSoundChain cut × (pairs_of_chain cut ≡ pairs_of_chain old)
+    cuts = sound_chain_splits old cut key sound keeps_cut front_cut fits
+        (subst (λ (x : ℕ). SplitsPage old cut x) says.page_is splits)
+        (subst (λ (x : ℕ). (y : ℕ) → 1 ≤ y → y < next_page old → y ≢ x → page_bytes cut y ≡ page_bytes old y) says.page_is others_cut)
+
+    -- what a cut page makes of the data
+    pub cutting_grows : Grows chain old (applied (cutting_parts front page link pairs) old) × Rests chain old (applied (cutting_parts front page link pairs) old)
+        × (next_page (applied (cutting_parts front page link pairs) old) ≡ suc (next_page old))
+        × (page_of_key (applied (cutting_parts front page link pairs) old) key ≡ half_for old page key)
+    unfolding cut
+    cutting_grows =
+        let on : IsPageOfChain old page = subst (λ (x : ℕ). IsPageOfChain old x) (sym says.page_is) (key_page_own old key sound).1 in (
+          record {
+            sound = cuts.0;
+            size = cut_long;
+            slots = λ j lt. slots_cut j;
+            later = omega (arith, page_cut, says.next_is);
+            few = omega (arith, page_cut, says.next_is);
+            named = λ x from to. subst (λ (y : ℕ). IsPageOfChain cut y) (let e : next_page old ≡ x = omega (arith, page_cut, says.next_is) in e)
+                (cut_names old cut page splits sound.front.some_pages others_cut sound on);
+            kept = cut_keeps old cut page splits sound.front.some_pages others_cut sound;
+            levels = omega arith;
+          },
+          record { pairs = cuts.1; slots = slot_cut ∙ says.slot_is },
+          splits.one_more,
+          half_after old cut page splits sound.front.some_pages others_cut key sound says.page_is,
+        )
