@@ -3,3 +3,4 @@ pub mod Causing
 pub mod Placing
 pub mod Chains
 pub mod Data
+pub mod Going
