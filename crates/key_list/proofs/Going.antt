@@ -155,3 +155,71 @@ module _ (tells : Bool) (Opens : List ℕ → List ℕ → Type 0) (t key : ℕ)
       dies = λ failed. absurd (false≢true failed);
       time = λ told alive. (let r : Result (Unit {0}) PageFault = Ok tt in time_acts r acts told alive);
     }
+
+  -- it ends without the pair
+  pub inserts_refused : (old now : PagesView) → Going old now → (fault : IndexFault) → (let s : Result ℕ IndexFault = Err fault in (is_insert_failed s ≡ false) × InsertCause tells chain t key old.store s)
+      → ((n : ℕ) → fault ≡ index.PagesFull n → IsTrue tells → IsAlive old.store → n ≤ next_page now.store.state.bytes) → (let s : Result ℕ IndexFault = Err fault in Inserts tells Opens chain t key old now s)
+  inserts_refused old now going fault cause full = record {
+    shape = going.shape;
+    cause = cause.1;
+    saves = going.saves;
+    others = going.others;
+    kept = λ well. going.logs;
+    made = made_of fault cause.0 full;
+    dies = λ failed. absurd (false≢true (sym cause.0 ∙ failed));
+    time = going.time;
+  }
+    where
+      made_of : (fault : IndexFault) → (let s : Result ℕ IndexFault = Err fault in is_insert_failed s ≡ false) → ((n : ℕ) → fault ≡ index.PagesFull n → IsTrue tells → IsAlive old.store → n ≤ next_page now.store.state.bytes)
+          → IsTrue tells → IsAlive old.store → (let s : Result ℕ IndexFault = Err fault in Made chain key old.store.state.bytes now.store.state.bytes s)
+      made_of (index.SlotsFull n) well full told alive = going.made told alive
+      made_of (index.PagesFull n) well full told alive = let grown = going.made told alive in (grown.0, grown.1, inl (full n refl told alive))
+      made_of (index.LogFull g h n) well full told alive = going.made told alive
+      made_of index.Media well full told alive = tt
+      made_of index.Dead well full told alive = going.made told alive
+      made_of (index.Damaged bad) well full told alive = going.made told alive
+
+  -- the media failed
+  inserts_look_media : (old mid now : PagesView) → Going old mid → Looks tells Opens true mid now → IsAlive old.store → (let s : Result ℕ IndexFault = Err index.Media in Inserts tells Opens chain t key old now s)
+  inserts_look_media old mid now going looks alive =
+      let dies = looks.dies refl in
+      record {
+        shape = looks.shape ∙ going.shape;
+        cause = alive;
+        saves = looks.saves ∙ going.saves;
+        others = λ u ne. ap (λ (f : ℕ → Option (List (ℕ × ℕ))). f u) looks.ranges ∙ going.others u ne;
+        kept = λ well. absurd (false≢true (sym well));
+        made = λ told living. tt;
+        dies = λ failed. (dies.0, subst (λ (n : ℕ). Rose n now.store.faults) going.logs.faults dies.1);
+        time = λ told living. time_looks true old mid now going looks told living;
+      }
+
+  pub inserts_look_err : (T : Type 0) (old mid now : PagesView) → Going old mid → (fault : PageFault) → (let r : Result T PageFault = Err fault in Looks tells Opens (is_failed r) mid now × LookCause tells mid.store r)
+      → (let s : Result ℕ IndexFault = Err (as_index fault) in Inserts tells Opens chain t key old now s)
+  inserts_look_err T old mid now going page.Media looks = inserts_look_media old mid now going looks.0 (sym going.logs.dead ∙ looks.1)
+  inserts_look_err T old mid now going page.Dead looks = inserts_refused old now (going_more old mid now going looks.0) index.Dead (refl, sym going.logs.dead ∙ looks.1) (λ n e. absurd (cc))
+  inserts_look_err T old mid now going (page.Damaged bad) looks = inserts_refused old now (going_more old mid now going looks.0) (index.Damaged bad) (refl, (sym going.logs.dead ∙ looks.1.0, looks.1.1)) (λ n e. absurd (cc))
+  inserts_look_err T old mid now going (page.LogFull g h n) looks = absurd looks.1
+  inserts_look_err T old mid now going page.SavesFull looks = absurd looks.1
+
+  pub inserts_act_err : (old mid now : PagesView) → (going : Going old mid) → (pages : List ℕ) (parts : List Part)
+      → (may : IsTrue tells → IsAlive old.store → MayBecome chain key old.store.state.bytes (applied parts mid.store.state.bytes)) → IsAlive old.store
+      → ((g h n : ℕ) → IsFirstLacking mid.store t pages g h n → (let s : Result ℕ IndexFault = Err (index.LogFull g h n) in InsertCause tells chain t key old.store s))
+      → (fault : PageFault) → (let r : Result (Unit {0}) PageFault = Err fault in Acts tells Opens t pages parts mid now r) → (let s : Result ℕ IndexFault = Err (as_index fault) in Inserts tells Opens chain t key old now s)
+  inserts_act_err old mid now going pages parts may alive cause page.Media acts =
+      let dies = acts.dies refl in
+      record {
+        shape = acts.shape ∙ going.shape;
+        cause = alive;
+        saves = acts.saves ∙ going.saves;
+        others = λ u ne. acts.others u ne ∙ going.others u ne;
+        kept = λ well. absurd (false≢true (sym well));
+        made = λ told living. tt;
+        dies = λ failed. (dies.0, subst (λ (n : ℕ). Rose n now.store.faults) going.logs.faults dies.1);
+        time = λ told living. (let r : Result (Unit {0}) PageFault = Err page.Media in time_acts old mid now going pages parts may r acts told living);
+      }
+  inserts_act_err old mid now going pages parts may alive cause (page.LogFull g h n) acts =
+      inserts_refused old now (refused old mid now going pages parts may g h n acts) (index.LogFull g h n) (refl, cause g h n acts.cause.1) (λ m e. absurd (cc))
+  inserts_act_err old mid now going pages parts may alive cause page.Dead acts = absurd (false≢true (sym (alive_now old mid going alive) ∙ acts.cause))
+  inserts_act_err old mid now going pages parts may alive cause page.SavesFull acts = absurd acts.cause
+  inserts_act_err old mid now going pages parts may alive cause (page.Damaged bad) acts = absurd acts.cause

@@ -4,3 +4,4 @@ pub mod Placing
 pub mod Chains
 pub mod Data
 pub mod Going
+pub mod Counting

@@ -8,7 +8,7 @@ ghost use Rattle.page_store.specs.Shown.{pages_of, top_in};
 ghost use Rattle.index_pages.specs.Acts.{Acts};
 ghost use Rattle.key_list.specs.Located.{IsLocated, adding_pages, adding_parts, cutting_pages, cutting_parts};
 
-use crate::locate::Located;
+use crate::place::Located;
 use eaw_face::EawStore;
 use index_pages::{PAGE_LEN, PagePart, act, index_page_count, write_leaf};
 use page_store::{PageFault, Pages};

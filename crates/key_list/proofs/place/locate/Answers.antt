@@ -9,10 +9,10 @@ use Rattle.index_pages.specs.Ways.{page_of_key}
 use Rattle.index_pages.proofs.Looking.{looks_next}
 use Rattle.index_pages.proofs.Sizes.{index_pages_are}
 use Rattle.key_list.specs.Linked.{IsLinked}
-use Rattle.key_list.specs.declared.locate.Located.{Located}
+use Rattle.key_list.specs.declared.place.Located.{Located}
 use Rattle.key_list.proofs.Causing.{look_cause}
 use Rattle.key_list.proofs.Walking.{key_page_linked}
-use Rattle.key_list.proofs.locate.locate.Goals as goal
+use Rattle.key_list.proofs.place.locate.Goals as goal
 
 pub returns-in-Err-read_page-clause-cause : goal.returns-in-Err-read_page-clause-cause
 returns-in-Err-read_page-clause-cause g c =
