@@ -13,3 +13,7 @@ pub mod Invariant
 pub mod Told
 pub mod Fits
 pub mod Reads
+pub mod Pairs
+pub mod Index
+pub mod Looks
+pub mod Inserts

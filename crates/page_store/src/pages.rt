@@ -11,8 +11,9 @@ ghost use Rattle.page_store.specs.Command.{write_as, save, back, top_begin, top_
 ghost use Rattle.page_store.specs.Does.{Becomes, Does};
 ghost use Rattle.page_store.specs.Edit.{edit_pos, meet};
 ghost use Rattle.page_store.specs.Fits.{FitAll, LacksRoom, is_page_on};
+ghost use Rattle.page_store.specs.Kept.{IsOrdered};
 ghost use Rattle.page_store.specs.Reads.{Reads};
-ghost use Rattle.page_store.specs.Shown.{IsInPage, IsUnmarked, address, counts_in, top_in, pages_of, state_of};
+ghost use Rattle.page_store.specs.Shown.{IsInPage, IsUnmarked, address, counts_in, outline_of, top_in, pages_of, state_of};
 ghost use Rattle.page_store.specs.Told.{IsKnown, TellsAs, DoesWhereLive, told_as};
 ghost use Rattle.page_store.specs.State.{view_of};
 
@@ -105,6 +106,14 @@ impl<S: EawStore> Pages<S> {
         ensures { result ≡ top_in self.now.marks tid }
     {
         self.marks[usize::from(tid)].top()
+    }
+
+    /// Whether an earlier call has met a fault of the media. While none has, saves and open tops are in order.
+    pub fn is_dead(&self) -> bool
+        ensures dead { result ≡ (S.view self.now.store).is_dead }
+        ensures ordered { IsAlive (S.view self.now.store) → IsOrdered (outline_of (pages_of (S.view self.now.store) self.now)) }
+    {
+        self.store.is_dead()
     }
 
     /// Reads committed data within a page, as many bytes as the buffer has, from the place `at` on.

@@ -12,7 +12,7 @@ use Rattle.record_slots.specs.declared.slot.Slot.{Slot}
 use Rattle.record_slots.specs.declared.slot.Slot.TheVariants.{Absent, Present}
 
 -- a number behind k bytes
-little_shift : (i k n : ℕ) (xs : List ℕ) → little_from i n (drop k xs) ≡ little_from (k + i) n xs
+pub little_shift : (i k n : ℕ) (xs : List ℕ) → little_from i n (drop k xs) ≡ little_from (k + i) n xs
 little_shift i k zero xs = refl
 little_shift i k (suc n) xs =
     let here = get_or-drop k xs i 0 in

@@ -1,2 +1,4 @@
 pub mod Text
 pub mod Slots
+pub mod Super
+pub mod Places

@@ -1,0 +1,50 @@
+-- The super page behind a write of its counts.
+use Rattle.std.proofs.Common.{◌≡◌, ℕ, zero, suc, ◌+◌, ◌-◌, ◌*◌, ◌^◌, ◌<◌, ◌≤◌, List, [], ◌∷◌, ◌++◌, length, get_or, take, drop, refl, sym, ◌∙◌, ap, append_assoc, arith}
+use Rattle.std.specs.Prelude.{slice_index}
+use Rattle.std.proofs.lemmas.List.{get_or-drop, get_or-take, length-append, take_at, drop_at, take-take, length-take-le}
+use Rattle.byteorder.specs.Endian.{little_from, little_bytes}
+use Rattle.byteorder.specs.Numbers.{little_from-take, little_number-reads_back, length-bytes_low_first}
+use Rattle.counted.specs.Bytes.{put, range}
+use Rattle.record_slots.specs.Super.{HasSuperMark, form_said, next_slot_said, next_page_said, count_bytes}
+use Rattle.record_slots.specs.Places.{page_bytes, next_slot, next_page}
+use Rattle.index_pages.proofs.Reading.{little_from-drop}
+
+pub length-count_bytes : (slot page : ℕ) → length (count_bytes slot page) ≡ 8
+unfolding count_bytes
+length-count_bytes slot page = omega (arith, length-append (little_bytes 4 slot) (little_bytes 4 page), length-bytes_low_first 0 4 slot, length-bytes_low_first 0 4 page)
+
+-- the counts that are read where they were written
+module _ (bytes : List ℕ) (slot page : ℕ) (small : slot < 2 ^ 32) (small' : page < 2 ^ 32) (written : range bytes 8 8 ≡ count_bytes slot page) where
+  pub slot_written : next_slot bytes ≡ slot
+  unfolding next_slot_said page_bytes count_bytes
+  slot_written =
+      little_from-take 8 4 512 (drop 0 bytes) (omega arith)
+      ∙ sym (little_from-drop 0 8 4 bytes) ∙ sym (little_from-take 0 4 8 (drop 8 bytes) (omega arith))
+      ∙ ap (λ (l : List ℕ). little_from 0 4 l) written
+      ∙ little_number-reads_back 4 slot (little_bytes 4 page) small
+
+  pub page_written : next_page bytes ≡ page
+  unfolding next_page_said page_bytes count_bytes
+  page_written =
+      little_from-take 12 4 512 (drop 0 bytes) (omega arith)
+      ∙ sym (little_from-drop 4 8 4 bytes) ∙ sym (little_from-take 4 4 8 (drop 8 bytes) (omega arith))
+      ∙ ap (λ (l : List ℕ). little_from 4 4 l) written
+      ∙ sym (little_from-drop 0 4 4 (little_bytes 4 slot ++ little_bytes 4 page))
+      ∙ ap (λ (l : List ℕ). little_from 0 4 l) (drop_at (little_bytes 4 slot) (little_bytes 4 page) 4 (length-bytes_low_first 0 4 slot) ∙ sym (append_nil (little_bytes 4 page)))
+      ∙ little_number-reads_back 4 page [] small'
+    where
+      append_nil : (xs : List ℕ) → xs ++ [] ≡ xs
+      append_nil [] = refl
+      append_nil (x ∷ xs) = ap (λ (l : List ℕ). x ∷ l) (append_nil xs)
+
+-- mark and form stay where the first eight bytes do
+module _ (old new : List ℕ) (same : range new 0 8 ≡ range old 0 8) where
+  pub mark_kept : HasSuperMark (page_bytes old 0) → HasSuperMark (page_bytes new 0)
+  unfolding page_bytes
+  mark_kept marked =
+      take-take 5 512 new (omega arith) ∙ sym (take-take 5 8 new (omega arith)) ∙ ap (take 5) same ∙ take-take 5 8 old (omega arith) ∙ sym (take-take 5 512 old (omega arith)) ∙ marked
+
+  pub form_kept : form_said (page_bytes new 0) ≡ form_said (page_bytes old 0)
+  unfolding page_bytes form_said
+  form_kept =
+      get_or-take 512 new 5 0 (omega arith) ∙ sym (get_or-take 8 new 5 0 (omega arith)) ∙ ap (λ (l : List ℕ). get_or l 5 0) same ∙ get_or-take 8 old 5 0 (omega arith) ∙ sym (get_or-take 512 old 5 0 (omega arith))

@@ -1,0 +1,16 @@
+-- The halves of a list of pairs.
+use Rattle.std.proofs.Common.{◌≡◌, ◌≢◌, ℕ, zero, suc, ◌<◌, ◌≤◌, true, false, nat_lt, inl, inr, List, [], ◌∷◌, ◌++◌, length, take, drop, refl, sym, ◌∙◌, ap, subst, arith, append_assoc}
+use Rattle.std.proofs.lemmas.Bool.Decides.{leb_tells}
+use Rattle.std.proofs.lemmas.List.{append-nil, take-append-drop, length-drop, length-take-le}
+use Rattle.index_pages.proofs.Rising.{rise_to_more, take_rises, drop_rises, key_at-bounds}
+use Rattle.page_store.specs.Pairs.{Pair}
+use Rattle.record_slots.specs.Places.{AreGiven}
+
+-- the first n of a list, and the rest
+pub given_take : (bytes : List ℕ) (n : ℕ) (ps : List Pair) → AreGiven bytes ps → AreGiven bytes (take n ps) × AreGiven bytes (drop n ps)
+given_take bytes zero ps g = (tt, g)
+given_take bytes (suc n) [] g = (tt, tt)
+given_take bytes (suc n) (p ∷ ps) g = let h = given_take bytes n ps g.2 in ((g.0, g.1, h.0), h.1)
+
+pub joined_two : (a b rest whole : List Pair) → a ++ b ≡ whole → a ++ (b ++ rest) ≡ whole ++ rest
+joined_two a b rest whole e = sym (append_assoc a b rest) ∙ ap (λ (l : List Pair). l ++ rest) e

@@ -1,0 +1,11 @@
+pub mod Keys
+pub mod Page
+pub mod Pieces
+pub mod Chain
+pub mod Ways
+pub mod Changes
+pub mod Failing
+pub mod Props
+pub mod Written
+pub mod Fetched
+pub mod Acts

@@ -1,0 +1,96 @@
+// Reads of the pages of an index, and of slots.
+ghost use Rattle.std.specs.Prelude.{◌≡◌, ◌<◌, ◌≤◌, ◌↔◌, ◌+◌, ◌*◌, IfOk, OnOk, IsErrOf, IsTrue};
+ghost use Rattle.array_shape.specs.Places.{page_count};
+ghost use Rattle.record_slots.specs.Places.{page_bytes, slot_of, IsSuper};
+ghost use Rattle.record_slots.specs.Slots.{slot_said};
+ghost use Rattle.record_slots.specs.Super.{SaysSuper};
+ghost use Rattle.page_store.specs.Index.{slots_of, index_pages_of};
+ghost use Rattle.page_store.specs.Looks.{Looks, is_failed};
+ghost use Rattle.page_store.specs.Shown.{pages_of};
+ghost use Rattle.index_pages.specs.Fetched.{ReadCause, TestCause, IsFront};
+
+use crate::page::PAGE_LEN;
+use eaw_face::EawStore;
+use page_store::{PageFault, Pages};
+use record_slots::{SLOT_LEN, Slot, Super, read_slot, read_super};
+
+const SLOTS_IN_PAGE: u32 = 8;
+
+/// How many pages an index has, the super page among them: half of the array's.
+pub fn index_page_count<S: EawStore>(pages: &Pages<S>) -> u32
+    ensures count { result ≡ index_pages_of (S.view pages.now.store).shape }
+    ensures some { 2 ≤ result }
+    ensures most { result ≤ 16384 }
+    ensures all { result + result ≡ page_count (S.view pages.now.store).shape }
+{
+    let shape = pages.shape();
+    (u64::from(shape.loggers) * u64::from(shape.pages) / 2) as u32
+}
+
+/// Reads a page.
+pub fn fetch_page<S: EawStore>(
+    pages: &mut Pages<S>,
+    page: u32,
+    bytes: &mut [u8; PAGE_LEN],
+) -> Result<(), PageFault>
+    requires { page < page_count (S.view pages.old.store).shape }
+    ensures looks { Looks S.tells (S.opens (S.view pages.old.store).shape) (is_failed result)
+        (pages_of (S.view pages.old.store) pages.old) (pages_of (S.view pages.new.store) pages.new) }
+    ensures cause { ReadCause (S.view pages.old.store) result }
+    ensures bytes { IsTrue S.tells → OnOk result (bytes.new ≡ page_bytes (S.view pages.old.store).state.bytes page) }
+    ensures dead { IsErrOf result PageFault.Dead → pages.new ≡ pages.old }
+{
+    pages.read(page, 0, bytes)
+}
+
+/// Reads what a slot says.
+pub fn fetch_slot<S: EawStore>(
+    pages: &mut Pages<S>,
+    slot: u32,
+) -> Result<Option<Slot>, PageFault>
+    requires { slot < slots_of (S.view pages.old.store).shape }
+    ensures looks { Looks S.tells (S.opens (S.view pages.old.store).shape) (is_failed result)
+        (pages_of (S.view pages.old.store) pages.old) (pages_of (S.view pages.new.store) pages.new) }
+    ensures cause { ReadCause (S.view pages.old.store) result }
+    ensures said { IsTrue S.tells → IfOk result (λ said. said ≡ slot_said (slot_of (S.view pages.old.store).state.bytes slot)) }
+    ensures dead { IsErrOf result PageFault.Dead → pages.new ≡ pages.old }
+{
+    let page = index_page_count(pages) + slot / SLOTS_IN_PAGE;
+    let mut bytes = [0; SLOT_LEN];
+    pages.read(page, slot % SLOTS_IN_PAGE * 64, &mut bytes)?;
+    Ok(read_slot(&bytes))
+}
+
+/// Reads the super page; it is damaged where it is not that of an index of this form.
+pub fn fetch_super<S: EawStore>(pages: &mut Pages<S>, form: u8) -> Result<Super, PageFault>
+    ensures looks { Looks S.tells (S.opens (S.view pages.old.store).shape) (is_failed result)
+        (pages_of (S.view pages.old.store) pages.old) (pages_of (S.view pages.new.store) pages.new) }
+    ensures cause { TestCause S.tells (IsSuper form (S.view pages.old.store).state.bytes) 0 (S.view pages.old.store) result }
+    ensures front { IfOk result (IsFront (S.view pages.old.store).shape) }
+    ensures sound { IsTrue S.tells → OnOk result (IsSuper form (S.view pages.old.store).state.bytes) }
+    ensures says { IsTrue S.tells → IfOk result (SaysSuper (page_bytes (S.view pages.old.store).state.bytes 0)) }
+    ensures dead { IsErrOf result PageFault.Dead → pages.new ≡ pages.old }
+{
+    let count = index_page_count(pages);
+    let mut bytes = [0; PAGE_LEN];
+    fetch_page(pages, 0, &mut bytes)?;
+    let Some(front) = read_super(&bytes) else {
+        return Err(PageFault::Damaged { page: 0 });
+    };
+    if is_front(&front, form, count) {
+        Ok(front)
+    } else {
+        Err(PageFault::Damaged { page: 0 })
+    }
+}
+
+// The form is this one, and the counts are those of an index of so many pages.
+fn is_front(front: &Super, form: u8, count: u32) -> bool
+    requires { count ≤ 16384 }
+    ensures { IsTrue result ↔ (front.now.form ≡ form) × (front.now.next_slot ≤ 8 * count) × (2 ≤ front.now.next_page) × (front.now.next_page ≤ count) }
+{
+    front.form == form
+        && front.next_slot <= 8 * count
+        && 2 <= front.next_page
+        && front.next_page <= count
+}

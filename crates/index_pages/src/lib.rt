@@ -1,0 +1,10 @@
+//! What the pages of an index say: pairs of keys and slots, and a chain of such pages; their laws, and the codec of a page.
+#![tactic(auto)]
+
+mod action;
+mod fetch;
+mod page;
+
+pub use action::{PagePart, act};
+pub use fetch::{fetch_page, fetch_slot, fetch_super, index_page_count};
+pub use page::{LeafHead, PAGE_LEN, PAIRS_MAX, Pairs, next_pair, read_leaf_head, read_pair, read_pairs, write_leaf};

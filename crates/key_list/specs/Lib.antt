@@ -1,0 +1,4 @@
+pub mod Linked
+pub mod Index
+pub mod Located
+pub mod Faults

@@ -1,0 +1,93 @@
+-- What an insertion does, and when each answer comes.
+use Rattle.std.specs.Prelude.{ℕ, ◌≡◌, ◌≢◌, ◌-◌, ◌<◌, ◌≤◌, ◌⊎◌, Bool, true, false, IsTrue, IsFalse, List, [], ◌∷◌, length, Result, Ok, Err}
+use Rattle.counted.specs.Causes.{Rose}
+use Rattle.eaw_face.specs.State.{listed}
+use Rattle.eaw_face.specs.StoreView.{StoreView, LeavesOnly}
+use Rattle.eaw_face.specs.Causes.{IsAlive}
+use Rattle.record_slots.specs.Places.{next_slot, next_page}
+use Rattle.page_store.specs.Fits.{FitAll, IsFirstLacking}
+use Rattle.page_store.specs.Shown.{PagesView, state_of}
+use Rattle.page_store.specs.State.{log_of}
+use Rattle.page_store.specs.Index.{Action, Index, slots_of, index_pages_of, Grows, Rests, Gains}
+use Rattle.page_store.specs.declared.index_fault.IndexFault.{IndexFault}
+use Rattle.page_store.specs.declared.index_fault.IndexFault.TheVariants.{SlotsFull, PagesFull, LogFull, Media, Dead, Damaged}
+
+-- so many pages are left for an action, and each of its parts has room in the log
+abbrev pub ActionFits : StoreView → ℕ → ℕ → Action → Type 0
+ActionFits store t left action = (action.takes ≤ left) × FitAll store t action.pages
+
+-- all actions fit one after another
+abbrev pub AllFit : StoreView → ℕ → ℕ → List Action → Type 0
+AllFit store t left [] = Unit {0}
+AllFit store t left (action ∷ later) = ActionFits store t left action × AllFit store t (left - action.takes) later
+
+-- the first action that does not fit finds too few pages
+abbrev pub LackPages : StoreView → ℕ → ℕ → List Action → Type 0
+LackPages store t left [] = ⊥
+LackPages store t left (action ∷ later) = (left < action.takes) ⊎ (ActionFits store t left action × LackPages store t (left - action.takes) later)
+
+-- the first action that does not fit finds its pages, and at logger g too little room: it holds h parts, and n more are needed
+abbrev pub LackRoom : StoreView → ℕ → ℕ → ℕ → ℕ → ℕ → List Action → Type 0
+LackRoom store t g h n left [] = ⊥
+LackRoom store t g h n left (action ∷ later) =
+    ((action.takes ≤ left) × IsFirstLacking store t action.pages g h n) ⊎ (ActionFits store t left action × LackRoom store t g h n (left - action.takes) later)
+
+-- How far an insertion comes in data that is told: a slot is left, and then its actions go one after another.
+abbrev pub ComesTo : Index → ℕ → StoreView → (ℕ → List Action → Type 0) → Type 0
+ComesTo index key old Ends =
+    (next_slot old.state.bytes < slots_of old.shape) × Ends (index_pages_of old.shape - next_page old.state.bytes) (index.actions old.state.bytes key)
+
+-- at logger g at most four parts find no room
+abbrev pub IsLogFull : StoreView → ℕ → ℕ → ℕ → ℕ → Type 0
+IsLogFull old t g h n = (pages : List ℕ) × (length pages ≤ 4) × IsFirstLacking old t pages g h n
+
+-- The answers. Where data is told, each of the first four comes exactly so.
+abbrev pub InsertCause : Bool → Index → ℕ → ℕ → StoreView → Result ℕ IndexFault → Type 0
+InsertCause tells index t key old (Ok slot) = IsAlive old × (slot < slots_of old.shape) × (IsTrue tells → ComesTo index key old (AllFit old t))
+InsertCause tells index t key old (Err (SlotsFull n)) = IsAlive old × (n ≡ slots_of old.shape) × (IsTrue tells → next_slot old.state.bytes ≡ n)
+InsertCause tells index t key old (Err (PagesFull n)) =
+    IsAlive old × (n ≡ index_pages_of old.shape - 1) × (IsTrue tells → ComesTo index key old (LackPages old t))
+InsertCause tells index t key old (Err (LogFull g h n)) =
+    IsAlive old × IsLogFull old t g h n × (IsTrue tells → ComesTo index key old (LackRoom old t g h n))
+InsertCause tells index t key old (Err Media) = IsAlive old
+InsertCause tells index t key old (Err Dead) = old.is_dead ≡ true
+InsertCause tells index t key old (Err (Damaged page)) = IsAlive old × ¬ IsTrue tells
+
+-- What it makes of data that is told: one pair more, with the slot that it answers; or none, where it was refused. Where pages ran
+-- out, all but one at most are given, or the index has as many levels as it may.
+abbrev pub Made : Index → ℕ → List ℕ → List ℕ → Result ℕ IndexFault → Type 0
+Made index key old new (Ok slot) = (slot ≡ next_slot old) × Grows index old new × Gains index key old new
+Made index key old new (Err Media) = Unit {0}
+Made index key old new (Err (PagesFull n)) = Grows index old new × Rests index old new × ((n ≤ next_page new) ⊎ (7 ≤ index.level new))
+Made index key old new (Err _) = Grows index old new × Rests index old new
+
+-- the media failed
+abbrev pub is_insert_failed : Result ℕ IndexFault → Bool
+is_insert_failed (Err Media) = true
+is_insert_failed _ = false
+
+-- data that a loss of power within it may leave
+abbrev pub MayBecome : Index → ℕ → List ℕ → List ℕ → Type 0
+MayBecome index key old new = Grows index old new × (Rests index old new ⊎ Gains index key old new)
+
+-- what numbers have logged is as it was
+pub record KeepsLogs (tells : Bool) (old new : PagesView) : Type 0 where
+  pub dead : new.store.is_dead ≡ old.store.is_dead
+  pub faults : new.store.faults ≡ old.store.faults
+  pub tops : new.top ≡ old.top
+  pub ranges : (u : ℕ) → listed (new.store.ranges u) ≡ listed (old.store.ranges u)
+  pub logs : IsTrue tells → (u : ℕ) → log_of (state_of new) u ≡ log_of (state_of old) u
+
+-- An insertion of a key, as number t. Saves stay, and other numbers keep what they have logged, whatever the answer; so does t itself,
+-- but at a fault of the media, which leaves the store dead. At each moment of a store that was not dead a loss of power leaves what it
+-- might have left before, or an image that opens with sound data that has the pairs before or behind it.
+pub record Inserts (tells : Bool) (Opens : List ℕ → List ℕ → Type 0) (index : Index) (t key : ℕ) (old new : PagesView) (result : Result ℕ IndexFault) : Type 0 where
+  pub shape : new.store.shape ≡ old.store.shape
+  pub cause : InsertCause tells index t key old.store result
+  pub saves : new.counts ≡ old.counts
+  pub others : (u : ℕ) → u ≢ t → new.store.ranges u ≡ old.store.ranges u
+  pub kept : IsFalse (is_insert_failed result) → KeepsLogs tells old new
+  pub made : IsTrue tells → IsAlive old.store → Made index key old.store.state.bytes new.store.state.bytes result
+  pub dies : IsTrue (is_insert_failed result) → (new.store.is_dead ≡ true) × Rose old.store.faults new.store.faults
+  pub time : IsTrue tells → IsAlive old.store
+      → LeavesOnly (λ image. (bytes : List ℕ) × Opens image bytes × MayBecome index key old.store.state.bytes bytes) old.store new.store

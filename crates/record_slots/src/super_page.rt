@@ -1,0 +1,49 @@
+ghost use Rattle.std.specs.Prelude.{◌≡◌, IfSome, IfNone};
+ghost use Rattle.record_slots.specs.Super.{HasSuperMark, SaysSuper, count_bytes};
+
+use byteorder::{ByteOrder, LittleEndian};
+
+/// Where the eight bytes of both counts stand in the super page.
+pub const COUNTS_AT: usize = 8;
+
+/// How many bytes both counts have.
+pub const COUNTS_LEN: usize = 8;
+
+const MARK: [u8; 5] = *b"MREC\x01";
+
+const FORM_AT: usize = 5;
+
+const NEXT_SLOT_AT: usize = 8;
+
+const NEXT_PAGE_AT: usize = 12;
+
+/// What the super page says: the form of the index (0 a chain), and the slot and the page that are given next.
+#[derive(Clone, Copy, Debug, PartialEq, Eq)]
+pub struct Super {
+    pub form: u8,
+    pub next_slot: u32,
+    pub next_page: u32,
+}
+
+/// What a super page says; `None` exactly where its first five bytes are not the mark and the version.
+pub fn read_super(bytes: &[u8; 512]) -> Option<Super>
+    ensures says { IfSome result (SaysSuper bytes.now) }
+    ensures unmarked { IfNone result (¬ HasSuperMark bytes.now) }
+{
+    if !bytes.starts_with(&MARK) {
+        return None;
+    }
+    Some(Super {
+        form: bytes[FORM_AT],
+        next_slot: LittleEndian::read_u32(&bytes[NEXT_SLOT_AT..]),
+        next_page: LittleEndian::read_u32(&bytes[NEXT_PAGE_AT..]),
+    })
+}
+
+/// Writes the eight bytes of both counts, which stand in the super page from `COUNTS_AT` on.
+pub fn write_super_counts(next_slot: u32, next_page: u32, out: &mut [u8; COUNTS_LEN])
+    ensures { out.new ≡ count_bytes next_slot next_page }
+{
+    LittleEndian::write_u32(&mut out[..4], next_slot);
+    LittleEndian::write_u32(&mut out[4..], next_page);
+}
