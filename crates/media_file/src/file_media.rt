@@ -177,6 +177,3 @@ impl<C: Calls> Media for FileMedia<C> {
         }
     }
 }
-
-#[cfg(test)]
-mod tests;

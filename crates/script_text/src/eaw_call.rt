@@ -6,8 +6,8 @@ ghost use Rattle.script_text.specs.HexText.{IsHex};
 ghost use Rattle.script_text.specs.Eaw.{IsTextOf};
 ghost use Rattle.script_text.specs.EawLines.{ShowsCall};
 
-use crate::lent::BLOCK;
 use crate::hex_text::is_hex;
+use crate::lent::BLOCK;
 use crate::number::read_below;
 use crate::word::{after, is_text, split_word};
 

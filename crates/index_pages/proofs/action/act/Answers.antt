@@ -125,9 +125,12 @@ returns-clause-acts g c =
       outlines = λ u. g.met.S.EawStore.outlines c.args.pages.now.store u tell alive;
       placed = g.met.S.EawStore.placed c.args.pages.now.store;
     } in
-    acting_end T O t v0 v4 v5 parts a4 alive (c.requires.closed alive) pages c.in-Ok.ensures.fits.1 c.top_begin-mark.result c.top_begin-mark.ensures.mark
-    (in_page_placed v0.store a.page a.at (length a.bytes.now) c.requires.first_some c.requires.first,
-      (in_page_placed v0.store b.page b.at (length b.bytes.now) c.requires.second_some c.requires.second,
-        (in_page_placed v0.store d.page d.at (length d.bytes.now) c.requires.third_some c.requires.third, tt)))
+    acting_end T O t v0 v4 v5 parts a4 alive (c.requires.closed alive) pages c.in-Ok.ensures.fits.1 c.top_begin-mark.result c.top_begin-mark.ensures.mark (
+      in_page_placed v0.store a.page a.at (length a.bytes.now) c.requires.first_some c.requires.first,
+      (
+        in_page_placed v0.store b.page b.at (length b.bytes.now) c.requires.second_some c.requires.second,
+        (in_page_placed v0.store d.page d.at (length d.bytes.now) c.requires.third_some c.requires.third, tt),
+      ),
+    )
     (λ tell. known_of v0 t (told tell) (c.if-is_dead.ensures.ordered alive))
     c.top_end.result (on_shape T E (top_end t c.top_begin-mark.result) v0 v4 v5 c.top_end.result a4.shape c.top_end.ensures.does)

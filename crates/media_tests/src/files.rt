@@ -1,5 +1,9 @@
-use super::*;
+use counted::Failed;
+use media_file::{FileCalls, FileMedia};
+use pcm_media::Media;
 use std::fs;
+use std::fs::File;
+use std::rt::Files;
 use std::test::Fail;
 
 // It can be handed to another thread.

@@ -1,7 +1,0 @@
-pub mod Walking
-pub mod Causing
-pub mod Placing
-pub mod Chains
-pub mod Data
-pub mod Going
-pub mod Counting

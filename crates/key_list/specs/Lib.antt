@@ -1,4 +1,0 @@
-pub mod Linked
-pub mod Index
-pub mod Located
-pub mod Faults

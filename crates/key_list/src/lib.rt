@@ -1,7 +1,0 @@
-//! An index that is a chain of pages in the order of their keys.
-#![tactic(auto)]
-
-mod insertion;
-mod place;
-mod look;
-mod write;
