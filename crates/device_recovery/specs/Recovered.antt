@@ -1,6 +1,5 @@
 -- What recovery finds, says and writes.
-use Rattle.std.specs.Prelude.{ℕ, ◌≡◌, ◌+◌, ◌*◌, ◌<◌, Bool, true, false, ◌&&◌, not, if◌then◌else◌, List, [], ◌∷◌, ◌++◌, length, Result, Ok, Err}
-use Rattle.counted.specs.declared.Failed.{Failed}
+use Rattle.std.specs.Prelude.{ℕ, ◌≡◌, ◌+◌, ◌*◌, ◌<◌, Bool, true, false, ◌&&◌, not, if◌then◌else◌, List, [], ◌∷◌, ◌++◌, length}
 use Rattle.counted.specs.Bytes.{range}
 use Rattle.pcm_media.specs.Images.{Content, MayLeave}
 use Rattle.array_shape.specs.declared.shape.Shape.{Shape}
@@ -84,7 +83,7 @@ pub record KeepsSense (shape : Shape) (content : Content) (image : List ℕ) : T
   pub left : MayLeave content earlier
   pub like : SettlesLike shape earlier image
 
--- what the media answered
-abbrev pub media_answer : {T : Type 0} → Result T RecoverFault → Result (Unit {0}) Failed
-media_answer (Err Media) = Err record {}
-media_answer _ = Ok tt
+-- the media failed
+abbrev pub is_of_media : RecoverFault → Bool
+is_of_media Media = true
+is_of_media _ = false

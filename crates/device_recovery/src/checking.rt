@@ -7,7 +7,8 @@ ghost use Rattle.array_image.specs.Image.{row_of, cell_of, cell_head, IsGoodCell
 ghost use Rattle.array_image.specs.Decided.{decided};
 ghost use Rattle.array_image.specs.Standing.{IsGoodRow};
 ghost use Rattle.device_recovery.specs.Table.{row_in, RowsAre, decided_in};
-ghost use Rattle.device_recovery.specs.Recovered.{AllGood, IsFirstBadAt, IsFirstBad, media_answer};
+ghost use Rattle.pcm_media.specs.Answer.{media_answer};
+ghost use Rattle.device_recovery.specs.Recovered.{AllGood, IsFirstBadAt, IsFirstBad, is_of_media};
 ghost use Rattle.device_recovery.specs.declared.report.RecoverFault.TheVariants.{BadRow};
 
 use crate::report::RecoverFault;
@@ -119,7 +120,7 @@ fn check_number<M: Media>(
     ensures bad { IsTrue M.tells → IfErr result (λ fault. (g t : ℕ) → fault ≡ BadRow g t → (t ≡ tid) × IsFirstBadAt shape.now (M.view media.old).content.bytes g tid) }
     ensures idle { ((g : ℕ) → g < shape.now.loggers → decided_in shape.now rows.now g tid ≡ false) → (M.view media.new).moment ≡ (M.view media.old).moment }
     ensures fits { OnOk result ((g : ℕ) → g < shape.now.loggers → decided_in shape.now rows.now g tid ≡ true → (row_in rows.now g tid).first + (row_in rows.now g tid).count ≤ shape.now.entries) }
-    ensures does { Writes M.tells [] (M.view media.old) (M.view media.new) (media_answer result) }
+    ensures does { Writes M.tells [] (M.view media.old) (M.view media.new) (media_answer is_of_media result) }
 {
     for logger in 0..shape.loggers {
         if is_bad(media, shape, rows, logger, tid)? {
@@ -141,7 +142,7 @@ pub(crate) fn check_rows<M: Media>(
     ensures bad { IsTrue M.tells → IfErr result (λ fault. (g t : ℕ) → fault ≡ BadRow g t → IsFirstBad shape.now (M.view media.old).content.bytes g t) }
     ensures idle { ((g t : ℕ) → g < shape.now.loggers → t < shape.now.numbers → decided_in shape.now rows.now g t ≡ false) → (M.view media.new).moment ≡ (M.view media.old).moment }
     ensures fits { OnOk result ((g t : ℕ) → g < shape.now.loggers → t < shape.now.numbers → decided_in shape.now rows.now g t ≡ true → (row_in rows.now g t).first + (row_in rows.now g t).count ≤ shape.now.entries) }
-    ensures does { Writes M.tells [] (M.view media.old) (M.view media.new) (media_answer result) }
+    ensures does { Writes M.tells [] (M.view media.old) (M.view media.new) (media_answer is_of_media result) }
 {
     for tid in 0..shape.numbers {
         check_number(media, shape, rows, tid)?;

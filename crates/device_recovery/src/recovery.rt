@@ -8,7 +8,8 @@ ghost use Rattle.array_image.specs.Image.{data_of};
 ghost use Rattle.array_image.specs.Decided.{settled_data};
 ghost use Rattle.array_image.specs.Standing.{IsLawful, IsClean};
 ghost use Rattle.device_recovery.specs.Table.{row_in, RowsAre, decided_in};
-ghost use Rattle.device_recovery.specs.Recovered.{AllGood, IsFirstBad, HasNoVote, Counts, quiet_calls, KeepsSense, SettlesLike, recovered_places, media_answer};
+ghost use Rattle.pcm_media.specs.Answer.{media_answer};
+ghost use Rattle.device_recovery.specs.Recovered.{AllGood, IsFirstBad, HasNoVote, Counts, quiet_calls, KeepsSense, SettlesLike, recovered_places, is_of_media};
 ghost use Rattle.device_recovery.specs.declared.report.RecoverFault.TheVariants.{BadRow};
 
 use crate::checking::check_rows;
@@ -43,7 +44,7 @@ pub fn recover<M: Media>(media: &mut M, shape: &Shape) -> Result<Report, Recover
     ensures costs { IsTrue M.tells → HasNoVote shape.now (M.view media.old).content.bytes → Costs true (quiet_calls shape.now) (M.view media.old).moment (M.view media.new).moment result }
     ensures any_moment { IsTrue M.tells → ((image : List ℕ) → MayLeave (M.view media.old).content image → IsLawful shape.now image)
         → LeavesOnly (KeepsSense shape.now (M.view media.old).content) (M.view media.old) (M.view media.new) }
-    ensures does { Writes M.tells (recovered_places shape.now (M.view media.old).content.bytes) (M.view media.old) (M.view media.new) (media_answer result) }
+    ensures does { Writes M.tells (recovered_places shape.now (M.view media.old).content.bytes) (M.view media.old) (M.view media.new) (media_answer is_of_media result) }
 {
     let rows = read_sound(media, shape)?;
     let report = count_rows(&rows, shape);
@@ -63,7 +64,7 @@ fn read_sound<M: Media>(media: &mut M, shape: &Shape) -> Result<[Row; MOST], Rec
     ensures fits { IfOk result (λ rows. (g t : ℕ) → g < shape.now.loggers → t < shape.now.numbers → decided_in shape.now rows g t ≡ true → (row_in rows g t).first + (row_in rows g t).count ≤ shape.now.entries) }
     ensures sure { IsTrue M.tells → OnOk result ((i : ℕ) → IsOutside (M.view media.new).content.unsettled i) }
     ensures costs { IsTrue M.tells → HasNoVote shape.now (M.view media.old).content.bytes → Costs true (quiet_calls shape.now) (M.view media.old).moment (M.view media.new).moment result }
-    ensures does { Writes M.tells [] (M.view media.old) (M.view media.new) (media_answer result) }
+    ensures does { Writes M.tells [] (M.view media.old) (M.view media.new) (media_answer is_of_media result) }
 {
     media.barrier()?;
     let rows = read_rows(media, shape)?;

@@ -14,6 +14,7 @@ use Rattle.array_image.proofs.Headers.{AreBehind, places_behind, header_stays}
 use Rattle.device_recovery.specs.declared.report.RecoverFault.{RecoverFault}
 use Rattle.device_recovery.specs.declared.report.RecoverFault.TheVariants as recovery
 use Rattle.device_recovery.specs.Recovered.{AllGood, IsFirstBad, recovered_places, voted_places}
+use Rattle.pcm_media.specs.Answer.{media_answer}
 use Rattle.device_recovery.specs.Recovered as recovered
 use Rattle.device_recovery.proofs.Clearing.{votes_away}
 use Rattle.eaw_device.specs.declared.fault.AttachFault.{AttachFault}
@@ -88,7 +89,7 @@ leaves_on tells old mid new NoMemory size touched leaves = λ told. touched_afte
 module _ (tells : Bool) (shape : Shape) (old new : View) where
   pub refusal_cause : (T : Type 0) (fault : RecoverFault) → old.size ≡ media_len shape → (IsTrue tells → SaysShape (header_of old.content.bytes) shape)
       → (IsTrue tells → (g t : ℕ) → fault ≡ recovery.BadRow g t → IsFirstBad shape old.content.bytes g t)
-      → (let r : Result T RecoverFault = Err fault in OnErr (recovered.media_answer r) (Rose old.faults new.faults))
+      → (let r : Result T RecoverFault = Err fault in OnErr (media_answer recovered.is_of_media r) (Rose old.faults new.faults))
       → AttachCause tells old new.faults (recovery_fault fault)
   refusal_cause T (recovery.BadRow g t) size header bad rose = λ told. (shape, header told, size, bad told g t refl)
   refusal_cause T recovery.Media size header bad rose = rose

@@ -10,7 +10,8 @@ use Rattle.array_image.proofs.Calls.{SoFar, goes_on, hands_on}
 use Rattle.logger.specs.declared.stage_fault.StageFault.{StageFault}
 use Rattle.logger.specs.declared.stage_fault.StageFault.TheVariants.{Full, Media}
 use Rattle.logger.specs.Cells.{cell_ranges, HoldsParts}
-use Rattle.logger.specs.Staging.{IsStageFault, media_answer}
+use Rattle.pcm_media.specs.Answer.{media_answer}
+use Rattle.logger.specs.Staging.{IsStageFault, is_of_media}
 use Rattle.eaw_device.specs.Steps.{staged_places}
 use Rattle.eaw_device.proofs.Staged.{staged_at, other_logger, holds_same}
 
@@ -22,7 +23,7 @@ when_ok (Err e) fine p = absurd (false≢true (sym fine))
 pub record Stages (tells : Bool) (t addr : ℕ) (bytes : List ℕ) (mid new : View) (r : Result ℕ StageFault) (shape : Shape) (g k : ℕ) : Type 0 where
   pub fault : IfErr r (IsStageFault shape.entries k (length (write_parts_on shape g addr bytes)))
   pub holds : IsTrue tells → OnOk r (HoldsParts shape new.content.bytes g t k (write_parts_on shape g addr bytes))
-  pub does : Writes tells (cell_ranges shape g t k (length (write_parts_on shape g addr bytes))) mid new (media_answer r)
+  pub does : Writes tells (cell_ranges shape g t k (length (write_parts_on shape g addr bytes))) mid new (media_answer is_of_media r)
 
 module _ (tells : Bool) (shape : Shape) (t : ℕ) (small : t < shape.numbers) (held : List ℕ) (addr : ℕ) (bytes : List ℕ)
     (room : (g : ℕ) → g < shape.loggers → slice_index held g + length (write_parts_on shape g addr bytes) ≤ shape.entries)
@@ -39,7 +40,7 @@ module _ (tells : Bool) (shape : Shape) (t : ℕ) (small : t < shape.numbers) (h
       refl' : r ≡ r
       refl' = λ i. r
 
-      by : (s : Result ℕ StageFault) → r ≡ s → Writes tells (cell_ranges shape number t (slice_index held number) (length (write_parts_on shape number addr bytes))) mid new (media_answer s)
+      by : (s : Result ℕ StageFault) → r ≡ s → Writes tells (cell_ranges shape number t (slice_index held number) (length (write_parts_on shape number addr bytes))) mid new (media_answer is_of_media s)
           → IfErr s (IsStageFault shape.entries (slice_index held number) (length (write_parts_on shape number addr bytes)))
           → (let failed : Result (Unit {0}) Failed = Err (record {}) in Writes tells (staged_places shape t held addr bytes) old new failed)
       by (Ok k) is does fault = absurd (false≢true (ap is_err (sym is) ∙ broke))
@@ -52,7 +53,7 @@ module _ (tells : Bool) (shape : Shape) (t : ℕ) (small : t < shape.numbers) (h
   stage_goes_on fine = goes_on tells (staged_places shape t held addr bytes) (cell_ranges shape number t (slice_index held number) (length (write_parts_on shape number addr bytes))) old mid new
       (λ told. staged_at shape t small held addr bytes room number there) so_far said.does (answered r fine)
     where
-      answered : (s : Result ℕ StageFault) → is_err s ≡ false → IsOk (media_answer s)
+      answered : (s : Result ℕ StageFault) → is_err s ≡ false → IsOk (media_answer is_of_media s)
       answered (Ok k) fine = refl
       answered (Err fault) fine = absurd (false≢true (sym fine))
 

@@ -1,6 +1,5 @@
 -- The two steps of an opening: the header is read, and the array is settled.
-use Rattle.std.specs.Prelude.{ℕ, List, Result, Ok, Err, ⊤}
-use Rattle.counted.specs.declared.Failed.{Failed}
+use Rattle.std.specs.Prelude.{ℕ, List, Bool, true, false, ⊤}
 use Rattle.pcm_media.specs.Images.{Content, MayLeave}
 use Rattle.array_shape.specs.declared.shape.Shape.{Shape}
 use Rattle.row_bytes.specs.Header.{SaysShape}
@@ -33,10 +32,10 @@ IsOfRecovery (BadRow logger tid) = ⊤
 IsOfRecovery Media = ⊤
 IsOfRecovery _ = ⊥
 
--- what the media answered
-abbrev pub media_answer : {T : Type 0} → Result T AttachFault → Result (Unit {0}) Failed
-media_answer (Err Media) = Err record {}
-media_answer _ = Ok tt
+-- the media failed
+abbrev pub is_of_media : AttachFault → Bool
+is_of_media Media = true
+is_of_media _ = false
 
 -- each image that may be left has the header of this shape
 abbrev pub AllSay : Shape → Content → Type 0

@@ -9,7 +9,8 @@ ghost use Rattle.array_image.specs.Decided.{settled_data};
 ghost use Rattle.array_image.specs.Standing.{IsClean};
 ghost use Rattle.device_recovery.specs.Recovered.{AllGood, HasNoVote, quiet_calls};
 ghost use Rattle.eaw_device.specs.Opens.{header_of, AttachCause, AttachLeaves, KeepsData};
-ghost use Rattle.eaw_device.specs.Attaching.{AllSay, IsOfHeader, IsOfRecovery, media_answer};
+ghost use Rattle.pcm_media.specs.Answer.{media_answer};
+ghost use Rattle.eaw_device.specs.Attaching.{AllSay, IsOfHeader, IsOfRecovery, is_of_media};
 
 use crate::fault::AttachFault;
 use array_shape::Shape;
@@ -25,7 +26,7 @@ pub(crate) fn read_header<M: Media>(media: &mut M) -> Result<Shape, AttachFault>
     ensures kept { IfErr result (λ fault. fault ≢ AttachFault.Media → (M.view media.new).faults ≡ (M.view media.old).faults) }
     ensures fault { IfErr result IsOfHeader }
     ensures costs { Costs true 1 (M.view media.old).moment (M.view media.new).moment result }
-    ensures does { Writes M.tells [] (M.view media.old) (M.view media.new) (media_answer result) }
+    ensures does { Writes M.tells [] (M.view media.old) (M.view media.new) (media_answer is_of_media result) }
 {
     if media.len() < 512 {
         return Err(AttachFault::NotMars);

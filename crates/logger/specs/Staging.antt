@@ -1,6 +1,5 @@
 -- What is staged of a write, and why it is not.
-use Rattle.std.specs.Prelude.{ℕ, ◌≡◌, ◌+◌, ◌≤◌, ◌<◌, List, Result, Ok, Err}
-use Rattle.counted.specs.declared.Failed.{Failed}
+use Rattle.std.specs.Prelude.{ℕ, ◌≡◌, ◌+◌, ◌≤◌, ◌<◌, List, Bool, true, false}
 use Rattle.array_shape.specs.Parts.{write_parts_on}
 use Rattle.logger.specs.declared.logger.Logger.{Logger}
 use Rattle.logger.specs.declared.stage_fault.StageFault.{StageFault}
@@ -15,8 +14,7 @@ abbrev pub IsStageFault : ℕ → ℕ → ℕ → StageFault → Type 0
 IsStageFault entries held needed (Full h n) = (h ≡ held) × (n ≡ needed) × (entries < held + needed)
 IsStageFault entries held needed Media = held + needed ≤ entries
 
--- what the media answered: where the cells are too few, it was not asked
-abbrev pub media_answer : Result ℕ StageFault → Result (Unit {0}) Failed
-media_answer (Ok n) = Ok tt
-media_answer (Err (Full h n)) = Ok tt
-media_answer (Err Media) = Err record {}
+-- The media failed. Where the cells are too few, it was not asked.
+abbrev pub is_of_media : StageFault → Bool
+is_of_media (Full h n) = false
+is_of_media Media = true

@@ -30,7 +30,8 @@ impl Logger {
     ghost use Rattle.array_shape.specs.Logged.{applied, places_of, IsOwned};
     ghost use Rattle.array_image.specs.Image.{row_of, cell_of, cell_head, cell_part, parts_from, data_of, IsGoodCell};
     ghost use Rattle.logger.specs.Cells.{cell_writes, cell_ranges, in_media, HoldsParts};
-    ghost use Rattle.logger.specs.Staging.{write_parts_here, IsStageFault, media_answer};
+    ghost use Rattle.pcm_media.specs.Answer.{media_answer};
+    ghost use Rattle.logger.specs.Staging.{write_parts_here, IsStageFault, is_of_media};
 
     /// The logger of this number.
     pub fn new(shape: Shape, number: u8) -> Logger
@@ -131,7 +132,7 @@ impl Logger {
         ensures costs { Costs true (2 * length (write_parts_here self addr bytes.now)) (M.view media.old).moment (M.view media.new).moment result }
         ensures does { Writes M.tells
             (cell_ranges self.shape self.number tid held (length (write_parts_here self addr bytes.now)))
-            (M.view media.old) (M.view media.new) (media_answer result) }
+            (M.view media.old) (M.view media.new) (media_answer is_of_media result) }
     {
         let needed = self.cells_needed(addr, bytes.len() as u64);
         if u32::from(held) + u32::from(needed) > u32::from(self.shape.entries) {

@@ -5,3 +5,4 @@ pub mod Replay
 pub mod Memory
 pub mod Choice
 pub mod Fused
+pub mod Answer

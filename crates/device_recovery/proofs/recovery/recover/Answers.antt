@@ -10,7 +10,8 @@ use Rattle.array_image.specs.Decided.{settled_data}
 use Rattle.array_image.specs.Standing.{IsLawful}
 use Rattle.array_image.proofs.Calls.{none_yet, goes_on, hands_on}
 use Rattle.device_recovery.specs.Table.{RowsAre}
-use Rattle.device_recovery.specs.Recovered.{AllGood, HasNoVote, recovered_places, media_answer}
+use Rattle.pcm_media.specs.Answer.{media_answer}
+use Rattle.device_recovery.specs.Recovered.{AllGood, HasNoVote, recovered_places, is_of_media}
 use Rattle.device_recovery.specs.declared.report.RecoverFault.{RecoverFault}
 use Rattle.device_recovery.specs.declared.report.RecoverFault.TheVariants.{Media}
 use Rattle.device_recovery.proofs.Clearing.{no_vote_settled}
@@ -67,9 +68,9 @@ returns-in_err-settle-clause-any_moment g c told lawful =
     (sense_law shape old mid (m.view c.settle.new.media) same (c.settle.ensures.any_moment told (subst (IsLawful shape) same (lawful old.content.bytes (left_as_read old.content)))))
 
 -- a fault of the media is a failure of it
-media_failed : {T : Type 0} (r : Result T RecoverFault) → IsErrAnd r (λ fault. fault ≡ Media) → IsErr (media_answer r)
+media_failed : {T : Type 0} (r : Result T RecoverFault) → IsErrAnd r (λ fault. fault ≡ Media) → IsErr (media_answer is_of_media r)
 media_failed (Ok report) is = absurd is
-media_failed (Err fault) is = subst (λ e. (let r : Result (Unit {0}) RecoverFault = Err e in IsErr (media_answer r))) (sym is) refl
+media_failed (Err fault) is = subst (λ e. (let r : Result (Unit {0}) RecoverFault = Err e in IsErr (media_answer is_of_media r))) (sym is) refl
 
 pub returns-in_err-settle-clause-does : goal.returns-in_err-settle-clause-does
 returns-in_err-settle-clause-does g c =
@@ -77,7 +78,7 @@ returns-in_err-settle-clause-does g c =
     let all = recovered_places c.args.shape.now (m.view c.args.media.now).content.bytes in
     let read = goes_on m.tells all [] _ _ _ (λ told i out. tt) (none_yet m.tells all (m.view c.args.media.now)) c.in_ok-rows.ensures.does refl in
     hands_on m.tells all _ _ _ _ (λ told i out. subst (λ bytes. IsOutside (recovered_places c.args.shape.now bytes) i) (sym (same_bytes _ _ (c.in_ok-rows.ensures.does.touched told))) out)
-    read (media_answer c.from_residual-in_err-settle.result) (media_failed c.from_residual-in_err-settle.result c.from_residual-in_err-settle.ensures.1) c.in_err-settle.ensures.does
+    read (media_answer is_of_media c.from_residual-in_err-settle.result) (media_failed c.from_residual-in_err-settle.result c.from_residual-in_err-settle.ensures.1) c.in_err-settle.ensures.does
 
 pub returns-clause-settled : goal.returns-clause-settled
 returns-clause-settled g c told =
