@@ -36,7 +36,7 @@ impl<C: Calls + Drop> FileMedia<C> {
         ensures long { IfOk result (λ media. least ≤ (shown media).size) }
         ensures anew { IfOk result (λ media. ((shown media).moment ≡ 0) × ((shown media).faults ≡ 0)) }
         ensures content { IsTrue C.trusted → IfOk result (λ media. (shown media).content ≡ opened least (C.past calls).first) }
-        ensures ready { (more_calls more : ℕ) → IsTrue (C.steady calls (more_calls + 3) more) → IsOk result }
+        ensures ready { (more_calls more : ℕ) → IsTrue (C.steady calls (more_calls + 1 + 1 + 1) more) → IsOk result }
     {
         let mut calls = calls;
         let size = measure(&mut calls, 0)?;
