@@ -2,7 +2,7 @@
 use crate::fault::RowFault;
 use media_file::{Done, HonestCalls};
 use pcm_media::{Media, MemoryMedia};
-use row_files::{Image, Placed, Run};
+use row_files::{Image, Run};
 use std::alloc::Global;
 
 // Room for the record of what most runs ask of a media; past it the record grows.
@@ -23,8 +23,8 @@ pub fn first_media(alloc: Global, image: Image) -> Result<MemoryMedia, RowFault>
     }
 }
 
-/// The image before a run: a loss of power behind the run before has left these bytes where nothing was sure, and then the
-/// run's own changes are made.
+/// The image before a run: a loss of power behind the run before has left these bytes where nothing was sure, and then it got
+/// the length that the run says.
 pub fn image_before(
     alloc: Global,
     left: &MemoryMedia,
@@ -33,23 +33,8 @@ pub fn image_before(
 ) -> Result<Vec<u8>, RowFault> {
     let left = left.leave(choice)?;
     let mut image = Vec::from_slice(alloc, left.bytes())?;
-    if let Some(len) = run.len {
-        image.resize(len, 0)?;
-    }
-    for set in &run.sets {
-        overwrite(&mut image, set)?;
-    }
+    image.resize(run.len.unwrap_or(image.len()), 0)?;
     Ok(image)
-}
-
-// Puts bytes at their place, all of which has to lie in the image.
-fn overwrite(image: &mut [u8], set: &Placed) -> Result<(), RowFault> {
-    let len = set.bytes.len();
-    if set.at > image.len() || image.len() - set.at < len {
-        return Err(RowFault::Place);
-    }
-    image[set.at..set.at + len].copy_from_slice(&set.bytes);
-    Ok(())
 }
 
 /// The same bytes, and zeros up to so many.

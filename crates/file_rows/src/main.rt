@@ -1,7 +1,7 @@
-//! Runs the rows that the files of a folder say, each over a file in memory that is known to be honest. Its calls are answered
-//! wholly, in parts, and with interruptions, and at the calls that a row lists they fail. The folder is the first argument, or
-//! else the one in which the program runs. How a row is written stands at the head of the crate `row_files`; here `fail media`
-//! counts the calls of the file, and what a row says of calls is not looked at.
+//! Runs the rows of the files that its arguments name, each over a file in memory that is known to be honest. Its calls are
+//! answered wholly, in parts, and with interruptions, and at the calls that a row lists they fail. How a row is written stands at
+//! the head of the crate `row_files`; here `fail media` counts the calls of the file, and what a row says of calls, and of bytes
+//! to be set, is not looked at.
 #![tactic(auto)]
 
 mod compare;
@@ -12,23 +12,22 @@ mod rows;
 mod tally;
 mod way;
 
-use crate::tally::{Tally, run_folder};
+use crate::tally::{Tally, run_file};
 use anyhow::{Result, ensure};
 use std::env;
 
 fn main(rt: HostRuntime) -> Result<()> {
-    let folder = env::args(&rt)?.nth(1);
-    let folder = match &folder {
-        Some(folder) => folder.as_str(),
-        None => ".",
+    let args = env::args(&rt)?.collect::<Vec<String>>(rt.alloc())?;
+    let mut tally = Tally {
+        passed: 0,
+        failed: 0,
+        runs: 0,
     };
-    let Tally {
-        passed,
-        failed,
-        runs,
-    } = run_folder(&rt, folder)?;
-    println!(rt; "{runs} runs over a file")?;
-    println!(rt; "{passed} rows passed")?;
-    ensure!(failed == 0, "{failed} rows failed");
+    for path in args.iter().skip(1) {
+        run_file(&rt, path.as_str(), &mut tally)?;
+    }
+    println!(rt; "{} runs over a file", tally.runs)?;
+    println!(rt; "{} rows passed", tally.passed)?;
+    ensure!(tally.failed == 0, "{} rows failed", tally.failed);
     Ok(())
 }

@@ -1,4 +1,4 @@
-// All rows of a folder.
+// All rows of a file.
 use crate::fault::RowFault;
 use crate::rows::run_row;
 use crate::way::WAYS;
@@ -15,42 +15,8 @@ pub struct Tally {
     pub runs: u64,
 }
 
-/// Runs the rows of each file of a folder whose name ends in `.rows`, in the order of the names.
-pub fn run_folder<R>(rt: &R, folder: &str) -> Result<Tally>
-where
-    R: AllocGlobal + Files + Print + Clone + Drop,
-{
-    let mut tally = Tally {
-        passed: 0,
-        failed: 0,
-        runs: 0,
-    };
-    for path in &paths_in(rt, folder)? {
-        run_file(rt, path.as_str(), &mut tally)?;
-    }
-    Ok(tally)
-}
-
-fn paths_in<R>(rt: &R, folder: &str) -> Result<Vec<String>>
-where
-    R: AllocGlobal + Files + Clone + Drop,
-{
-    let mut paths = Vec::new(rt.alloc());
-    for entry in fs::read_dir(rt, folder)? {
-        let entry = entry?;
-        if !entry.file_name().ends_with(".rows") {
-            continue;
-        }
-        let mut path = String::from_str(rt.alloc(), folder)?;
-        path.push('/')?;
-        path.push_str(entry.file_name())?;
-        paths.push(path)?;
-    }
-    paths.sort()?;
-    Ok(paths)
-}
-
-fn run_file<R>(rt: &R, path: &str, tally: &mut Tally) -> Result<()>
+/// Runs the rows of a file, and tells of each that does not come to what it says.
+pub fn run_file<R>(rt: &R, path: &str, tally: &mut Tally) -> Result<()>
 where
     R: AllocGlobal + Files + Print,
 {

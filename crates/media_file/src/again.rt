@@ -1,5 +1,5 @@
 // Calls of a file that are made again where they are interrupted.
-ghost use Rattle.std.specs.Prelude.{◌≡◌, IsTrue, MatchResult, IfOk, OnOk};
+ghost use Rattle.std.specs.Prelude.{◌≡◌, ◌+◌, ℕ, IsTrue, MatchResult, IsOk, IfOk, OnOk};
 ghost use Rattle.media_file.specs.Past.{noted, measured, resized, synced};
 
 use crate::{CallFault, Calls};
@@ -7,7 +7,8 @@ use counted::Failed;
 
 /// How many bytes the file has.
 pub fn measure<C: Calls>(calls: &mut C, moment: u64) -> Result<u64, Failed>
-    ensures { IsTrue C.trusted → IfOk result (λ len. C.past calls.new ≡ noted moment (measured len) (C.past calls.old)) }
+    ensures noted { IsTrue C.trusted → IfOk result (λ len. C.past calls.new ≡ noted moment (measured len) (C.past calls.old)) }
+    ensures steady { (more_calls more : ℕ) → IsTrue (C.steady calls.old (more_calls + 1) more) → IsOk result × IsTrue (C.steady calls.new more_calls more) }
 {
     'turns: for _ in 0..u64::MAX {
         match calls.len(moment) {
@@ -21,7 +22,8 @@ pub fn measure<C: Calls>(calls: &mut C, moment: u64) -> Result<u64, Failed>
 
 /// Cuts the file to so many bytes, or makes it so long with zeros.
 pub fn resize<C: Calls>(calls: &mut C, moment: u64, len: u64) -> Result<(), Failed>
-    ensures { IsTrue C.trusted → OnOk result (C.past calls.new ≡ noted moment (resized len) (C.past calls.old)) }
+    ensures noted { IsTrue C.trusted → OnOk result (C.past calls.new ≡ noted moment (resized len) (C.past calls.old)) }
+    ensures steady { (more_calls more : ℕ) → IsTrue (C.steady calls.old (more_calls + 1) more) → IsOk result × IsTrue (C.steady calls.new more_calls more) }
 {
     'turns: for _ in 0..u64::MAX {
         match calls.set_len(moment, len) {
@@ -35,9 +37,10 @@ pub fn resize<C: Calls>(calls: &mut C, moment: u64, len: u64) -> Result<(), Fail
 
 /// Waits until all that was written, and the length, are sure.
 pub fn sync<C: Calls>(calls: &mut C, moment: u64) -> Result<(), Failed>
-    ensures { IsTrue C.trusted → MatchResult result
+    ensures noted { IsTrue C.trusted → MatchResult result
         (λ _. C.past calls.new ≡ noted moment synced (C.past calls.old))
         (λ _. C.past calls.new ≡ C.past calls.old) }
+    ensures steady { (more_calls more : ℕ) → IsTrue (C.steady calls.old (more_calls + 1) more) → IsOk result × IsTrue (C.steady calls.new more_calls more) }
 {
     'turns: for _ in 0..u64::MAX {
         match calls.sync_data(moment) {

@@ -1,5 +1,5 @@
 // What is asked of a file.
-ghost use Rattle.std.specs.Prelude.{◌≡◌, ◌≤◌, ◌⊎◌, List, ℕ, Bool, length, take, IsTrue, IfOk, MatchResult};
+ghost use Rattle.std.specs.Prelude.{◌≡◌, ◌≤◌, ◌⊎◌, List, ℕ, Bool, length, take, ◌+◌, Ok, IsTrue, IsOk, IfOk, MatchResult};
 ghost use Rattle.media_file.specs.Past.{Past, measured, came, stands, resized, synced, noted, IsHonest};
 
 /// Why a call of a file did not do its work.
@@ -18,37 +18,45 @@ pub trait Calls {
     /// What it held at first, and its calls since with their answers. Clauses alone speak of it.
     ghost past: { Self → Past };
 
+    /// Whether its next calls will be done wholly: so many, which write so many bytes in all.
+    ghost steady: { Self → ℕ → ℕ → Bool };
+
     /// How many bytes it has.
     fn len(&mut self, moment: u64) -> Result<u64, CallFault>
         ensures noted { IsTrue trusted → MatchResult result
             (λ len. past self.new ≡ noted moment (measured len) (past self.old))
-            (λ _. past self.new ≡ past self.old) };
+            (λ _. past self.new ≡ past self.old) }
+        ensures steady { (calls more : ℕ) → IsTrue (steady self.old (calls + 1) more) → IsOk result × IsTrue (steady self.new calls more) };
 
     /// Reads bytes from the place `at` on, and tells how many came.
     fn read_at(&mut self, moment: u64, at: u64, buf: &mut [u8]) -> Result<usize, CallFault>
         ensures count { IfOk result (λ count. count ≤ length buf.old) }
         ensures noted { IsTrue trusted → MatchResult result
             (λ count. past self.new ≡ noted moment (came at (take count buf.new)) (past self.old))
-            (λ _. past self.new ≡ past self.old) };
+            (λ _. past self.new ≡ past self.old) }
+        ensures steady { (calls more : ℕ) → IsTrue (steady self.old (calls + 1) more) → (result ≡ Ok (length buf.old)) × IsTrue (steady self.new calls more) };
 
     /// Writes bytes at the place `at`, and tells how many were taken. Where it fails, anything may stand in their place.
     fn write_at(&mut self, moment: u64, at: u64, bytes: &[u8]) -> Result<usize, CallFault>
         ensures count { IfOk result (λ count. count ≤ length bytes.now) }
         ensures noted { IsTrue trusted → MatchResult result
             (λ count. past self.new ≡ noted moment (stands at (take count bytes.now)) (past self.old))
-            (λ _. (past self.new ≡ past self.old) ⊎ ((left : List ℕ) × (length left ≡ length bytes.now) × (past self.new ≡ noted moment (stands at left) (past self.old)))) };
+            (λ _. (past self.new ≡ past self.old) ⊎ ((left : List ℕ) × (length left ≡ length bytes.now) × (past self.new ≡ noted moment (stands at left) (past self.old)))) }
+        ensures steady { (calls more : ℕ) → IsTrue (steady self.old (calls + 1) (length bytes.now + more)) → (result ≡ Ok (length bytes.now)) × IsTrue (steady self.new calls more) };
 
     /// Cuts it to so many bytes, or makes it so long with zeros.
     fn set_len(&mut self, moment: u64, len: u64) -> Result<(), CallFault>
         ensures noted { IsTrue trusted → MatchResult result
             (λ _. past self.new ≡ noted moment (resized len) (past self.old))
-            (λ _. past self.new ≡ past self.old) };
+            (λ _. past self.new ≡ past self.old) }
+        ensures steady { (calls more : ℕ) → IsTrue (steady self.old (calls + 1) more) → IsOk result × IsTrue (steady self.new calls more) };
 
     /// Waits until what was written, and the length, are sure.
     fn sync_data(&mut self, moment: u64) -> Result<(), CallFault>
         ensures noted { IsTrue trusted → MatchResult result
             (λ _. past self.new ≡ noted moment synced (past self.old))
-            (λ _. past self.new ≡ past self.old) };
+            (λ _. past self.new ≡ past self.old) }
+        ensures steady { (calls more : ℕ) → IsTrue (steady self.old (calls + 1) more) → IsOk result × IsTrue (steady self.new calls more) };
 
     /// Where it is trusted, each call was answered from what the calls before it had made of the first content.
     ghost honest: { (file : Self) → IsTrue trusted → IsHonest (past file).first (past file).calls };

@@ -84,6 +84,8 @@ impl Calls for FileCalls {
 
     ghost past = { λ _. record { first = record { bytes = []; unsettled = [] }; calls = [] } };
 
+    ghost steady = { λ _ _ _. false };
+
     ghost honest = { λ file told. absurd (false≢true told) };
 
     fn len(&mut self, _moment: u64) -> Result<u64, CallFault> {

@@ -1,5 +1,5 @@
 // A media over a file.
-ghost use Rattle.std.specs.Prelude.{◌≡◌, ◌+◌, ◌-◌, ◌^◌, ◌≤◌, ◌<◌, false, [], ◌∷◌, length, IfOk, OnOk, OnErr, IfSome, IsSome, IsTrue};
+ghost use Rattle.std.specs.Prelude.{◌≡◌, ◌+◌, ◌-◌, ◌^◌, ◌≤◌, ◌<◌, ℕ, [], ◌∷◌, length, IsOk, IfOk, OnOk, OnErr, IfSome, IsSome, IsTrue};
 ghost use Rattle.counted.specs.Causes.{Rose};
 ghost use Rattle.counted.specs.Moments.{Ticks};
 ghost use Rattle.media_file.specs.Past.{held, AreBefore};
@@ -36,6 +36,7 @@ impl<C: Calls + Drop> FileMedia<C> {
         ensures long { IfOk result (λ media. least ≤ (shown media).size) }
         ensures anew { IfOk result (λ media. ((shown media).moment ≡ 0) × ((shown media).faults ≡ 0)) }
         ensures content { IsTrue C.trusted → IfOk result (λ media. (shown media).content ≡ opened least (C.past calls).first) }
+        ensures ready { (more_calls more : ℕ) → IsTrue (C.steady calls (more_calls + 1 + 1 + 1) more) → IsOk result }
     {
         let mut calls = calls;
         let size = measure(&mut calls, 0)?;
@@ -115,6 +116,7 @@ impl<C: Calls> FileMedia<C> {
         ensures calls { self.new.calls ≡ self.old.calls }
         ensures size { self.new.size ≡ self.old.size }
         ensures ticks { Ticks self.old.moment self.new.moment result }
+        ensures ready { self.old.moment < 2 ^ 64 - 1 → IsOk result }
         ensures later { (self.old.moment ≤ self.new.moment) × (self.old.faults ≤ self.new.faults) }
         ensures faults { OnOk result (self.new.faults ≡ self.old.faults) }
         ensures counted { OnErr result (Rose self.old.faults self.new.faults) }
@@ -128,7 +130,7 @@ impl<C: Calls> FileMedia<C> {
 }
 
 impl<C: Calls> Media for FileMedia<C> {
-    ghost use Rattle.std.specs.Prelude.{false};
+    ghost use Rattle.std.specs.Prelude.{◌+◌, ◌-◌, ◌^◌, nat_le, ◌&&◌};
     ghost use Rattle.std.proofs.Common.{inl};
     ghost use Rattle.media_file.specs.Shown.{shown};
     ghost use Rattle.media_file.specs.Past.{only_now};
@@ -137,7 +139,7 @@ impl<C: Calls> Media for FileMedia<C> {
 
     ghost view = { shown };
 
-    ghost steady = { λ _ _ _. false };
+    ghost steady = { λ m calls more. nat_le (m.moment + calls) (2 ^ 64 - 1) && C.steady m.calls calls more };
 
     ghost long = { λ m told. m.whole told };
 

@@ -121,7 +121,7 @@ impl HonestCalls {
 }
 
 impl Calls for HonestCalls {
-    ghost use Rattle.std.specs.Prelude.{true, reverse};
+    ghost use Rattle.std.specs.Prelude.{true, false, reverse};
     ghost use Rattle.pcm_media.specs.Replay.{at_rest};
     ghost use Rattle.media_file.specs.Honest.{honest_told};
     ghost use Rattle.media_file.specs.InMemory.{past_in};
@@ -129,6 +129,8 @@ impl Calls for HonestCalls {
     ghost trusted = { true };
 
     ghost past = { past_in };
+
+    ghost steady = { λ _ _ _. false };
 
     ghost honest = { λ file told. honest_told (at_rest file.first.items) (reverse file.calls.items) };
 

@@ -1,5 +1,5 @@
 // The reads of a file that serve one of its media: a part is followed by the rest, and one that was interrupted is made again.
-ghost use Rattle.std.specs.Prelude.{◌≡◌, ◌+◌, ◌≤◌, ◌<◌, ◌^◌, [], length, IsTrue, OnOk};
+ghost use Rattle.std.specs.Prelude.{◌≡◌, ◌+◌, ◌≤◌, ◌<◌, ◌^◌, [], ℕ, length, IsTrue, IsOk, OnOk};
 ghost use Rattle.counted.specs.Bytes.{range};
 ghost use Rattle.media_file.specs.Past.{held, AreBefore};
 ghost use Rattle.media_file.specs.Transfer.{Serves};
@@ -15,6 +15,7 @@ pub fn read_all<C: Calls>(calls: &mut C, moment: u64, at: u64, buf: &mut [u8]) -
     ensures bytes { IsTrue C.trusted → OnOk result (buf.new ≡ range (held (C.past calls.old)).bytes at (length buf.old)) }
     ensures same { IsTrue C.trusted → held (C.past calls.new) ≡ held (C.past calls.old) }
     ensures serves { IsTrue C.trusted → Serves moment [] (C.past calls.old) (C.past calls.new) }
+    ensures steady { (more_calls more : ℕ) → IsTrue (C.steady calls.old (more_calls + 1) more) → IsOk result × IsTrue (C.steady calls.new more_calls more) }
 {
     let mut done = 0;
     'turns: for _ in 0..u64::MAX {

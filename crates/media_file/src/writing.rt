@@ -1,5 +1,5 @@
 // The writes of a file that serve one of its media: a part is followed by the rest, and one that was interrupted is made again.
-ghost use Rattle.std.specs.Prelude.{◌≡◌, ◌+◌, ◌≤◌, ◌<◌, ◌^◌, [], ◌∷◌, length, IsTrue, OnOk};
+ghost use Rattle.std.specs.Prelude.{◌≡◌, ◌+◌, ◌≤◌, ◌<◌, ◌^◌, [], ◌∷◌, ℕ, length, IsTrue, IsOk, OnOk};
 ghost use Rattle.pcm_media.specs.Images.{written};
 ghost use Rattle.media_file.specs.Past.{held, AreBefore};
 ghost use Rattle.media_file.specs.Transfer.{Serves};
@@ -14,6 +14,7 @@ pub fn write_all<C: Calls>(calls: &mut C, moment: u64, at: u64, bytes: &[u8]) ->
     requires before { IsTrue C.trusted → AreBefore moment (C.past calls.old).calls }
     ensures written { IsTrue C.trusted → OnOk result (held (C.past calls.new) ≡ written at bytes.now (held (C.past calls.old))) }
     ensures serves { IsTrue C.trusted → Serves moment ((at, length bytes.now) ∷ []) (C.past calls.old) (C.past calls.new) }
+    ensures steady { (more_calls more : ℕ) → IsTrue (C.steady calls.old (more_calls + 1) (length bytes.now + more)) → IsOk result × IsTrue (C.steady calls.new more_calls more) }
 {
     let mut done = 0;
     'turns: for _ in 0..u64::MAX {

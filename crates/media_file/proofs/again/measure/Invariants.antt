@@ -1,5 +1,8 @@
-use Rattle.std.proofs.Common.{◌≡◌, IsTrue}
+use Rattle.std.proofs.Common.{◌≡◌, ◌+◌, ℕ, IsTrue}
 use Rattle.media_file.proofs.again.measure.Given as goal
 
 abbrev pub invariant-turns : goal.invariant-turns
-invariant-turns g l = IsTrue g.C.Calls.trusted → g.C.Calls.past l.calls ≡ g.C.Calls.past l.fn.calls
+invariant-turns g l = record {
+  same : IsTrue g.C.Calls.trusted → g.C.Calls.past l.calls ≡ g.C.Calls.past l.fn.calls;
+  first : (calls more : ℕ) → IsTrue (g.C.Calls.steady l.fn.calls (calls + 1) more) → (l.counter ≡ 0) × (l.calls ≡ l.fn.calls);
+}
