@@ -1,7 +1,7 @@
 -- What the actions of an insertion make of the data.
-use Rattle.std.proofs.Common.{◌≡◌, ◌≢◌, ℕ, suc, ◌+◌, ◌-◌, ◌*◌, ◌/◌, ◌%◌, ◌^◌, ◌<◌, ◌≤◌, ◌⊎◌, inl, inr, List, [], ◌∷◌, length, take, drop, None, Some, Option, refl, sym, ◌∙◌, ap, subst, arith}
+use Rattle.std.proofs.Common.{◌≡◌, ◌≢◌, ℕ, suc, ◌+◌, ◌-◌, ◌*◌, ◌/◌, ◌%◌, ◌^◌, ◌<◌, ◌≤◌, ◌⊎◌, true, false, nat_lt, inl, inr, List, [], ◌∷◌, length, take, drop, None, Some, Option, refl, sym, ◌∙◌, ap, subst, arith}
 use Rattle.std.proofs.lemmas.Bool.{cases_lt}
-use Rattle.std.proofs.lemmas.Bool.Decides.{eqb_tells}
+use Rattle.std.proofs.lemmas.Bool.Decides.{eqb_tells, leb_tells}
 use Rattle.std.proofs.lemmas.List.{length-take-le, length-drop}
 use Rattle.counted.specs.Bytes.{range}
 use Rattle.array_shape.specs.declared.shape.Shape.{Shape}
@@ -20,6 +20,7 @@ use Rattle.page_store.specs.Pairs.{Pair, found, inserted}
 use Rattle.page_store.specs.Shown.{address}
 use Rattle.index_pages.specs.Chain.{IsSoundChain, pairs_of_chain}
 use Rattle.index_pages.specs.Changes.{TakesPairInChain, SplitsPage}
+use Rattle.index_pages.specs.Keys.{key_at}
 use Rattle.index_pages.specs.Page.{page_pairs, pairs_said, kind_said, level_said, link_said, count_said, count_of, link_of}
 use Rattle.index_pages.specs.Ways.{Keeps, page_of_key}
 use Rattle.index_pages.specs.Written.{leaf_bytes, AreSmall}
@@ -428,3 +429,15 @@ module _ (shape : Shape) (old : List ℕ) (half : ℕ) (long : length old ≡ da
           splits.one_more,
           half_after old cut page splits sound.front.some_pages others_cut key sound says.page_is,
         )
+
+    -- the half of the key has room
+    pub half_short : length (page_pairs (applied (cutting_parts front page link pairs) old) (half_for old page key)) < 30
+    unfolding cut
+    half_short = elim (leb_tells (suc key) (key_at (page_pairs old page) 15)) [
+      | inl low ↦
+          let b : nat_lt key (key_at (page_pairs old page) 15) ≡ true = low.0 in
+          rw b (omega (arith, ap (λ (ps : List Pair). length ps) splits.pairs, length-take-le 15 (page_pairs old page) (omega (arith, splits.full))))
+      | inr high ↦
+          let b : nat_lt key (key_at (page_pairs old page) 15) ≡ false = high.0 in
+          rw b (omega (arith, ap (λ (ps : List Pair). length ps) splits.pairs', length-drop 15 (page_pairs old page), splits.full))
+    ]

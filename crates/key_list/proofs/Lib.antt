@@ -5,3 +5,4 @@ pub mod Chains
 pub mod Data
 pub mod Going
 pub mod Counting
+pub mod Whole
