@@ -6,3 +6,4 @@ pub mod Data
 pub mod Going
 pub mod Counting
 pub mod Whole
+pub mod Testing

@@ -96,8 +96,10 @@ fn check_pairs<S: EawStore>(
     requires count { count ≡ count_said bytes.now }
     requires most { count ≤ 30 }
     requires slots { slots ≤ slots_of (S.view pages.old.store).shape }
+    requires low { low_of last ≤ 2 ^ 64 }
     ensures looks { Looks S.tells (S.opens (S.view pages.old.store).shape) (is_media result)
         (pages_of (S.view pages.old.store) pages.old) (pages_of (S.view pages.new.store) pages.new) }
+    ensures low { IfOk result (λ last. low_of last ≤ 2 ^ 64) }
     ensures cause { IsTrue S.tells → slots ≡ next_slot (S.view pages.old.store).state.bytes
         → PairsCause (S.view pages.old.store).state.bytes page (low_of last) (pairs_said bytes.now) result }
     ensures dead { IsErrOf result CheckFault.Dead → ⊥ }
