@@ -49,3 +49,74 @@ module _ (bytes : List ℕ) (page low : ℕ) (pairs : List Pair) (low' : ℕ) (p
 pub left_none : (bytes : List ℕ) (page low : ℕ) (pairs : List Pair) (last : Option ℕ) → low_of last ≤ key_end → PairsLeft bytes page low pairs (low_of last) []
     → (let s : Result (Option ℕ) CheckFault = Ok last in PairsCause bytes page low pairs s)
 left_none bytes page low pairs last le left = (left.rises le, left.given tt, left.ends)
+
+-- Of a chain so many pages at most are left from this one on, behind keys below a lower bound: where they are sound, so is the data, and
+-- the first of them that fails is the first of all.
+pub record ChainLeft (bytes : List ℕ) (page low n : ℕ) : Type 0 where
+  pub fails : (bad : ℕ) → ChainFails n bytes page low bad → IsFirstDamagedOfChain bytes bad
+  pub sound : IsChain n bytes page low → IsSoundChain bytes
+
+pub chain_all : (bytes : List ℕ) → IsSuper 0 bytes → ChainLeft bytes 1 0 (next_page bytes)
+chain_all bytes front = record { fails = λ bad f. inr (front, f); sound = λ c. record { front = front; pages = c } }
+
+pub chain_none : (bytes : List ℕ) (page low n : ℕ) → n ≡ 0 → ChainLeft bytes page low n → IsFirstDamagedOfChain bytes page
+chain_none bytes page low n none left = left.fails page (subst (λ (m : ℕ). ChainFails m bytes page low page) (sym none) refl)
+
+-- the head that was read
+head_there : (bytes buf : List ℕ) (page : ℕ) → buf ≡ page_bytes bytes page → IsHead page buf → IsChainHead bytes page
+head_there bytes buf page is head = record {
+  kind = ap kind_said (sym is) ∙ head.kind;
+  level = ap level_said (sym is) ∙ head.level;
+  most = subst (λ (b : List ℕ). count_said b ≤ 30) is head.most;
+  some = subst (λ (b : List ℕ). count_said b ≡ 0 → (page ≡ 1) × (link_said b ≡ 0)) is head.some;
+}
+
+head_back : (bytes buf : List ℕ) (page : ℕ) → buf ≡ page_bytes bytes page → IsChainHead bytes page → IsHead page buf
+head_back bytes buf page is head = record {
+  kind = ap kind_said is ∙ head.kind;
+  level = ap level_said is ∙ head.level;
+  most = subst (λ (b : List ℕ). count_said b ≤ 30) (sym is) head.most;
+  some = subst (λ (b : List ℕ). count_said b ≡ 0 → (page ≡ 1) × (link_said b ≡ 0)) (sym is) head.some;
+}
+
+module _ (bytes buf : List ℕ) (page low n : ℕ) (is : buf ≡ page_bytes bytes page) (left : ChainLeft bytes page low (suc n)) where
+  pub head_fails : ¬ IsHead page buf → IsFirstDamagedOfChain bytes page
+  head_fails other = left.fails page (inl (λ head. other (head_back bytes buf page is head), refl))
+
+  module _ (head : IsHead page buf) where
+    pub pairs_fail : (fault : CheckFault) (bad : ℕ) → fault ≡ Damaged bad → (let s : Result (Option ℕ) CheckFault = Err fault in PairsCause bytes page low (pairs_said buf) s) → IsFirstDamagedOfChain bytes bad
+    pairs_fail (Damaged bad') bad e f =
+        let same : bad' ≡ bad = cc in
+        subst (λ (b : ℕ). IsFirstDamagedOfChain bytes b) same (left.fails bad' (inr (inl (head_there bytes buf page is head, subst (λ (b : List ℕ). PairsFail bytes page low (pairs_said b) bad') is f))))
+    pairs_fail Media bad e f = absurd (cc)
+    pairs_fail Dead bad e f = absurd (cc)
+
+    module _ (last : Option ℕ) (well : (let s : Result (Option ℕ) CheckFault = Ok last in PairsCause bytes page low (pairs_said buf) s)) where
+      rises : Rise low key_end (page_pairs bytes page)
+      rises = subst (λ (b : List ℕ). Rise low key_end (pairs_said b)) is well.0
+
+      given : AreGiven bytes (page_pairs bytes page)
+      given = subst (λ (b : List ℕ). AreGiven bytes (pairs_said b)) is well.1
+
+      page_is : IsLink bytes (link_of bytes page) → IsChainPage bytes page low
+      page_is link = let h = head_there bytes buf page is head in record { kind = h.kind; level = h.level; most = h.most; some = h.some; rises = rises; given = given; link = link }
+
+      pub link_fails : ¬ IsLink bytes (link_said buf) → IsFirstDamagedOfChain bytes page
+      link_fails other = left.fails page (inr (inr (inl (head_there bytes buf page is head, rises, given, (λ link. other (subst (λ (b : List ℕ). IsLink bytes (link_said b)) (sym is) link)), refl))))
+
+      pub link_ends : link_said buf ≡ 0 → IsSoundChain bytes
+      link_ends none =
+          let none' : link_of bytes page ≡ 0 = ap link_said (sym is) ∙ none in
+          left.sound (page_is (λ other. absurd (other none')), λ other. absurd (other none'))
+
+      pub link_on : link_said buf ≢ 0 → (2 ≤ link_said buf) × (link_said buf < next_page bytes) → ChainLeft bytes (link_said buf) (low_of last) n
+      link_on some to =
+          let same : link_said buf ≡ link_of bytes page = ap link_said is in
+          let some' : link_of bytes page ≢ 0 = λ e. some (same ∙ e) in
+          let to' : IsLink bytes (link_of bytes page) = λ other. subst (λ (x : ℕ). (2 ≤ x) × (x < next_page bytes)) same to in
+          let ends : low_of last ≡ behind low (page_pairs bytes page) = well.2 ∙ ap (λ (b : List ℕ). behind low (pairs_said b)) is in
+          subst (λ (x : ℕ). ChainLeft bytes x (low_of last) n) (sym same) (subst (λ (x : ℕ). ChainLeft bytes (link_of bytes page) x n) (sym ends)
+          (record {
+            fails = λ bad f. left.fails bad (inr (inr (inr (head_there bytes buf page is head, rises, given, to', some', f))));
+            sound = λ c. left.sound (page_is to', λ other. c);
+          }))
