@@ -9,6 +9,11 @@ use Rattle.page_store.specs.declared.index_fault.CheckFault.TheVariants.{Damaged
 use Rattle.index_pages.specs.Chain.{key_end, behind, IsChain, IsChainPage, IsSoundChain}
 use Rattle.index_pages.specs.Failing.{PairsFail, IsChainHead, IsLink, ChainFails, IsFirstDamagedOfChain}
 use Rattle.index_pages.specs.Page.{page_pairs, pairs_said, link_of, kind_said, level_said, count_said, link_said}
+use Rattle.std.specs.Prelude.{IsTrue, IsErrOf}
+use Rattle.eaw_face.specs.StoreView.{StoreView}
+use Rattle.eaw_face.specs.Causes.{IsAlive}
+use Rattle.page_store.specs.Looks.{CheckCause}
+use Rattle.key_list.specs.Index.{chain}
 use Rattle.key_list.specs.Checked.{low_of, IsHead, PairCause, PairsCause}
 
 -- what a slot says of a pair
@@ -120,3 +125,10 @@ module _ (bytes buf : List ℕ) (page low n : ℕ) (is : buf ≡ page_bytes byte
             fails = λ bad f. left.fails bad (inr (inr (inr (head_there bytes buf page is head, rises, given, to', some', f))));
             sound = λ c. left.sound (page_is to', λ other. c);
           }))
+
+-- a test that failed
+pub checked_err : (tells : Bool) (old : StoreView) (fault : CheckFault) → IsAlive old → (let r : Result (Option ℕ) CheckFault = Err fault in IsErrOf r Dead → ⊥)
+    → (IsTrue tells → (bad : ℕ) → fault ≡ Damaged bad → IsFirstDamagedOfChain old.state.bytes bad) → (let s : Result (Unit {0}) CheckFault = Err fault in CheckCause tells chain old s)
+checked_err tells old Media alive other fails = alive
+checked_err tells old Dead alive other fails = absurd (other refl)
+checked_err tells old (Damaged bad) alive other fails = (alive, λ told. fails told bad refl)
