@@ -1,5 +1,5 @@
 -- Slots that stay given.
-use Rattle.std.proofs.Common.{◌≡◌, ℕ, zero, suc, ◌≤◌, inl, inr, List, [], ◌∷◌, refl, sym, ◌∙◌, ap, subst, arith}
+use Rattle.std.proofs.Common.{ℕ, List, [], ◌∷◌, arith}
 use Rattle.index_pages.specs.Ways.{Keeps}
 use Rattle.page_store.specs.Pairs.{Pair}
 use Rattle.record_slots.specs.Places.{AreGiven}
@@ -8,4 +8,3 @@ module _ (old new : List ℕ) (keeps : Keeps old new) where
   pub given_kept : (ps : List Pair) → AreGiven old ps → AreGiven new ps
   given_kept [] g = tt
   given_kept (p ∷ ps) g = (omega (arith, g.0, keeps.slots), keeps.carried p g.0 g.1, given_kept ps g.2)
-

@@ -44,10 +44,7 @@ pub fn fetch_page<S: EawStore>(
 }
 
 /// Reads what a slot says.
-pub fn fetch_slot<S: EawStore>(
-    pages: &mut Pages<S>,
-    slot: u32,
-) -> Result<Option<Slot>, PageFault>
+pub fn fetch_slot<S: EawStore>(pages: &mut Pages<S>, slot: u32) -> Result<Option<Slot>, PageFault>
     requires { slot < slots_of (S.view pages.old.store).shape }
     ensures looks { Looks S.tells (S.opens (S.view pages.old.store).shape) (is_failed result)
         (pages_of (S.view pages.old.store) pages.old) (pages_of (S.view pages.new.store) pages.new) }

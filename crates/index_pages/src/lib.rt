@@ -7,4 +7,7 @@ mod page;
 
 pub use action::{PagePart, act};
 pub use fetch::{fetch_page, fetch_slot, fetch_super, index_page_count};
-pub use page::{LeafHead, PAGE_LEN, PAIRS_MAX, Pairs, next_pair, read_leaf_head, read_pair, read_pairs, write_leaf};
+pub use page::{
+    LeafHead, PAGE_LEN, PAIRS_MAX, Pairs, next_pair, read_leaf_head, read_pair, read_pairs,
+    write_leaf,
+};

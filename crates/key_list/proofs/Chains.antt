@@ -1,16 +1,16 @@
 -- The pages of a chain behind an insertion and behind a cut.
-use Rattle.std.proofs.Common.{◌≡◌, ◌≢◌, ℕ, zero, suc, ◌<◌, ◌≤◌, ◌⊎◌, true, false, nat_eq, nat_lt, inl, inr, List, [], ◌∷◌, length, take, drop, refl, sym, ◌∙◌, ap, subst, arith}
+use Rattle.std.proofs.Common.{◌≡◌, ◌≢◌, ℕ, zero, suc, ◌<◌, ◌≤◌, true, false, nat_eq, nat_lt, inl, inr, List, [], ◌∷◌, take, drop, refl, sym, ◌∙◌, ap, subst, arith}
 use Rattle.std.specs.Prelude.{if◌then◌else◌}
-use Rattle.std.proofs.lemmas.Bool.Decides.{nat_tests, eqb_tells, leb_tells}
+use Rattle.std.proofs.lemmas.Bool.Decides.{eqb_tells, leb_tells}
 use Rattle.record_slots.specs.Places.{page_bytes, next_page}
-use Rattle.page_store.specs.Pairs.{Pair, Rise}
-use Rattle.index_pages.specs.Chain.{key_end, behind, IsChain, IsChainPage, first_key, IsSoundChain}
+use Rattle.page_store.specs.Pairs.{Pair}
+use Rattle.index_pages.specs.Chain.{key_end, behind, IsChain, first_key, IsSoundChain}
 use Rattle.index_pages.specs.Changes.{SplitsPage}
 use Rattle.index_pages.specs.Keys.{key_at}
-use Rattle.index_pages.specs.Page.{page_pairs, pairs_said, link_said, link_of, count_of}
+use Rattle.index_pages.specs.Page.{page_pairs, pairs_said, link_said, link_of}
 use Rattle.index_pages.specs.Ways.{IsOwn, chain_page_for, page_of_key}
-use Rattle.index_pages.proofs.ChainActions.{first_below, later_some, linked_some, far_first, next_first}
-use Rattle.index_pages.proofs.ChainFacts.{first_from, chain_head, wide_behind}
+use Rattle.index_pages.proofs.ChainActions.{first_below, later_some, linked_some, far_first}
+use Rattle.index_pages.proofs.ChainFacts.{first_from, wide_behind}
 use Rattle.key_list.specs.Index.{IsOnChain, IsPageOfChain, half_for}
 
 -- the page of a key was given, and is one of the chain
@@ -42,8 +42,11 @@ on_same old new same (suc n) page low other own chain (inl is) = inl is
 on_same old new same (suc n) page low other own chain (inr on) =
     let to = chain.0.link on.0 in
     let e = same page own.0 own.1 in
-    inr (λ none. on.0 (sym e ∙ none), subst (λ (x : ℕ). IsOnChain n new x other) (sym e)
-        (on_same old new same n (link_of old page) (behind low (page_pairs old page)) other (omega (arith, to.0), to.1) (chain.1 on.0) on.1))
+    inr (
+      λ none. on.0 (sym e ∙ none),
+      subst (λ (x : ℕ). IsOnChain n new x other) (sym e)
+          (on_same old new same n (link_of old page) (behind low (page_pairs old page)) other (omega (arith, to.0), to.1) (chain.1 on.0) on.1),
+    )
 
 pub pages_same : (old new : List ℕ) → IsSoundChain old → next_page new ≡ next_page old → ((p : ℕ) → 1 ≤ p → p < next_page old → link_of new p ≡ link_of old p)
     → (other : ℕ) → IsPageOfChain old other → IsPageOfChain new other
@@ -69,8 +72,11 @@ module _ (old new : List ℕ) (q : ℕ) (cut : SplitsPage old new q) (two : 2 �
     | inr other ↦
         let to = chain.0.link on.0 in
         let e = link_same page own other.1 in
-        inr (λ none. on.0 (sym e ∙ none), subst (λ (x : ℕ). IsOnChain (suc n) new x (next_page old)) (sym e)
-            (reaches n (link_of old page) (behind low (page_pairs old page)) (omega (arith, to.0), to.1) (chain.1 on.0) on.1))
+        inr (
+          λ none. on.0 (sym e ∙ none),
+          subst (λ (x : ℕ). IsOnChain (suc n) new x (next_page old)) (sym e)
+              (reaches n (link_of old page) (behind low (page_pairs old page)) (omega (arith, to.0), to.1) (chain.1 on.0) on.1),
+        )
   ]
 
   -- the pages behind the cut one stay
@@ -83,8 +89,11 @@ module _ (old new : List ℕ) (q : ℕ) (cut : SplitsPage old new q) (two : 2 �
       let e = link_same page own (λ same. omega (arith, ap (λ (x : ℕ). first_key (page_pairs old x)) same, first.0)) in
       let to = chain.0.link on.0 in
       let up = wide_behind low key_end (page_pairs old page) some chain.0.rises in
-      inr (λ none. on.0 (sym e ∙ none), subst (λ (x : ℕ). IsOnChain n new x other) (sym e)
-          (beyond n (link_of old page) (behind low (page_pairs old page)) other (omega (arith, to.0), to.1) to.0 (chain.1 on.0) (omega arith) on.1))
+      inr (
+        λ none. on.0 (sym e ∙ none),
+        subst (λ (x : ℕ). IsOnChain n new x other) (sym e)
+            (beyond n (link_of old page) (behind low (page_pairs old page)) other (omega (arith, to.0), to.1) to.0 (chain.1 on.0) (omega arith) on.1),
+      )
 
   stays : (n page low other : ℕ) → IsOwn old page → IsChain n old page low → IsOnChain n old page other → IsOnChain (suc n) new page other
   stays zero page low other own chain on = absurd on
@@ -98,12 +107,18 @@ module _ (old new : List ℕ) (q : ℕ) (cut : SplitsPage old new q) (two : 2 �
             let some = linked_some old page low on.0 chain.0 in
             let near = first_below low key_end (page_pairs old page) some chain.0.rises in
             let rest = beyond n (link_of old page) (behind low (page_pairs old page)) other (omega (arith, to.0), to.1) to.0 (chain.1 on.0) (omega (arith, near, ap (λ (x : ℕ). first_key (page_pairs old x)) same.1)) on.1 in
-            inr (λ none. next_some (sym e ∙ none), subst (λ (x : ℕ). IsOnChain (suc n) new x other) (sym e)
-                (inr (λ none. on.0 (sym e' ∙ none), subst (λ (x : ℕ). IsOnChain n new x other) (sym e') rest)))
+            inr (
+              λ none. next_some (sym e ∙ none),
+              subst (λ (x : ℕ). IsOnChain (suc n) new x other) (sym e)
+                  (inr (λ none. on.0 (sym e' ∙ none), subst (λ (x : ℕ). IsOnChain n new x other) (sym e') rest)),
+            )
         | inr other' ↦
             let e = link_same page own other'.1 in
-            inr (λ none. on.0 (sym e ∙ none), subst (λ (x : ℕ). IsOnChain (suc n) new x other) (sym e)
-                (stays n (link_of old page) (behind low (page_pairs old page)) other (omega (arith, to.0), to.1) (chain.1 on.0) on.1))
+            inr (
+              λ none. on.0 (sym e ∙ none),
+              subst (λ (x : ℕ). IsOnChain (suc n) new x other) (sym e)
+                  (stays n (link_of old page) (behind low (page_pairs old page)) other (omega (arith, to.0), to.1) (chain.1 on.0) on.1),
+            )
       ]
 
   pub cut_keeps : IsSoundChain old → (other : ℕ) → IsPageOfChain old other → IsPageOfChain new other

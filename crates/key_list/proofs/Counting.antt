@@ -1,6 +1,6 @@
 -- Why an insertion comes to its end.
-use Rattle.std.proofs.Common.{◌≡◌, ℕ, ◌+◌, ◌-◌, ◌*◌, ◌/◌, ◌<◌, ◌≤◌, ◌⊎◌, true, false, nat_lt, inl, inr, List, [], ◌∷◌, length, refl, sym, ◌∙◌, ap, subst, arith}
-use Rattle.std.specs.Prelude.{filter, if◌then◌else◌}
+use Rattle.std.proofs.Common.{◌≡◌, ℕ, ◌+◌, ◌-◌, ◌/◌, ◌<◌, ◌≤◌, true, false, nat_lt, inl, inr, List, [], ◌∷◌, length, refl, sym, ◌∙◌, ap, subst, arith}
+use Rattle.std.specs.Prelude.{filter}
 use Rattle.std.proofs.lemmas.Bool.Decides.{nat_tests}
 use Rattle.array_shape.specs.declared.shape.Shape.{Shape}
 use Rattle.array_shape.specs.Places.{data_len}
@@ -105,13 +105,17 @@ module _ (old : StoreView) (t key : ℕ) (half : ℕ) (long : length old.state.b
 
       pub both_cause : FitAll old t (cutting_pages front page) → FitAll old t (adding_pages half front (half_for old.state.bytes (page_of_key old.state.bytes key) key)) → ComesTo chain key old (AllFit old t)
       unfolding left
-      both_cause fits more =
-          (slot_left, subst (λ (steps : List Action). AllFit old t left steps) (sym actions_two)
-            (cut_fits fits, ((omega arith, subst (λ (ps : List ℕ). FitAll old t ps) (adding_at (half_for old.state.bytes (page_of_key old.state.bytes key) key)) more), tt)))
+      both_cause fits more = (
+        slot_left,
+        subst (λ (steps : List Action). AllFit old t left steps) (sym actions_two)
+            (cut_fits fits, ((omega arith, subst (λ (ps : List ℕ). FitAll old t ps) (adding_at (half_for old.state.bytes (page_of_key old.state.bytes key) key)) more), tt)),
+      )
 
       pub second_lacks : FitAll old t (cutting_pages front page) → (g h n : ℕ) → IsFirstLacking old t (adding_pages half front (half_for old.state.bytes (page_of_key old.state.bytes key) key)) g h n
           → ComesTo chain key old (LackRoom old t g h n)
       unfolding left
-      second_lacks fits g h n lacks =
-          (slot_left, subst (λ (steps : List Action). LackRoom old t g h n left steps) (sym actions_two)
-            (inr (cut_fits fits, inl (omega arith, subst (λ (ps : List ℕ). IsFirstLacking old t ps g h n) (adding_at (half_for old.state.bytes (page_of_key old.state.bytes key) key)) lacks))))
+      second_lacks fits g h n lacks = (
+        slot_left,
+        subst (λ (steps : List Action). LackRoom old t g h n left steps) (sym actions_two)
+            (inr (cut_fits fits, inl (omega arith, subst (λ (ps : List ℕ). IsFirstLacking old t ps g h n) (adding_at (half_for old.state.bytes (page_of_key old.state.bytes key) key)) lacks))),
+      )

@@ -1,5 +1,5 @@
 -- What the actions of an insertion make of the data.
-use Rattle.std.proofs.Common.{◌≡◌, ◌≢◌, ℕ, suc, ◌+◌, ◌-◌, ◌*◌, ◌/◌, ◌%◌, ◌^◌, ◌<◌, ◌≤◌, ◌⊎◌, true, false, nat_lt, inl, inr, List, [], ◌∷◌, length, take, drop, None, Some, Option, refl, sym, ◌∙◌, ap, subst, arith}
+use Rattle.std.proofs.Common.{◌≡◌, ◌≢◌, ℕ, suc, ◌+◌, ◌*◌, ◌/◌, ◌%◌, ◌^◌, ◌<◌, ◌≤◌, true, false, nat_lt, inl, inr, List, length, take, drop, None, Option, refl, sym, ◌∙◌, ap, subst, arith}
 use Rattle.std.proofs.lemmas.Bool.{cases_lt}
 use Rattle.std.proofs.lemmas.Bool.Decides.{eqb_tells, leb_tells}
 use Rattle.std.proofs.lemmas.List.{length-take-le, length-drop}
@@ -13,7 +13,7 @@ use Rattle.record_slots.specs.Super.{count_bytes}
 use Rattle.record_slots.specs.declared.super_page.Super.{Super}
 use Rattle.record_slots.specs.declared.slot.Slot.{Slot}
 use Rattle.record_slots.specs.declared.slot.Slot.TheVariants.{Absent}
-use Rattle.record_slots.specs.Places.{page_bytes, page_count, slot_count, first_slot_page, slot_at, slot_of, next_slot, next_page, IsSuper, IsOfKey, Carries}
+use Rattle.record_slots.specs.Places.{page_bytes, page_count, first_slot_page, slot_at, slot_of, next_slot, next_page, IsSuper, IsOfKey, Carries}
 use Rattle.record_slots.proofs.SlotLemmas.{length-slot_bytes, slot_said-slot_bytes}
 use Rattle.page_store.specs.Index.{slots_of, index_pages_of, Grows, Rests, Gains}
 use Rattle.page_store.specs.Pairs.{Pair, found, inserted}
@@ -21,12 +21,12 @@ use Rattle.page_store.specs.Shown.{address}
 use Rattle.index_pages.specs.Chain.{IsSoundChain, pairs_of_chain}
 use Rattle.index_pages.specs.Changes.{TakesPairInChain, SplitsPage}
 use Rattle.index_pages.specs.Keys.{key_at}
-use Rattle.index_pages.specs.Page.{page_pairs, pairs_said, kind_said, level_said, link_said, count_said, count_of, link_of}
+use Rattle.index_pages.specs.Page.{page_pairs, pairs_said, kind_said, level_said, link_said, link_of}
 use Rattle.index_pages.specs.Ways.{Keeps, page_of_key}
 use Rattle.index_pages.specs.Written.{leaf_bytes, AreSmall}
 use Rattle.index_pages.proofs.Ranges.{Apart, three_long, three_away, three_first, three_second, three_third}
 use Rattle.index_pages.proofs.Fronts.{length-count_bytes, slot_written, page_written, mark_kept, form_kept}
-use Rattle.index_pages.proofs.Writing.{leaf_kind, leaf_level, leaf_count, leaf_link, leaf_pairs, length-leaf_bytes, small_take, small_inserted}
+use Rattle.index_pages.proofs.Writing.{leaf_kind, leaf_level, leaf_link, leaf_pairs, length-leaf_bytes, small_take, small_inserted}
 use Rattle.index_pages.proofs.Rising.{length-inserted}
 use Rattle.index_pages.proofs.PageFacts.{length-page_pairs}
 use Rattle.index_pages.proofs.ChainActions.{sound_chain_takes, sound_chain_splits}

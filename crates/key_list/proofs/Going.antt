@@ -1,21 +1,19 @@
 -- An insertion on its way, and its ends.
-use Rattle.std.proofs.Common.{◌≡◌, ◌≢◌, ℕ, suc, ◌+◌, ◌<◌, ◌≤◌, Bool, true, false, ◌⊎◌, inl, inr, List, [], ◌∷◌, Option, Result, Ok, Err, refl, sym, ◌∙◌, ap, subst, arith}
-use Rattle.std.specs.Prelude.{IsTrue, IsFalse}
+use Rattle.std.proofs.Common.{◌≡◌, ◌≢◌, ℕ, ◌≤◌, Bool, true, false, inl, inr, List, Option, Result, Ok, Err, refl, sym, ◌∙◌, ap, subst, arith}
+use Rattle.std.specs.Prelude.{IsTrue}
 use Rattle.std.proofs.lemmas.Bool.{false≢true}
 use Rattle.counted.specs.Causes.{Rose}
 use Rattle.counted.proofs.Going.{then, weaker}
-use Rattle.array_shape.specs.declared.shape.Shape.{Shape}
 use Rattle.array_shape.specs.Logged.{Part, applied}
-use Rattle.eaw_face.specs.State.{State, listed, count_on}
-use Rattle.eaw_face.specs.StoreView.{StoreView, LeavesOnly}
+use Rattle.eaw_face.specs.State.{State, listed}
+use Rattle.eaw_face.specs.StoreView.{LeavesOnly}
 use Rattle.eaw_face.specs.Causes.{IsAlive}
 use Rattle.record_slots.specs.Places.{next_slot, next_page}
-use Rattle.page_store.specs.Fits.{FitAll, IsFirstLacking, is_page_on}
-use Rattle.page_store.specs.Index.{Grows, Rests, Gains, slots_of, index_pages_of}
-use Rattle.page_store.specs.Inserts.{KeepsLogs, MayBecome, Made, InsertCause, Inserts, is_insert_failed, ComesTo, AllFit, LackPages, LackRoom, IsLogFull}
+use Rattle.page_store.specs.Fits.{IsFirstLacking}
+use Rattle.page_store.specs.Index.{Grows, Rests, Gains}
+use Rattle.page_store.specs.Inserts.{KeepsLogs, MayBecome, Made, InsertCause, Inserts, is_insert_failed}
 use Rattle.page_store.specs.Looks.{Looks, LookCause, is_failed}
-use Rattle.page_store.specs.Shown.{PagesView, state_of}
-use Rattle.page_store.specs.State.{log_of}
+use Rattle.page_store.specs.Shown.{PagesView}
 use Rattle.page_store.specs.declared.fault.PageFault.{PageFault}
 use Rattle.page_store.specs.declared.fault.PageFault.TheVariants as page
 use Rattle.page_store.specs.declared.index_fault.IndexFault.{IndexFault}

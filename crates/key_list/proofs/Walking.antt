@@ -1,17 +1,15 @@
 -- A walk along a sound chain.
-use Rattle.std.proofs.Common.{◌≡◌, ◌≢◌, ℕ, zero, suc, ◌+◌, ◌-◌, ◌<◌, ◌≤◌, Bool, true, false, nat_eq, nat_lt, List, [], ◌∷◌, ◌++◌, Option, Some, None, inl, inr, refl, sym, ◌∙◌, ap, subst, arith}
+use Rattle.std.proofs.Common.{◌≡◌, ◌≢◌, ℕ, zero, suc, ◌+◌, ◌-◌, ◌<◌, ◌≤◌, true, false, nat_eq, nat_lt, List, [], ◌∷◌, Some, None, inl, inr, refl, sym, ◌∙◌, ap, subst, arith}
 use Rattle.std.specs.Prelude.{nat_le, if◌then◌else◌}
 use Rattle.std.proofs.lemmas.Bool.Decides.{nat_tests, eqb_tells, leb_tells}
-use Rattle.std.proofs.lemmas.List.{append-nil}
 use Rattle.page_store.specs.Pairs.{Pair, Rise, found, next}
 use Rattle.record_slots.specs.Places.{page_bytes, next_slot, next_page, AreGiven, first_slot_page}
-use Rattle.index_pages.specs.Page.{page_pairs, link_of, kind_of, level_of, count_of, count_said, pair_said, pairs_from, pairs_said}
+use Rattle.index_pages.specs.Page.{page_pairs, link_of, count_of, count_said, pair_said, pairs_from, pairs_said}
 use Rattle.index_pages.proofs.Reading.{from_first}
-use Rattle.index_pages.specs.Pieces.{Piece, joined}
-use Rattle.index_pages.specs.Chain.{key_end, behind, IsChain, IsChainPage, chain_pieces, first_key, IsSoundChain, pairs_of_chain}
+use Rattle.index_pages.specs.Pieces.{joined}
+use Rattle.index_pages.specs.Chain.{behind, IsChain, IsChainPage, chain_pieces, first_key, IsSoundChain, pairs_of_chain}
 use Rattle.index_pages.specs.Ways.{chain_page_for, page_of_key}
 use Rattle.index_pages.proofs.Rising.{next-none, next-some, found-below}
-use Rattle.index_pages.proofs.PageFacts.{length-page_pairs}
 use Rattle.index_pages.proofs.ChainFacts.{chain_head}
 use Rattle.key_list.specs.Linked.{IsLinked}
 

@@ -1,17 +1,16 @@
 -- An insertion as a whole, from what its steps give.
-use Rattle.std.proofs.Common.{◌≡◌, ◌≢◌, ℕ, suc, ◌+◌, ◌-◌, ◌*◌, ◌/◌, ◌^◌, ◌<◌, ◌≤◌, Bool, true, false, ◌⊎◌, inl, inr, List, [], ◌∷◌, length, Option, None, Result, Ok, Err, refl, sym, ◌∙◌, ap, subst, arith}
-use Rattle.std.specs.Prelude.{IsTrue, IsFalse}
+use Rattle.std.proofs.Common.{◌≡◌, ◌≢◌, ℕ, suc, ◌+◌, ◌-◌, ◌*◌, ◌/◌, ◌^◌, ◌<◌, ◌≤◌, Bool, false, inl, inr, List, [], ◌∷◌, length, Option, None, Result, Ok, Err, refl, sym, ◌∙◌, ap, subst, arith}
+use Rattle.std.specs.Prelude.{IsTrue}
 use Rattle.array_shape.specs.declared.shape.Shape.{Shape}
 use Rattle.array_shape.specs.Places.{data_len, page_count}
-use Rattle.array_shape.specs.Logged.{Part, applied}
+use Rattle.array_shape.specs.Logged.{applied}
 use Rattle.eaw_face.specs.State.{State, listed}
-use Rattle.eaw_face.specs.StoreView.{StoreView}
 use Rattle.eaw_face.specs.Causes.{IsAlive}
 use Rattle.record_slots.specs.Places.{next_slot, next_page, slot_of}
 use Rattle.record_slots.specs.declared.super_page.Super.{Super}
 use Rattle.page_store.specs.Fits.{FitAll, IsFirstLacking}
 use Rattle.page_store.specs.Index.{Grows, Rests, Gains, slots_of, index_pages_of}
-use Rattle.page_store.specs.Inserts.{MayBecome, InsertCause, Inserts}
+use Rattle.page_store.specs.Inserts.{MayBecome, Inserts}
 use Rattle.page_store.specs.Looks.{Looks, LookCause, is_failed}
 use Rattle.page_store.specs.Pairs.{Pair, found, inserted}
 use Rattle.page_store.specs.Shown.{PagesView}
@@ -228,9 +227,12 @@ module _ (tells : Bool) (E : Shape → List ℕ → List ℕ → Type 0) (t key 
                 let r : Result (Unit {0}) PageFault = Ok tt in
                 let acts = added_acts v3 v4 hfront hpage hlink hpairs r going3.shape acts'' in
                 inserts_done tells (E v0.store.shape) t key v0 v3 v4 going3 (adding_pages half hfront hpage) (adding_parts half hfront hpage hlink hpairs key) may3 front.next_slot acts
-                (λ told living. let d = data3 told in ((said told).slot_is, d.0, d.1))
-                (alive, slot, λ told. both_cause v0.store t key half (long told) all front page link pairs (said told) slot full next cut_room
-                (subst (λ (ps : List ℕ). FitAll v0.store t ps) (half_pages told) (fits_same v0.store v3.store t (adding_pages half hfront hpage) going3.shape (going3.logs.ranges t) acts.cause.1)))
+                (λ told living. let d = data3 told in ((said told).slot_is, d.0, d.1)) (
+                  alive,
+                  slot,
+                  λ told. both_cause v0.store t key half (long told) all front page link pairs (said told) slot full next cut_room
+                      (subst (λ (ps : List ℕ). FitAll v0.store t ps) (half_pages told) (fits_same v0.store v3.store t (adding_pages half hfront hpage) going3.shape (going3.logs.ranges t) acts.cause.1)),
+                )
 
             pub halved_err : (v4 : PagesView) (fault : PageFault) → (let r : Result (Unit {0}) PageFault = Err fault in
                 Acts tells (E v3.store.shape) t (adding_pages (index_pages_of v3.store.shape) hfront hpage) (adding_parts (index_pages_of v3.store.shape) hfront hpage hlink hpairs key) v3 v4 r)
@@ -239,7 +241,10 @@ module _ (tells : Bool) (E : Shape → List ℕ → List ℕ → Type 0) (t key 
                 let r : Result (Unit {0}) PageFault = Err fault in
                 let acts = added_acts v3 v4 hfront hpage hlink hpairs r going3.shape acts'' in
                 inserts_act_err tells (E v0.store.shape) t key v0 v3 v4 going3 (adding_pages half hfront hpage) (adding_parts half hfront hpage hlink hpairs key) may3 alive
-                (λ g h n lacks. let lacks' = lacking_same v0.store v3.store t (adding_pages half hfront hpage) g h n going3.shape (going3.logs.ranges t) lacks in
-                (alive, (adding_pages half hfront hpage, omega arith, lacks'), λ told. second_lacks v0.store t key half (long told) all front page link pairs (said told) slot full next cut_room g h n
-                (subst (λ (ps : List ℕ). IsFirstLacking v0.store t ps g h n) (half_pages told) lacks')))
+                (λ g h n lacks. let lacks' = lacking_same v0.store v3.store t (adding_pages half hfront hpage) g h n going3.shape (going3.logs.ranges t) lacks in (
+                  alive,
+                  (adding_pages half hfront hpage, omega arith, lacks'),
+                  λ told. second_lacks v0.store t key half (long told) all front page link pairs (said told) slot full next cut_room g h n
+                      (subst (λ (ps : List ℕ). IsFirstLacking v0.store t ps g h n) (half_pages told) lacks'),
+                ))
                 fault acts

@@ -1,10 +1,9 @@
 -- What the tests of a chain tell.
-use Rattle.std.specs.Prelude.{ℕ, suc, ◌≡◌, ◌<◌, ◌≤◌, ◌⊎◌, Bool, true, false, IsTrue, List, Option, Some, None, Result, Ok, Err}
-use Rattle.eaw_face.specs.StoreView.{StoreView}
+use Rattle.std.specs.Prelude.{ℕ, suc, ◌≡◌, ◌<◌, ◌≤◌, ◌⊎◌, Bool, true, false, List, Option, Some, None, Result, Ok, Err}
 use Rattle.record_slots.specs.Places.{next_slot, Carries, AreGiven, slot_page}
 use Rattle.page_store.specs.Pairs.{Pair, Rise}
 use Rattle.page_store.specs.declared.index_fault.CheckFault.{CheckFault}
-use Rattle.page_store.specs.declared.index_fault.CheckFault.TheVariants.{Damaged, Media, Dead}
+use Rattle.page_store.specs.declared.index_fault.CheckFault.TheVariants.{Damaged, Media}
 use Rattle.index_pages.specs.Chain.{key_end, behind}
 use Rattle.index_pages.specs.Failing.{PairsFail}
 use Rattle.index_pages.specs.Page.{kind_said, level_said, count_said, link_said}

@@ -48,10 +48,7 @@ pub fn read_page<S: EawStore>(
 }
 
 // The pair with the least key that is not below this one.
-pub fn next<S: EawStore>(
-    pages: &mut Pages<S>,
-    from: u64,
-) -> Result<Option<(u64, u32)>, PageFault>
+pub fn next<S: EawStore>(pages: &mut Pages<S>, from: u64) -> Result<Option<(u64, u32)>, PageFault>
     requires { IsTrue S.tells → IsAlive (S.view pages.old.store) → IsSoundChain (S.view pages.old.store).state.bytes }
     ensures looks { Looks S.tells (S.opens (S.view pages.old.store).shape) (is_failed result)
         (pages_of (S.view pages.old.store) pages.old) (pages_of (S.view pages.new.store) pages.new) }

@@ -82,11 +82,7 @@ fn place_of(pairs: &[(u64, u64)], key: u64) -> usize
 }
 
 // Cuts a full page: its upper half goes to the next page.
-pub fn cut_page<S: EawStore>(
-    pages: &mut Pages<S>,
-    tid: u8,
-    at: &Located,
-) -> Result<(), PageFault>
+pub fn cut_page<S: EawStore>(pages: &mut Pages<S>, tid: u8, at: &Located) -> Result<(), PageFault>
     requires tid { tid < (S.view pages.old.store).shape.numbers }
     requires closed { IsAlive (S.view pages.old.store) → top_in pages.old.marks tid ≡ None }
     requires located { IsLocated (S.view pages.old.store).shape at.now.front at.now.page at.now.link at.now.pairs.items }

@@ -1,15 +1,14 @@
-use Rattle.std.proofs.Common.{◌≡◌, ◌*◌, ◌+◌, ℕ, List, [], ◌∷◌, length, IsTrue, false, Option, Some, Ok, Err, Result, refl, sym, ◌∙◌, ap, subst, arith}
+use Rattle.std.proofs.Common.{ℕ, List, [], ◌∷◌, length, IsTrue, Option, Some, Ok, Err, Result, sym, ◌∙◌, ap}
 use Rattle.array_shape.specs.Logged.{Part}
 use Rattle.eaw_face.specs.State.{listed}
 use Rattle.eaw_face.specs.Causes.{IsAlive}
 use Rattle.page_store.specs.Command.{write_as, top_end}
-use Rattle.page_store.specs.State.{with_one}
-use Rattle.page_store.specs.Shown.{PagesView, IsInPage, address, pages_of}
+use Rattle.page_store.specs.Shown.{address, pages_of}
 use Rattle.page_store.specs.declared.fault.PageFault.{PageFault}
 use Rattle.page_store.proofs.Numbers.{with_here}
 use Rattle.page_store.proofs.Shown.{IsTold}
 use Rattle.page_store.proofs.Writing.{in_page_placed}
-use Rattle.index_pages.proofs.Acting.{Acting, acting_begin, acting_write, acting_fail, acting_end, known_of, on_shape, begins_within}
+use Rattle.index_pages.proofs.Acting.{acting_begin, acting_write, acting_fail, acting_end, known_of, on_shape, begins_within}
 use Rattle.index_pages.proofs.action.act.Goals as goal
 
 pub returns-in-Err-write_as-2-clause-acts : goal.returns-in-Err-write_as-2-clause-acts
@@ -125,9 +124,12 @@ returns-clause-acts g c =
       outlines = λ u. g.met.S.EawStore.outlines c.args.pages.now.store u tell alive;
       placed = g.met.S.EawStore.placed c.args.pages.now.store;
     } in
-    acting_end T O t v0 v4 v5 parts a4 alive (c.requires.closed alive) pages c.in-Ok.ensures.fits.1 c.top_begin-mark.result c.top_begin-mark.ensures.mark
-    (in_page_placed v0.store a.page a.at (length a.bytes.now) c.requires.first_some c.requires.first,
-      (in_page_placed v0.store b.page b.at (length b.bytes.now) c.requires.second_some c.requires.second,
-        (in_page_placed v0.store d.page d.at (length d.bytes.now) c.requires.third_some c.requires.third, tt)))
+    acting_end T O t v0 v4 v5 parts a4 alive (c.requires.closed alive) pages c.in-Ok.ensures.fits.1 c.top_begin-mark.result c.top_begin-mark.ensures.mark (
+      in_page_placed v0.store a.page a.at (length a.bytes.now) c.requires.first_some c.requires.first,
+      (
+        in_page_placed v0.store b.page b.at (length b.bytes.now) c.requires.second_some c.requires.second,
+        (in_page_placed v0.store d.page d.at (length d.bytes.now) c.requires.third_some c.requires.third, tt),
+      ),
+    )
     (λ tell. known_of v0 t (told tell) (c.if-is_dead.ensures.ordered alive))
     c.top_end.result (on_shape T E (top_end t c.top_begin-mark.result) v0 v4 v5 c.top_end.result a4.shape c.top_end.ensures.does)

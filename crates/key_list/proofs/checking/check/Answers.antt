@@ -1,17 +1,12 @@
-use Rattle.std.proofs.Common.{◌≡◌, ◌≢◌, ◌+◌, ◌-◌, ◌<◌, ◌≤◌, ℕ, suc, false, List, Option, Ok, Err, Result, IsTrue, refl, sym, ◌∙◌, ap, subst, arith}
+use Rattle.std.proofs.Common.{◌≡◌, ◌+◌, ◌-◌, ℕ, suc, false, Option, Ok, Err, Result, IsTrue, refl, sym, ◌∙◌, ap, subst, arith}
 use Rattle.eaw_face.specs.State.{State}
 use Rattle.eaw_face.specs.Causes.{IsAlive}
 use Rattle.record_slots.specs.Places.{next_slot, next_page, page_bytes}
-use Rattle.page_store.specs.Index.{index_pages_of}
-use Rattle.page_store.specs.Looks.{CheckCause}
 use Rattle.page_store.specs.Shown.{pages_of}
 use Rattle.page_store.specs.declared.index_fault.CheckFault.{CheckFault}
-use Rattle.page_store.specs.declared.index_fault.CheckFault.TheVariants.{Damaged, Media, Dead}
-use Rattle.index_pages.specs.Failing.{IsFirstDamagedOfChain}
-use Rattle.index_pages.specs.Page.{pairs_said, count_said, link_said}
-use Rattle.index_pages.proofs.Looking.{looks_none, looks_next}
-use Rattle.key_list.specs.Checked.{low_of, IsHead, PairsCause}
-use Rattle.key_list.specs.Index.{chain}
+use Rattle.index_pages.specs.Page.{pairs_said, link_said}
+use Rattle.index_pages.proofs.Looking.{looks_next}
+use Rattle.key_list.specs.Checked.{low_of, PairsCause}
 use Rattle.key_list.proofs.Testing.{ChainLeft, chain_all, chain_none, head_fails, pairs_fail, link_fails, link_ends, link_on, checked_err}
 use Rattle.key_list.proofs.checking.check.Goals as goal
 
@@ -94,9 +89,11 @@ returns-then-head-lt2-clause-cause g c =
     let slots = λ (told : IsTrue g.S.EawStore.tells). (c.in-Ok.ensures.says told).next_slot ∙ ap (λ (s : State). next_slot s.bytes) (sym (same2 told)) in
     let well = λ (told : IsTrue g.S.EawStore.tells).
     (let r : Result (Option ℕ) CheckFault = Ok c.in-Ok-check_pairs.last in
-    subst (λ (s : State). PairsCause s.bytes c.loop-step.page (low_of c.loop-step.last) (pairs_said c.fetch_page.new.bytes) r) (same2 told) (c.in-Ok-check_pairs.ensures.cause told (slots told))) in
-    (alive, λ told. link_fails b c.fetch_page.new.bytes c.loop-step.page (low_of c.loop-step.last) n (buf told) (left told) c.in-Some.ensures.head c.in-Ok-check_pairs.last (well told) (λ link.
-    let to = link (λ e. c.if-head-eq0.false (c.in-Some.ensures.says.link ∙ e)) in omega (arith, to.0, c.if-head-lt2.true, c.in-Some.ensures.says.link)))
+    subst (λ (s : State). PairsCause s.bytes c.loop-step.page (low_of c.loop-step.last) (pairs_said c.fetch_page.new.bytes) r) (same2 told) (c.in-Ok-check_pairs.ensures.cause told (slots told))) in (
+      alive,
+      λ told. link_fails b c.fetch_page.new.bytes c.loop-step.page (low_of c.loop-step.last) n (buf told) (left told) c.in-Some.ensures.head c.in-Ok-check_pairs.last (well told) (λ link.
+          let to = link (λ e. c.if-head-eq0.false (c.in-Some.ensures.says.link ∙ e)) in omega (arith, to.0, c.if-head-lt2.true, c.in-Some.ensures.says.link)),
+    )
 
 pub returns-then-head-front-clause-cause : goal.returns-then-head-front-clause-cause
 returns-then-head-front-clause-cause g c =
@@ -117,9 +114,11 @@ returns-then-head-front-clause-cause g c =
     let slots = λ (told : IsTrue g.S.EawStore.tells). (c.in-Ok.ensures.says told).next_slot ∙ ap (λ (s : State). next_slot s.bytes) (sym (same2 told)) in
     let well = λ (told : IsTrue g.S.EawStore.tells).
     (let r : Result (Option ℕ) CheckFault = Ok c.in-Ok-check_pairs.last in
-    subst (λ (s : State). PairsCause s.bytes c.loop-step.page (low_of c.loop-step.last) (pairs_said c.fetch_page.new.bytes) r) (same2 told) (c.in-Ok-check_pairs.ensures.cause told (slots told))) in
-    (alive, λ told. link_fails b c.fetch_page.new.bytes c.loop-step.page (low_of c.loop-step.last) n (buf told) (left told) c.in-Some.ensures.head c.in-Ok-check_pairs.last (well told) (λ link.
-    let to = link (λ e. c.if-head-eq0.false (c.in-Some.ensures.says.link ∙ e)) in omega (arith, to.1, c.if-head-front.true, c.in-Some.ensures.says.link, (c.in-Ok.ensures.says told).next_page)))
+    subst (λ (s : State). PairsCause s.bytes c.loop-step.page (low_of c.loop-step.last) (pairs_said c.fetch_page.new.bytes) r) (same2 told) (c.in-Ok-check_pairs.ensures.cause told (slots told))) in (
+      alive,
+      λ told. link_fails b c.fetch_page.new.bytes c.loop-step.page (low_of c.loop-step.last) n (buf told) (left told) c.in-Some.ensures.head c.in-Ok-check_pairs.last (well told) (λ link.
+          let to = link (λ e. c.if-head-eq0.false (c.in-Some.ensures.says.link ∙ e)) in omega (arith, to.1, c.if-head-front.true, c.in-Some.ensures.says.link, (c.in-Ok.ensures.says told).next_page)),
+    )
 
 pub loop-step-preserved : goal.loop-step-preserved
 loop-step-preserved g c =

@@ -1,4 +1,4 @@
-use Rattle.std.proofs.Common.{◌≡◌, ◌<◌, ◌≤◌, ◌+◌, ◌/◌, ℕ, inr, false, true, refl, sym, ◌∙◌, arith}
+use Rattle.std.proofs.Common.{inr, sym, ◌∙◌, arith}
 use Rattle.std.proofs.lemmas.Bool.{false≢true}
 use Rattle.index_pages.proofs.Sizes.{slot_page_is}
 use Rattle.key_list.proofs.Testing.{carries_said, carries_not}

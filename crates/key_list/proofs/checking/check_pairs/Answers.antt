@@ -1,4 +1,4 @@
-use Rattle.std.proofs.Common.{◌≡◌, ◌+◌, ◌-◌, ◌<◌, ◌≤◌, ℕ, suc, false, List, [], ◌∷◌, Ok, Err, Result, Option, refl, sym, ◌∙◌, ap, subst, arith}
+use Rattle.std.proofs.Common.{◌≡◌, ◌+◌, ◌-◌, ℕ, suc, false, List, Ok, Err, Result, refl, sym, ◌∙◌, ap, subst, arith}
 use Rattle.eaw_face.specs.State.{State}
 use Rattle.record_slots.specs.Places.{next_slot}
 use Rattle.page_store.specs.Pairs.{Pair}
@@ -7,7 +7,7 @@ use Rattle.page_store.specs.declared.index_fault.CheckFault.{CheckFault}
 use Rattle.index_pages.specs.Page.{pairs_from, pair_said, pairs_said, count_said}
 use Rattle.index_pages.proofs.Looking.{looks_none, looks_next}
 use Rattle.index_pages.proofs.Reading.{from_first, from_step, from_end}
-use Rattle.key_list.specs.Checked.{low_of, PairCause, PairsCause}
+use Rattle.key_list.specs.Checked.{low_of, PairCause}
 use Rattle.key_list.proofs.Testing.{PairsLeft, left_all, left_step, left_fails, left_none}
 use Rattle.key_list.proofs.checking.check_pairs.Goals as goal
 
@@ -69,4 +69,4 @@ returns-clause-cause g c = λ told slots.
     let view = g.S.EawStore.view c.args.pages.now.store in
     left_none view.state.bytes c.args.page (low_of c.args.last) (pairs_said c.args.bytes.now) c.loop-i.last c.loop-i.invariant.low
     (subst (λ (ps : List Pair). PairsLeft view.state.bytes c.args.page (low_of c.args.last) (pairs_said c.args.bytes.now) (low_of c.loop-i.last) ps)
-      (from_end c.args.bytes.now c.loop-i.i c.args.count c.loop-i-test.false) (c.loop-i.invariant.left told slots))
+    (from_end c.args.bytes.now c.loop-i.i c.args.count c.loop-i-test.false) (c.loop-i.invariant.left told slots))

@@ -1,11 +1,9 @@
-use Rattle.std.proofs.Common.{◌≡◌, ◌-◌, ◌≤◌, ℕ, false, IsTrue}
+use Rattle.std.proofs.Common.{◌≡◌, ◌-◌, ◌≤◌, false, IsTrue}
 use Rattle.eaw_face.specs.Causes.{IsAlive}
-use Rattle.record_slots.specs.Places.{next_slot, AreGiven}
+use Rattle.record_slots.specs.Places.{next_slot}
 use Rattle.page_store.specs.Looks.{Looks}
-use Rattle.page_store.specs.Pairs.{Rise}
 use Rattle.page_store.specs.Shown.{pages_of}
-use Rattle.index_pages.specs.Chain.{key_end, behind}
-use Rattle.index_pages.specs.Failing.{PairsFail}
+use Rattle.index_pages.specs.Chain.{key_end}
 use Rattle.index_pages.specs.Page.{pairs_from, pairs_said}
 use Rattle.key_list.specs.Checked.{low_of}
 use Rattle.key_list.proofs.Testing.{PairsLeft}

@@ -1,4 +1,4 @@
-use Rattle.std.proofs.Common.{◌≡◌, ◌≢◌, ◌^◌, ◌<◌, ◌≤◌, ℕ, List, Option, Result, Ok, Err, length, IsTrue, sym, ◌∙◌, ap, subst, arith}
+use Rattle.std.proofs.Common.{◌≡◌, ◌^◌, ◌<◌, ℕ, Option, Result, Err, length, IsTrue, sym, ◌∙◌, ap, subst, arith}
 use Rattle.page_store.specs.Inserts.{Inserts}
 use Rattle.page_store.specs.Shown.{pages_of}
 use Rattle.page_store.specs.declared.index_fault.IndexFault.{IndexFault}

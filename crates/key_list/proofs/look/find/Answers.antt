@@ -1,5 +1,4 @@
-use Rattle.std.proofs.Common.{◌≡◌, ◌<◌, ◌^◌, ℕ, List, Some, None, sym, ◌∙◌, ap, arith}
-use Rattle.page_store.specs.Pairs.{Pair, next, found}
+use Rattle.std.proofs.Common.{◌^◌, sym, ◌∙◌}
 use Rattle.index_pages.specs.Chain.{pairs_of_chain}
 use Rattle.index_pages.proofs.ChainFacts.{sound_chain_rises}
 use Rattle.key_list.proofs.Walking.{found_next, found_other, found_none}

@@ -1,15 +1,15 @@
-use Rattle.std.proofs.Common.{◌≡◌, ◌≢◌, ◌+◌, ◌*◌, ◌<◌, ◌≤◌, ℕ, false, List, Some, None, IsTrue, refl, sym, ◌∙◌, ap, subst, arith}
+use Rattle.std.proofs.Common.{◌≡◌, ◌+◌, ℕ, false, List, Some, None, refl, sym, ◌∙◌, ap, subst, arith}
 use Rattle.std.proofs.lemmas.Bool.{false≢true}
 use Rattle.eaw_face.specs.State.{State}
 use Rattle.eaw_face.specs.Causes.{IsAlive}
-use Rattle.page_store.specs.Pairs.{Pair, next}
+use Rattle.page_store.specs.Pairs.{next}
 use Rattle.record_slots.specs.Places.{page_bytes}
 use Rattle.index_pages.specs.Page.{pairs_said, link_said, page_pairs, link_of}
 use Rattle.index_pages.proofs.Looking.{looks_none, looks_next}
 use Rattle.index_pages.proofs.Sizes.{slots_are, index_pages_are}
 use Rattle.page_store.specs.Index.{index_pages_of}
 use Rattle.page_store.specs.Shown.{pages_of}
-use Rattle.key_list.proofs.Walking.{Next, next_first, next_step, next_here, next_last, next_slot_given}
+use Rattle.key_list.proofs.Walking.{Next, next_first, next_step, next_here, next_slot_given}
 use Rattle.key_list.proofs.look.next.Goals as goal
 
 pub loop-step-init : goal.loop-step-init

@@ -1,18 +1,18 @@
-use Rattle.std.proofs.Common.{◌≡◌, ◌≢◌, ◌+◌, ◌<◌, ◌≤◌, ℕ, false, List, IsTrue, refl, sym, ◌∙◌, ap, subst, arith}
+use Rattle.std.proofs.Common.{◌≡◌, ◌≢◌, ◌<◌, ◌≤◌, ℕ, false, List, refl, sym, ◌∙◌, ap, subst, arith}
 use Rattle.eaw_face.specs.State.{State}
 use Rattle.eaw_face.specs.Causes.{IsAlive}
 use Rattle.page_store.specs.Pairs.{Pair}
 use Rattle.page_store.specs.Index.{index_pages_of}
 use Rattle.page_store.specs.Shown.{pages_of}
 use Rattle.record_slots.specs.Places.{page_bytes}
-use Rattle.index_pages.specs.Page.{count_said, link_said, pairs_said, pair_said, page_pairs, link_of, count_of}
+use Rattle.index_pages.specs.Page.{count_said, link_said, pairs_said, pair_said, page_pairs}
 use Rattle.index_pages.specs.Chain.{first_key}
 use Rattle.index_pages.specs.declared.page.LeafHead.{LeafHead}
 use Rattle.index_pages.proofs.Looking.{looks_next}
 use Rattle.index_pages.proofs.Sizes.{index_pages_are}
 use Rattle.key_list.specs.Linked.{IsLinked}
 use Rattle.key_list.proofs.Causing.{look_cause, still_same}
-use Rattle.key_list.proofs.Walking.{Place, place_first, first_linked, place_linked, place_some, place_last, place_here, place_step, first_said}
+use Rattle.key_list.proofs.Walking.{place_first, first_linked, place_linked, place_some, place_here, place_step, first_said}
 use Rattle.key_list.proofs.look.page_for.Goals as goal
 
 pub returns-in-Err-clause-cause : goal.returns-in-Err-clause-cause
