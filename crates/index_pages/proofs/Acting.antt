@@ -1,6 +1,6 @@
 -- A nested top action, command by command.
 use Rattle.std.proofs.Common.{◌≡◌, ◌≢◌, ℕ, zero, suc, ◌+◌, ◌*◌, ◌/◌, ◌%◌, ◌<◌, ◌≤◌, Bool, true, false, nat_eq, ◌⊎◌, inl, inr, List, [], ◌∷◌, ◌++◌, length, take, Option, Some, None, Result, Ok, Err, refl, sym, ◌∙◌, ap, subst, arith}
-use Rattle.std.specs.Prelude.{IsTrue, IsFalse, filter, is_some, if◌then◌else◌}
+use Rattle.std.specs.Prelude.{IsTrue, filter, is_some, if◌then◌else◌}
 use Rattle.std.specs.Option.{option_map}
 use Rattle.std.proofs.lemmas.Bool.{false≢true}
 use Rattle.std.proofs.lemmas.Bool.Decides.{eqb_tells}
@@ -8,9 +8,8 @@ use Rattle.std.proofs.lemmas.List.{length-append, take-append-le, take_all}
 use Rattle.counted.specs.Causes.{Rose}
 use Rattle.counted.proofs.Going.{stays, then, weaker}
 use Rattle.array_shape.specs.declared.shape.Shape.{Shape}
-use Rattle.array_shape.specs.Places.{page_count, data_len, logger_of}
 use Rattle.array_shape.specs.Logged.{Part, applied, AllPlaced, ranges_of}
-use Rattle.eaw_face.specs.State.{State, listed, with_log, count_on, is_range_on}
+use Rattle.eaw_face.specs.State.{listed, count_on, is_range_on}
 use Rattle.eaw_face.specs.StoreView.{StoreView, LeavesOnly}
 use Rattle.eaw_face.specs.Causes.{IsAlive}
 use Rattle.page_store.specs.State.{PagesState, log_of, with_one}
@@ -18,10 +17,8 @@ use Rattle.page_store.specs.Command.{PageCommand, write_as, top_begin, top_end, 
 use Rattle.page_store.specs.Does.{Does, Becomes}
 use Rattle.page_store.specs.Edit.{edit_pos, with_range}
 use Rattle.page_store.specs.Fits.{FitAll, is_page_on}
-use Rattle.page_store.specs.Inserts.{KeepsLogs}
 use Rattle.page_store.specs.Kept.{IsKept, IsOrdered}
-use Rattle.page_store.specs.Looks.{is_failed}
-use Rattle.page_store.specs.Outline.{Outline, outline_after, floor_in}
+use Rattle.page_store.specs.Outline.{Outline, floor_in}
 use Rattle.page_store.specs.Played.{played, writes_as, top_of}
 use Rattle.page_store.specs.Shown.{PagesView, IsInPage, outline_of, state_of, address}
 use Rattle.page_store.specs.declared.fault.PageFault.{PageFault}
@@ -30,7 +27,7 @@ use Rattle.page_store.proofs.Outline.{listed-ranges}
 use Rattle.page_store.proofs.Shown.{IsTold, kept}
 use Rattle.page_store.proofs.Numbers.{with_here, with_there}
 use Rattle.page_store.proofs.Tops.{top_of_data, top_of_list, top_of_other}
-use Rattle.index_pages.specs.Acts.{ActCause, ActData, Acts}
+use Rattle.index_pages.specs.Acts.{Acts}
 
 -- one more write is played behind the others
 played_more : (t : ℕ) (ps : List Part) (p : Part) (s : PagesState) → played (writes_as t (ps ++ p ∷ [])) s ≡ after (write_as t p.0 p.1) (played (writes_as t ps) s)

@@ -12,7 +12,7 @@ use Rattle.index_pages.proofs.Given.{given_inserted, inserted_local, same_local,
 use Rattle.index_pages.proofs.Halves.{given_take, joined_two}
 use Rattle.index_pages.specs.Chain.{key_end, behind, IsChainPage, IsChain, first_key, chain_pieces, IsSoundChain, pairs_of_chain}
 use Rattle.index_pages.specs.Changes.{TakesPairInChain, SplitsPage}
-use Rattle.index_pages.specs.Keys.{key_at, head}
+use Rattle.index_pages.specs.Keys.{key_at}
 use Rattle.index_pages.specs.Page.{kind_said, level_said, count_said, link_said, pairs_said, count_of, link_of, page_pairs}
 use Rattle.index_pages.specs.Pieces.{joined}
 use Rattle.index_pages.specs.Ways.{Keeps, IsLocal, IsOwn, chain_page_for, page_of_key, above}

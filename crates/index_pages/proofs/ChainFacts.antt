@@ -4,7 +4,6 @@ use Rattle.std.proofs.lemmas.Bool.Decides.{eqb_tells}
 use Rattle.index_pages.proofs.Tiling.{joined_rises}
 use Rattle.index_pages.proofs.PageFacts.{length-page_pairs, rise_wide}
 use Rattle.index_pages.specs.Chain.{key_end, behind, IsChainPage, IsChain, first_key, chain_pieces, IsSoundChain, pieces_of_chain, pairs_of_chain}
-use Rattle.index_pages.specs.Keys.{head}
 use Rattle.index_pages.specs.Page.{count_of, link_of, page_pairs}
 use Rattle.index_pages.specs.Pieces.{low_of, Tile}
 use Rattle.page_store.specs.Pairs.{Pair, Rise}

@@ -1,5 +1,5 @@
 -- An index of no pairs.
-use Rattle.std.proofs.Common.{◌≡◌, ℕ, zero, suc, ◌≤◌, true, nat_eq, List, [], ◌++◌, refl, sym, ◌∙◌, ap, subst, arith}
+use Rattle.std.proofs.Common.{◌≡◌, ℕ, zero, suc, ◌≤◌, true, nat_eq, List, [], ◌++◌, refl, sym, ap, subst, arith}
 use Rattle.std.proofs.lemmas.Bool.Decides.{nat_tests}
 use Rattle.index_pages.specs.Chain.{key_end, IsChainPage, IsChain, chain_pieces, IsSoundChain, pairs_of_chain}
 use Rattle.index_pages.specs.Page.{pairs_from, pairs_said, kind_of, level_of, count_of, link_of, page_pairs}

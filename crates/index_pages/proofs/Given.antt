@@ -1,7 +1,7 @@
 -- An insertion among pairs whose slots were given.
-use Rattle.std.proofs.Common.{◌≡◌, ◌≢◌, ℕ, zero, suc, ◌<◌, ◌≤◌, true, false, nat_lt, inl, inr, List, [], ◌∷◌, length, None, refl, sym, ◌∙◌, ap, subst, arith}
+use Rattle.std.proofs.Common.{◌≡◌, ℕ, zero, suc, ◌<◌, true, false, nat_lt, inl, inr, List, [], ◌∷◌, refl, ap}
 use Rattle.std.proofs.lemmas.Bool.Decides.{leb_tells}
-use Rattle.index_pages.proofs.Rising.{inserted-left, inserted-right, inserted-rises, length-inserted}
+use Rattle.index_pages.proofs.Rising.{inserted-left, inserted-right}
 use Rattle.index_pages.specs.Ways.{IsLocal, above}
 use Rattle.page_store.specs.Pairs.{Pair, inserted}
 use Rattle.record_slots.specs.Places.{next_slot, Carries, AreGiven}

@@ -1,8 +1,5 @@
 -- The halves of a list of pairs.
-use Rattle.std.proofs.Common.{◌≡◌, ◌≢◌, ℕ, zero, suc, ◌<◌, ◌≤◌, true, false, nat_lt, inl, inr, List, [], ◌∷◌, ◌++◌, length, take, drop, refl, sym, ◌∙◌, ap, subst, arith, append_assoc}
-use Rattle.std.proofs.lemmas.Bool.Decides.{leb_tells}
-use Rattle.std.proofs.lemmas.List.{append-nil, take-append-drop, length-drop, length-take-le}
-use Rattle.index_pages.proofs.Rising.{rise_to_more, take_rises, drop_rises, key_at-bounds}
+use Rattle.std.proofs.Common.{◌≡◌, ℕ, zero, suc, List, [], ◌∷◌, ◌++◌, take, drop, sym, ◌∙◌, ap, append_assoc}
 use Rattle.page_store.specs.Pairs.{Pair}
 use Rattle.record_slots.specs.Places.{AreGiven}
 

@@ -1,7 +1,6 @@
 -- The pairs of a page.
-use Rattle.std.proofs.Common.{◌≡◌, ◌≢◌, ℕ, zero, suc, ◌<◌, ◌≤◌, List, [], ◌∷◌, length, refl, ap, subst, arith}
+use Rattle.std.proofs.Common.{◌≡◌, ℕ, zero, suc, ◌<◌, ◌≤◌, List, [], ◌∷◌, length, refl, ap, arith}
 use Rattle.index_pages.proofs.Rising.{rise_bounds}
-use Rattle.index_pages.proofs.Tiling.{tile_bounds, joined_rises}
 use Rattle.index_pages.specs.Page.{pairs_from, pairs_said, count_of, page_pairs}
 use Rattle.page_store.specs.Pairs.{Pair, Rise}
 use Rattle.record_slots.specs.Places.{page_bytes}

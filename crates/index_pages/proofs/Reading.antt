@@ -1,5 +1,5 @@
 -- What a page says, pair by pair.
-use Rattle.std.proofs.Common.{◌≡◌, ℕ, zero, suc, ◌+◌, ◌-◌, ◌*◌, ◌<◌, ◌≤◌, true, false, List, [], ◌∷◌, take, drop, Some, refl, sym, ◌∙◌, ap, arith}
+use Rattle.std.proofs.Common.{◌≡◌, ℕ, zero, suc, ◌+◌, ◌-◌, ◌*◌, ◌<◌, ◌≤◌, true, false, List, [], ◌∷◌, take, drop, Some, refl, ◌∙◌, ap, arith}
 use Rattle.std.specs.Prelude.{slice_index, nat_le}
 use Rattle.std.proofs.lemmas.Bool.Decides.{nat_tests}
 use Rattle.std.proofs.lemmas.List.{get_or-drop}
@@ -8,7 +8,6 @@ use Rattle.byteorder.specs.Numbers.{little_from-take}
 use Rattle.page_store.specs.Pairs.{Pair, next}
 use Rattle.index_pages.specs.Page.{kind_said, level_said, count_said, link_said, pair_said, pairs_from, pairs_said}
 use Rattle.index_pages.specs.Written.{IsLeaf, SaysLeaf}
-use Rattle.index_pages.specs.declared.page.LeafHead.{LeafHead}
 
 -- a number behind k bytes
 pub little_from-drop : (i k n : ℕ) (xs : List ℕ) → little_from i n (drop k xs) ≡ little_from (k + i) n xs

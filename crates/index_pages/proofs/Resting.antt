@@ -1,17 +1,15 @@
 -- A chain whose pages are as they were, and whose slots carry their keys still.
-use Rattle.std.proofs.Common.{◌≡◌, ◌≢◌, ℕ, zero, suc, ◌*◌, ◌<◌, ◌≤◌, true, false, nat_eq, inl, inr, List, [], ◌∷◌, ◌++◌, length, refl, sym, ◌∙◌, ap, subst, arith}
-use Rattle.std.specs.Prelude.{if◌then◌else◌}
+use Rattle.std.proofs.Common.{◌≡◌, ℕ, zero, suc, ◌<◌, ◌≤◌, true, false, nat_eq, inl, inr, List, [], ◌∷◌, ◌++◌, sym, ◌∙◌, ap, subst, arith}
 use Rattle.std.proofs.lemmas.Bool.Decides.{eqb_tells}
 use Rattle.record_slots.specs.Super.{HasSuperMark, form_said, next_slot_said, next_page_said}
-use Rattle.record_slots.specs.Places.{page_bytes, next_slot, next_page, IsSuper, AreGiven, first_slot_page, page_count}
+use Rattle.record_slots.specs.Places.{page_bytes, next_slot, next_page, AreGiven, page_count}
 use Rattle.page_store.specs.Index.{KeepsIndex, HasCounts}
-use Rattle.page_store.specs.Pairs.{Pair, Rise}
+use Rattle.page_store.specs.Pairs.{Pair}
 use Rattle.index_pages.specs.Page.{page_pairs, pairs_said, link_said, link_of}
 use Rattle.index_pages.specs.Pieces.{joined}
-use Rattle.index_pages.specs.Chain.{key_end, behind, IsChain, IsChainPage, chain_pieces, first_key, IsSoundChain, pairs_of_chain}
+use Rattle.index_pages.specs.Chain.{behind, IsChain, chain_pieces, first_key, IsSoundChain, pairs_of_chain}
 use Rattle.index_pages.specs.Ways.{Keeps, IsOwn}
 use Rattle.index_pages.proofs.ChainActions.{page_kept, joined_from}
-use Rattle.index_pages.proofs.ChainFacts.{chain_head}
 
 module _ (old new : List ℕ) (keeps : Keeps old new) (same : (x : ℕ) → 1 ≤ x → x < next_page old → page_bytes new x ≡ page_bytes old x) where
   pub chain_rests : (n page low : ℕ) → IsOwn old page → IsChain n old page low

@@ -1,11 +1,11 @@
 -- Where pages and slots lie in the data of an array.
-use Rattle.std.proofs.Common.{◌≡◌, ℕ, ◌+◌, ◌*◌, ◌/◌, ◌%◌, ◌<◌, ◌≤◌, List, Result, Ok, Err, length, refl, sym, ◌∙◌, ap, subst, arith}
+use Rattle.std.proofs.Common.{◌≡◌, ℕ, ◌+◌, ◌*◌, ◌/◌, ◌%◌, List, Result, Ok, Err, length, ◌∙◌, ap, arith}
 use Rattle.std.specs.Prelude.{OnOk}
 use Rattle.counted.specs.Bytes.{range}
 use Rattle.array_shape.specs.declared.shape.Shape.{Shape}
 use Rattle.array_shape.specs.Places.{data_len}
 use Rattle.array_shape.specs.Places as array
-use Rattle.record_slots.specs.Places.{page_bytes, page_count, slot_count, first_slot_page, slot_at, slot_page, slot_of}
+use Rattle.record_slots.specs.Places.{page_bytes, page_count, slot_count, first_slot_page, slot_page, slot_of}
 use Rattle.page_store.specs.Index.{slots_of, index_pages_of}
 use Rattle.page_store.specs.Shown.{address}
 

@@ -9,7 +9,7 @@ use Rattle.page_store.specs.Inserts.{KeepsLogs}
 use Rattle.page_store.specs.Looks.{is_failed}
 use Rattle.page_store.specs.Shown.{PagesView}
 use Rattle.page_store.specs.declared.fault.PageFault.{PageFault}
-use Rattle.page_store.specs.declared.fault.PageFault.TheVariants.{Media, Dead}
+use Rattle.page_store.specs.declared.fault.PageFault.TheVariants.{Media}
 
 -- its parts lie in these pages, and each has room; or one logger lacks room
 abbrev pub ActCause : StoreView → ℕ → List ℕ → Result (Unit {0}) PageFault → Type 0

@@ -1,5 +1,5 @@
 -- What one action makes of a chain.
-use Rattle.std.specs.Prelude.{ℕ, suc, ◌≡◌, ◌<◌, ◌≤◌, nat_lt, if◌then◌else◌, List, [], ◌∷◌, take, drop, length}
+use Rattle.std.specs.Prelude.{ℕ, suc, ◌≡◌, ◌<◌, List, take, drop, length}
 use Rattle.index_pages.specs.Page.{kind_of, level_of, count_of, link_of, page_pairs}
 use Rattle.page_store.specs.Pairs.{inserted}
 use Rattle.record_slots.specs.Places.{next_slot, next_page, Carries}

@@ -1,9 +1,8 @@
 -- Answers to reads of single pages.
-use Rattle.std.specs.Prelude.{ℕ, ◌≡◌, ◌≤◌, Bool, true, IsTrue, List, Result, Ok, Err}
+use Rattle.std.specs.Prelude.{ℕ, ◌≡◌, ◌≤◌, Bool, true, IsTrue, Result, Ok, Err}
 use Rattle.eaw_face.specs.StoreView.{StoreView}
 use Rattle.eaw_face.specs.Causes.{IsAlive}
 use Rattle.array_shape.specs.declared.shape.Shape.{Shape}
-use Rattle.record_slots.specs.Super.{SaysSuper}
 use Rattle.record_slots.specs.declared.super_page.Super.{Super}
 use Rattle.page_store.specs.Index.{slots_of, index_pages_of}
 use Rattle.page_store.specs.declared.fault.PageFault.{PageFault}

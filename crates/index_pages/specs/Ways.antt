@@ -1,5 +1,5 @@
 -- The way to the page of a key, and data that keeps what an index rests on.
-use Rattle.std.specs.Prelude.{ℕ, zero, suc, ◌≡◌, ◌<◌, ◌≤◌, nat_lt, nat_eq, if◌then◌else◌, List, [], ◌∷◌, ◌++◌}
+use Rattle.std.specs.Prelude.{ℕ, zero, suc, ◌≡◌, ◌<◌, ◌≤◌, nat_lt, nat_eq, if◌then◌else◌, List, ◌++◌}
 use Rattle.index_pages.specs.Chain.{first_key}
 use Rattle.index_pages.specs.Page.{link_of, page_pairs}
 use Rattle.page_store.specs.Pairs.{Pair, Rise}

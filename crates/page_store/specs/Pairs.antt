@@ -1,5 +1,5 @@
 -- Lists of pairs, each of a key and what it leads to, in the order of their keys.
-use Rattle.std.specs.Prelude.{ℕ, zero, suc, ◌≤◌, nat_eq, nat_lt, nat_le, if◌then◌else◌, List, [], ◌∷◌, Option, Some, None}
+use Rattle.std.specs.Prelude.{ℕ, suc, ◌≤◌, nat_eq, nat_lt, nat_le, if◌then◌else◌, List, [], ◌∷◌, Option, Some, None}
 
 abbrev pub Pair : Type 0
 Pair = ℕ × ℕ

@@ -1,10 +1,9 @@
 -- What the bytes of a super page say.
-use Rattle.std.proofs.Common.{◌≡◌, ℕ, ◌+◌, ◌≤◌, List, [], ◌++◌, length, take, drop, refl, sym, ◌∙◌, ap, subst, arith}
+use Rattle.std.proofs.Common.{◌≡◌, ℕ, ◌+◌, ◌≤◌, List, [], ◌++◌, length, take, drop, refl, ◌∙◌, ap, arith}
 use Rattle.std.proofs.lemmas.List.{take_at, drop_at, drop_all, append-nil, length-drop, length-take}
 use Rattle.byteorder.specs.Endian.{little_from, little_bytes}
 use Rattle.byteorder.specs.Numbers.{little_from-take, length-bytes_low_first}
 use Rattle.record_slots.specs.Super.{form_said, next_slot_said, next_page_said, HasSuperMark, SaysSuper, count_bytes}
-use Rattle.record_slots.specs.declared.super_page.Super.{Super}
 use Rattle.record_slots.proofs.SlotLemmas.{little_shift}
 use Rattle.std.specs.Prelude.{slice_index}
 

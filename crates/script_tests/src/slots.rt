@@ -1,4 +1,6 @@
-use record_slots::{SLOT_LEN, Slot, Value, read_slot, write_slot};
+use record_slots::{
+    SLOT_LEN, Slot, Super, Value, read_slot, read_super, write_slot, write_super_counts,
+};
 use std::test::Fail;
 
 #[test]
@@ -68,4 +70,25 @@ fn broken_slots_are_none(rt: HostRuntime) {
             "state {state}, length {len}, byte {byte}"
         );
     }
+}
+
+#[test]
+fn a_super_page_is_its_vector(rt: HostRuntime) {
+    let mut vector = [0; 512];
+    vector[..16].copy_from_slice(b"MREC\x01\x00\x00\x00\x01\x00\x00\x00\x02\x00\x00\x00");
+    let front = Super {
+        form: 0,
+        next_slot: 1,
+        next_page: 2,
+    };
+    assert_eq!(rt; read_super(&vector), Some(front));
+    let mut counts = [0xFF; 8];
+    write_super_counts(1, 2, &mut counts);
+    assert_eq!(rt; counts.as_slice(), &vector[8..16]);
+    // The two bytes behind the form and all behind the counts are not looked at.
+    vector[6] = 0xFF;
+    vector[511] = 0xFF;
+    assert_eq!(rt; read_super(&vector), Some(front));
+    vector[4] = 2;
+    assert_eq!(rt; read_super(&vector), None);
 }

@@ -1,15 +1,14 @@
-use Rattle.std.proofs.Common.{◌≡◌, ◌*◌, ◌+◌, ℕ, List, [], ◌∷◌, length, IsTrue, false, Option, Some, Ok, Err, Result, refl, sym, ◌∙◌, ap, subst, arith}
+use Rattle.std.proofs.Common.{ℕ, List, [], ◌∷◌, length, IsTrue, Option, Some, Ok, Err, Result, sym, ◌∙◌, ap}
 use Rattle.array_shape.specs.Logged.{Part}
 use Rattle.eaw_face.specs.State.{listed}
 use Rattle.eaw_face.specs.Causes.{IsAlive}
 use Rattle.page_store.specs.Command.{write_as, top_end}
-use Rattle.page_store.specs.State.{with_one}
-use Rattle.page_store.specs.Shown.{PagesView, IsInPage, address, pages_of}
+use Rattle.page_store.specs.Shown.{address, pages_of}
 use Rattle.page_store.specs.declared.fault.PageFault.{PageFault}
 use Rattle.page_store.proofs.Numbers.{with_here}
 use Rattle.page_store.proofs.Shown.{IsTold}
 use Rattle.page_store.proofs.Writing.{in_page_placed}
-use Rattle.index_pages.proofs.Acting.{Acting, acting_begin, acting_write, acting_fail, acting_end, known_of, on_shape, begins_within}
+use Rattle.index_pages.proofs.Acting.{acting_begin, acting_write, acting_fail, acting_end, known_of, on_shape, begins_within}
 use Rattle.index_pages.proofs.action.act.Goals as goal
 
 pub returns-in-Err-write_as-2-clause-acts : goal.returns-in-Err-write_as-2-clause-acts

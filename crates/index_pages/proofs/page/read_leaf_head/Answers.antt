@@ -1,4 +1,4 @@
-use Rattle.std.proofs.Common.{◌∙◌, arith}
+use Rattle.std.proofs.Common.{arith}
 use Rattle.index_pages.proofs.Reading.{says_leaf, other_kind, other_level, too_many}
 use Rattle.index_pages.proofs.page.read_leaf_head.Goals as goal
 

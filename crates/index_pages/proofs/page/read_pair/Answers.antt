@@ -1,4 +1,4 @@
-use Rattle.std.proofs.Common.{◌∙◌, arith, ap, ℕ, ◌-◌, ◌+◌, ◌*◌, ◌≡◌, subst, sym}
+use Rattle.std.proofs.Common.{◌∙◌, arith, ap, ℕ, ◌-◌, ◌+◌, ◌*◌, ◌≡◌}
 use Rattle.byteorder.specs.Endian.{little_from}
 use Rattle.index_pages.specs.Page.{pair_said}
 use Rattle.index_pages.proofs.Reading.{piece, pair_is}

@@ -1,7 +1,7 @@
 use Rattle.std.proofs.Common.{◌≡◌, ◌+◌, ◌-◌, ℕ, suc, List, [], ◌∷◌, ◌++◌, length, sym, ◌∙◌, ap, subst, append_assoc, arith}
 use Rattle.std.proofs.lemmas.List.{append-nil}
 use Rattle.page_store.specs.Pairs.{Pair}
-use Rattle.index_pages.specs.Page.{pairs_from, pair_said, pairs_said, count_said}
+use Rattle.index_pages.specs.Page.{pairs_from, pair_said, count_said}
 use Rattle.index_pages.specs.Written.{AreSmall}
 use Rattle.index_pages.proofs.Reading.{from_first, from_step, from_end}
 use Rattle.index_pages.proofs.Writing.{small_more}

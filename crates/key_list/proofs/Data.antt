@@ -1,0 +1,443 @@
+-- What the actions of an insertion make of the data.
+use Rattle.std.proofs.Common.{◌≡◌, ◌≢◌, ℕ, suc, ◌+◌, ◌*◌, ◌/◌, ◌%◌, ◌^◌, ◌<◌, ◌≤◌, true, false, nat_lt, inl, inr, List, length, take, drop, None, Option, refl, sym, ◌∙◌, ap, subst, arith}
+use Rattle.std.proofs.lemmas.Bool.{cases_lt}
+use Rattle.std.proofs.lemmas.Bool.Decides.{eqb_tells, leb_tells}
+use Rattle.std.proofs.lemmas.List.{length-take-le, length-drop}
+use Rattle.counted.specs.Bytes.{range}
+use Rattle.array_shape.specs.declared.shape.Shape.{Shape}
+use Rattle.array_shape.specs.Places.{data_len}
+use Rattle.array_shape.specs.Places as array
+use Rattle.array_shape.specs.Logged.{applied}
+use Rattle.record_slots.specs.Slots.{slot_said, slot_bytes}
+use Rattle.record_slots.specs.Super.{count_bytes}
+use Rattle.record_slots.specs.declared.super_page.Super.{Super}
+use Rattle.record_slots.specs.declared.slot.Slot.{Slot}
+use Rattle.record_slots.specs.declared.slot.Slot.TheVariants.{Absent}
+use Rattle.record_slots.specs.Places.{page_bytes, page_count, first_slot_page, slot_at, slot_of, next_slot, next_page, IsSuper, IsOfKey, Carries}
+use Rattle.record_slots.proofs.SlotLemmas.{length-slot_bytes, slot_said-slot_bytes}
+use Rattle.page_store.specs.Index.{slots_of, index_pages_of, Grows, Rests, Gains}
+use Rattle.page_store.specs.Pairs.{Pair, found, inserted}
+use Rattle.page_store.specs.Shown.{address}
+use Rattle.index_pages.specs.Chain.{IsSoundChain, pairs_of_chain}
+use Rattle.index_pages.specs.Changes.{TakesPairInChain, SplitsPage}
+use Rattle.index_pages.specs.Keys.{key_at}
+use Rattle.index_pages.specs.Page.{page_pairs, pairs_said, kind_said, level_said, link_said, link_of}
+use Rattle.index_pages.specs.Ways.{Keeps, page_of_key}
+use Rattle.index_pages.specs.Written.{leaf_bytes, AreSmall}
+use Rattle.index_pages.proofs.Ranges.{Apart, three_long, three_away, three_first, three_second, three_third}
+use Rattle.index_pages.proofs.Fronts.{length-count_bytes, slot_written, page_written, mark_kept, form_kept}
+use Rattle.index_pages.proofs.Writing.{leaf_kind, leaf_level, leaf_link, leaf_pairs, length-leaf_bytes, small_take, small_inserted}
+use Rattle.index_pages.proofs.Rising.{length-inserted}
+use Rattle.index_pages.proofs.PageFacts.{length-page_pairs}
+use Rattle.index_pages.proofs.ChainActions.{sound_chain_takes, sound_chain_splits}
+use Rattle.key_list.specs.Index.{chain, IsPageOfChain, half_for}
+use Rattle.key_list.specs.Located.{IsLocated, Locates, adding_parts, cutting_parts}
+use Rattle.key_list.proofs.Chains.{key_page_own, pages_same, cut_keeps, cut_names, half_after}
+
+-- the slots of a pair carry its key where they are as they were
+carries_on : (old new : List ℕ) (p : Pair) → slot_of new p.1 ≡ slot_of old p.1 → Carries old p → Carries new p
+unfolding Carries
+carries_on old new p same carries = subst (λ (b : List ℕ). IsOfKey p.0 (slot_said b)) (sym same) carries
+
+carries_absent : (new : List ℕ) (key slot : ℕ) → key < 2 ^ 64 → slot_of new slot ≡ slot_bytes (Absent key) → Carries new (key, slot)
+unfolding Carries
+carries_absent new key slot fits is = subst (λ (o : Option Slot). IsOfKey key o) (sym (ap slot_said is ∙ slot_said-slot_bytes (Absent key) fits)) refl
+
+module _ (shape : Shape) (old : List ℕ) (half : ℕ) (long : length old ≡ data_len shape) (half_is : half ≡ index_pages_of shape) (all : half + half ≡ array.page_count shape) (few : half ≤ 16384)
+    (front : Super) (page link : ℕ) (pairs : List Pair) (key : ℕ) (fits : key < 2 ^ 64) (loc : IsLocated shape front page link pairs) (sound : IsSoundChain old) (says : Locates old key front page link pairs) where
+  size : length old ≡ 512 * (half + half)
+  size = omega (arith, long, all)
+
+  count : page_count old ≡ half + half
+  count = omega (arith, size)
+
+  first : first_slot_page old ≡ half
+  first = omega (arith, count)
+
+  own_page : (1 ≤ page) × (page < next_page old)
+  own_page = subst (λ (x : ℕ). (1 ≤ x) × (x < next_page old)) (sym says.page_is) (key_page_own old key sound).0
+
+  -- a pair is added
+  module _ (slot : front.next_slot < slots_of shape) (room : length pairs < 30) (none : found (pairs_of_chain old) key ≡ None) where
+    a1 : ℕ
+    a1 = address (half + front.next_slot / 8) (front.next_slot % 8 * 64)
+
+    b1 : List ℕ
+    b1 = slot_bytes (Absent key)
+
+    a2 : ℕ
+    a2 = address page 0
+
+    b2 : List ℕ
+    b2 = leaf_bytes link (inserted pairs key front.next_slot)
+
+    b3 : List ℕ
+    b3 = count_bytes (front.next_slot + 1) front.next_page
+
+    many : length (inserted pairs key front.next_slot) ≤ 30
+    many = omega (arith, length-inserted key front.next_slot pairs)
+
+    link_fits : link < 2 ^ 32
+    link_fits = omega (arith, loc.link_inside, half_is)
+
+    added : List ℕ
+    added = applied (adding_parts half front page link pairs key) old
+
+    eight : front.next_slot < 8 * half
+    eight = omega (arith, slot, all)
+
+    len1 : length b1 ≡ 64
+    unfolding b1
+    len1 = length-slot_bytes (Absent key) fits
+
+    len2 : length b2 ≡ 512
+    unfolding b2
+    len2 = length-leaf_bytes link (inserted pairs key front.next_slot) many link_fits
+
+    len3 : length b3 ≡ 8
+    unfolding b3
+    len3 = length-count_bytes (front.next_slot + 1) front.next_page
+
+    page_below : page < half
+    page_below = omega (arith, loc.inside, half_is)
+
+    fits1 : a1 + length b1 ≤ length old
+    unfolding a1
+    fits1 = omega (arith, len1, size, eight)
+
+    fits2 : a2 + length b2 ≤ length old
+    unfolding a2
+    fits2 = omega (arith, len2, size, page_below)
+
+    fits3 : address 0 8 + length b3 ≤ length old
+    fits3 = omega (arith, len3, size, page_below)
+
+    apart12 : Apart a1 (length b1) a2 (length b2)
+    unfolding a1 a2
+    apart12 = inr (omega (arith, len2, page_below))
+
+    apart13 : Apart a1 (length b1) (address 0 8) (length b3)
+    unfolding a1
+    apart13 = inr (omega (arith, len3, page_below, loc.some))
+
+    apart23 : Apart a2 (length b2) (address 0 8) (length b3)
+    unfolding a2
+    apart23 = inr (omega (arith, len3, loc.some))
+
+    away : (at n : ℕ) → Apart at n a1 (length b1) → Apart at n a2 (length b2) → Apart at n (address 0 8) (length b3) → range added at n ≡ range old at n
+    unfolding a1 b1 a2 b2 b3 added
+    away at n x y z = three_away old a1 b1 a2 b2 (address 0 8) b3 fits1 fits2 fits3 apart12 apart13 apart23 at n x y z
+
+    added_long : length added ≡ length old
+    unfolding a1 b1 a2 b2 b3 added
+    added_long = three_long old a1 b1 a2 b2 (address 0 8) b3 fits1 fits2 fits3 apart12 apart13 apart23
+
+    added_count : page_count added ≡ half + half
+    added_count = omega (arith, added_long, size)
+
+    slot_place : slot_at added front.next_slot ≡ a1
+    unfolding a1
+    slot_place = omega (arith, added_count)
+
+    slot_new : slot_of added front.next_slot ≡ slot_bytes (Absent key)
+    unfolding slot_of a1 b1 a2 b2 b3 added
+    slot_new = ap (λ (x : ℕ). range added x 64) slot_place ∙ three_first old a1 b1 a2 b2 (address 0 8) b3 fits1 fits2 fits3 apart12 apart13 apart23 64 (sym len1)
+
+    page_new : page_bytes added page ≡ leaf_bytes link (inserted pairs key front.next_slot)
+    unfolding page_bytes a1 b1 a2 b2 b3 added
+    page_new =
+        ap (λ (x : ℕ). range added x 512) (let e : 512 * page ≡ address page 0 = omega arith in e)
+        ∙ three_second old a1 b1 a2 b2 (address 0 8) b3 fits1 fits2 fits3 apart12 apart13 apart23 512 (sym len2)
+
+    counts_new : range added 8 8 ≡ count_bytes (front.next_slot + 1) front.next_page
+    unfolding a1 b1 a2 b2 b3 added
+    counts_new = three_third old a1 b1 a2 b2 (address 0 8) b3 fits1 fits2 fits3 apart12 apart13 apart23 8 (sym len3)
+
+    zero_new : range added 0 8 ≡ range old 0 8
+    unfolding a1 a2
+    zero_new = away 0 8 (inl (omega (arith, page_below, loc.some))) (inl (omega (arith, loc.some))) (inl (omega arith))
+
+    page_old : (x : ℕ) → 1 ≤ x → x < half → x ≢ page → page_bytes added x ≡ page_bytes old x
+    unfolding page_bytes a1 a2
+    page_old x some lt other =
+        let apart : Apart (512 * x) 512 (address page 0) (length b2) = elim (cases_lt x page) [
+          | inl below ↦ inl (omega arith)
+          | inr above ↦ (let ne : x ≡ page → ⊥ = other in inr (omega (arith, len2)))
+        ] in
+        away (512 * x) 512 (inl (omega arith)) apart (inr (omega (arith, len3)))
+
+    slot_old : (j : ℕ) → j < 8 * half → j ≢ front.next_slot → slot_of added j ≡ slot_of old j
+    unfolding slot_of a1 a2
+    slot_old j lt other =
+        let place : slot_at added j ≡ 512 * half + 64 * j = omega (arith, added_count) in
+        let place' : slot_at old j ≡ 512 * half + 64 * j = omega (arith, count) in
+        let apart : Apart (512 * half + 64 * j) 64 (address (half + front.next_slot / 8) (front.next_slot % 8 * 64)) (length b1) = elim (cases_lt j front.next_slot) [
+          | inl below ↦ inl (omega arith)
+          | inr above ↦ (let ne : j ≡ front.next_slot → ⊥ = other in inr (omega (arith, len1)))
+        ] in
+        ap (λ (x : ℕ). range added x 64) place ∙ away (512 * half + 64 * j) 64 apart (inr (omega (arith, len2, page_below))) (inr (omega (arith, len3, page_below))) ∙ ap (λ (x : ℕ). range old x 64) (sym place')
+
+    slot_now : next_slot added ≡ front.next_slot + 1
+    slot_now = slot_written added (front.next_slot + 1) front.next_page (omega (arith, eight)) (omega (arith, loc.front_is.pages, half_is)) counts_new
+
+    page_now : next_page added ≡ front.next_page
+    page_now = page_written added (front.next_slot + 1) front.next_page (omega (arith, eight)) (omega (arith, loc.front_is.pages, half_is)) counts_new
+
+    front_now : IsSuper 0 added
+    front_now = record {
+      has_mark = mark_kept old added zero_new sound.front.has_mark;
+      form_is = form_kept old added zero_new ∙ sound.front.form_is;
+      slots = omega (arith, slot_now, added_count, eight);
+      some_pages = omega (arith, page_now, loc.front_is.some);
+      pages = omega (arith, page_now, added_count, loc.front_is.pages, half_is);
+    }
+
+    slots_stay : (j : ℕ) → j < next_slot old → slot_of added j ≡ slot_of old j
+    slots_stay j lt = slot_old j (omega (arith, eight, says.slot_is)) (λ e. omega (arith, says.slot_is))
+
+    keeps : Keeps old added
+    keeps = record {
+      pages = omega (arith, page_now, says.next_is);
+      slots = omega (arith, slot_now, says.slot_is);
+      carried = λ p lt carries. carries_on old added p (slots_stay p.1 lt) carries;
+    }
+
+    small : AreSmall (inserted pairs key front.next_slot)
+    small = small_inserted key front.next_slot pairs loc.small fits (omega (arith, eight))
+
+    takes : TakesPairInChain old added page key front.next_slot
+    takes = record {
+      room = omega (arith, room, ap (λ (ps : List Pair). length ps) says.pairs_are, length-page_pairs old page);
+      kind = ap kind_said page_new ∙ leaf_kind link (inserted pairs key front.next_slot) many link_fits;
+      level = ap level_said page_new ∙ leaf_level link (inserted pairs key front.next_slot) many link_fits;
+      link = ap link_said page_new ∙ leaf_link link (inserted pairs key front.next_slot) many link_fits ∙ says.link_is;
+      pairs = ap pairs_said page_new ∙ leaf_pairs link (inserted pairs key front.next_slot) many link_fits small ∙ ap (λ (ps : List Pair). inserted ps key front.next_slot) says.pairs_are;
+      given = omega (arith, slot_now);
+      carries = carries_absent added key front.next_slot fits slot_new;
+    }
+
+    pages_stay : (x : ℕ) → 1 ≤ x → x < next_page old → x ≢ page → page_bytes added x ≡ page_bytes old x
+    pages_stay x some lt other = page_old x some (omega (arith, sound.front.pages, first)) other
+
+    adds : IsSoundChain added × (pairs_of_chain added ≡ inserted (pairs_of_chain old) key front.next_slot)
+    adds = sound_chain_takes old added key front.next_slot sound keeps front_now (page_now ∙ says.next_is) fits none
+        (subst (λ (x : ℕ). TakesPairInChain old added x key front.next_slot) says.page_is takes)
+        (subst (λ (x : ℕ). (y : ℕ) → 1 ≤ y → y < next_page old → y ≢ x → page_bytes added y ≡ page_bytes old y) says.page_is pages_stay)
+
+    links_stay : (p : ℕ) → 1 ≤ p → p < next_page old → link_of added p ≡ link_of old p
+    links_stay p some lt = elim (eqb_tells p page) [
+      | inl same ↦ ap (λ (x : ℕ). link_of added x) same.1 ∙ takes.link ∙ ap (λ (x : ℕ). link_of old x) (sym same.1)
+      | inr other ↦ ap link_said (pages_stay p some lt other.1)
+    ]
+
+    -- what an added pair makes of the data
+    pub adding_grows : Grows chain old (applied (adding_parts half front page link pairs key) old) × Gains chain key old (applied (adding_parts half front page link pairs key) old)
+        × (next_page (applied (adding_parts half front page link pairs key) old) ≡ next_page old)
+    unfolding added
+    adding_grows = (
+      record {
+        sound = adds.0;
+        size = added_long;
+        slots = slots_stay;
+        later = omega (arith, page_now, says.next_is);
+        few = omega (arith, page_now, says.next_is);
+        named = λ x from to. absurd (omega (arith, page_now, says.next_is));
+        kept = pages_same old added sound (page_now ∙ says.next_is) links_stay;
+        levels = omega arith;
+      },
+      record {
+        pairs = adds.1 ∙ ap (λ (s : ℕ). inserted (pairs_of_chain old) key s) says.slot_is;
+        slots = slot_now ∙ (let e : front.next_slot + 1 ≡ suc (next_slot old) = omega (arith, says.slot_is) in e);
+        fresh = subst (λ (s : ℕ). slot_of added s ≡ slot_bytes (Absent key)) says.slot_is slot_new;
+      },
+      page_now ∙ says.next_is,
+    )
+
+  -- a full page is cut
+  module _ (full : length pairs ≡ 30) (next : front.next_page < index_pages_of shape) where
+    c1 : List ℕ
+    c1 = leaf_bytes front.next_page (take 15 pairs)
+
+    c2 : List ℕ
+    c2 = leaf_bytes link (drop 15 pairs)
+
+    c3 : List ℕ
+    c3 = count_bytes front.next_slot (front.next_page + 1)
+
+    cut : List ℕ
+    cut = applied (cutting_parts front page link pairs) old
+
+    lower_many : length (take 15 pairs) ≤ 30
+    lower_many = omega (arith, length-take-le 15 pairs (omega arith))
+
+    upper_many : length (drop 15 pairs) ≤ 30
+    upper_many = omega (arith, length-drop 15 pairs)
+
+    next_fits : front.next_page < 2 ^ 32
+    next_fits = omega (arith, next, half_is)
+
+    link_fits' : link < 2 ^ 32
+    link_fits' = omega (arith, loc.link_inside, half_is)
+
+    next_below : front.next_page < half
+    next_below = omega (arith, next, half_is)
+
+    page_first : page < front.next_page
+    page_first = omega (arith, own_page.1, says.next_is)
+
+    clen1 : length c1 ≡ 512
+    unfolding c1
+    clen1 = length-leaf_bytes front.next_page (take 15 pairs) lower_many next_fits
+
+    clen2 : length c2 ≡ 512
+    unfolding c2
+    clen2 = length-leaf_bytes link (drop 15 pairs) upper_many link_fits'
+
+    clen3 : length c3 ≡ 8
+    unfolding c3
+    clen3 = length-count_bytes front.next_slot (front.next_page + 1)
+
+    cfits1 : address page 0 + length c1 ≤ length old
+    cfits1 = omega (arith, clen1, size, page_first, next_below)
+
+    cfits2 : address front.next_page 0 + length c2 ≤ length old
+    cfits2 = omega (arith, clen2, size, next_below)
+
+    cfits3 : address 0 8 + length c3 ≤ length old
+    cfits3 = omega (arith, clen3, size, next_below)
+
+    capart12 : Apart (address page 0) (length c1) (address front.next_page 0) (length c2)
+    capart12 = inl (omega (arith, clen1, page_first))
+
+    capart13 : Apart (address page 0) (length c1) (address 0 8) (length c3)
+    capart13 = inr (omega (arith, clen3, loc.some))
+
+    capart23 : Apart (address front.next_page 0) (length c2) (address 0 8) (length c3)
+    capart23 = inr (omega (arith, clen3, loc.front_is.some))
+
+    caway : (at n : ℕ) → Apart at n (address page 0) (length c1) → Apart at n (address front.next_page 0) (length c2) → Apart at n (address 0 8) (length c3) → range cut at n ≡ range old at n
+    unfolding c1 c2 c3 cut
+    caway at n x y z = three_away old (address page 0) c1 (address front.next_page 0) c2 (address 0 8) c3 cfits1 cfits2 cfits3 capart12 capart13 capart23 at n x y z
+
+    cut_long : length cut ≡ length old
+    unfolding c1 c2 c3 cut
+    cut_long = three_long old (address page 0) c1 (address front.next_page 0) c2 (address 0 8) c3 cfits1 cfits2 cfits3 capart12 capart13 capart23
+
+    cut_count : page_count cut ≡ half + half
+    cut_count = omega (arith, cut_long, size)
+
+    lower_new : page_bytes cut page ≡ leaf_bytes front.next_page (take 15 pairs)
+    unfolding page_bytes c1 c2 c3 cut
+    lower_new =
+        ap (λ (x : ℕ). range cut x 512) (let e : 512 * page ≡ address page 0 = omega arith in e)
+        ∙ three_first old (address page 0) c1 (address front.next_page 0) c2 (address 0 8) c3 cfits1 cfits2 cfits3 capart12 capart13 capart23 512 (sym clen1)
+
+    upper_new : page_bytes cut front.next_page ≡ leaf_bytes link (drop 15 pairs)
+    unfolding page_bytes c1 c2 c3 cut
+    upper_new =
+        ap (λ (x : ℕ). range cut x 512) (let e : 512 * front.next_page ≡ address front.next_page 0 = omega arith in e)
+        ∙ three_second old (address page 0) c1 (address front.next_page 0) c2 (address 0 8) c3 cfits1 cfits2 cfits3 capart12 capart13 capart23 512 (sym clen2)
+
+    counts_cut : range cut 8 8 ≡ count_bytes front.next_slot (front.next_page + 1)
+    unfolding c1 c2 c3 cut
+    counts_cut = three_third old (address page 0) c1 (address front.next_page 0) c2 (address 0 8) c3 cfits1 cfits2 cfits3 capart12 capart13 capart23 8 (sym clen3)
+
+    zero_cut : range cut 0 8 ≡ range old 0 8
+    zero_cut = caway 0 8 (inl (omega (arith, loc.some))) (inl (omega (arith, loc.front_is.some))) (inl (omega arith))
+
+    others_cut : (x : ℕ) → 1 ≤ x → x < next_page old → x ≢ page → page_bytes cut x ≡ page_bytes old x
+    unfolding page_bytes
+    others_cut x some lt other =
+        let apart : Apart (512 * x) 512 (address page 0) (length c1) = elim (cases_lt x page) [
+          | inl below ↦ inl (omega arith)
+          | inr above ↦ (let ne : x ≡ page → ⊥ = other in inr (omega (arith, clen1)))
+        ] in
+        caway (512 * x) 512 apart (inl (omega (arith, says.next_is))) (inr (omega (arith, clen3)))
+
+    slots_cut : (j : ℕ) → slot_of cut j ≡ slot_of old j
+    unfolding slot_of
+    slots_cut j =
+        let place : slot_at cut j ≡ 512 * half + 64 * j = omega (arith, cut_count) in
+        let place' : slot_at old j ≡ 512 * half + 64 * j = omega (arith, count) in
+        ap (λ (x : ℕ). range cut x 64) place
+        ∙ caway (512 * half + 64 * j) 64 (inr (omega (arith, clen1, page_first, next_below))) (inr (omega (arith, clen2, next_below))) (inr (omega (arith, clen3, next_below)))
+        ∙ ap (λ (x : ℕ). range old x 64) (sym place')
+
+    slot_cut : next_slot cut ≡ front.next_slot
+    slot_cut = slot_written cut front.next_slot (front.next_page + 1) (omega (arith, loc.front_is.slots, all)) (omega (arith, next_below)) counts_cut
+
+    page_cut : next_page cut ≡ front.next_page + 1
+    page_cut = page_written cut front.next_slot (front.next_page + 1) (omega (arith, loc.front_is.slots, all)) (omega (arith, next_below)) counts_cut
+
+    front_cut : IsSuper 0 cut
+    front_cut = record {
+      has_mark = mark_kept old cut zero_cut sound.front.has_mark;
+      form_is = form_kept old cut zero_cut ∙ sound.front.form_is;
+      slots = omega (arith, slot_cut, cut_count, loc.front_is.slots, all);
+      some_pages = omega (arith, page_cut);
+      pages = omega (arith, page_cut, cut_count, next_below);
+    }
+
+    keeps_cut : Keeps old cut
+    keeps_cut = record {
+      pages = omega (arith, page_cut, says.next_is);
+      slots = omega (arith, slot_cut, says.slot_is);
+      carried = λ p lt carries. carries_on old cut p (slots_cut p.1) carries;
+    }
+
+    splits : SplitsPage old cut page
+    splits =
+        let upper : (x : ℕ) → x ≡ front.next_page → page_bytes cut x ≡ leaf_bytes link (drop 15 pairs) = λ x is. ap (λ (y : ℕ). page_bytes cut y) is ∙ upper_new in
+        let there = upper (next_page old) (sym says.next_is) in
+        record {
+          full = ap (λ (ps : List Pair). length ps) (sym says.pairs_are) ∙ full;
+          kind = ap kind_said lower_new ∙ leaf_kind front.next_page (take 15 pairs) lower_many next_fits;
+          level = ap level_said lower_new ∙ leaf_level front.next_page (take 15 pairs) lower_many next_fits;
+          link = ap link_said lower_new ∙ leaf_link front.next_page (take 15 pairs) lower_many next_fits ∙ says.next_is;
+          pairs = ap pairs_said lower_new ∙ leaf_pairs front.next_page (take 15 pairs) lower_many next_fits (small_take 15 pairs loc.small).0 ∙ ap (take 15) says.pairs_are;
+          kind' = ap kind_said there ∙ leaf_kind link (drop 15 pairs) upper_many link_fits';
+          level' = ap level_said there ∙ leaf_level link (drop 15 pairs) upper_many link_fits';
+          link' = ap link_said there ∙ leaf_link link (drop 15 pairs) upper_many link_fits' ∙ says.link_is;
+          pairs' = ap pairs_said there ∙ leaf_pairs link (drop 15 pairs) upper_many link_fits' (small_take 15 pairs loc.small).1 ∙ ap (drop 15) says.pairs_are;
+          one_more = page_cut ∙ (let e : front.next_page + 1 ≡ suc (next_page old) = omega (arith, says.next_is) in e);
+        }
+
+    cuts : IsSoundChain cut × (pairs_of_chain cut ≡ pairs_of_chain old)
+    cuts = sound_chain_splits old cut key sound keeps_cut front_cut fits
+        (subst (λ (x : ℕ). SplitsPage old cut x) says.page_is splits)
+        (subst (λ (x : ℕ). (y : ℕ) → 1 ≤ y → y < next_page old → y ≢ x → page_bytes cut y ≡ page_bytes old y) says.page_is others_cut)
+
+    -- what a cut page makes of the data
+    pub cutting_grows : Grows chain old (applied (cutting_parts front page link pairs) old) × Rests chain old (applied (cutting_parts front page link pairs) old)
+        × (next_page (applied (cutting_parts front page link pairs) old) ≡ suc (next_page old))
+        × (page_of_key (applied (cutting_parts front page link pairs) old) key ≡ half_for old page key)
+    unfolding cut
+    cutting_grows =
+        let on : IsPageOfChain old page = subst (λ (x : ℕ). IsPageOfChain old x) (sym says.page_is) (key_page_own old key sound).1 in (
+          record {
+            sound = cuts.0;
+            size = cut_long;
+            slots = λ j lt. slots_cut j;
+            later = omega (arith, page_cut, says.next_is);
+            few = omega (arith, page_cut, says.next_is);
+            named = λ x from to. subst (λ (y : ℕ). IsPageOfChain cut y) (let e : next_page old ≡ x = omega (arith, page_cut, says.next_is) in e)
+                (cut_names old cut page splits sound.front.some_pages others_cut sound on);
+            kept = cut_keeps old cut page splits sound.front.some_pages others_cut sound;
+            levels = omega arith;
+          },
+          record { pairs = cuts.1; slots = slot_cut ∙ says.slot_is },
+          splits.one_more,
+          half_after old cut page splits sound.front.some_pages others_cut key sound says.page_is,
+        )
+
+    -- the half of the key has room
+    pub half_short : length (page_pairs (applied (cutting_parts front page link pairs) old) (half_for old page key)) < 30
+    unfolding cut
+    half_short = elim (leb_tells (suc key) (key_at (page_pairs old page) 15)) [
+      | inl low ↦
+          let b : nat_lt key (key_at (page_pairs old page) 15) ≡ true = low.0 in
+          rw b (omega (arith, ap (λ (ps : List Pair). length ps) splits.pairs, length-take-le 15 (page_pairs old page) (omega (arith, splits.full))))
+      | inr high ↦
+          let b : nat_lt key (key_at (page_pairs old page) 15) ≡ false = high.0 in
+          rw b (omega (arith, ap (λ (ps : List Pair). length ps) splits.pairs', length-drop 15 (page_pairs old page), splits.full))
+    ]

@@ -1,0 +1,243 @@
+-- A walk along a sound chain.
+use Rattle.std.proofs.Common.{◌≡◌, ◌≢◌, ℕ, zero, suc, ◌+◌, ◌-◌, ◌<◌, ◌≤◌, true, false, nat_eq, nat_lt, List, [], ◌∷◌, Some, None, inl, inr, refl, sym, ◌∙◌, ap, subst, arith}
+use Rattle.std.specs.Prelude.{nat_le, if◌then◌else◌}
+use Rattle.std.proofs.lemmas.Bool.Decides.{nat_tests, eqb_tells, leb_tells}
+use Rattle.page_store.specs.Pairs.{Pair, Rise, found, next}
+use Rattle.record_slots.specs.Places.{page_bytes, next_slot, next_page, AreGiven, first_slot_page}
+use Rattle.index_pages.specs.Page.{page_pairs, link_of, count_of, count_said, pair_said, pairs_from, pairs_said}
+use Rattle.index_pages.proofs.Reading.{from_first}
+use Rattle.index_pages.specs.Pieces.{joined}
+use Rattle.index_pages.specs.Chain.{behind, IsChain, IsChainPage, chain_pieces, first_key, IsSoundChain, pairs_of_chain}
+use Rattle.index_pages.specs.Ways.{chain_page_for, page_of_key}
+use Rattle.index_pages.proofs.Rising.{next-none, next-some, found-below}
+use Rattle.index_pages.proofs.ChainFacts.{chain_head}
+use Rattle.key_list.specs.Linked.{IsLinked}
+
+-- behind so many steps the chain from this page on answers
+pub record Next (bytes : List ℕ) (from steps page : ℕ) : Type 0 where
+  pub n : ℕ
+  pub low : ℕ
+  pub start : ℕ
+  pub chain : IsChain (suc n) bytes page low
+  pub left : suc n + steps ≡ next_page bytes
+  pub answers : next (pairs_of_chain bytes) from ≡ next (joined (chain_pieces (suc n) bytes page start)) from
+
+pub next_first : (bytes : List ℕ) (from : ℕ) → IsSoundChain bytes → Next bytes from 0 1
+unfolding pairs_of_chain
+next_first bytes from sound =
+    let e : next_page bytes ≡ suc (next_page bytes - 1) = omega (arith, sound.front.some_pages) in
+    record {
+      n = next_page bytes - 1;
+      low = 0;
+      start = 0;
+      chain = subst (λ (n : ℕ). IsChain n bytes 1 0) e sound.pages;
+      left = omega arith;
+      answers = ap (λ (n : ℕ). next (joined (chain_pieces n bytes 1 0)) from) e;
+    }
+
+-- a page of the chain is as it is to be linked
+pub page_linked : (bytes : List ℕ) (pages page low : ℕ) → IsSoundChain bytes → first_slot_page bytes ≡ pages → IsChainPage bytes page low → IsLinked pages (page_bytes bytes page)
+page_linked bytes pages page low sound is head = record {
+  leaf = record { kind = head.kind; level = head.level; most = head.most };
+  link = elim (eqb_tells (link_of bytes page) 0) [
+    | inl none ↦ omega (arith, none.1, sound.front.some_pages, sound.front.pages)
+    | inr some ↦ omega (arith, (head.link some.1).1, sound.front.pages)
+  ];
+}
+
+pub next_linked : (bytes : List ℕ) (pages from steps page : ℕ) → IsSoundChain bytes → first_slot_page bytes ≡ pages → Next bytes from steps page → IsLinked pages (page_bytes bytes page)
+next_linked bytes pages from steps page sound is at = page_linked bytes pages page at.low sound is (chain_head (suc at.n) bytes page at.low at.chain)
+
+next_on : (n : ℕ) (bytes : List ℕ) (from steps page low start : ℕ) → IsChain (suc n) bytes page low → suc n + steps ≡ next_page bytes
+    → next (pairs_of_chain bytes) from ≡ next (joined (chain_pieces (suc n) bytes page start)) from
+    → link_of bytes page ≢ 0 → next (page_pairs bytes page) from ≡ None → Next bytes from (steps + 1) (link_of bytes page)
+next_on zero bytes from steps page low start chain left answers more none = absurd (chain.1 more)
+next_on (suc n) bytes from steps page low start chain left answers more none =
+    let b : nat_eq (link_of bytes page) 0 ≡ false = grind (arith, nat_tests) in
+    record {
+      n = n;
+      low = behind low (page_pairs bytes page);
+      start = first_key (page_pairs bytes (link_of bytes page));
+      chain = chain.1 more;
+      left = omega arith;
+      answers = answers
+          ∙ next-none from (page_pairs bytes page) (joined (if nat_eq (link_of bytes page) 0 then [] else chain_pieces (suc n) bytes (link_of bytes page) (first_key (page_pairs bytes (link_of bytes page))))) none
+          ∙ (rw b refl);
+    }
+
+pub next_step : (bytes : List ℕ) (from steps page : ℕ) → Next bytes from steps page → link_of bytes page ≢ 0 → next (page_pairs bytes page) from ≡ None → Next bytes from (steps + 1) (link_of bytes page)
+next_step bytes from steps page at more none = next_on at.n bytes from steps page at.low at.start at.chain at.left at.answers more none
+
+pub next_here : (bytes : List ℕ) (from steps page : ℕ) (p : Pair) → Next bytes from steps page → next (page_pairs bytes page) from ≡ Some p → next (pairs_of_chain bytes) from ≡ Some p
+next_here bytes from steps page p at some = at.answers ∙ next-some from p (page_pairs bytes page) _ some
+
+pub next_last : (bytes : List ℕ) (from steps page : ℕ) → Next bytes from steps page → link_of bytes page ≡ 0 → next (page_pairs bytes page) from ≡ None → next (pairs_of_chain bytes) from ≡ None
+next_last bytes from steps page at last none =
+    let b : nat_eq (link_of bytes page) 0 ≡ true = grind (arith, nat_tests) in
+    at.answers
+    ∙ next-none from (page_pairs bytes page) (joined (if nat_eq (link_of bytes page) 0 then [] else chain_pieces at.n bytes (link_of bytes page) (first_key (page_pairs bytes (link_of bytes page))))) none
+    ∙ (rw b refl)
+
+-- the slot of a pair that is found was given
+given_next : (bytes : List ℕ) (from : ℕ) (p : Pair) (ps : List Pair) → AreGiven bytes ps → next ps from ≡ Some p → p.1 < next_slot bytes
+given_next bytes from p [] given some = absurd (cc)
+given_next bytes from p (q ∷ qs) given some =
+    elim (leb_tells from q.0) [
+      | inl le ↦ let b : nat_le from q.0 ≡ true = le.0 in let e : Some q ≡ Some p = (let some' : (if nat_le from q.0 then Some q else next qs from) ≡ Some p = some in rw b at some') in let e' : q ≡ p = cc in omega (arith, given.0, ap (λ (x : Pair). x.1) e')
+      | inr lt ↦ let b : nat_le from q.0 ≡ false = lt.0 in given_next bytes from p qs given.2 (let some' : (if nat_le from q.0 then Some q else next qs from) ≡ Some p = some in rw b at some')
+    ]
+
+pub next_slot_given : (bytes : List ℕ) (from steps page : ℕ) (p : Pair) → Next bytes from steps page → next (page_pairs bytes page) from ≡ Some p → p.1 < next_slot bytes
+next_slot_given bytes from steps page p at some = given_next bytes from p (page_pairs bytes page) (chain_head (suc at.n) bytes page at.low at.chain).given some
+
+-- what a key leads to is told by the least pair from it on
+pub found_next : (ps : List Pair) (key : ℕ) (p : Pair) → next ps key ≡ Some p → p.0 ≡ key → found ps key ≡ Some p.1
+found_next [] key p some is = absurd (cc)
+found_next (q ∷ qs) key p some is =
+    elim (leb_tells key q.0) [
+      | inl le ↦
+          let b : nat_le key q.0 ≡ true = le.0 in
+          let e : Some q ≡ Some p = (let some' : (if nat_le key q.0 then Some q else next qs key) ≡ Some p = some in rw b at some') in
+          let same : q ≡ p = cc in
+          let b' : nat_eq q.0 key ≡ true = grind (arith, nat_tests, ap (λ (x : Pair). x.0) same, is) in
+          rw b' (ap (λ (x : Pair). Some x.1) same)
+      | inr lt ↦
+          let b : nat_le key q.0 ≡ false = lt.0 in
+          let b' : nat_eq q.0 key ≡ false = grind (arith, nat_tests, lt.1) in
+          let e : next qs key ≡ Some p = (let some' : (if nat_le key q.0 then Some q else next qs key) ≡ Some p = some in rw b at some') in
+          rw b' (found_next qs key p e is)
+    ]
+
+pub found_none : (ps : List Pair) (key : ℕ) → next ps key ≡ None → found ps key ≡ None
+found_none [] key none = refl
+found_none (q ∷ qs) key none =
+    elim (leb_tells key q.0) [
+      | inl le ↦ let b : nat_le key q.0 ≡ true = le.0 in let e : Some q ≡ None = (let none' : (if nat_le key q.0 then Some q else next qs key) ≡ None = none in rw b at none') in absurd (cc)
+      | inr lt ↦
+          let b : nat_le key q.0 ≡ false = lt.0 in
+          let b' : nat_eq q.0 key ≡ false = grind (arith, nat_tests, lt.1) in
+          let e : next qs key ≡ None = (let none' : (if nat_le key q.0 then Some q else next qs key) ≡ None = none in rw b at none') in
+          rw b' (found_none qs key e)
+    ]
+
+pub found_other : (low high : ℕ) (ps : List Pair) (key : ℕ) (p : Pair) → Rise low high ps → next ps key ≡ Some p → (p.0 ≡ key → ⊥) → found ps key ≡ None
+found_other low high [] key p rises some other = absurd (cc)
+found_other low high (q ∷ qs) key p rises some other =
+    elim (leb_tells key q.0) [
+      | inl le ↦
+          let b : nat_le key q.0 ≡ true = le.0 in
+          let e : Some q ≡ Some p = (let some' : (if nat_le key q.0 then Some q else next qs key) ≡ Some p = some in rw b at some') in
+          let same : q ≡ p = cc in
+          let b' : nat_eq q.0 key ≡ false = (elim (eqb_tells q.0 key) [ inl y ↦ absurd (other (ap (λ (x : Pair). x.0) (sym same) ∙ y.1)) | inr n ↦ n.0 ]) in
+          let above : key < suc q.0 = omega (arith, le.1) in
+          rw b' (found-below (suc q.0) high key qs rises.1 above)
+      | inr lt ↦
+          let b : nat_le key q.0 ≡ false = lt.0 in
+          let b' : nat_eq q.0 key ≡ false = grind (arith, nat_tests, lt.1) in
+          let e : next qs key ≡ Some p = (let some' : (if nat_le key q.0 then Some q else next qs key) ≡ Some p = some in rw b at some') in
+          rw b' (found_other (suc q.0) high qs key p rises.1 e other)
+    ]
+
+-- on the way to the page of a key: this page was read, and the one behind it is next
+pub record Place (bytes : List ℕ) (key steps page link : ℕ) : Type 0 where
+  pub n : ℕ
+  pub low : ℕ
+  pub chain : IsChain (suc n) bytes page low
+  pub left : suc n + steps ≡ next_page bytes
+  pub link_is : link ≡ link_of bytes page
+  pub answers : page_of_key bytes key ≡ chain_page_for (suc n) bytes page key
+
+pub place_first : (bytes : List ℕ) (key link : ℕ) → IsSoundChain bytes → link ≡ link_of bytes 1 → Place bytes key 0 1 link
+place_first bytes key link sound link_is =
+    let e : next_page bytes ≡ suc (next_page bytes - 1) = omega (arith, sound.front.some_pages) in
+    record {
+      n = next_page bytes - 1;
+      low = 0;
+      chain = subst (λ (n : ℕ). IsChain n bytes 1 0) e sound.pages;
+      left = omega arith;
+      link_is = link_is;
+      answers = ap (λ (n : ℕ). chain_page_for n bytes 1 key) e;
+    }
+
+pub first_linked : (bytes : List ℕ) (pages : ℕ) → IsSoundChain bytes → first_slot_page bytes ≡ pages → IsLinked pages (page_bytes bytes 1)
+first_linked bytes pages sound is = page_linked bytes pages 1 0 sound is (chain_head (next_page bytes) bytes 1 0 sound.pages)
+
+-- the chain behind the page
+link_chain : (n : ℕ) (bytes : List ℕ) (page low link : ℕ) → IsChain (suc n) bytes page low → link ≡ link_of bytes page → link ≢ 0 → IsChainPage bytes link (behind low (page_pairs bytes page)) × (2 ≤ link)
+link_chain n bytes page low link chain is more =
+    let more' : link_of bytes page ≢ 0 = λ e. more (is ∙ e) in
+    subst (λ (x : ℕ). IsChainPage bytes x (behind low (page_pairs bytes page)) × (2 ≤ x)) (sym is)
+    (chain_head n bytes (link_of bytes page) (behind low (page_pairs bytes page)) (chain.1 more'), (chain.0.link more').0)
+
+pub place_linked : (bytes : List ℕ) (pages key steps page link : ℕ) → IsSoundChain bytes → first_slot_page bytes ≡ pages → Place bytes key steps page link → link ≢ 0 → IsLinked pages (page_bytes bytes link)
+place_linked bytes pages key steps page link sound is at more =
+    page_linked bytes pages link (behind at.low (page_pairs bytes page)) sound is (link_chain at.n bytes page at.low link at.chain at.link_is more).0
+
+pub place_some : (bytes : List ℕ) (key steps page link : ℕ) → Place bytes key steps page link → link ≢ 0 → count_of bytes link ≢ 0
+place_some bytes key steps page link at more none =
+    let head = link_chain at.n bytes page at.low link at.chain at.link_is more in
+    omega (arith, head.1, (head.0.some none).0)
+
+pub place_last : (bytes : List ℕ) (key steps page link : ℕ) → Place bytes key steps page link → link ≡ 0 → page_of_key bytes key ≡ page
+place_last bytes key steps page link at last =
+    let e : link_of bytes page ≡ 0 = sym at.link_is ∙ last in
+    let b : nat_eq (link_of bytes page) 0 ≡ true = grind (arith, nat_tests) in
+    at.answers ∙ (rw b refl)
+
+pub place_here : (bytes : List ℕ) (key steps page link : ℕ) → Place bytes key steps page link → link ≢ 0 → key < first_key (page_pairs bytes link) → page_of_key bytes key ≡ page
+place_here bytes key steps page link at more lt =
+    let other : link_of bytes page ≢ 0 = λ e. more (at.link_is ∙ e) in
+    let b : nat_eq (link_of bytes page) 0 ≡ false = grind (arith, nat_tests) in
+    let below : key < first_key (page_pairs bytes (link_of bytes page)) = subst (λ (x : ℕ). key < first_key (page_pairs bytes x)) at.link_is lt in
+    let b' : nat_lt key (first_key (page_pairs bytes (link_of bytes page))) ≡ true = grind (arith, nat_tests) in
+    at.answers ∙ (rw b (rw b' refl))
+
+place_on : (n : ℕ) (bytes : List ℕ) (key steps page low link : ℕ) → IsChain (suc n) bytes page low → suc n + steps ≡ next_page bytes → page_of_key bytes key ≡ chain_page_for (suc n) bytes page key
+    → link_of bytes page ≢ 0 → first_key (page_pairs bytes (link_of bytes page)) ≤ key → link ≡ link_of bytes (link_of bytes page) → Place bytes key (steps + 1) (link_of bytes page) link
+place_on zero bytes key steps page low link chain left answers other le is = absurd (chain.1 other)
+place_on (suc n) bytes key steps page low link chain left answers other le is =
+    let b : nat_eq (link_of bytes page) 0 ≡ false = grind (arith, nat_tests) in
+    let b' : nat_lt key (first_key (page_pairs bytes (link_of bytes page))) ≡ false = grind (arith, nat_tests) in
+    record {
+      n = n;
+      low = behind low (page_pairs bytes page);
+      chain = chain.1 other;
+      left = omega arith;
+      link_is = is;
+      answers = answers ∙ (rw b (rw b' refl));
+    }
+
+pub place_step : (bytes : List ℕ) (key steps page link next : ℕ) → Place bytes key steps page link → link ≢ 0 → first_key (page_pairs bytes link) ≤ key → next ≡ link_of bytes link → Place bytes key (steps + 1) link next
+place_step bytes key steps page link next at more le is =
+    subst (λ (x : ℕ). Place bytes key (steps + 1) x next) (sym at.link_is)
+    (place_on at.n bytes key steps page at.low next at.chain at.left at.answers (λ e. more (at.link_is ∙ e)) (subst (λ (x : ℕ). first_key (page_pairs bytes x) ≤ key) at.link_is le) (is ∙ ap (λ (x : ℕ). link_of bytes x) at.link_is))
+
+-- the first key of a page with pairs
+first_from_some : (page : List ℕ) (n : ℕ) → n ≢ 0 → first_key (pairs_from page 0 n) ≡ (pair_said page 0).0
+first_from_some page zero some = absurd (some refl)
+first_from_some page (suc n) some = refl
+
+pub first_said : (page : List ℕ) → count_said page ≢ 0 → first_key (pairs_said page) ≡ (pair_said page 0).0
+first_said page some = ap (λ (ps : List Pair). first_key ps) (from_first page) ∙ first_from_some page (count_said page) some
+
+-- the page of a key is one of the chain
+page_on_chain : (n : ℕ) (bytes : List ℕ) (page low key : ℕ) → IsChain n bytes page low → (l : ℕ) × IsChainPage bytes (chain_page_for n bytes page key) l
+page_on_chain zero bytes page low key chain = absurd chain
+page_on_chain (suc n) bytes page low key chain =
+    elim (eqb_tells (link_of bytes page) 0) [
+      | inl last ↦ let b : nat_eq (link_of bytes page) 0 ≡ true = last.0 in rw b (low, chain.0)
+      | inr more ↦
+          let b : nat_eq (link_of bytes page) 0 ≡ false = more.0 in
+          elim (leb_tells (suc key) (first_key (page_pairs bytes (link_of bytes page)))) [
+            | inl h ↦ let b' : nat_lt key (first_key (page_pairs bytes (link_of bytes page))) ≡ true = h.0 in rw b (rw b' (low, chain.0))
+            | inr h ↦
+                let b' : nat_lt key (first_key (page_pairs bytes (link_of bytes page))) ≡ false = h.0 in
+                rw b (rw b' (page_on_chain n bytes (link_of bytes page) (behind low (page_pairs bytes page)) key (chain.1 more.1)))
+          ]
+    ]
+
+pub key_page : (bytes : List ℕ) (key : ℕ) → IsSoundChain bytes → (l : ℕ) × IsChainPage bytes (page_of_key bytes key) l
+key_page bytes key sound = page_on_chain (next_page bytes) bytes 1 0 key sound.pages
+
+pub key_page_linked : (bytes : List ℕ) (pages key : ℕ) → IsSoundChain bytes → first_slot_page bytes ≡ pages → IsLinked pages (page_bytes bytes (page_of_key bytes key))
+key_page_linked bytes pages key sound is = let at = key_page bytes key sound in page_linked bytes pages (page_of_key bytes key) at.0 sound is at.1

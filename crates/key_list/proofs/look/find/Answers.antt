@@ -1,0 +1,19 @@
+use Rattle.std.proofs.Common.{◌^◌, sym, ◌∙◌}
+use Rattle.index_pages.specs.Chain.{pairs_of_chain}
+use Rattle.index_pages.proofs.ChainFacts.{sound_chain_rises}
+use Rattle.key_list.proofs.Walking.{found_next, found_other, found_none}
+use Rattle.key_list.proofs.look.find.Goals as goal
+
+pub returns-in-Some-clause-found : goal.returns-in-Some-clause-found
+returns-in-Some-clause-found g c = λ told.
+    sym (found_next (pairs_of_chain (g.S.EawStore.view c.args.pages.now.store).state.bytes) c.args.key (c.in-Some.least, c.in-Some.slot) (sym (c.in_ok-least.ensures.next told) ∙ c.in-Some.is) c.if-least-key.true)
+
+pub returns-in_default-clause-found : goal.returns-in_default-clause-found
+returns-in_default-clause-found g c = λ told.
+    let view = g.S.EawStore.view c.args.pages.now.store in
+    sym (found_other 0 (2 ^ 64) (pairs_of_chain view.state.bytes) c.args.key (c.in-Some.least, c.in-Some.slot)
+    (sound_chain_rises view.state.bytes (c.requires told c.in_ok-least.ensures.cause)) (sym (c.in_ok-least.ensures.next told) ∙ c.in-Some.is) c.if-least-key.false)
+
+pub returns-in_default-2-clause-found : goal.returns-in_default-2-clause-found
+returns-in_default-2-clause-found g c = λ told.
+    sym (found_none (pairs_of_chain (g.S.EawStore.view c.args.pages.now.store).state.bytes) c.args.key (sym (c.in_ok-least.ensures.next told) ∙ c.in_default.is))

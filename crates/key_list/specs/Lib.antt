@@ -1,0 +1,5 @@
+pub mod Linked
+pub mod Index
+pub mod Located
+pub mod Checked
+pub mod Faults

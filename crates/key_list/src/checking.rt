@@ -1,0 +1,189 @@
+// The test of the whole chain.
+ghost use Rattle.std.specs.Prelude.{◌≡◌, ◌<◌, ◌≤◌, ◌↔◌, ◌^◌, IfOk, IfSome, IfNone, IsErrOf, IsTrue};
+ghost use Rattle.eaw_face.specs.Causes.{IsAlive};
+ghost use Rattle.record_slots.specs.Places.{next_slot, IsOfKey};
+ghost use Rattle.page_store.specs.Index.{slots_of, index_pages_of};
+ghost use Rattle.page_store.specs.Looks.{Looks, CheckCause, is_check_failed};
+ghost use Rattle.page_store.specs.Shown.{pages_of};
+ghost use Rattle.index_pages.specs.Page.{count_said, pairs_said};
+ghost use Rattle.index_pages.specs.Written.{SaysLeaf};
+ghost use Rattle.key_list.specs.Checked.{low_of, IsHead, PairCause, PairsCause, is_media};
+ghost use Rattle.key_list.specs.Faults.{IsOfCheck, as_check};
+ghost use Rattle.key_list.specs.Index.{chain};
+
+use crate::place::FORM;
+use eaw_face::EawStore;
+use index_pages::{
+    LeafHead, PAGE_LEN, fetch_page, fetch_slot, fetch_super, index_page_count, read_leaf_head,
+    read_pair,
+};
+use page_store::{CheckFault, PageFault, Pages};
+use record_slots::Slot;
+
+const FIRST_PAGE: u32 = 1;
+
+const SLOTS_IN_PAGE: u32 = 8;
+
+// Tests the super page, and then the pages of the chain one after another.
+pub fn check<S: EawStore>(pages: &mut Pages<S>) -> Result<(), CheckFault>
+    ensures looks { Looks S.tells (S.opens (S.view pages.old.store).shape) (is_check_failed result)
+        (pages_of (S.view pages.old.store) pages.old) (pages_of (S.view pages.new.store) pages.new) }
+    ensures cause { CheckCause S.tells chain (S.view pages.old.store) result }
+    ensures dead { IsErrOf result CheckFault.Dead → pages.new ≡ pages.old }
+{
+    let front = match fetch_super(pages, FORM) {
+        Ok(front) => front,
+        Err(fault) => return Err(check_fault(fault)),
+    };
+    let mut page = FIRST_PAGE;
+    let mut last = None;
+    let mut bytes = [0; PAGE_LEN];
+    for _step in 0..front.next_page {
+        match fetch_page(pages, page, &mut bytes) {
+            Ok(()) => {}
+            Err(fault) => return Err(check_fault(fault)),
+        }
+        let Some(head) = chain_head(&bytes, page) else {
+            return Err(CheckFault::Damaged { page });
+        };
+        last = match check_pairs(pages, page, &bytes, head.count, last, front.next_slot) {
+            Ok(last) => last,
+            Err(fault) => return Err(fault),
+        };
+        if head.link == 0 {
+            return Ok(());
+        }
+        if head.link < 2 {
+            return Err(CheckFault::Damaged { page });
+        }
+        if head.link >= front.next_page {
+            return Err(CheckFault::Damaged { page });
+        }
+        page = head.link;
+    }
+    Err(CheckFault::Damaged { page })
+}
+
+// The head of a page of the chain. The first page alone may be without pairs, and then it is the last one too.
+fn chain_head(bytes: &[u8; PAGE_LEN], page: u32) -> Option<LeafHead>
+    ensures says { IfSome result (SaysLeaf bytes.now) }
+    ensures head { IfSome result (λ head. IsHead page bytes.now) }
+    ensures other { IfNone result (¬ IsHead page bytes.now) }
+{
+    let head = read_leaf_head(bytes)?;
+    if head.count > 0 {
+        return Some(head);
+    }
+    if page != FIRST_PAGE {
+        return None;
+    }
+    if head.link != 0 {
+        return None;
+    }
+    Some(head)
+}
+
+// Tests the pairs of a page behind a last key, and gives the last key then.
+fn check_pairs<S: EawStore>(
+    pages: &mut Pages<S>,
+    page: u32,
+    bytes: &[u8; PAGE_LEN],
+    count: u16,
+    last: Option<u64>,
+    slots: u32,
+) -> Result<Option<u64>, CheckFault>
+    requires alive { IsAlive (S.view pages.old.store) }
+    requires count { count ≡ count_said bytes.now }
+    requires most { count ≤ 30 }
+    requires slots { slots ≤ slots_of (S.view pages.old.store).shape }
+    requires low { low_of last ≤ 2 ^ 64 }
+    ensures looks { Looks S.tells (S.opens (S.view pages.old.store).shape) (is_media result)
+        (pages_of (S.view pages.old.store) pages.old) (pages_of (S.view pages.new.store) pages.new) }
+    ensures low { IfOk result (λ last. low_of last ≤ 2 ^ 64) }
+    ensures cause { IsTrue S.tells → slots ≡ next_slot (S.view pages.old.store).state.bytes
+        → PairsCause (S.view pages.old.store).state.bytes page (low_of last) (pairs_said bytes.now) result }
+    ensures dead { IsErrOf result CheckFault.Dead → ⊥ }
+{
+    let mut last = last;
+    for i in 0..count {
+        let (key, slot) = read_pair(bytes, i);
+        match check_pair(pages, page, (key, slot), last, slots) {
+            Ok(()) => {}
+            Err(fault) => return Err(fault),
+        }
+        last = Some(key);
+    }
+    Ok(last)
+}
+
+// Tests a pair of a page behind a last key: its key, its slot, and what that slot says.
+fn check_pair<S: EawStore>(
+    pages: &mut Pages<S>,
+    page: u32,
+    pair: (u64, u64),
+    last: Option<u64>,
+    slots: u32,
+) -> Result<(), CheckFault>
+    requires alive { IsAlive (S.view pages.old.store) }
+    requires slots { slots ≤ slots_of (S.view pages.old.store).shape }
+    ensures looks { Looks S.tells (S.opens (S.view pages.old.store).shape) (is_media result)
+        (pages_of (S.view pages.old.store) pages.old) (pages_of (S.view pages.new.store) pages.new) }
+    ensures cause { IsTrue S.tells → slots ≡ next_slot (S.view pages.old.store).state.bytes
+        → PairCause (S.view pages.old.store).state.bytes page (low_of last) pair result }
+    ensures dead { IsErrOf result CheckFault.Dead → ⊥ }
+{
+    if !is_above(last, pair.0) {
+        return Err(CheckFault::Damaged { page });
+    }
+    if pair.1 >= u64::from(slots) {
+        return Err(CheckFault::Damaged { page });
+    }
+    let slot = pair.1 as u32;
+    let count = index_page_count(pages);
+    match fetch_slot(pages, slot) {
+        Ok(said) => {
+            if is_of_key(&said, pair.0) {
+                Ok(())
+            } else {
+                Err(CheckFault::Damaged {
+                    page: count + slot / SLOTS_IN_PAGE,
+                })
+            }
+        }
+        Err(fault) => Err(check_fault(fault)),
+    }
+}
+
+// The key may follow the last one.
+fn is_above(last: Option<u64>, key: u64) -> bool
+    ensures { IsTrue result ↔ (low_of last ≤ key) }
+{
+    match last {
+        None => true,
+        Some(last) => last < key,
+    }
+}
+
+// What was read says a slot of this key.
+fn is_of_key(said: &Option<Slot>, key: u64) -> bool
+    ensures { IsTrue result ↔ IsOfKey key said.now }
+{
+    match said {
+        None => false,
+        Some(Slot::Absent { key: other }) => *other == key,
+        Some(Slot::Present { key: other, .. }) => *other == key,
+    }
+}
+
+// A fault of a read, as a test tells it.
+fn check_fault(fault: PageFault) -> CheckFault
+    requires { IsOfCheck fault }
+    ensures { result ≡ as_check fault }
+{
+    match fault {
+        PageFault::Damaged { page } => CheckFault::Damaged { page },
+        PageFault::Media => CheckFault::Media,
+        PageFault::Dead => CheckFault::Dead,
+        PageFault::LogFull { .. } | PageFault::SavesFull => unreachable!(),
+    }
+}

@@ -1,0 +1,119 @@
+// The nested top actions of an insertion.
+ghost use Rattle.std.specs.Prelude.{◌≡◌, ◌<◌, ◌≤◌, ℕ, None, IsErrOf, length};
+ghost use Rattle.std.specs.List.{insert};
+ghost use Rattle.eaw_face.specs.Causes.{IsAlive};
+ghost use Rattle.page_store.specs.Index.{slots_of, index_pages_of};
+ghost use Rattle.page_store.specs.Pairs.{inserted};
+ghost use Rattle.page_store.specs.Shown.{pages_of, top_in};
+ghost use Rattle.index_pages.specs.Acts.{Acts};
+ghost use Rattle.key_list.specs.Located.{IsLocated, adding_pages, adding_parts, cutting_pages, cutting_parts};
+
+use crate::place::Located;
+use eaw_face::EawStore;
+use index_pages::{PAGE_LEN, PagePart, act, index_page_count, write_leaf};
+use page_store::{PageFault, Pages};
+use record_slots::{COUNTS_AT, COUNTS_LEN, SLOT_LEN, Slot, write_slot, write_super_counts};
+
+const SLOTS_IN_PAGE: u32 = 8;
+
+// How many of 30 pairs stay where a page is cut.
+const HALF: usize = 15;
+
+// Adds a pair of the key and the next slot to its page.
+pub fn add_pair<S: EawStore>(
+    pages: &mut Pages<S>,
+    tid: u8,
+    key: u64,
+    at: Located,
+) -> Result<(), PageFault>
+    requires tid { tid < (S.view pages.old.store).shape.numbers }
+    requires closed { IsAlive (S.view pages.old.store) → top_in pages.old.marks tid ≡ None }
+    requires located { IsLocated (S.view pages.old.store).shape at.front at.page at.link at.pairs.items }
+    requires room { length at.pairs.items < 30 }
+    requires slot { at.front.next_slot < slots_of (S.view pages.old.store).shape }
+    ensures acts { Acts S.tells (S.opens (S.view pages.old.store).shape) tid (adding_pages (index_pages_of (S.view pages.old.store).shape) at.front at.page)
+        (adding_parts (index_pages_of (S.view pages.old.store).shape) at.front at.page at.link at.pairs.items key)
+        (pages_of (S.view pages.old.store) pages.old) (pages_of (S.view pages.new.store) pages.new) result }
+    ensures dead { IsErrOf result PageFault.Dead → pages.new ≡ pages.old }
+{
+    let Located {
+        front,
+        page,
+        link,
+        mut pairs,
+    } = at;
+    let mut slot = [0; SLOT_LEN];
+    write_slot(&Slot::Absent { key }, &mut slot);
+    let place = place_of(pairs.as_slice(), key);
+    pairs.insert(place, (key, u64::from(front.next_slot)));
+    let mut bytes = [0; PAGE_LEN];
+    write_leaf(link, pairs.as_slice(), &mut bytes);
+    let mut counts = [0; COUNTS_LEN];
+    write_super_counts(front.next_slot + 1, front.next_page, &mut counts);
+    let slot_part = PagePart {
+        page: index_page_count(pages) + front.next_slot / SLOTS_IN_PAGE,
+        at: front.next_slot % SLOTS_IN_PAGE * 64,
+        bytes: &slot,
+    };
+    let page_part = PagePart {
+        page,
+        at: 0,
+        bytes: &bytes,
+    };
+    let front_part = PagePart {
+        page: 0,
+        at: COUNTS_AT as u32,
+        bytes: &counts,
+    };
+    act(pages, tid, &slot_part, &page_part, &front_part)
+}
+
+// The place of a key among pairs: in front of the first whose key is above it.
+fn place_of(pairs: &[(u64, u64)], key: u64) -> usize
+    ensures place { (to : ℕ) → insert pairs.now result (key, to) ≡ inserted pairs.now key to }
+    ensures most { result ≤ length pairs.now }
+{
+    for (i, pair) in pairs.iter().enumerate() {
+        if key < pair.0 {
+            return i;
+        }
+    }
+    pairs.len()
+}
+
+// Cuts a full page: its upper half goes to the next page.
+pub fn cut_page<S: EawStore>(pages: &mut Pages<S>, tid: u8, at: &Located) -> Result<(), PageFault>
+    requires tid { tid < (S.view pages.old.store).shape.numbers }
+    requires closed { IsAlive (S.view pages.old.store) → top_in pages.old.marks tid ≡ None }
+    requires located { IsLocated (S.view pages.old.store).shape at.now.front at.now.page at.now.link at.now.pairs.items }
+    requires full { length at.now.pairs.items ≡ 30 }
+    requires next { at.now.front.next_page < index_pages_of (S.view pages.old.store).shape }
+    ensures acts { Acts S.tells (S.opens (S.view pages.old.store).shape) tid (cutting_pages at.now.front at.now.page)
+        (cutting_parts at.now.front at.now.page at.now.link at.now.pairs.items)
+        (pages_of (S.view pages.old.store) pages.old) (pages_of (S.view pages.new.store) pages.new) result }
+    ensures dead { IsErrOf result PageFault.Dead → pages.new ≡ pages.old }
+{
+    let pairs = at.pairs.as_slice();
+    let mut lower = [0; PAGE_LEN];
+    write_leaf(at.front.next_page, &pairs[..HALF], &mut lower);
+    let mut upper = [0; PAGE_LEN];
+    write_leaf(at.link, &pairs[HALF..], &mut upper);
+    let mut counts = [0; COUNTS_LEN];
+    write_super_counts(at.front.next_slot, at.front.next_page + 1, &mut counts);
+    let lower_part = PagePart {
+        page: at.page,
+        at: 0,
+        bytes: &lower,
+    };
+    let upper_part = PagePart {
+        page: at.front.next_page,
+        at: 0,
+        bytes: &upper,
+    };
+    let front_part = PagePart {
+        page: 0,
+        at: COUNTS_AT as u32,
+        bytes: &counts,
+    };
+    act(pages, tid, &lower_part, &upper_part, &front_part)
+}
