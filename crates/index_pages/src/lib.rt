@@ -3,10 +3,15 @@
 
 mod action;
 mod fetch;
+mod laws;
 mod page;
 
 pub use action::{PagePart, act};
 pub use fetch::{fetch_page, fetch_slot, fetch_super, index_page_count};
+pub use laws::{
+    chain_changes_keep, chain_rises, damage_is_first, fresh_is_sound, insertion_adds,
+    pieces_answer, slots_leave_the_chain,
+};
 pub use page::{
     LeafHead, PAGE_LEN, PAIRS_MAX, Pairs, next_pair, read_leaf_head, read_pair, read_pairs,
     write_leaf,
