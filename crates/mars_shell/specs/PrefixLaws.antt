@@ -8,9 +8,9 @@ use Rattle.eaw_face.specs.Does.{IsEither}
 use Rattle.history.specs.Table.{Table}
 use Rattle.history.specs.Legal.{records}
 use Rattle.history.specs.declared.transaction.Done.{Done}
-use Rattle.mars_shell.specs.Records.{Holds}
+use Rattle.mars_shell.specs.Records.{Holds, slots_of}
 use Rattle.mars_shell.specs.Prefix.{HasPrefix, with_doubt}
-use Rattle.mars_shell.specs.Kept.{Work, work_of, slots_of, IsKept}
+use Rattle.mars_shell.specs.Kept.{Work, work_of, IsKept}
 use Rattle.mars_shell.specs.Called.{HasPrefixOf, LeavesAll, KeepsPrefix}
 use Rattle.mars_shell.specs.Standing.{Grows}
 
