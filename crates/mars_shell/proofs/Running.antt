@@ -76,7 +76,6 @@ module _ (tells : Bool) (told : IsTrue tells) (old : View) (only_now : (image : 
 
     pub idle_looked : (Cause : Type 0) (new : View) → IsBehind tells mid new → Cause → Idle (HoldsArray old) Cause old new false []
     idle_looked Cause new behind cause = record {
-      uncut = refl;
       silent = refl;
       keeps = λ shape all image left. looked shape all image (behind.left old.moment image left);
       spared = inr (store.shape, array);
@@ -128,8 +127,8 @@ module _ (tells : Bool) (told : IsTrue tells) (old : View) (only_now : (image : 
           (subst (λ (s : Shape). Holds (slots_of s) served.ran.final.base mid.state.bytes) shape
           (subst (λ (t : Table). Holds (slots_of mid.shape) t mid.state.bytes) (sym base_is) served.held))
 
-      first_is : first_state mid ≡ record { shape = store.shape; base = served.ran.final.base; history = []; live = None; doubt = None }
-      first_is = λ i. record { shape = shape i; base = sym base_is i; history = []; live = None; doubt = None }
+      first_is : first_state mid ≡ record { shape = store.shape; base = served.ran.final.base; history = []; live = None; doubt = [] }
+      first_is = λ i. record { shape = shape i; base = sym base_is i; history = []; live = None; doubt = [] }
 
       shape_is : store'.shape ≡ store.shape
       shape_is = served.ran.comes.shape ∙ shape

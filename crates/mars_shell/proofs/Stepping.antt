@@ -203,7 +203,7 @@ module _ (tells : Bool) (old new : PagesView) (calls : List (Call × Reply)) (ke
       let held_is : held ≡ old.store.shape.entries = omega (arith, full.full, full.held_is, needed_is, ready.room g full.logger) in
       let taken : taken_on old.store.shape own calls ≡ old.store.shape.entries =
       sym (taken_is own) ∙ ap (λ (h : ℕ). count_on old.store.shape h (listed (old.store.ranges 0))) first ∙ sym full.held_is ∙ held_is in
-      inr ((λ has. omega (arith, has (new_where_none is.0), taken)), (λ i. LogFull (sym first i) ((held_is ∙ sym taken) i) (needed_is i)), refl)
+      inr ((λ has. omega (arith, has (new_where_none is.0), taken)), (λ i. LogFull (sym first i) (held_is i) (needed_is i)), refl)
 
 -- a commit
 module _ (tells : Bool) (old new : PagesView) (history pushed : List Done) (calls : List (Call × Reply)) (doubt : Option Done) (shape : new.store.shape ≡ old.store.shape) (became : Becomes tells (end 0 true) old new) where

@@ -44,4 +44,4 @@ OutcomeFor (Format numbers) old status new input cut text = FormatOutcome number
 abbrev pub IsFit : Words → Bool → List ℕ → Bool → View → Type 0
 IsFit (Format numbers) source_tells input media_tells media = GiveLength numbers media.size
 IsFit asked source_tells input media_tells media = IsTrue source_tells × (length input ≤ input_limit) × IsTrue media_tells
-    × ((shape : Shape) × IsArray shape media × (asked ≡ Run → (table : Table) × Holds (slots_of shape) table (settled_data shape media.content.bytes)))
+    × ((shape : Shape) × IsArray shape media × (asked ≡ Run → (t : Table) × Holds (slots_of shape) t (settled_data shape media.content.bytes)))

@@ -9,8 +9,8 @@ use Rattle.history.specs.declared.call.Call.{Call}
 use Rattle.history.specs.declared.call.Reply.{Reply}
 use Rattle.mars_shell.specs.Session.{State, StepAt, BreaksAt}
 use Rattle.mars_shell.specs.Records.{slots_of}
-use Rattle.mars_shell.specs.Kept.{Work, IsReady, IsKept, state_over}
-use Rattle.mars_shell.specs.Prefix.{HasPrefix, with_doubt}
+use Rattle.mars_shell.specs.Kept.{Work, IsReady, IsKept, state_over, with_doubt}
+use Rattle.mars_shell.specs.Prefix.{HasPrefix}
 use Rattle.mars_shell.specs.declared.session.Fault.{Fault}
 use Rattle.mars_shell.specs.declared.session.Fault.TheVariants.{Media, NoMemory}
 

@@ -25,7 +25,8 @@ pub record Obeys (old : View) (input : List ℕ) (ended : Ended) (new : View) (c
   pub rest : List ℕ
   pub text_is : text ≡ concat answers ++ rest
   pub final : Progress
-  pub answered : Answered raw_script (record { shape = shape; state = record { bytes = settled_data shape old.content.bytes; logs = λ t. None }; past = []; doubt = None })
+  pub answered : Answered raw_script
+      (record { shape = shape; state = record { bytes = settled_data shape old.content.bytes; logs = λ t. None }; past = []; doubt = None })
       1 (lines_of input) ended cut answers rest final
   pub now : (image : List ℕ) → MayLeave new.content image → (bytes : List ℕ) × Opens shape image bytes × MayStand final bytes
   pub since : AllOpen shape old.content → (image : List ℕ) → new.left_since old.moment image

@@ -1,5 +1,5 @@
 -- What a session over a store keeps true.
-use Rattle.std.specs.Prelude.{ℕ, ◌≡◌, ◌<◌, ◌≤◌, false, nat_eq, List, [], length, map, filter, Option, None, unwrap_or}
+use Rattle.std.specs.Prelude.{ℕ, ◌≡◌, ◌<◌, ◌≤◌, false, nat_eq, List, [], length, map, filter, Option, None, unwrap_or, ◌∷◌, ◌++◌, Some}
 use Rattle.std.specs.List.{list_any}
 use Rattle.array_shape.specs.declared.shape.Shape.{Shape}
 use Rattle.array_shape.specs.Logged.{applied}
@@ -33,9 +33,18 @@ work_of history live doubt = record { history = history; live = live; doubt = do
 abbrev pub work_in : {S : Type 0} → Session S → Work
 work_in session = work_of session.history session.live session.doubt
 
+-- the transaction in doubt, if there is one
+abbrev pub in_doubt : Option Done → List Done
+in_doubt None = []
+in_doubt (Some done) = done ∷ []
+
+-- the committed transactions, and the one in doubt as a last one
+abbrev pub with_doubt : List Done → Option Done → List Done
+with_doubt history doubt = history ++ in_doubt doubt
+
 -- the same over the records at the opening of an array of this shape
 abbrev pub state_over : Shape → Table → Work → State
-state_over shape base work = record { shape = shape; base = base; history = work.history; live = work.live; doubt = work.doubt }
+state_over shape base work = record { shape = shape; base = base; history = work.history; live = work.live; doubt = in_doubt work.doubt }
 
 -- the key of a call is one of the array's
 abbrev pub FitsCall : ℕ → Call → Type 0

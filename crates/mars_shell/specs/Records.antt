@@ -36,7 +36,7 @@ pub record Holds (slots : ℕ) (table : Table) (bytes : List ℕ) : Type 0 where
 
 -- each slot that lies in this page is sound
 abbrev pub IsSoundPage : ℕ → List ℕ → ℕ → Type 0
-IsSoundPage slots bytes page = (k : ℕ) → k < slots → slot_at slots k / 512 ≡ page → (found : Option (List ℕ)) × IsRecord k (slot_of slots bytes k) found
+IsSoundPage slots bytes page = (k : ℕ) → k < slots → slot_at slots k / 512 ≡ page → (v : Option (List ℕ)) × IsRecord k (slot_of slots bytes k) v
 
 -- this page is not, and each before it is
 abbrev pub IsFirstDamaged : ℕ → List ℕ → ℕ → Type 0

@@ -35,7 +35,8 @@ pub record Answers (old : View) (input : List ℕ) (ended : Ended) (new : View) 
   pub text_is : text ≡ concat answers ++ rest
   pub final : State
   pub base : Holds (slots_of shape) final.base (settled_data shape old.content.bytes)
-  pub answered : Answered call_script (record { shape = shape; base = final.base; history = []; live = None; doubt = None }) 1 (lines_of input) ended cut answers rest final
+  pub answered : Answered call_script (record { shape = shape; base = final.base; history = []; live = None; doubt = [] })
+      1 (lines_of input) ended cut answers rest final
   pub legal : IsLegal final.base final.history
   pub prefix_law : PrefixLaw shape old final new
   pub acknowledged : (n : ℕ) → n < 2 ^ 64 → Contains answers (reply_line 0 (Committed n)) → (image : List ℕ) → MayLeave new.content image → Recovers shape final n image

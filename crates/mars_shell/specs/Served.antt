@@ -22,7 +22,7 @@ abbrev pub no_work : Work
 no_work = work_of [] None None
 
 abbrev pub first_state : StoreView → State
-first_state store = record { shape = store.shape; base = records_held store; history = []; live = None; doubt = None }
+first_state store = record { shape = store.shape; base = records_held store; history = []; live = None; doubt = [] }
 
 -- the lines were answered over its records, by a session that has kept this of them
 pub record Served (Opens : Shape → List ℕ → List ℕ → Type 0) (old : StoreView) (input : List ℕ) (ended : Ended) (cut : Bool) (text : List ℕ) (new : StoreView) : Type 0 where

@@ -13,13 +13,13 @@ use Rattle.history.specs.declared.transaction.Done.{Done}
 use Rattle.mars_shell.specs.Records.{slots_of, slot_at}
 
 -- The shape of the array; the records at the opening, the transactions committed since, the granted calls of the one that
--- runs, and the one whose commit met a fault of the media.
+-- runs, and the one whose commit met a fault of the media, if there is one.
 pub record State : Type 0 where
   pub shape : Shape
   pub base : Table
   pub history : List Done
   pub live : Option (List (Call × Reply))
-  pub doubt : Option Done
+  pub doubt : List Done
 
 abbrev pub done_with : State → List (Call × Reply) → Done
 done_with state calls = record { caller = 0; calls = calls; at = length state.history + 1 }
@@ -38,7 +38,8 @@ HasEntry shape calls key = contains_key (left_by empty calls) key ≡ false → 
 
 -- behind these calls, the call was granted with the reply that the caller's view gives it
 abbrev pub Grants : List (Call × Reply) → State → Call → Reply → State → Type 0
-Grants calls old call reply new = Answers (left_by (records old.base old.history) calls) call reply × (new ≡ record old { live = Some (calls ++ (call, reply) ∷ []) })
+Grants calls old call reply new = Answers (left_by (records old.base old.history) calls) call reply
+    × (new ≡ record old { live = Some (calls ++ (call, reply) ∷ []) })
 
 -- with the live transaction as it is before it, a call gets this reply and leaves this state
 abbrev pub StepAt : Option (List (Call × Reply)) → State → Call → Reply → State → Type 0
@@ -47,7 +48,7 @@ StepAt None old _ reply new = (reply ≡ NoTransaction) × (new ≡ old)
 StepAt (Some calls) old Begin reply new = (reply ≡ Already) × (new ≡ old)
 StepAt (Some calls) old (Get key) reply new = Grants calls old (Get key) reply new
 StepAt (Some calls) old (Put key value) reply new = (HasEntry old.shape calls key × Grants calls old (Put key value) reply new)
-    ⊎ ((HasEntry old.shape calls key → ⊥) × (reply ≡ LogFull (logger_of_key old.shape key) (taken_on old.shape (logger_of_key old.shape key) calls) 1) × (new ≡ old))
+    ⊎ ((HasEntry old.shape calls key → ⊥) × (reply ≡ LogFull (logger_of_key old.shape key) old.shape.entries 1) × (new ≡ old))
 StepAt (Some calls) old Commit reply new = (reply ≡ Committed (length old.history + 1)) × (new ≡ record old { history = old.history ++ done_with old calls ∷ []; live = None })
 
 -- The media failed in a call that asks it for something, and that is not answered: a get of a key that the transaction has not
@@ -55,5 +56,5 @@ StepAt (Some calls) old Commit reply new = (reply ≡ Committed (length old.hist
 abbrev pub BreaksAt : Option (List (Call × Reply)) → State → Call → State → Type 0
 BreaksAt (Some calls) old (Get key) new = (contains_key (left_by empty calls) key ≡ false) × (new ≡ old)
 BreaksAt (Some calls) old (Put key value) new = HasEntry old.shape calls key × (new ≡ old)
-BreaksAt (Some calls) old Commit new = (0 < len (left_by empty calls)) × (new ≡ record old { live = None; doubt = Some (done_with old calls) })
+BreaksAt (Some calls) old Commit new = (0 < len (left_by empty calls)) × (new ≡ record old { live = None; doubt = done_with old calls ∷ [] })
 BreaksAt _ old call new = ⊥
