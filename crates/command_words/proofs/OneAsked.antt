@@ -8,6 +8,6 @@ use Rattle.command_words.proofs.AskedLemmas.{one_met, one_asked}
 
 pub one_command : (words : List Text) (asked other : Words) → AsksFor words asked → AsksFor words other → asked ≡ other
 one_command words asked other asks also =
-    let same = one_met (subcommand_of command_line words) also.name asks.name also.options asks.options also.met asks.met in
-    let says : Says also.name also.options asked = rw (same.0, same.1) at asks.says in
-    one_asked also.name also.options asked other says also.says
+    let same = one_met (subcommand_of command_line words) also.1 asks.1 also.2 asks.2 also.3 asks.3 in
+    let says : Says also.1 also.2 asked = rw (same.0, same.1) at asks.4 in
+    one_asked also.1 also.2 asked other says also.4

@@ -16,7 +16,6 @@ use Rattle.clap.specs.declared.error.ErrorKind.TheVariants as kind
 use Rattle.command_words.specs.Usual.{format_words, joined_words, AreSmall}
 use Rattle.command_words.specs.declared.words.FormatNumbers.{FormatNumbers}
 use Rattle.clap.proofs.OnLiterals.{clap_on_literals}
-use Rattle.array_shape.specs.declared.shape.Shape.{Shape as ArrayShape}
 use Rattle.command_words.specs.CommandLine.{command_line, format_shape, option_of}
 use Rattle.command_words.specs.Asked.{AsksFor, AskForNothing, IsNumber}
 use Rattle.command_words.specs.declared.words.Words.TheVariants.{Run, Eaw, Format}
@@ -83,7 +82,7 @@ unfolding clap_on_literals
 run_met = refl
 
 pub run_asks : AsksFor (codes "run" ∷ []) Run
-run_asks = record { taken = run_taken; name = codes "run"; options = []; met = run_met; says = refl }
+run_asks = (run_taken, codes "run", [], run_met, refl)
 
 eaw_taken : fault_of command_line (codes "eaw" ∷ []) ≡ []
 unfolding clap_on_literals
@@ -94,7 +93,7 @@ unfolding clap_on_literals
 eaw_met = refl
 
 pub eaw_asks : AsksFor (codes "eaw" ∷ []) Eaw
-eaw_asks = record { taken = eaw_taken; name = codes "eaw"; options = []; met = eaw_met; says = refl }
+eaw_asks = (eaw_taken, codes "eaw", [], eaw_met, refl)
 
 -- there is a fault
 some_fault : {kind : ErrorKind} {kinds : Kinds} → kind ∷ kinds ≡ [] → ⊥
@@ -105,28 +104,28 @@ unfolding clap_on_literals
 none_refused = refl
 
 pub none_asks : AskForNothing []
-none_asks asked asks = some_fault (sym none_refused ∙ asks.taken)
+none_asks asked asks = some_fault (sym none_refused ∙ asks.0)
 
 help_refused : fault_of command_line (codes "help" ∷ []) ≡ kind.UnknownArgument ∷ kind.InvalidSubcommand ∷ []
 unfolding clap_on_literals
 help_refused = refl
 
 pub help_asks : AskForNothing (codes "help" ∷ [])
-help_asks asked asks = some_fault (sym help_refused ∙ asks.taken)
+help_asks asked asks = some_fault (sym help_refused ∙ asks.0)
 
 help_option_refused : fault_of command_line (codes "--help" ∷ []) ≡ kind.UnknownArgument ∷ []
 unfolding clap_on_literals
 help_option_refused = refl
 
 pub help_option_asks : AskForNothing (codes "--help" ∷ [])
-help_option_asks asked asks = some_fault (sym help_option_refused ∙ asks.taken)
+help_option_asks asked asks = some_fault (sym help_option_refused ∙ asks.0)
 
 version_option_refused : fault_of command_line (codes "--version" ∷ []) ≡ kind.UnknownArgument ∷ []
 unfolding clap_on_literals
 version_option_refused = refl
 
 pub version_option_asks : AskForNothing (codes "--version" ∷ [])
-version_option_asks asked asks = some_fault (sym version_option_refused ∙ asks.taken)
+version_option_asks asked asks = some_fault (sym version_option_refused ∙ asks.0)
 
 -- `format` as it is built, and its options
 abbrev format_built : Shape
@@ -203,54 +202,30 @@ module _ (l n e p : Text) (plain_l : IsPlain l) (plain_n : IsPlain n) (plain_e :
   unfolding clap_on_literals
   values = (refl, refl, refl, refl)
 
--- the default array
-default_array : ArrayShape
-default_array = record {
-  loggers = 4;
-  numbers = 8;
-  entries = 16;
-  pages = 64;
-  in_range = record {
-    some_loggers = omega arith;
-    most_loggers = omega arith;
-    some_numbers = omega arith;
-    most_numbers = omega arith;
-    some_entries = omega arith;
-    most_entries = omega arith;
-    some_pages = omega arith;
-    most_pages = omega arith;
-    even_pages = refl;
-  };
-}
-
 given : (default number : ℕ) (first : Option Text) → first ≡ Some (decimal number) → number < 2 ^ 16 → IsNumber default first number
 given default number first is small = rw is (small, refl)
 
 pub format_asks : (numbers : FormatNumbers) → AreSmall numbers → AsksFor (format_words numbers) (Format numbers)
-unfolding default_array
 format_asks numbers small =
     let plain_l = plain_decimal numbers.loggers small.small_loggers in
     let plain_n = plain_decimal numbers.numbers small.small_numbers in
     let plain_e = plain_decimal numbers.entries small.small_entries in
     let plain_p = plain_decimal numbers.pages small.small_pages in
-    let found = values (decimal numbers.loggers) (decimal numbers.numbers) (decimal numbers.entries) (decimal numbers.pages) plain_l plain_n plain_e plain_p in
-    record {
-      taken = taken (decimal numbers.loggers) (decimal numbers.numbers) (decimal numbers.entries) (decimal numbers.pages) plain_l plain_n plain_e plain_p;
-      name = codes "format";
-      options = _;
-      met = met (decimal numbers.loggers) (decimal numbers.numbers) (decimal numbers.entries) (decimal numbers.pages) plain_l plain_n plain_e plain_p;
-      says = (
+    let found = values (decimal numbers.loggers) (decimal numbers.numbers) (decimal numbers.entries) (decimal numbers.pages) plain_l plain_n plain_e plain_p in (
+      taken (decimal numbers.loggers) (decimal numbers.numbers) (decimal numbers.entries) (decimal numbers.pages) plain_l plain_n plain_e plain_p,
+      codes "format",
+      _,
+      met (decimal numbers.loggers) (decimal numbers.numbers) (decimal numbers.entries) (decimal numbers.pages) plain_l plain_n plain_e plain_p,
+      (
         refl,
         record {
-          default = default_array;
-          is_default = record { loggers_are = refl; numbers_are = refl; entries_are = refl; pages_are = refl };
           loggers = given _ _ _ found.0 small.small_loggers;
           numbers = given _ _ _ found.1 small.small_numbers;
           entries = given _ _ _ found.2 small.small_entries;
           pages = given _ _ _ found.3 small.small_pages;
         },
-      );
-    }
+      ),
+    )
 
 module _ (numbers : FormatNumbers) where
   joined_taken : fault_of command_line (joined_words numbers) ≡ []
@@ -270,23 +245,19 @@ module _ (numbers : FormatNumbers) where
   joined_values = (refl, refl, refl, refl)
 
 pub joined_asks : (numbers : FormatNumbers) → AreSmall numbers → AsksFor (joined_words numbers) (Format numbers)
-unfolding default_array
 joined_asks numbers small =
-    let found = joined_values numbers in
-    record {
-      taken = joined_taken numbers;
-      name = codes "format";
-      options = joined_options numbers;
-      met = joined_met numbers;
-      says = (
+    let found = joined_values numbers in (
+      joined_taken numbers,
+      codes "format",
+      joined_options numbers,
+      joined_met numbers,
+      (
         refl,
         record {
-          default = default_array;
-          is_default = record { loggers_are = refl; numbers_are = refl; entries_are = refl; pages_are = refl };
           loggers = given _ _ _ found.0 small.small_loggers;
           numbers = given _ _ _ found.1 small.small_numbers;
           entries = given _ _ _ found.2 small.small_entries;
           pages = given _ _ _ found.3 small.small_pages;
         },
-      );
-    }
+      ),
+    )

@@ -2,8 +2,6 @@
 use Rattle.std.specs.Prelude.{ℕ, ◌≡◌, ◌<◌, ◌^◌, List, [], Option, Some, None, codes}
 use Rattle.std.specs.Fmt.{decimal}
 use Rattle.clap.specs.Words.{Text, Row, fault_of, subcommand_of, first_of}
-use Rattle.array_shape.specs.declared.shape.Shape.{Shape}
-use Rattle.array_shape.specs.contracts.shape.ShapeDefault.TheImpl.{ghosts as shape_default}
 use Rattle.command_words.specs.CommandLine.{command_line}
 use Rattle.command_words.specs.declared.words.FormatNumbers.{FormatNumbers}
 use Rattle.command_words.specs.declared.words.Words.{Words}
@@ -16,12 +14,10 @@ IsNumber default (Some value) number = (number < 2 ^ 16) × (value ≡ decimal n
 
 -- the numbers that the options of `format` give, and for the others those of the default array
 pub record GivesNumbers (options : List Row) (given : FormatNumbers) : Type 0 where
-  pub default : Shape
-  pub is_default : shape_default.is_default default
-  pub loggers : IsNumber default.loggers (first_of (codes "loggers") options) given.loggers
-  pub numbers : IsNumber default.numbers (first_of (codes "numbers") options) given.numbers
-  pub entries : IsNumber default.entries (first_of (codes "entries") options) given.entries
-  pub pages : IsNumber default.pages (first_of (codes "pages") options) given.pages
+  pub loggers : IsNumber 4 (first_of (codes "loggers") options) given.loggers
+  pub numbers : IsNumber 8 (first_of (codes "numbers") options) given.numbers
+  pub entries : IsNumber 16 (first_of (codes "entries") options) given.entries
+  pub pages : IsNumber 64 (first_of (codes "pages") options) given.pages
 
 -- the subcommand of this name, with its options, asks for that
 abbrev pub Says : Text → List Row → Words → Type 0
@@ -29,13 +25,10 @@ Says name options Run = name ≡ codes "run"
 Says name options Eaw = name ≡ codes "eaw"
 Says name options (Format numbers) = (name ≡ codes "format") × GivesNumbers options numbers
 
--- Clap takes the words, and the subcommand that it meets in them asks for that.
-pub record AsksFor (words : List Text) (asked : Words) : Type 0 where
-  pub taken : fault_of command_line words ≡ []
-  pub name : Text
-  pub options : List Row
-  pub met : subcommand_of command_line words ≡ Some (name, options)
-  pub says : Says name options asked
+-- clap takes the words, and the subcommand that it meets in them asks for that
+abbrev pub AsksFor : List Text → Words → Type 0
+AsksFor words asked = (fault_of command_line words ≡ [])
+    × (name : Text) × (options : List Row) × (subcommand_of command_line words ≡ Some (name, options)) × Says name options asked
 
 abbrev pub AskForNothing : List Text → Type 0
 AskForNothing words = (asked : Words) → AsksFor words asked → ⊥

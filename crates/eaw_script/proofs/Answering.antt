@@ -1,13 +1,11 @@
 -- What comes of one line, from what comes of its command.
-use Rattle.std.proofs.Common.{◌≡◌, ◌≤◌, ℕ, lit<, List, [], ◌∷◌, ◌++◌, Option, Some, None, Result, Ok, Err, inl, inr, ⊎_elim, refl, sym, ap, subst, ◌∙◌, arith}
-use Rattle.std.specs.Prelude.{Bool, false, true, IsTrue, Contains}
+use Rattle.std.proofs.Common.{◌≡◌, ◌≤◌, ℕ, lit<, List, [], ◌∷◌, ◌++◌, Option, Some, None, Result, Ok, Err, inl, inr, ⊎_elim, refl, sym, subst, arith}
+use Rattle.std.specs.Prelude.{Bool, IsTrue, Contains}
 use Rattle.std.proofs.lemmas.List.Elements.{Contains-append_left, Contains-append_right}
 use Rattle.counted.proofs.Going as going
 use Rattle.counted.specs.declared.Failed.{Failed}
 use Rattle.array_shape.specs.declared.shape.Shape.{Shape}
-use Rattle.eaw_face.specs.State.{State}
-use Rattle.eaw_face.specs.StoreView.{StoreView, LeavesOnly}
-use Rattle.eaw_face.specs.Does.{IsEither}
+use Rattle.eaw_face.specs.StoreView.{StoreView}
 use Rattle.script_text.specs.Eaw.{Raw}
 use Rattle.script_text.specs.EawLines.{nothing, told, bad, Means, ShowsCall, SaysEaw}
 use Rattle.script_text.specs.AnswerLines.{answer_line}
@@ -20,9 +18,9 @@ use Rattle.script_run.specs.declared.responder.Stop.{Stop}
 use Rattle.script_run.specs.declared.responder.Stop.TheVariants.{Media, NoMemory}
 use Rattle.eaw_script.specs.Tests.{log_of, asks, Passes}
 use Rattle.eaw_script.specs.Answers.{AnswersWith, done_by}
-use Rattle.eaw_script.specs.Lines.{LineGives, LineBreaks, raw_script}
+use Rattle.eaw_script.specs.Lines.{LineGives, raw_script}
 use Rattle.eaw_script.specs.Performed.{Performed}
-use Rattle.eaw_script.specs.Progress.{Progress, MayStand, IsMade, OpensWith, Shows, Comes, moved}
+use Rattle.eaw_script.specs.Progress.{Progress, Shows, Comes, moved}
 use Rattle.eaw_script.specs.Laws.{comes_none}
 
 -- a line that is none, and one that tells a call: its command

@@ -1,5 +1,5 @@
 -- How the lines of a script of raw commands act.
-use Rattle.std.specs.Prelude.{ℕ, ◌≡◌, List, [], Some}
+use Rattle.std.specs.Prelude.{ℕ, ◌≡◌, List, [], ◌∷◌, ◌++◌, Some}
 use Rattle.eaw_face.specs.State.{State}
 use Rattle.script_text.specs.Eaw.{Raw}
 use Rattle.script_text.specs.EawLines.{Meaning, nothing, told, bad, Means}
@@ -9,14 +9,15 @@ use Rattle.script_text.specs.declared.answer.Answer.{Answer}
 use Rattle.script_run.specs.Script.{Script}
 use Rattle.eaw_script.specs.Tests.{log_of, asks, Passes}
 use Rattle.eaw_script.specs.Answers.{AnswersWith, done_by}
-use Rattle.eaw_script.specs.Progress.{Progress, moved}
+use Rattle.eaw_script.specs.Progress.{Progress}
 
 -- the n-th line, which means this, is answered by this text, and leaves this
 abbrev pub Gives : Progress → ℕ → Meaning → List ℕ → Progress → Type 0
 Gives old n nothing text new = (text ≡ []) × (new ≡ old)
 Gives old n bad text new = (text ≡ bad_line n) × (new ≡ old)
 Gives old n (told t raw) text new =
-    (answer : Answer) × (state : State) × AnswersWith old.shape (log_of old.state t) old.state t raw answer state × (text ≡ answer_line t answer) × (new ≡ moved old state)
+    (answer : Answer) × (state : State) × AnswersWith old.shape (log_of old.state t) old.state t raw answer state × (text ≡ answer_line t answer)
+    × (new ≡ record old { state = state; past = old.past ++ old.state.bytes ∷ [] })
 
 -- the same of what the line's bytes mean, where there are as many transaction numbers as the shape has
 abbrev pub LineGives : Progress → ℕ → List ℕ → List ℕ → Progress → Type 0

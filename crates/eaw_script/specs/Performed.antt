@@ -1,5 +1,5 @@
 -- What the performance of one command of a script comes to.
-use Rattle.std.specs.Prelude.{ℕ, ◌≡◌, ◌≤◌, Bool, false, IsTrue, List, Result, Ok, Err, OnOk, OnErr, IfOk}
+use Rattle.std.specs.Prelude.{ℕ, ◌≡◌, Bool, false, IsTrue, List, Result, Ok, Err, OnOk, OnErr, IfOk}
 use Rattle.counted.specs.Causes.{HasCause}
 use Rattle.counted.specs.declared.Failed.{Failed}
 use Rattle.eaw_face.specs.State.{State}

@@ -51,12 +51,9 @@ abbrev pub HasRoom : Shape → Asks → ℕ → Type 0
 HasRoom shape asked g = count_on shape g asked.held + count_on shape g asked.needed ≤ shape.entries
 
 -- it is the first that has none: it holds so many parts of the number, and as many more are needed
-pub record IsFull (shape : Shape) (asked : Asks) (g h n : ℕ) : Type 0 where
-  pub logger : g < shape.loggers
-  pub held_is : h ≡ count_on shape g asked.held
-  pub needed_is : n ≡ count_on shape g asked.needed
-  pub full : shape.entries < h + n
-  pub room_before : (k : ℕ) → k < g → HasRoom shape asked k
+abbrev pub IsFull : Shape → Asks → ℕ → ℕ → ℕ → Type 0
+IsFull shape asked g h n = (g < shape.loggers) × (h ≡ count_on shape g asked.held) × (n ≡ count_on shape g asked.needed)
+    × (shape.entries < h + n) × ((k : ℕ) → k < g → HasRoom shape asked k)
 
 -- each test is passed
 abbrev pub Passes : Shape → Asks → Type 0

@@ -19,7 +19,8 @@ use Rattle.script_run.specs.Transcript.{Ends, Answered}
 use Rattle.script_run.specs.declared.ended.Ended.{Ended}
 use Rattle.script_run.specs.declared.ended.Ended.TheVariants.{All, WriteFault, MediaFault, NoMemory}
 use Rattle.mars_shell.specs.Lines.{Gives, call_script}
-use Rattle.mars_shell.specs.Session.{State, Limits, StepAt, done_with}
+use Rattle.mars_shell.specs.Records.{slots_of}
+use Rattle.mars_shell.specs.Session.{State, StepAt, done_with}
 use Rattle.mars_shell.specs.PrefixLaws.{grows_longer}
 use Rattle.mars_shell.proofs.AnsweredLemmas.{step_grows}
 use Rattle.mars_shell.proofs.Calling.{breaks_history}
@@ -84,26 +85,6 @@ step_committed (Some calls) old Commit k new step =
     let history : new.history ≡ old.history ++ done_with old calls ∷ [] = ap (λ (s : State). s.history) step.1 in
     omega (arith, count, ap length history, length-append old.history (done_with old calls ∷ []))
 
--- the numbers of the array stay
-same_limits : (old new : State) → new ≡ old → new.limits ≡ old.limits
-same_limits old new is = ap (λ (s : State). s.limits) is
-
-step_limits : (live : Option (List (Call × Reply))) (old : State) (call : Call) (reply : Reply) (new : State) → StepAt live old call reply new → new.limits ≡ old.limits
-step_limits None old Begin reply new step = ap (λ (s : State). s.limits) step.1
-step_limits None old (Get key) reply new step = ap (λ (s : State). s.limits) step.1
-step_limits None old (Put key value) reply new step = ap (λ (s : State). s.limits) step.1
-step_limits None old Commit reply new step = ap (λ (s : State). s.limits) step.1
-step_limits (Some calls) old Begin reply new step = ap (λ (s : State). s.limits) step.1
-step_limits (Some calls) old (Get key) reply new step = ap (λ (s : State). s.limits) step.1
-step_limits (Some calls) old (Put key value) reply new (inl step) = ap (λ (s : State). s.limits) step.1.1
-step_limits (Some calls) old (Put key value) reply new (inr step) = ap (λ (s : State). s.limits) step.2
-step_limits (Some calls) old Commit reply new step = ap (λ (s : State). s.limits) step.1
-
-gives_limits : (old : State) (n : ℕ) (line : Line) (text : List ℕ) (new : State) → Gives old n line text new → new.limits ≡ old.limits
-gives_limits old n Nothing text new gives = ap (λ (s : State). s.limits) gives.1
-gives_limits old n Bad text new gives = ap (λ (s : State). s.limits) gives.1
-gives_limits old n (Told caller call) text new gives = step_limits old.live old call gives.0 new gives.1
-
 gives_longer : (old : State) (n : ℕ) (line : Line) (text : List ℕ) (new : State) → Gives old n line text new → length old.history ≤ length new.history
 gives_longer old n Nothing text new gives = omega (arith, ap (λ (s : State). length s.history) gives.1)
 gives_longer old n Bad text new gives = omega (arith, ap (λ (s : State). length s.history) gives.1)
@@ -126,28 +107,28 @@ answered_longer old n (bytes ∷ lines) ended cut [] rest new ends = ends_longer
 answered_longer old n (bytes ∷ lines) ended cut (answer ∷ answers) rest new more =
     omega (arith, gives_longer old n more.1.0 answer more.0 more.1.2, answered_longer more.0 (n + 1) lines ended cut answers rest new more.2)
 
-gives_committed : (old : State) (n : ℕ) (bytes : List ℕ) (line : Line) (m : ℕ) (new : State) → old.limits.callers ≡ 1 → m < 2 ^ 64 → Says old.limits.callers old.limits.keys bytes line
+gives_committed : (old : State) (n : ℕ) (bytes : List ℕ) (line : Line) (m : ℕ) (new : State) → m < 2 ^ 64 → Says 1 (slots_of old.shape) bytes line
     → Gives old n line (reply_line 0 (Committed m)) new → m ≤ length new.history
-gives_committed old n bytes Nothing m new one fits says gives = absurd (not_empty m gives.0)
-gives_committed old n bytes Bad m new one fits says gives = absurd (not_bad m n gives.0)
-gives_committed old n bytes (Told caller call) m new one fits says gives =
-    let first : caller ≡ 0 = omega (arith, says.0, one) in
+gives_committed old n bytes Nothing m new fits says gives = absurd (not_empty m gives.0)
+gives_committed old n bytes Bad m new fits says gives = absurd (not_bad m n gives.0)
+gives_committed old n bytes (Told caller call) m new fits says gives =
+    let first : caller ≡ 0 = omega (arith, says.0) in
     let same = same_line gives.0 m fits (gives.2 ∙ ap (λ (c : ℕ). reply_line c gives.0) first) in
     let last = step_committed old.live old call same.0 new (subst (λ (r : Reply). StepAt old.live old call r new) same.1 gives.1) in
     omega (arith, last, same.2)
 
-pub committed_kept : (old : State) (n : ℕ) (lines : List (List ℕ)) (ended : Ended) (cut : Bool) (answers : List (List ℕ)) (rest : List ℕ) (new : State) → old.limits.callers ≡ 1
+pub committed_kept : (old : State) (n : ℕ) (lines : List (List ℕ)) (ended : Ended) (cut : Bool) (answers : List (List ℕ)) (rest : List ℕ) (new : State)
     → Answered call_script old n lines ended cut answers rest new → (m : ℕ) → m < 2 ^ 64 → Contains answers (reply_line 0 (Committed m)) → m ≤ length new.history
-committed_kept old n lines ended cut [] rest new one answered m fits has = absurd (omega (arith, has.1))
-committed_kept old n [] ended cut (answer ∷ answers) rest new one answered m fits has = absurd answered
-committed_kept old n (bytes ∷ lines) ended cut (answer ∷ answers) rest new one more m fits has = elim (Contains-append_cases (answer ∷ []) answers (reply_line 0 (Committed m)) has) [
+committed_kept old n lines ended cut [] rest new answered m fits has = absurd (omega (arith, has.1))
+committed_kept old n [] ended cut (answer ∷ answers) rest new answered m fits has = absurd answered
+committed_kept old n (bytes ∷ lines) ended cut (answer ∷ answers) rest new more m fits has = elim (Contains-append_cases (answer ∷ []) answers (reply_line 0 (Committed m)) has) [
   | inl first ↦ elim (Contains-push_cases [] answer (reply_line 0 (Committed m)) first) [
     | inl none ↦ absurd (omega (arith, none.1))
     | inr same ↦ omega (
       arith,
-      gives_committed old n bytes more.1.0 m more.0 one fits more.1.1 (subst (λ (text : List ℕ). Gives old n more.1.0 text more.0) same more.1.2),
+      gives_committed old n bytes more.1.0 m more.0 fits more.1.1 (subst (λ (text : List ℕ). Gives old n more.1.0 text more.0) same more.1.2),
       answered_longer more.0 (n + 1) lines ended cut answers rest new more.2,
     )
   ]
-  | inr later ↦ committed_kept more.0 (n + 1) lines ended cut answers rest new (ap (λ (l : Limits). l.callers) (gives_limits old n more.1.0 answer more.0 more.1.2) ∙ one) more.2 m fits later
+  | inr later ↦ committed_kept more.0 (n + 1) lines ended cut answers rest new more.2 m fits later
 ]

@@ -1,5 +1,5 @@
 -- A run over lines keeps a session sound, and its history only grows; what it has told as committed stands in that.
-use Rattle.std.proofs.Common.{Bool, ◌≡◌, ℕ, ◌+◌, List, [], ◌∷◌, Option, Some, None, sym, ap, subst, inl, inr}
+use Rattle.std.proofs.Common.{Bool, ◌≡◌, ◌⊎◌, ℕ, ◌+◌, List, [], ◌∷◌, Option, Some, None, sym, ap, subst, inl, inr}
 use Rattle.history.specs.declared.call.Call.{Call}
 use Rattle.history.specs.declared.call.Call.TheVariants.{Begin, Get, Put, Commit}
 use Rattle.history.specs.declared.call.Reply.{Reply}
@@ -9,7 +9,7 @@ use Rattle.script_text.specs.declared.line.Line.TheVariants.{Nothing, Told, Bad}
 use Rattle.script_run.specs.Transcript.{Ends, Answered}
 use Rattle.script_run.specs.declared.ended.Ended.{Ended}
 use Rattle.script_run.specs.declared.ended.Ended.TheVariants.{All, WriteFault, MediaFault, NoMemory}
-use Rattle.mars_shell.specs.Lines.{Gives, LineStops, call_script}
+use Rattle.mars_shell.specs.Lines.{Gives, LineGives, call_script}
 use Rattle.mars_shell.specs.PrefixLaws.{grows_none}
 use Rattle.mars_shell.specs.Session.{State, StepAt, done_with}
 use Rattle.mars_shell.specs.Standing.{Grows}
@@ -20,7 +20,7 @@ Gives-keeps old n Nothing text new gives sound = subst IsSound (sym gives.1) sou
 Gives-keeps old n Bad text new gives sound = subst IsSound (sym gives.1) sound
 Gives-keeps old n (Told caller call) text new gives sound = Step-keeps old call gives.0 new gives.1 sound
 
-Stops-keeps : (old : State) (n : ℕ) (bytes : List ℕ) (new : State) → LineStops old n bytes new → IsSound old → IsSound new
+Stops-keeps : (old : State) (n : ℕ) (bytes : List ℕ) (new : State) → (new ≡ old) ⊎ ((text : List ℕ) × LineGives old n bytes text new) → IsSound old → IsSound new
 Stops-keeps old n bytes new (inl same) sound = subst IsSound (sym same) sound
 Stops-keeps old n bytes new (inr done) sound = Gives-keeps old n done.1.0 done.0 new done.1.2 sound
 

@@ -12,11 +12,12 @@ use Rattle.script_text.specs.declared.line.Line.TheVariants.{Nothing, Told, Bad}
 use Rattle.script_run.specs.Answers.{Answers}
 use Rattle.script_run.specs.declared.responder.Stop.{Stop}
 use Rattle.script_run.specs.declared.responder.Stop.TheVariants.{Media, NoMemory}
-use Rattle.mars_shell.specs.Called.{Steps, KeepsPrefix}
-use Rattle.mars_shell.specs.Kept.{Work, IsKept, slots_of, state_over}
+use Rattle.mars_shell.specs.Called.{Steps, KeepsPrefix, Breaks}
+use Rattle.mars_shell.specs.Records.{slots_of}
+use Rattle.mars_shell.specs.Kept.{Work, IsKept, state_over}
 use Rattle.mars_shell.specs.Laws.{comes_none}
 use Rattle.mars_shell.specs.Lines.{call_script}
-use Rattle.mars_shell.specs.Session.{State, Breaks}
+use Rattle.mars_shell.specs.Session.{State}
 use Rattle.mars_shell.specs.Standing.{Stands, Comes, Grows}
 use Rattle.mars_shell.specs.PrefixLaws.{grows_none}
 use Rattle.mars_shell.proofs.AnsweredLemmas.{step_grows}

@@ -2,7 +2,7 @@
 use Rattle.std.proofs.Common.{◌≡◌, ℕ, ◌+◌, ◌<◌, ◌≤◌, Bool, true, false, List, [], ◌∷◌, ◌++◌, length, Option, Some, None, Result, Ok, Err, refl, sym, ap, subst, ◌∙◌, arith, IsTrue}
 use Rattle.std.specs.FinMap.{get, len}
 use Rattle.std.proofs.lemmas.Bool.{false≢true}
-use Rattle.std.proofs.lemmas.List.{length-map}
+use Rattle.std.proofs.lemmas.List.{length-map, append-nil}
 use Rattle.counted.specs.Bytes.{put}
 use Rattle.counted.specs.Causes.{Rose}
 use Rattle.array_shape.specs.declared.shape.Shape.{Shape}
@@ -26,10 +26,11 @@ use Rattle.history.specs.declared.call.Call.TheVariants.{Begin, Get, Put, Commit
 use Rattle.history.specs.declared.call.Reply.{Reply}
 use Rattle.history.specs.declared.call.Reply.TheVariants.{Fine, LogFull, Committed}
 use Rattle.history.specs.declared.transaction.Done.{Done}
-use Rattle.mars_shell.specs.Records.{slot_at, records_of, Holds}
-use Rattle.mars_shell.specs.Session.{State, BreaksAt, puts_of, has_put}
-use Rattle.mars_shell.specs.Prefix.{with_doubt}
-use Rattle.mars_shell.specs.Kept.{Work, work_of, state_over, slots_of, limits_of, slot_range, IsReady, IsKept}
+use Rattle.mars_shell.specs.Live.{puts_of, has_put}
+use Rattle.mars_shell.specs.SlotTable.{records_of}
+use Rattle.mars_shell.specs.Records.{slot_at, Holds, slots_of}
+use Rattle.mars_shell.specs.Session.{State, BreaksAt}
+use Rattle.mars_shell.specs.Kept.{Work, work_of, state_over, slot_range, IsReady, IsKept, with_doubt}
 use Rattle.mars_shell.specs.Called.{Called, LeavesAll, KeepsPrefix}
 use Rattle.mars_shell.specs.declared.session.Fault.{Fault}
 use Rattle.mars_shell.specs.declared.session.Fault.TheVariants.{Media, NoMemory}
@@ -145,7 +146,7 @@ module _ (tells : Bool) (Opens : Shape → List ℕ → List ℕ → Type 0) whe
       ready = commit_ready tells old new history pushed calls doubt does.shape does.done ready;
       keeps = λ told base kept. commit_steps tells old new history pushed calls doubt does.shape does.done base told (is_pushed ∙ ap (λ (d : Done). history ++ d ∷ []) is) kept;
       prefix = λ told base kept. time_commit Opens base old.store new.store (work_of history (Some calls) doubt) (work_of pushed None doubt) _ last
-          (ap (with_doubt pushed) ready.certain ∙ is_pushed) kept (more base kept) (does.time told ready.alive);
+          (ap (with_doubt pushed) ready.certain ∙ append-nil pushed ∙ is_pushed) kept (more base kept) (does.time told ready.alive);
     }
 
     -- the media failed: it may be there or not
@@ -155,7 +156,7 @@ module _ (tells : Bool) (Opens : Shape → List ℕ → List ℕ → Type 0) whe
     commit_failed T fault does due =
         let cause = plain_cause T (end 0 true) old new.store.faults fault (λ g h n full. full) (λ out. out) ready.alive does.cause in
         let parts : length (listed (old.store.ranges 0)) ≡ length ready.keys = ap length ready.logged ∙ length-map ready.keys (slot_range (slots_of old.store.shape)) in
-        let some : 0 < len (puts_of calls) = put_some (limits_of old.store.shape) calls ready.keys ready.are_keys (omega (arith, parts, due cause.0)) in
+        let some : 0 < len (puts_of calls) = put_some old.store.shape calls ready.keys ready.are_keys (omega (arith, parts, due cause.0)) in
         record {
           shape = does.shape;
           cause = cause.1;

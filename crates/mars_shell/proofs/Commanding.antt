@@ -1,4 +1,5 @@
 -- A run of raw commands over an array that was opened.
+use Rattle.array_image.specs.Decided.{settled_data}
 use Rattle.std.proofs.Common.{◌≡◌, ℕ, ◌≤◌, inl, inr, ⊎_elim, List, Bool, None, false, sym, ap, subst, ◌∙◌, arith}
 use Rattle.std.specs.Prelude.{IsTrue}
 use Rattle.pcm_media.specs.Images.{MayLeave}
@@ -14,7 +15,6 @@ use Rattle.script_io.specs.Lines.{lines_of}
 use Rattle.script_run.specs.Transcript.{Answered, Ran}
 use Rattle.script_run.specs.declared.ended.Ended.{Ended}
 use Rattle.script_run.specs.declared.ended.Ended.TheVariants.{All}
-use Rattle.mars_shell.specs.Run.{data_in}
 use Rattle.mars_shell.specs.Commands.{Obeys}
 use Rattle.mars_shell.proofs.Running.{array, at_entry}
 
@@ -25,7 +25,7 @@ module _ (tells : Bool) (told : IsTrue tells) (old : View) (only_now : (image : 
     (ran : Ran raw_script (Shows store') (Comes Opens store (begun store.shape store.state) store') (begun store.shape store.state) (lines_of input) ended cut text)
     (alive : ended ≡ All → store'.is_dead ≡ false) where
   -- no number holds a log yet
-  first_is : begun store.shape store.state ≡ begun store.shape (record { bytes = data_in store.shape old; logs = λ t. None })
+  first_is : begun store.shape store.state ≡ begun store.shape (record { bytes = settled_data store.shape old.content.bytes; logs = λ t. None })
   first_is = λ i. begun store.shape (record { bytes = attached.bytes told i; logs = λ t. attached.unlogged t i })
 
   pub obeys : Obeys old input ended new cut text

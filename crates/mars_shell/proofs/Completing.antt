@@ -1,4 +1,5 @@
 -- What can be done is done, or memory was short.
+use Rattle.array_image.specs.Decided.{settled_data}
 use Rattle.std.proofs.Common.{◌≡◌, ℕ, ◌≤◌, ◌⊎◌, inl, inr, List, length, Bool, refl, ap, subst, ◌∙◌, arith}
 use Rattle.counted.specs.Causes.{Rose}
 use Rattle.pcm_media.specs.View.{View}
@@ -10,14 +11,15 @@ use Rattle.row_bytes.specs.Header.{SaysShape, IsBadIn}
 use Rattle.eaw_device.specs.Opens.{header_of, IsArray, HasBadRow}
 use Rattle.command_words.specs.Asked.{AsksFor}
 use Rattle.command_words.specs.declared.words.Words.{Words}
+use Rattle.history.specs.Table.{Table}
+use Rattle.std.specs.FinMap.{get}
 use Rattle.script_run.specs.declared.ended.Ended.{Ended}
 use Rattle.script_io.specs.Input.{input_limit}
 use Rattle.mars_shell.specs.Asked.{WordsSay}
 use Rattle.mars_shell.specs.Input.{InputSays}
-use Rattle.mars_shell.specs.Kept.{slots_of}
+use Rattle.mars_shell.specs.Records.{Holds, slots_of}
 use Rattle.mars_shell.specs.Outcome.{OutcomeOf}
-use Rattle.mars_shell.specs.Records.{IsSoundData}
-use Rattle.mars_shell.specs.Run.{data_in, IsDamaged}
+use Rattle.mars_shell.specs.Run.{IsDamaged}
 use Rattle.mars_shell.specs.Statuses.{Counts}
 use Rattle.mars_shell.specs.declared.status.Status.{Status}
 use Rattle.mars_shell.specs.declared.status.Status.TheVariants.{Good, Usage, TooLong, ReadFault, WriteFault, MediaFault, NoMemory, Damaged, BadRow, NotMars, BadShape}
@@ -52,10 +54,11 @@ no_bad_row media shape g t array row =
     let own = subst (λ (s : Shape). IsArray s media) same array in
     row.3.here.bad (own.good g t row.3.here.logger row.3.number row.3.here.is_decided)
 
-pub no_damage : (media : View) (shape : Shape) (page : ℕ) → IsArray shape media → IsSoundData (slots_of shape) (data_in shape media) → IsDamaged media page → ⊥
-no_damage media shape page array sound is =
+pub no_damage : (media : View) (shape : Shape) (page : ℕ) → IsArray shape media → (table : Table) → Holds (slots_of shape) table (settled_data shape media.content.bytes) → IsDamaged media page → ⊥
+no_damage media shape page array table holds is =
     let same : shape ≡ is.0 = one_shape (header_of media.content.bytes) shape is.0 array.header is.1.header in
-    is.2.damaged (subst (λ (s : Shape). IsSoundData (slots_of s) (data_in s media)) same sound is.2.slot is.2.below)
+    let own = subst (λ (s : Shape). Holds (slots_of s) table (settled_data s media.content.bytes)) same holds in
+    is.2.0 (λ k below here. (get table k, own.each k below))
 
 module _ (Works : Ended → Type 0) (Broken : ℕ → Type 0) (looks : Shape → ℕ) (old new : View) (cut : Bool) (text : List ℕ) (given left : List ℕ) (s s' k k' m m' : ℕ)
     (short : length given ≤ input_limit) (shape : Shape) (array : IsArray shape old) (whole : (page : ℕ) → Broken page → ⊥) (no_source : Rose s s' → ⊥) (no_sink : Rose k k' → ⊥) (no_media : Rose m m' → ⊥) where

@@ -11,14 +11,15 @@ use Rattle.array_shape.specs.Places.{IsShape, page_count}
 use Rattle.eaw_face.specs.State.{State as Data}
 use Rattle.eaw_face.specs.StoreView.{StoreView, LeavesOnly}
 use Rattle.eaw_face.specs.Command.{read}
-use Rattle.mars_shell.specs.Records.{reading}
+use Rattle.mars_shell.specs.Records.{reading, slots_of}
 use Rattle.eaw_face.specs.Causes.{Cause}
 use Rattle.eaw_face.specs.Does.{Does, Becomes, IsEither}
 use Rattle.eaw_face.specs.declared.fault.EawFault.{EawFault}
 use Rattle.eaw_face.specs.declared.fault.EawFault.TheVariants.{UnknownTid, LogFull, Media, Dead}
 use Rattle.record_slots.specs.Slots.{slot_said}
-use Rattle.mars_shell.specs.Kept.{slots_of}
-use Rattle.mars_shell.specs.Records.{slot_at, page_of, slot_of, IsSoundIn, IsSoundSlot, IsFirstDamaged}
+use Rattle.mars_shell.specs.SlotTable.{IsSoundIn, IsSoundSlot, value_in}
+use Rattle.mars_shell.specs.Records.{slot_at, slot_of, IsFirstDamaged}
+use Rattle.mars_shell.proofs.RecordLemmas.{said_of, sound_of}
 
 -- eight slots a page
 pub slots_whole : (shape : Shape) → IsShape shape → slots_of shape ≡ 8 * (slots_of shape / 8)
@@ -58,15 +59,15 @@ module _ (slots : ℕ) (bytes page : List ℕ) (nth : ℕ) (whole : slots ≡ 8 
   -- one that is not
   pub first_damaged : nth < slots / 8 → ((k : ℕ) → k < 8 * nth → IsSoundSlot slots bytes k) → (i : ℕ) → i < 8 → (IsSoundIn (8 * nth + i) (slot_said (range page (64 * i) 64)) → ⊥)
       → IsFirstDamaged slots bytes (slots / 8 + nth)
-  first_damaged there before i small damaged = record {
-    slot = 8 * nth + i;
-    below = omega (arith, whole, there, small);
-    in_page = in_page;
-    damaged = λ sound. damaged (subst (IsSoundIn (8 * nth + i)) (sym (slot_there i small)) sound);
-    before = λ k lt fewer. before k (omega (arith, whole, fewer));
-  }
+  first_damaged there before i small damaged = (
+    λ sound.
+        let k : ℕ = 8 * nth + i in
+        let said = sound k (omega (arith, whole, there, small)) in_page in
+        damaged (subst (IsSoundIn k) (sym (slot_there i small)) (sound_of k (slot_of slots bytes k) said.0 said.1)),
+    λ earlier fewer k lt in_earlier. (value_in k (slot_of slots bytes k), said_of k (slot_of slots bytes k) (before k (omega (arith, whole, fewer, in_earlier)))),
+  )
     where
-      in_page : page_of slots (8 * nth + i) ≡ slots / 8 + nth
+      in_page : slot_at slots (8 * nth + i) / 512 ≡ slots / 8 + nth
       in_page = omega (arith, whole, small)
 
 -- the store of a read behind another

@@ -10,8 +10,7 @@ use Rattle.history.specs.Table.{Table}
 use Rattle.history.specs.declared.call.Call.{Call}
 use Rattle.history.specs.declared.call.Call.TheVariants.{Put}
 use Rattle.history.specs.declared.call.Reply.{Reply}
-use Rattle.mars_shell.specs.Live.{Mirrors}
-use Rattle.mars_shell.specs.Session.{puts_of}
+use Rattle.mars_shell.specs.Live.{Mirrors, puts_of}
 use Rattle.mars_shell.proofs.PutLemmas.{get-put_same, get-put_other, puts-put}
 
 module _ (m n : BTreeMap ℕ (List ℕ)) (k : ℕ) (w : Option (List ℕ)) (updates : (q : ℕ) → tree.get nat_cmp n q ≡ cond (eq_by_cmp nat_cmp k q) w (tree.get nat_cmp m q)) where

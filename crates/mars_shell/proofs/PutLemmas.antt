@@ -10,13 +10,15 @@ use Rattle.std.proofs.lemmas.Bool.{cases_eq, eq-eqb, ne_eqb, false≢true}
 use Rattle.std.proofs.lemmas.List.{length-append, take_at, drop_at}
 use Rattle.std.proofs.lemmas.List.Elements.{filter-append}
 use Rattle.std.proofs.lemmas.List.Folds.{list_any-append}
+use Rattle.array_shape.specs.declared.shape.Shape.{Shape}
 use Rattle.history.specs.Table.{Table, after, left_by}
 use Rattle.history.proofs.OneMore.{left_by-push}
 use Rattle.history.specs.declared.call.Call.{Call}
 use Rattle.history.specs.declared.call.Call.TheVariants.{Begin, Get, Put, Commit}
 use Rattle.history.specs.declared.call.Reply.{Reply}
 use Rattle.history.specs.declared.call.Reply.TheVariants.{Fine}
-use Rattle.mars_shell.specs.Session.{Limits, puts_of, has_put, is_key_on, taken_on}
+use Rattle.mars_shell.specs.Live.{puts_of, has_put, is_key_on}
+use Rattle.mars_shell.specs.Session.{taken_on}
 use Rattle.mars_shell.specs.Kept.{AreKeys}
 
 -- a map with one entry more
@@ -103,13 +105,13 @@ pub puts-get : (calls : List (Call × Reply)) (key : ℕ) (reply : Reply) → pu
 puts-get calls key reply = left_by-push empty calls (Get key) reply
 
 -- the keys that are put, one call later
-module _ (limits : Limits) (calls : List (Call × Reply)) (keys : List ℕ) (are : AreKeys limits calls keys) (key : ℕ) where
-  pub keys_get : (reply : Reply) → AreKeys limits (calls ++ (Get key, reply) ∷ []) keys
+module _ (shape : Shape) (calls : List (Call × Reply)) (keys : List ℕ) (are : AreKeys shape calls keys) (key : ℕ) where
+  pub keys_get : (reply : Reply) → AreKeys shape (calls ++ (Get key, reply) ∷ []) keys
   keys_get reply =
       let same = puts-get calls key reply in
       record {
         all = λ q. ap (λ (t : Table). contains_key t q) same ∙ are.all q;
-        once = λ g. ap (λ (t : Table). len (retain_keys t (is_key_on limits g))) same ∙ are.once g;
+        once = λ g. ap (λ (t : Table). len (retain_keys t (is_key_on shape g))) same ∙ are.once g;
       }
 
   module _ (value : List ℕ) where
@@ -119,32 +121,32 @@ module _ (limits : Limits) (calls : List (Call × Reply)) (keys : List ℕ) (are
     has_more : (q : ℕ) → has_put (calls ++ (Put key value, Fine) ∷ []) q ≡ (nat_eq q key || has_put calls q)
     has_more q = ap (λ (t : Table). contains_key t q) more ∙ has-put (puts_of calls) key q value
 
-    count_more : (g : ℕ) → taken_on limits g (calls ++ (Put key value, Fine) ∷ []) ≡ cond (has_put calls key) (taken_on limits g calls) (taken_on limits g calls + cond (is_key_on limits g key) 1 0)
-    count_more g = ap (λ (t : Table). len (retain_keys t (is_key_on limits g))) more ∙ len-put (puts_of calls) (is_key_on limits g) key value
+    count_more : (g : ℕ) → taken_on shape g (calls ++ (Put key value, Fine) ∷ []) ≡ cond (has_put calls key) (taken_on shape g calls) (taken_on shape g calls + cond (is_key_on shape g key) 1 0)
+    count_more g = ap (λ (t : Table). len (retain_keys t (is_key_on shape g))) more ∙ len-put (puts_of calls) (is_key_on shape g) key value
 
-    pub keys_new : has_put calls key ≡ false → AreKeys limits (calls ++ (Put key value, Fine) ∷ []) (keys ++ key ∷ [])
+    pub keys_new : has_put calls key ≡ false → AreKeys shape (calls ++ (Put key value, Fine) ∷ []) (keys ++ key ∷ [])
     keys_new fresh = record {
       all = λ q. has_more q ∙ or_swap (nat_eq q key) (has_put calls q) ∙ ap (λ (b : Bool). b || nat_eq q key) (are.all q)
           ∙ ap (λ (b : Bool). list_any (nat_eq q) keys || b) (sym (or_none (nat_eq q key))) ∙ sym (list_any-append (nat_eq q) keys (key ∷ []));
-      once = λ g. count_more g ∙ ap (λ (b : Bool). cond b (taken_on limits g calls) (taken_on limits g calls + cond (is_key_on limits g key) 1 0)) fresh
-          ∙ (λ i. are.once g i + sym (count_one_more (is_key_on limits g) key) i)
-          ∙ sym (ap length (filter-append (is_key_on limits g) keys (key ∷ [])) ∙ length-append (filter (is_key_on limits g) keys) (filter (is_key_on limits g) (key ∷ [])));
+      once = λ g. count_more g ∙ ap (λ (b : Bool). cond b (taken_on shape g calls) (taken_on shape g calls + cond (is_key_on shape g key) 1 0)) fresh
+          ∙ (λ i. are.once g i + sym (count_one_more (is_key_on shape g) key) i)
+          ∙ sym (ap length (filter-append (is_key_on shape g) keys (key ∷ [])) ∙ length-append (filter (is_key_on shape g) keys) (filter (is_key_on shape g) (key ∷ [])));
     }
 
-    pub keys_old : has_put calls key ≡ true → AreKeys limits (calls ++ (Put key value, Fine) ∷ []) keys
+    pub keys_old : has_put calls key ≡ true → AreKeys shape (calls ++ (Put key value, Fine) ∷ []) keys
     keys_old again = record {
       all = λ q. has_more q ∙ elim (cases_eq q key) as (λ _. (nat_eq q key || has_put calls q) ≡ list_any (nat_eq q) keys) [
         | inl same ↦ ap (λ (b : Bool). b || has_put calls q) (eq-eqb q key same) ∙ sym again ∙ ap (has_put calls) (sym same) ∙ are.all q
         | inr ne ↦ ap (λ (b : Bool). b || has_put calls q) (ne_eqb q key ne) ∙ are.all q
       ];
-      once = λ g. count_more g ∙ ap (λ (b : Bool). cond b (taken_on limits g calls) (taken_on limits g calls + cond (is_key_on limits g key) 1 0)) again ∙ are.once g;
+      once = λ g. count_more g ∙ ap (λ (b : Bool). cond b (taken_on shape g calls) (taken_on shape g calls + cond (is_key_on shape g key) 1 0)) again ∙ are.once g;
     }
 
 -- no call has put nothing
-pub keys_none : (limits : Limits) → AreKeys limits [] []
-keys_none limits = record {
+pub keys_none : (shape : Shape) → AreKeys shape [] []
+keys_none shape = record {
   all = λ q. ap is_some (get-empty nat_cmp q);
-  once = λ g. nothing (is_key_on limits g);
+  once = λ g. nothing (is_key_on shape g);
 }
   where
     nothing : (p : ℕ → Bool) → len (retain_keys (puts_of []) p) ≡ 0
@@ -158,9 +160,9 @@ keys_none limits = record {
         len-none = len-empty nat_cmp (List ℕ)
 
 -- where some key was put, something was
-pub put_some : (limits : Limits) (calls : List (Call × Reply)) (keys : List ℕ) → AreKeys limits calls keys → 0 < length keys → 0 < len (puts_of calls)
-put_some limits calls [] are some = absurd (omega (arith, some))
-put_some limits calls (key ∷ keys) are some = go (len (puts_of calls)) refl
+pub put_some : (shape : Shape) (calls : List (Call × Reply)) (keys : List ℕ) → AreKeys shape calls keys → 0 < length keys → 0 < len (puts_of calls)
+put_some shape calls [] are some = absurd (omega (arith, some))
+put_some shape calls (key ∷ keys) are some = go (len (puts_of calls)) refl
   where
     has : has_put calls key ≡ true
     has = are.all key ∙ ap (λ (b : Bool). b || list_any (nat_eq key) keys) (eq-eqb key key refl)

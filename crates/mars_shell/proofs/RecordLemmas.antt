@@ -10,9 +10,11 @@ use Rattle.counted.proofs.Puts.{length-put}
 use Rattle.pcm_media.proofs.Ranges.{range-put, range_away}
 use Rattle.history.specs.Table.{Table}
 use Rattle.record_slots.specs.Slots.{slot_said}
-use Rattle.record_slots.specs.declared.slot.Slot.TheVariants.{Present}
+use Rattle.record_slots.specs.declared.slot.Slot.{Slot}
+use Rattle.record_slots.specs.declared.slot.Slot.TheVariants.{Absent, Present}
 use Rattle.mars_shell.proofs.PutLemmas.{get-put_same, get-put_other}
-use Rattle.mars_shell.specs.Records.{slot_at, slot_of, value_in, record_at, with_record, records_below, records_of, IsSoundIn, IsSoundSlot, IsSoundData, Holds}
+use Rattle.mars_shell.specs.SlotTable.{value_in, record_at, with_record, records_below, records_of, IsSoundIn, IsSoundSlot, IsSoundData}
+use Rattle.mars_shell.specs.Records.{slot_at, slot_of, Holds, IsRecord}
 
 with_same : (table : Table) (n : ℕ) (found : Option (List ℕ)) → get table n ≡ None → get (with_record table n found) n ≡ found
 with_same table n None none = none
@@ -78,11 +80,47 @@ module _ (slots k : ℕ) (value bytes data_bytes : List ℕ) (lt : k < slots) (l
     | inr ne ↦ subst (IsSoundIn q) (sym (other_slot q below ne)) (sound q below)
   ]
 
+-- what a sound slot says of its key, and back
+pub said_of : (k : ℕ) (slot : Option Slot) → IsSoundIn k slot → IsRecord k slot (value_in k slot)
+said_of k None sound = absurd sound
+said_of k (Some (Absent key)) sound = refl
+said_of k (Some (Present key value)) sound = (sound, ap (λ (b : Bool). cond b (Some value) None) (eq-eqb key k sound))
+
+pub sound_of : (k : ℕ) (slot : Option Slot) (found : Option (List ℕ)) → IsRecord k slot found → IsSoundIn k slot
+sound_of k None found is = absurd is
+sound_of k (Some (Absent key)) found is = tt
+sound_of k (Some (Present key value)) found is = is.0
+
+value_of : (k : ℕ) (slot : Option Slot) (found : Option (List ℕ)) → IsRecord k slot found → value_in k slot ≡ found
+value_of k None found is = absurd is
+value_of k (Some (Absent key)) found is = sym is
+value_of k (Some (Present key value)) found is = ap (λ (b : Bool). cond b (Some value) None) (eq-eqb key k is.0) ∙ sym is.1
+
+module _ (slots : ℕ) (table : Table) (bytes : List ℕ) where
+  -- sound data has the records of its slots
+  pub holds_of : length bytes ≡ 128 * slots → IsSoundData slots bytes → records_of slots bytes ≡ table → Holds slots table bytes
+  holds_of long sound exact =
+      subst (λ (t : Table). Holds slots t bytes) exact
+      (record {
+        long = long;
+        each = λ k below. subst (IsRecord k (slot_of slots bytes k)) (sym (get-records_of slots bytes k below)) (said_of k (slot_of slots bytes k) (sound k below));
+        no_other = get_past slots bytes;
+      })
+
+  -- and no others
+  pub exact_of : Holds slots table bytes → records_of slots bytes ≡ table
+  exact_of holds = same_map nat_cmp_total nat_cmp-IsAntisymmetric _ _ (λ q. elim (cases_lt q slots) [
+    | inl below ↦ get-records_of slots bytes q below ∙ value_of q (slot_of slots bytes q) (get table q) (holds.each q below)
+    | inr past ↦ get_past slots bytes q past ∙ sym (holds.no_other q past)
+  ])
+
+  all_sound : Holds slots table bytes → IsSoundData slots bytes
+  all_sound holds k below = sound_of k (slot_of slots bytes k) (get table k) (holds.each k below)
+
 -- data in which a record is written
 pub holds-put : (slots k : ℕ) (value bytes data_bytes : List ℕ) (table : Table) → k < slots → length bytes ≡ 64 → slot_said bytes ≡ Some (Present k value)
     → Holds slots table data_bytes → Holds slots (insert table k value) (put data_bytes (slot_at slots k) bytes)
-holds-put slots k value bytes data_bytes table lt size says holds = record {
-  long = length-put data_bytes (slot_at slots k) bytes (omega (arith, holds.long, size, lt)) ∙ holds.long;
-  sound = sound-put slots k value bytes data_bytes lt holds.long size says holds.sound;
-  exact = records_of-put slots k value bytes data_bytes lt holds.long size says ∙ ap (λ (t : Table). insert t k value) holds.exact;
-}
+holds-put slots k value bytes data_bytes table lt size says holds =
+    holds_of slots (insert table k value) (put data_bytes (slot_at slots k) bytes) (length-put data_bytes (slot_at slots k) bytes (omega (arith, holds.long, size, lt)) ∙ holds.long)
+    (sound-put slots k value bytes data_bytes lt holds.long size says (all_sound slots table data_bytes holds))
+    (records_of-put slots k value bytes data_bytes lt holds.long size says ∙ ap (λ (t : Table). insert t k value) (exact_of slots table data_bytes holds))

@@ -1,4 +1,5 @@
 -- A run over an array that was opened: its records were looked at, and its lines answered.
+use Rattle.array_image.specs.Decided.{settled_data}
 use Rattle.std.proofs.Common.{◌≡◌, ℕ, ◌+◌, ◌≤◌, inl, inr, ⊎_elim, List, [], length, Option, Some, None, Result, Ok, Bool, false, refl, sym, ap, subst, ◌∙◌, arith}
 use Rattle.std.specs.Prelude.{IsTrue, IfSome, IfNone}
 use Rattle.counted.proofs.Going as going
@@ -15,20 +16,23 @@ use Rattle.eaw_face.specs.StoreView.{StoreView, LeavesOnly}
 use Rattle.eaw_face.specs.Does.{Does}
 use Rattle.eaw_face.specs.declared.fault.EawFault.{EawFault}
 use Rattle.eaw_device.specs.Opens.{header_of, Opens, AllOpen, OpensLike, KeepsData, Attached, IsArray, HoldsArray, IsBehind, opening_calls}
+use Rattle.history.specs.Table.{Table}
 use Rattle.history.specs.Legal.{records}
+use Rattle.history.specs.declared.transaction.Done.{Done}
 use Rattle.script_io.specs.Lines.{lines_of}
 use Rattle.script_run.specs.Transcript.{Answered}
 use Rattle.script_run.specs.declared.ended.Ended.{Ended}
 use Rattle.script_run.specs.declared.ended.Ended.TheVariants.{All}
 use Rattle.mars_shell.specs.Called.{HasPrefixOf}
-use Rattle.mars_shell.specs.Kept.{limits_of, slots_of, state_over}
+use Rattle.mars_shell.specs.SlotTable.{IsSoundData}
+use Rattle.mars_shell.specs.Kept.{state_over}
 use Rattle.mars_shell.specs.Lines.{call_script}
 use Rattle.mars_shell.specs.Outcome.{Idle, IsWithin}
 use Rattle.mars_shell.specs.PrefixLaw.{Recovers}
-use Rattle.mars_shell.specs.Records.{records_of, IsSoundData, IsFirstDamaged, reading}
-use Rattle.mars_shell.specs.Run.{data_in, IsDamaged, Answers}
-use Rattle.mars_shell.specs.Served.{first_state, Served}
-use Rattle.mars_shell.specs.Session.{State, opened}
+use Rattle.mars_shell.specs.Records.{Holds, IsFirstDamaged, reading, slots_of}
+use Rattle.mars_shell.specs.Run.{IsDamaged, Answers}
+use Rattle.mars_shell.specs.Served.{records_held, first_state, Served}
+use Rattle.mars_shell.specs.Session.{State}
 use Rattle.mars_shell.proofs.Acknowledged.{committed_kept}
 use Rattle.mars_shell.proofs.AnsweredLemmas.{Answered-keeps}
 use Rattle.mars_shell.proofs.Unopened.{first_like}
@@ -72,7 +76,6 @@ module _ (tells : Bool) (told : IsTrue tells) (old : View) (only_now : (image : 
 
     pub idle_looked : (Cause : Type 0) (new : View) → IsBehind tells mid new → Cause → Idle (HoldsArray old) Cause old new false []
     idle_looked Cause new behind cause = record {
-      uncut = refl;
       silent = refl;
       keeps = λ shape all image left. looked shape all image (behind.left old.moment image left);
       spared = inr (store.shape, array);
@@ -108,14 +111,24 @@ module _ (tells : Bool) (told : IsTrue tells) (old : View) (only_now : (image : 
 
     module _ (store' : StoreView) (new : View) (behind : IsBehind tells store' new) (counts_now : (t : ℕ) (image : List ℕ) → IsTrue tells → t ≤ new.moment → MayLeave new.content image → new.left_since t image)
         (input : List ℕ) (ended : Ended) (cut : Bool) (text : List ℕ) (served : Served Opens mid input ended cut text store') (alive : ended ≡ All → store'.is_dead ≡ false) where
-      data_is : mid.state.bytes ≡ data_in store.shape old
+      data_is : mid.state.bytes ≡ settled_data store.shape old.content.bytes
       data_is = ap (λ (d : Data). d.bytes) same ∙ attached.bytes told
-
-      first_is : first_state mid ≡ opened (limits_of store.shape) (records_of (slots_of store.shape) (data_in store.shape old))
-      first_is = λ i. opened (limits_of (shape i)) (records_of (slots_of (shape i)) (data_is i))
 
       final_is : served.ran.final ≡ state_over mid.shape (first_state mid).base served.work
       final_is = served.ran.comes.is
+
+      base_is : served.ran.final.base ≡ records_held mid
+      base_is = ap (λ (s : State). s.base) final_is
+
+      -- the records of the array, in the shape that was opened
+      held : Holds (slots_of store.shape) served.ran.final.base (settled_data store.shape old.content.bytes)
+      held =
+          subst (λ (b : List ℕ). Holds (slots_of store.shape) served.ran.final.base b) data_is
+          (subst (λ (s : Shape). Holds (slots_of s) served.ran.final.base mid.state.bytes) shape
+          (subst (λ (t : Table). Holds (slots_of mid.shape) t mid.state.bytes) (sym base_is) served.held))
+
+      first_is : first_state mid ≡ record { shape = store.shape; base = served.ran.final.base; history = []; live = None; doubt = [] }
+      first_is = λ i. record { shape = shape i; base = sym base_is i; history = []; live = None; doubt = [] }
 
       shape_is : store'.shape ≡ store.shape
       shape_is = served.ran.comes.shape ∙ shape
@@ -134,7 +147,7 @@ module _ (tells : Bool) (told : IsTrue tells) (old : View) (only_now : (image : 
       answers = record {
         shape = store.shape;
         array = array;
-        sound = subst (IsSoundData (slots_of store.shape)) (attached.bytes told) sound;
+        base = held;
         answers = served.ran.answers;
         rest = served.ran.rest;
         text_is = served.ran.text_is;
@@ -148,13 +161,12 @@ module _ (tells : Bool) (told : IsTrue tells) (old : View) (only_now : (image : 
               (served.ran.comes.prefix.since.only old.moment image (later all) (behind.left old.moment image left));
         };
         acknowledged = λ n fits has image left. fewer store.shape served.ran.final (length served.ran.final.history) n image
-            (committed_kept (first_state mid) 1 (lines_of input) ended cut served.ran.answers served.ran.rest served.ran.final refl served.ran.answered n fits has) (kept_now image left);
-        left = λ all. record {
-          quiet = subst (λ (s : Shape). HasNoVote s new.content.bytes) shape_is (behind.quiet told (alive all));
-          exact =
-              ap (λ (s : Shape). records_of (slots_of s) (data_of s new.content.bytes)) (sym shape_is) ∙ ap (records_of (slots_of store'.shape)) behind.bytes
-              ∙ (served.ran.stands all).kept.stored.exact ∙ ap (λ (s : State). records served.ran.final.base s.history) (sym (served.ran.stands all).is);
-        };
+            (committed_kept (first_state mid) 1 (lines_of input) ended cut served.ran.answers served.ran.rest served.ran.final served.ran.answered n fits has) (kept_now image left);
+        quiet = λ all. subst (λ (s : Shape). HasNoVote s new.content.bytes) shape_is (behind.quiet told (alive all));
+        left = λ all.
+            subst (λ (b : List ℕ). Holds (slots_of store.shape) (records served.ran.final.base served.ran.final.history) b) (sym (ap (λ (s : Shape). data_of s new.content.bytes) (sym shape_is) ∙ behind.bytes))
+            (subst (λ (h : List Done). Holds (slots_of store.shape) (records served.ran.final.base h) store'.state.bytes) (sym (ap (λ (s : State). s.history) (served.ran.stands all).is))
+            (subst (λ (s : Shape). Holds (slots_of s) (records served.ran.final.base served.work.history) store'.state.bytes) shape_is (served.ran.stands all).kept.stored));
       }
         where
           later : AllOpen store.shape old.content → old.moment ≤ mid.moment

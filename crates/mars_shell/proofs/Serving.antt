@@ -7,10 +7,12 @@ use Rattle.eaw_face.specs.State.{listed, count_on}
 use Rattle.eaw_face.specs.StoreView.{StoreView}
 use Rattle.history.specs.declared.transaction.Done.{Done}
 use Rattle.page_store.specs.Shown.{PagesView}
-use Rattle.mars_shell.specs.Kept.{work_of, slots_of, limits_of, IsReady}
-use Rattle.mars_shell.specs.Records.{Holds, IsSoundData}
+use Rattle.mars_shell.specs.SlotTable.{IsSoundData}
+use Rattle.mars_shell.specs.Kept.{work_of, IsReady}
+use Rattle.mars_shell.specs.Records.{Holds, slots_of}
 use Rattle.mars_shell.specs.Served.{records_held, no_work, first_state}
 use Rattle.mars_shell.specs.Standing.{Stands}
+use Rattle.mars_shell.proofs.RecordLemmas.{holds_of}
 use Rattle.mars_shell.proofs.PutLemmas.{keys_none}
 use Rattle.mars_shell.proofs.StoreLemmas.{logs_nothing}
 
@@ -19,7 +21,7 @@ pub stands_first : (store : StoreView) → store.ranges 0 ≡ None → store.ran
     → IsSoundData (slots_of store.shape) store.state.bytes → Stands store no_work (first_state store)
 stands_first store free outlines long sound =
     let nothing : listed (store.state.logs 0) ≡ [] = logs_nothing (store.ranges 0) (store.state.logs 0) outlines (ap (λ (r : Option (List (ℕ × ℕ))). listed r) free) in
-    let stored : Holds (slots_of store.shape) (records_held store) store.state.bytes = record { long = omega (arith, long); sound = sound; exact = refl } in
+    let stored : Holds (slots_of store.shape) (records_held store) store.state.bytes = holds_of (slots_of store.shape) (records_held store) store.state.bytes (omega (arith, long)) sound refl in
     let none : applied (listed (store.state.logs 0)) store.state.bytes ≡ store.state.bytes = ap (λ (ps : List Part). applied ps store.state.bytes) nothing in
     record {
       is = refl;
@@ -32,7 +34,7 @@ ready_first pages history none alive free unsaved = record {
   alive = alive;
   unsaved = unsaved;
   keys = [];
-  are_keys = keys_none (limits_of pages.store.shape);
+  are_keys = keys_none pages.store.shape;
   logged = ap (λ (r : Option (List (ℕ × ℕ))). listed r) free;
   room = λ g small. omega (arith, ap (λ (r : Option (List (ℕ × ℕ))). count_on pages.store.shape g (listed r)) free);
   certain = refl;

@@ -6,7 +6,8 @@ use Rattle.history.specs.Legal.{records, IsLegal}
 use Rattle.history.specs.declared.call.Call.{Call}
 use Rattle.history.specs.declared.call.Call.TheVariants.{Begin, Get, Put, Commit}
 use Rattle.history.specs.declared.call.Reply.{Reply}
-use Rattle.mars_shell.specs.Session.{State, StepAt, Step, BreaksAt, Breaks, done_with}
+use Rattle.mars_shell.specs.Called.{Step, Breaks}
+use Rattle.mars_shell.specs.Session.{State, StepAt, BreaksAt, done_with}
 use Rattle.history.proofs.OneMore.{IsRight-push, IsLegal-push}
 
 -- the history is legal on the base, and the calls granted so far are right on its records
@@ -22,7 +23,7 @@ keeps None old (Put key value) reply new is step sound = subst IsSound (sym step
 keeps None old Commit reply new is step sound = subst IsSound (sym step.1) sound
 keeps (Some calls) old Begin reply new is step sound = subst IsSound (sym step.1) sound
 keeps (Some calls) old (Get key) reply new is step sound =
-    subst IsSound (sym step.1) (record { legal = sound.legal; right = IsRight-push _ calls _ _ (rw is at sound.right) (rw is at step.0) })
+    subst IsSound (sym step.1) (record { legal = sound.legal; right = IsRight-push _ calls _ _ (rw is at sound.right) step.0 })
 keeps (Some calls) old (Put key value) reply new is (inl step) sound =
     subst IsSound (sym step.1.1) (record { legal = sound.legal; right = IsRight-push _ calls _ _ (rw is at sound.right) step.1.0 })
 keeps (Some calls) old (Put key value) reply new is (inr step) sound = subst IsSound (sym step.2) sound

@@ -25,12 +25,14 @@ use Rattle.history.specs.declared.call.Call.TheVariants.{Get, Put, Commit}
 use Rattle.history.specs.declared.call.Reply.{Reply}
 use Rattle.history.specs.declared.call.Reply.TheVariants.{Fine, LogFull, Committed}
 use Rattle.history.specs.declared.transaction.Done.{Done}
-use Rattle.mars_shell.specs.Records.{slot_at, records_of, Holds}
-use Rattle.mars_shell.specs.Session.{Step, has_put, taken_on, HasEntry, done_with}
-use Rattle.mars_shell.specs.Kept.{Work, work_of, state_over, slots_of, limits_of, calls_of, slot_range, AreKeys, IsReady, IsKept}
-use Rattle.mars_shell.specs.Called.{Steps}
+use Rattle.mars_shell.specs.Live.{has_put}
+use Rattle.mars_shell.specs.SlotTable.{records_of}
+use Rattle.mars_shell.specs.Records.{slot_at, Holds, slots_of}
+use Rattle.mars_shell.specs.Session.{taken_on, HasEntry, done_with}
+use Rattle.mars_shell.specs.Kept.{Work, work_of, state_over, calls_of, slot_range, AreKeys, IsReady, IsKept}
+use Rattle.mars_shell.specs.Called.{Steps, Step}
 use Rattle.mars_shell.proofs.PutLemmas.{keys_get, keys_new, keys_old, keys_none}
-use Rattle.mars_shell.proofs.RecordLemmas.{holds-put}
+use Rattle.mars_shell.proofs.RecordLemmas.{holds-put, exact_of}
 use Rattle.mars_shell.proofs.StoreLemmas.{edits_none, edits_some, floor_none, count_keys, count_one, count_none, count_both}
 
 -- a store that shows the same of data, logs and shape
@@ -46,14 +48,14 @@ kept_same base old new work shape state kept = record {
 
 -- readiness with these keys, at ranges that are theirs
 ready_with : (old new : PagesView) (work next : Work) (keys : List ℕ) → new.store.shape ≡ old.store.shape → new.store.is_dead ≡ false → (new.counts 0 ≡ []) × (new.top 0 ≡ None)
-    → listed (new.store.ranges 0) ≡ map (slot_range (slots_of old.store.shape)) keys → AreKeys (limits_of old.store.shape) (calls_of next.live) keys
+    → listed (new.store.ranges 0) ≡ map (slot_range (slots_of old.store.shape)) keys → AreKeys old.store.shape (calls_of next.live) keys
     → ((g : ℕ) → g < old.store.shape.loggers → count_on old.store.shape g (map (slot_range (slots_of old.store.shape)) keys) ≤ old.store.shape.entries)
     → next.doubt ≡ work.doubt → IsReady old work → IsReady new next
 ready_with old new work next keys shape alive unsaved ranges are room doubt ready = record {
   alive = alive;
   unsaved = unsaved;
   keys = keys;
-  are_keys = subst (λ (s : Shape). AreKeys (limits_of s) (calls_of next.live) keys) (sym shape) are;
+  are_keys = subst (λ (s : Shape). AreKeys s (calls_of next.live) keys) (sym shape) are;
   logged = ranges ∙ (λ i. map (slot_range (slots_of (sym shape i))) keys);
   room = λ g small.
       let as_many : count_on new.store.shape g (listed (new.store.ranges 0)) ≡ count_on old.store.shape g (map (slot_range (slots_of old.store.shape)) keys) = λ i. count_on (shape i) g (ranges i) in
@@ -68,7 +70,7 @@ module _ (tells : Bool) (old new : PagesView) (calls : List (Call × Reply)) (ke
       ready_with old new (work_of history (Some calls) doubt) (work_of history (Some (calls ++ (Get key, reply) ∷ [])) doubt) ready.keys shape became.alive
       (ap (λ (o : Outline). o.counts 0) became.outline ∙ ready.unsaved.0, ap (λ (o : Outline). o.top 0) became.outline ∙ ready.unsaved.1)
       (ap (λ (o : Outline). listed (o.ranges 0)) became.outline ∙ ready.logged)
-      (keys_get (limits_of old.store.shape) calls ready.keys ready.are_keys key reply)
+      (keys_get old.store.shape calls ready.keys ready.are_keys key reply)
       (λ g small. omega (arith, ready.room g small, ap (count_on old.store.shape g) ready.logged))
       refl ready
 
@@ -80,7 +82,7 @@ module _ (tells : Bool) (old new : PagesView) (calls : List (Call × Reply)) (ke
       let same : new.store.state ≡ old.store.state = ap (λ (s : PagesState). s.store) (became.state told) in
       let next = kept_same base old.store new.store (work_of history (Some calls) doubt) shape same kept in
       record {
-        step = (replied ∙ ap found (is ∙ ap (λ (t : Table). get (left_by t calls) key) kept.stored.exact), refl);
+        step = (replied ∙ ap found (is ∙ ap (λ (t : Table). get (left_by t calls) key) (exact_of (slots_of old.store.shape) (records base history) old.store.state.bytes kept.stored)), refl);
         kept = record {
           stored = next.stored;
           seen = subst (λ (t : Table). Holds (slots_of new.store.shape) t (applied (listed (new.store.state.logs 0)) new.store.state.bytes)) (sym (left_by-push (records base history) calls (Get key) reply)) next.seen;
@@ -118,7 +120,7 @@ module _ (tells : Bool) (old new : PagesView) (calls : List (Call × Reply)) (ke
   needs_none g other = count_none old.store.shape g at (length bytes) other
 
   -- the entries that are taken
-  taken_is : (g : ℕ) → count_on old.store.shape g (listed (old.store.ranges 0)) ≡ taken_on (limits_of old.store.shape) g calls
+  taken_is : (g : ℕ) → count_on old.store.shape g (listed (old.store.ranges 0)) ≡ taken_on old.store.shape g calls
   taken_is g = ap (count_on old.store.shape g) ready.logged ∙ count_keys old.store.shape g ready.keys ∙ sym (ready.are_keys.once g)
 
   -- a part is edited where the key was put before, and not where it was not
@@ -139,7 +141,7 @@ module _ (tells : Bool) (old new : PagesView) (calls : List (Call × Reply)) (ke
       go false fresh = refl
 
   -- there is an entry, or none is needed
-  pub put_fits : HasRoom old (write_as 0 at bytes) → HasEntry (limits_of old.store.shape) calls key
+  pub put_fits : HasRoom old (write_as 0 at bytes) → HasEntry old.store.shape calls key
   put_fits has_room fresh = omega (arith, has_room (none_where_new fresh) own has_logger, needs_one, taken_is own)
 
   -- a put that was written
@@ -156,7 +158,7 @@ module _ (tells : Bool) (old new : PagesView) (calls : List (Call × Reply)) (ke
       go true again =
           ready_with old new (work_of history (Some calls) doubt) next ready.keys shape became.alive (unsaved_now became)
           (ranges_now became ∙ ap (λ (b : Bool). cond b (listed (old.store.ranges 0)) (listed (old.store.ranges 0) ++ needed)) (some_where_old again) ∙ ready.logged)
-          (keys_old (limits_of old.store.shape) calls ready.keys ready.are_keys key value again)
+          (keys_old old.store.shape calls ready.keys ready.are_keys key value again)
           (λ g small. omega (arith, ready.room g small, ap (count_on old.store.shape g) ready.logged))
           refl ready
       go false fresh =
@@ -165,7 +167,7 @@ module _ (tells : Bool) (old new : PagesView) (calls : List (Call × Reply)) (ke
           (λ i. ready.logged i ++ (at, size i) ∷ []) ∙ sym (map-append (slot_range slots) ready.keys (key ∷ [])) in
           ready_with old new (work_of history (Some calls) doubt) next (ready.keys ++ key ∷ []) shape became.alive (unsaved_now became)
           (ranges_now became ∙ ap (λ (o : Option ℕ). cond (is_some o) (listed (old.store.ranges 0)) (listed (old.store.ranges 0) ++ needed)) none ∙ more)
-          (keys_new (limits_of old.store.shape) calls ready.keys ready.are_keys key value fresh)
+          (keys_new old.store.shape calls ready.keys ready.are_keys key value fresh)
           (λ g small. omega (arith, has_room none g small, count_both old.store.shape g (listed (old.store.ranges 0)) needed, ap (count_on old.store.shape g) more))
           refl ready
 
@@ -199,9 +201,9 @@ module _ (tells : Bool) (old new : PagesView) (calls : List (Call × Reply)) (ke
       ] in
       let needed_is : more ≡ 1 = full.needed_is ∙ ap (λ (h : ℕ). count_on old.store.shape h needed) (sym first) ∙ needs_one in
       let held_is : held ≡ old.store.shape.entries = omega (arith, full.full, full.held_is, needed_is, ready.room g full.logger) in
-      let taken : taken_on (limits_of old.store.shape) own calls ≡ old.store.shape.entries =
+      let taken : taken_on old.store.shape own calls ≡ old.store.shape.entries =
       sym (taken_is own) ∙ ap (λ (h : ℕ). count_on old.store.shape h (listed (old.store.ranges 0))) first ∙ sym full.held_is ∙ held_is in
-      inr ((new_where_none is.0, taken), (λ i. LogFull (sym first i) (held_is i) (needed_is i)), refl)
+      inr ((λ has. omega (arith, has (new_where_none is.0), taken)), (λ i. LogFull (sym first i) (held_is i) (needed_is i)), refl)
 
 -- a commit
 module _ (tells : Bool) (old new : PagesView) (history pushed : List Done) (calls : List (Call × Reply)) (doubt : Option Done) (shape : new.store.shape ≡ old.store.shape) (became : Becomes tells (end 0 true) old new) where
@@ -226,4 +228,4 @@ module _ (tells : Bool) (old new : PagesView) (history pushed : List Done) (call
   commit_ready ready =
       ready_with old new (work_of history (Some calls) doubt) (work_of pushed None doubt) [] shape became.alive
       (ap (λ (o : Outline). o.counts 0) became.outline, ap (λ (o : Outline). o.top 0) became.outline ∙ ready.unsaved.1)
-      (ap (λ (o : Outline). listed (o.ranges 0)) became.outline) (keys_none (limits_of old.store.shape)) (λ g small. omega arith) refl ready
+      (ap (λ (o : Outline). listed (o.ranges 0)) became.outline) (keys_none old.store.shape) (λ g small. omega arith) refl ready

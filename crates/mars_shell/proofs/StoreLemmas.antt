@@ -13,9 +13,9 @@ use Rattle.eaw_face.specs.State.{listed, is_range_on, count_on}
 use Rattle.page_store.specs.Edit.{edit_pos, meet, meets_none, is_same}
 use Rattle.page_store.specs.Outline.{count_at, floor_in}
 use Rattle.page_store.specs.Shown.{PagesView, outline_of}
-use Rattle.mars_shell.specs.Records.{slot_at}
-use Rattle.mars_shell.specs.Session.{is_key_on}
-use Rattle.mars_shell.specs.Kept.{slots_of, limits_of, slot_range}
+use Rattle.mars_shell.specs.Records.{slot_at, slots_of}
+use Rattle.mars_shell.specs.Live.{is_key_on}
+use Rattle.mars_shell.specs.Kept.{slot_range}
 
 either_false : (a b : Bool) → (a || b) ≡ false → (a ≡ false) × (b ≡ false)
 either_false true b is = absurd (false≢true (sym is))
@@ -89,11 +89,11 @@ one_more : {A B : Type 0} (b : Bool) (x : A) (xs : List A) (y : B) (ys : List B)
 one_more true x xs y ys same = omega (arith, same)
 one_more false x xs y ys same = same
 
-pub count_keys : (shape : Shape) (g : ℕ) (keys : List ℕ) → count_on shape g (map (slot_range (slots_of shape)) keys) ≡ length (filter (is_key_on (limits_of shape) g) keys)
+pub count_keys : (shape : Shape) (g : ℕ) (keys : List ℕ) → count_on shape g (map (slot_range (slots_of shape)) keys) ≡ length (filter (is_key_on shape g) keys)
 count_keys shape g [] = refl
 count_keys shape g (key ∷ keys) =
     one_more (nat_eq (logger_of shape (slot_at (slots_of shape) key)) g) (slot_range (slots_of shape) key) (filter (is_range_on shape g) (map (slot_range (slots_of shape)) keys))
-    key (filter (is_key_on (limits_of shape) g) keys) (count_keys shape g keys)
+    key (filter (is_key_on shape g) keys) (count_keys shape g keys)
 
 pub count_one : (shape : Shape) (g addr len : ℕ) → logger_of shape addr ≡ g → count_on shape g ((addr, len) ∷ []) ≡ 1
 count_one shape g addr len is = ap (λ (b : Bool). length {A = ℕ × ℕ} (cond b ((addr, len) ∷ []) [])) (eq-eqb (logger_of shape addr) g is)

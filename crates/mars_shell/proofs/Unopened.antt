@@ -25,12 +25,11 @@ module _ (tells : Bool) (told : IsTrue tells) (old : View) (only_now : (image : 
 
   -- a media that nothing was done to
   pub idle_same : (MayWrite Cause : Type 0) → Cause → Idle MayWrite Cause old old false []
-  idle_same MayWrite Cause cause = record { uncut = refl; silent = refl; keeps = first_like; spared = inl (touched_by_nothing [] old.content); cause = cause }
+  idle_same MayWrite Cause cause = record { silent = refl; keeps = first_like; spared = inl (touched_by_nothing [] old.content); cause = cause }
 
   -- one that was not opened
   idle_kept : (MayWrite Cause : Type 0) (new : View) → KeepsData tells old new.moment new.left_since → Touched [] old.content new.content ⊎ MayWrite → Cause → Idle MayWrite Cause old new false []
   idle_kept MayWrite Cause new keeps spared cause = record {
-    uncut = refl;
     silent = refl;
     keeps = λ shape all image left. ⊎_elim (first_like shape all image) (λ like. like) ((keeps told shape all).only old.moment image (omega arith) left);
     spared = spared;
@@ -54,7 +53,7 @@ unopened_as Works Broken looks old TooLong new kind outcome = outcome
 unopened_as Works Broken looks old ReadFault new kind outcome = outcome
 unopened_as Works Broken looks old WriteFault new kind outcome = absurd kind
 unopened_as Works Broken looks old MediaFault new kind (inl fails) =
-    inl (record { uncut = fails.uncut; silent = fails.silent; keeps = fails.keeps; spared = fails.spared; cause = λ shape says quiet. omega (arith, fails.cause shape says quiet) })
+    inl (record { silent = fails.silent; keeps = fails.keeps; spared = fails.spared; cause = λ shape says quiet. omega (arith, fails.cause shape says quiet) })
 unopened_as Works Broken looks old MediaFault new kind (inr none) = absurd none
 unopened_as Works Broken looks old NoMemory new kind (inl short) = inl short
 unopened_as Works Broken looks old NoMemory new kind (inr none) = absurd none

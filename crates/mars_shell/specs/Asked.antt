@@ -1,4 +1,5 @@
 -- What the words of the command line ask for, and what comes of it.
+use Rattle.array_image.specs.Decided.{settled_data}
 use Rattle.std.specs.Prelude.{ℕ, ◌≡◌, ◌/◌, ◌≤◌, ◌⊎◌, List, length, Bool, IsTrue}
 use Rattle.pcm_media.specs.View.{View}
 use Rattle.array_shape.specs.declared.shape.Shape.{Shape}
@@ -8,13 +9,13 @@ use Rattle.command_words.specs.declared.words.FormatNumbers.{FormatNumbers}
 use Rattle.command_words.specs.declared.words.Words.{Words}
 use Rattle.command_words.specs.declared.words.Words.TheVariants.{Run, Eaw, Format}
 use Rattle.eaw_device.specs.Opens.{IsArray}
+use Rattle.history.specs.Table.{Table}
 use Rattle.script_io.specs.Input.{input_limit}
 use Rattle.mars_shell.specs.Commands.{Obeys}
 use Rattle.mars_shell.specs.Formats.{GiveLength, FormatOutcome}
-use Rattle.mars_shell.specs.Kept.{slots_of}
 use Rattle.mars_shell.specs.Outcome.{OutcomeOf}
-use Rattle.mars_shell.specs.Records.{IsSoundData}
-use Rattle.mars_shell.specs.Run.{Answers, IsDamaged, data_in}
+use Rattle.mars_shell.specs.Records.{Holds, slots_of}
+use Rattle.mars_shell.specs.Run.{Answers, IsDamaged}
 use Rattle.mars_shell.specs.declared.status.Status.{Status}
 use Rattle.mars_shell.specs.declared.status.Status.TheVariants.{Usage, NoMemory}
 
@@ -43,4 +44,4 @@ OutcomeFor (Format numbers) old status new input cut text = FormatOutcome number
 abbrev pub IsFit : Words → Bool → List ℕ → Bool → View → Type 0
 IsFit (Format numbers) source_tells input media_tells media = GiveLength numbers media.size
 IsFit asked source_tells input media_tells media = IsTrue source_tells × (length input ≤ input_limit) × IsTrue media_tells
-    × ((shape : Shape) × IsArray shape media × (asked ≡ Run → IsSoundData (slots_of shape) (data_in shape media)))
+    × ((shape : Shape) × IsArray shape media × (asked ≡ Run → (t : Table) × Holds (slots_of shape) t (settled_data shape media.content.bytes)))

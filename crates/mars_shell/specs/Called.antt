@@ -7,11 +7,19 @@ use Rattle.page_store.specs.Shown.{PagesView}
 use Rattle.history.specs.Table.{Table}
 use Rattle.history.specs.declared.call.Call.{Call}
 use Rattle.history.specs.declared.call.Reply.{Reply}
-use Rattle.mars_shell.specs.Session.{Step, Breaks}
-use Rattle.mars_shell.specs.Kept.{Work, IsReady, IsKept, slots_of, state_over}
-use Rattle.mars_shell.specs.Prefix.{HasPrefix, with_doubt}
+use Rattle.mars_shell.specs.Session.{State, StepAt, BreaksAt}
+use Rattle.mars_shell.specs.Records.{slots_of}
+use Rattle.mars_shell.specs.Kept.{Work, IsReady, IsKept, state_over, with_doubt}
+use Rattle.mars_shell.specs.Prefix.{HasPrefix}
 use Rattle.mars_shell.specs.declared.session.Fault.{Fault}
 use Rattle.mars_shell.specs.declared.session.Fault.TheVariants.{Media, NoMemory}
+
+-- a call gets this reply and leaves this state; and the media failed in it, and leaves this
+abbrev pub Step : State → Call → Reply → State → Type 0
+Step old call reply new = StepAt old.live old call reply new
+
+abbrev pub Breaks : State → Call → State → Type 0
+Breaks old call new = BreaksAt old.live old call new
 
 -- how an image opens that a loss of power leaves of a session over these records: with those of the first transactions, of at
 -- least so many

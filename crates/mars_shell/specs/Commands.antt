@@ -1,5 +1,6 @@
 -- What a run of raw commands does on a media that tells its bytes.
-use Rattle.std.specs.Prelude.{ℕ, ◌≡◌, ◌⊎◌, List, [], ◌++◌, Bool, None}
+use Rattle.array_image.specs.Decided.{settled_data}
+use Rattle.std.specs.Prelude.{ℕ, ◌≡◌, ◌⊎◌, List, [], ◌++◌, Bool, None, Contains}
 use Rattle.std.specs.List.{concat}
 use Rattle.pcm_media.specs.Images.{MayLeave}
 use Rattle.pcm_media.specs.View.{View}
@@ -8,12 +9,11 @@ use Rattle.array_image.specs.Image.{data_of}
 use Rattle.device_recovery.specs.Recovered.{HasNoVote}
 use Rattle.eaw_device.specs.Opens.{Opens, AllOpen, OpensLike, IsArray}
 use Rattle.eaw_script.specs.Lines.{raw_script}
-use Rattle.eaw_script.specs.Progress.{Progress, MayStand, IsMade}
+use Rattle.eaw_script.specs.Progress.{Progress, MayStand}
 use Rattle.script_io.specs.Lines.{lines_of}
 use Rattle.script_run.specs.Transcript.{Answered}
 use Rattle.script_run.specs.declared.ended.Ended.{Ended}
 use Rattle.script_run.specs.declared.ended.Ended.TheVariants.{All}
-use Rattle.mars_shell.specs.Run.{data_in}
 
 -- The lines of the input were answered by the model, from the data of the array on, where no number holds a log. What a loss of
 -- power may leave at the end opens with data that may stand there; what it might have left since the start opens with data that the
@@ -25,10 +25,11 @@ pub record Obeys (old : View) (input : List ℕ) (ended : Ended) (new : View) (c
   pub rest : List ℕ
   pub text_is : text ≡ concat answers ++ rest
   pub final : Progress
-  pub answered : Answered raw_script (record { shape = shape; state = record { bytes = data_in shape old; logs = λ t. None }; past = []; doubt = None })
+  pub answered : Answered raw_script
+      (record { shape = shape; state = record { bytes = settled_data shape old.content.bytes; logs = λ t. None }; past = []; doubt = None })
       1 (lines_of input) ended cut answers rest final
   pub now : (image : List ℕ) → MayLeave new.content image → (bytes : List ℕ) × Opens shape image bytes × MayStand final bytes
   pub since : AllOpen shape old.content → (image : List ℕ) → new.left_since old.moment image
-      → OpensLike shape old.content image ⊎ ((bytes : List ℕ) × Opens shape image bytes × IsMade final bytes)
+      → OpensLike shape old.content image ⊎ ((bytes : List ℕ) × Opens shape image bytes × (MayStand final bytes ⊎ Contains final.past bytes))
   pub quiet : ended ≡ All → HasNoVote shape new.content.bytes
   pub left : ended ≡ All → data_of shape new.content.bytes ≡ final.state.bytes

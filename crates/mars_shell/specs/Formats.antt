@@ -60,13 +60,13 @@ pub record IsBegun (asked : FormatNumbers) (old new : View) : Type 0 where
   pub cells : SameCells shape old.content.bytes new.content.bytes
   pub since : (image : List ℕ) → new.left_since old.moment image → IsHalfFresh shape old.content image
 
--- The media holds a fresh array, and what a loss of power leaves opens with its data. The line of it is written, or a front of
--- that where it was cut short.
+-- The media holds a fresh array, and what a loss of power leaves opens with its data. The bytes of the media and of the data are
+-- told, or a front of that line where it was cut short.
 pub record IsFormatted (asked : FormatNumbers) (old new : View) (cut : Bool) (text : List ℕ) : Type 0 where
   pub begun : IsBegun asked old new
   pub fresh : IsFresh begun.shape new.content
   pub opens : (image : List ℕ) → MayLeave new.content image → Opens begun.shape image (data_of begun.shape new.content.bytes)
-  pub wrote : IsWritten cut text (formatted_line begun.shape)
+  pub wrote : IsWritten cut text (codes "formatted " ++ (decimal (media_len begun.shape) ++ 32 ∷ (decimal (data_len begun.shape) ++ 10 ∷ [])))
 
 -- what was written and done, by the status
 abbrev pub FormatOutcome : FormatNumbers → View → Status → View → Bool → List ℕ → Type 0

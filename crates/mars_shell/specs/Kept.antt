@@ -1,8 +1,7 @@
 -- What a session over a store keeps true.
-use Rattle.std.specs.Prelude.{ℕ, ◌*◌, ◌≡◌, ◌<◌, ◌≤◌, false, nat_eq, List, [], length, map, filter, Option, None, unwrap_or}
+use Rattle.std.specs.Prelude.{ℕ, ◌≡◌, ◌<◌, ◌≤◌, false, nat_eq, List, [], length, map, filter, Option, None, unwrap_or, ◌∷◌, ◌++◌, Some}
 use Rattle.std.specs.List.{list_any}
 use Rattle.array_shape.specs.declared.shape.Shape.{Shape}
-use Rattle.array_shape.specs.Places.{page_count}
 use Rattle.array_shape.specs.Logged.{applied}
 use Rattle.eaw_face.specs.State.{listed, count_on}
 use Rattle.eaw_face.specs.StoreView.{StoreView}
@@ -13,16 +12,10 @@ use Rattle.history.specs.declared.call.Call.TheVariants.{Begin, Get, Put, Commit
 use Rattle.history.specs.declared.call.Reply.{Reply}
 use Rattle.history.specs.declared.transaction.Done.{Done}
 use Rattle.page_store.specs.Shown.{PagesView}
-use Rattle.mars_shell.specs.Session.{Limits, State, has_put, is_key_on, taken_on}
-use Rattle.mars_shell.specs.Records.{slot_at, Holds}
+use Rattle.mars_shell.specs.Live.{has_put, is_key_on}
+use Rattle.mars_shell.specs.Session.{State, taken_on}
+use Rattle.mars_shell.specs.Records.{slots_of, slot_at, Holds}
 use Rattle.mars_shell.specs.declared.session.Session.{Session}
-
--- each record page has 8 slots, and half of the pages are record pages
-abbrev pub slots_of : Shape → ℕ
-slots_of shape = 4 * page_count shape
-
-abbrev pub limits_of : Shape → Limits
-limits_of shape = record { callers = 1; keys = slots_of shape; loggers = shape.loggers; entries = shape.entries }
 
 -- the calls of a running transaction, or of none
 abbrev pub calls_of : Option (List (Call × Reply)) → List (Call × Reply)
@@ -40,9 +33,18 @@ work_of history live doubt = record { history = history; live = live; doubt = do
 abbrev pub work_in : {S : Type 0} → Session S → Work
 work_in session = work_of session.history session.live session.doubt
 
+-- the transaction in doubt, if there is one
+abbrev pub in_doubt : Option Done → List Done
+in_doubt None = []
+in_doubt (Some done) = done ∷ []
+
+-- the committed transactions, and the one in doubt as a last one
+abbrev pub with_doubt : List Done → Option Done → List Done
+with_doubt history doubt = history ++ in_doubt doubt
+
 -- the same over the records at the opening of an array of this shape
 abbrev pub state_over : Shape → Table → Work → State
-state_over shape base work = record { limits = limits_of shape; base = base; history = work.history; live = work.live; doubt = work.doubt }
+state_over shape base work = record { shape = shape; base = base; history = work.history; live = work.live; doubt = in_doubt work.doubt }
 
 -- the key of a call is one of the array's
 abbrev pub FitsCall : ℕ → Call → Type 0
@@ -52,9 +54,9 @@ FitsCall slots (Put key value) = key < slots
 FitsCall slots Commit = Unit {0}
 
 -- These are the keys that calls have put, each once.
-pub record AreKeys (limits : Limits) (calls : List (Call × Reply)) (keys : List ℕ) : Type 0 where
+pub record AreKeys (shape : Shape) (calls : List (Call × Reply)) (keys : List ℕ) : Type 0 where
   pub all : (key : ℕ) → has_put calls key ≡ list_any (nat_eq key) keys
-  pub once : (g : ℕ) → taken_on limits g calls ≡ length (filter (is_key_on limits g) keys)
+  pub once : (g : ℕ) → taken_on shape g calls ≡ length (filter (is_key_on shape g) keys)
 
 -- the range of the slot of a key
 abbrev pub slot_range : ℕ → ℕ → ℕ × ℕ
@@ -66,7 +68,7 @@ pub record IsReady (pages : PagesView) (work : Work) : Type 0 where
   pub alive : pages.store.is_dead ≡ false
   pub unsaved : (pages.counts 0 ≡ []) × (pages.top 0 ≡ None)
   pub keys : List ℕ
-  pub are_keys : AreKeys (limits_of pages.store.shape) (calls_of work.live) keys
+  pub are_keys : AreKeys pages.store.shape (calls_of work.live) keys
   pub logged : listed (pages.store.ranges 0) ≡ map (slot_range (slots_of pages.store.shape)) keys
   pub room : (g : ℕ) → g < pages.store.shape.loggers → count_on pages.store.shape g (listed (pages.store.ranges 0)) ≤ pages.store.shape.entries
   pub certain : work.doubt ≡ None

@@ -1,4 +1,5 @@
 pub mod Records
+pub mod SlotTable
 pub mod Session
 pub mod Live
 pub mod Lines

@@ -7,16 +7,16 @@ use Rattle.array_shape.specs.Places.{media_len}
 use Rattle.row_bytes.specs.Header.{HasMark, SaysShape, IsBadIn}
 use Rattle.device_recovery.specs.Recovered.{HasNoVote}
 use Rattle.eaw_device.specs.Opens.{header_of, AllOpen, OpensLike, HasBadRow, HoldsArray, opening_calls}
+use Rattle.script_io.specs.Written.{IsWritten}
 use Rattle.script_run.specs.declared.ended.Ended.{Ended}
 use Rattle.script_run.specs.declared.ended.Ended.TheVariants as script
 use Rattle.mars_shell.specs.declared.status.Status.{Status}
 use Rattle.mars_shell.specs.declared.status.Status.TheVariants.{Good, WriteFault, MediaFault, NoMemory, Damaged, BadRow, NotMars, BadShape}
 
--- No line was answered, for this cause, and nothing was told. Where all that a loss of power could leave at first opens, all that it
+-- No line was answered, for this cause, and what was written is the whole of nothing. Where all that a loss of power could leave at first opens, all that it
 -- might have left since opens with data of the former. Nothing was written to the media, if that is not as may be.
 pub record Idle (MayWrite Cause : Type 0) (old new : View) (cut : Bool) (text : List ℕ) : Type 0 where
-  pub uncut : cut ≡ false
-  pub silent : text ≡ []
+  pub silent : IsWritten cut text []
   pub keeps : (shape : Shape) → AllOpen shape old.content → (image : List ℕ) → new.left_since old.moment image → OpensLike shape old.content image
   pub spared : Touched [] old.content new.content ⊎ MayWrite
   pub cause : Cause

@@ -1,14 +1,9 @@
 -- What a loss of power leaves of a history.
-use Rattle.std.specs.Prelude.{ℕ, ◌≤◌, List, [], ◌∷◌, ◌++◌, length, take, Option, Some, None}
+use Rattle.std.specs.Prelude.{ℕ, ◌≤◌, List, length, take}
 use Rattle.history.specs.Table.{Table}
 use Rattle.history.specs.Legal.{records}
 use Rattle.history.specs.declared.transaction.Done.{Done}
 use Rattle.mars_shell.specs.Records.{Holds}
-
--- the committed transactions, and the one in doubt as a last one
-abbrev pub with_doubt : List Done → Option Done → List Done
-with_doubt history None = history
-with_doubt history (Some done) = history ++ done ∷ []
 
 -- The image opens with data that is sound, and has the records of the first transactions of a history: of at least so many.
 pub record HasPrefix (Opens : List ℕ → List ℕ → Type 0) (slots : ℕ) (base : Table) (history : List Done) (least : ℕ) (image : List ℕ) : Type 0 where

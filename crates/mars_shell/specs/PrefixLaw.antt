@@ -1,20 +1,16 @@
 -- What a loss of power leaves of a run, in transactions.
-use Rattle.std.specs.Prelude.{ℕ, ◌≡◌, ◌⊎◌, List, length}
+use Rattle.std.specs.Prelude.{ℕ, ◌⊎◌, List, ◌++◌, length}
 use Rattle.pcm_media.specs.Images.{MayLeave}
 use Rattle.pcm_media.specs.View.{View}
 use Rattle.array_shape.specs.declared.shape.Shape.{Shape}
-use Rattle.array_image.specs.Image.{data_of}
-use Rattle.device_recovery.specs.Recovered.{HasNoVote}
 use Rattle.eaw_device.specs.Opens.{Opens, AllOpen, OpensLike}
-use Rattle.history.specs.Legal.{records}
-use Rattle.mars_shell.specs.Kept.{slots_of}
-use Rattle.mars_shell.specs.Prefix.{HasPrefix, with_doubt}
-use Rattle.mars_shell.specs.Records.{records_of}
+use Rattle.mars_shell.specs.Records.{slots_of}
+use Rattle.mars_shell.specs.Prefix.{HasPrefix}
 use Rattle.mars_shell.specs.Session.{State}
 
 -- an image that opens with the records of the first transactions, of at least so many
 abbrev pub Recovers : Shape → State → ℕ → List ℕ → Type 0
-Recovers shape final least image = HasPrefix (Opens shape) (slots_of shape) final.base (with_doubt final.history final.doubt) least image
+Recovers shape final least image = HasPrefix (Opens shape) (slots_of shape) final.base (final.history ++ final.doubt) least image
 
 -- The prefix law. An image that a loss of power may leave at the end opens with the records of all committed transactions, and
 -- the one in doubt may be there or not. One that might have been left at some moment of the run opens with the records of the
@@ -22,8 +18,3 @@ Recovers shape final least image = HasPrefix (Opens shape) (slots_of shape) fina
 pub record PrefixLaw (shape : Shape) (old : View) (final : State) (new : View) : Type 0 where
   pub now : (image : List ℕ) → MayLeave new.content image → Recovers shape final (length final.history) image
   pub since : AllOpen shape old.content → (image : List ℕ) → new.left_since old.moment image → OpensLike shape old.content image ⊎ Recovers shape final 0 image
-
--- no row is voted, and the data has exactly the records of the history
-pub record IsLeft (shape : Shape) (media : View) (final : State) : Type 0 where
-  pub quiet : HasNoVote shape media.content.bytes
-  pub exact : records_of (slots_of shape) (data_of shape media.content.bytes) ≡ records final.base final.history

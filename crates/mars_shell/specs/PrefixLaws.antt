@@ -8,20 +8,18 @@ use Rattle.eaw_face.specs.Does.{IsEither}
 use Rattle.history.specs.Table.{Table}
 use Rattle.history.specs.Legal.{records}
 use Rattle.history.specs.declared.transaction.Done.{Done}
-use Rattle.mars_shell.specs.Records.{Holds}
-use Rattle.mars_shell.specs.Prefix.{HasPrefix, with_doubt}
-use Rattle.mars_shell.specs.Kept.{Work, work_of, slots_of, IsKept}
+use Rattle.mars_shell.specs.Records.{Holds, slots_of}
+use Rattle.mars_shell.specs.Prefix.{HasPrefix}
+use Rattle.mars_shell.specs.Kept.{Work, work_of, IsKept, with_doubt, in_doubt}
 use Rattle.mars_shell.specs.Called.{HasPrefixOf, LeavesAll, KeepsPrefix}
 use Rattle.mars_shell.specs.Standing.{Grows}
 
 -- the committed ones come before the one in doubt
 take_certain : (history : List Done) (doubt : Option Done) → take (length history) (with_doubt history doubt) ≡ history
-take_certain history None = take_all (length history) history (omega arith)
-take_certain history (Some done) = take_at history (done ∷ []) (length history) refl
+take_certain history doubt = take_at history (in_doubt doubt) (length history) refl
 
 pub certain_fit : (history : List Done) (doubt : Option Done) → length history ≤ length (with_doubt history doubt)
-certain_fit history None = omega arith
-certain_fit history (Some done) = omega (arith, length-append history (done ∷ []))
+certain_fit history doubt = omega (arith, length-append history (in_doubt doubt))
 
 module _ (Opens : Shape → List ℕ → List ℕ → Type 0) (base : Table) where
   -- an image that opens with the records of all that is committed
@@ -96,8 +94,7 @@ grows_longer old new grows = omega (arith, ap length grows.is, length-append old
 
 -- so is the one with the transaction in doubt
 grows_doubt : (old new : List Done) (doubt : Option Done) → Grows old new → Grows old (with_doubt new doubt)
-grows_doubt old new None grows = grows
-grows_doubt old new (Some done) grows = record { more = grows.more ++ done ∷ []; is = ap (λ (l : List Done). l ++ done ∷ []) grows.is ∙ append_assoc old grows.more (done ∷ []) }
+grows_doubt old new doubt grows = record { more = grows.more ++ in_doubt doubt; is = ap (λ (l : List Done). l ++ in_doubt doubt) grows.is ∙ append_assoc old grows.more (in_doubt doubt) }
 
 module _ (Opens : Shape → List ℕ → List ℕ → Type 0) (base : Table) where
   -- the first transactions of a history are the first ones of what it grows to
@@ -117,7 +114,7 @@ module _ (Opens : Shape → List ℕ → List ℕ → Type 0) (base : Table) whe
   pub keeps_on : (old mid new : StoreView) (before middle after : Work) → mid.shape ≡ old.shape → middle.doubt ≡ None → Grows before.history middle.history → Grows middle.history after.history
       → KeepsPrefix Opens base old mid before middle → KeepsPrefix Opens base mid new middle after → KeepsPrefix Opens base old new before after
   keeps_on old mid new before middle after shape certain first second a b =
-      let all : with_doubt middle.history middle.doubt ≡ middle.history = ap (with_doubt middle.history) certain in
+      let all : with_doubt middle.history middle.doubt ≡ middle.history = ap (with_doubt middle.history) certain ∙ append-nil middle.history in
       let grows : Grows (with_doubt middle.history middle.doubt) (with_doubt after.history after.doubt) =
       subst (λ (l : List Done). Grows l (with_doubt after.history after.doubt)) (sym all) (grows_doubt middle.history after.history after.doubt second) in
       let at_shape = subst (λ (s : Shape). LeavesOnly (HasPrefixOf Opens s base after (length middle.history)) mid new) shape b.since in

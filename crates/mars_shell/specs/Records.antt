@@ -1,74 +1,47 @@
 -- The records of an array's data: the record of key k stands in slot k.
-use Rattle.std.specs.Prelude.{ℕ, zero, suc, ◌+◌, ◌*◌, ◌/◌, ◌<◌, ◌≡◌, nat_eq, if◌then◌else◌, List, length, Option, Some, None}
-use Rattle.std.specs.FinMap.{empty, insert}
+use Rattle.std.specs.Prelude.{ℕ, ◌+◌, ◌*◌, ◌/◌, ◌<◌, ◌≤◌, ◌≡◌, List, length, Option, Some, None}
+use Rattle.std.specs.FinMap.{get}
 use Rattle.counted.specs.Bytes.{range}
+use Rattle.array_shape.specs.declared.shape.Shape.{Shape}
+use Rattle.array_shape.specs.Places.{page_count}
 use Rattle.eaw_face.specs.Command.{Command, read}
 use Rattle.history.specs.Table.{Table}
 use Rattle.record_slots.specs.Slots.{slot_said}
 use Rattle.record_slots.specs.declared.slot.Slot.{Slot}
 use Rattle.record_slots.specs.declared.slot.Slot.TheVariants.{Absent, Present}
 
+-- each record page has 8 slots, and half of the pages are record pages
+abbrev pub slots_of : Shape → ℕ
+slots_of shape = 4 * page_count shape
+
 -- the address of a slot, where the data has so many: as many bytes as they take lie before them
 abbrev pub slot_at : ℕ → ℕ → ℕ
 slot_at slots k = 64 * (slots + k)
-
--- the page of a slot
-abbrev pub page_of : ℕ → ℕ → ℕ
-page_of slots k = slot_at slots k / 512
 
 -- what the slot of key k says
 abbrev pub slot_of : ℕ → List ℕ → ℕ → Option Slot
 slot_of slots bytes k = slot_said (range bytes (slot_at slots k) 64)
 
--- the value of key k in what its slot says
-abbrev pub value_in : ℕ → Option Slot → Option (List ℕ)
-value_in k None = None
-value_in k (Some (Absent key)) = None
-value_in k (Some (Present key value)) = if nat_eq key k then Some value else None
+-- this is said of key k, by a slot that is sound: a value under just that key, or that there is none
+abbrev pub IsRecord : ℕ → Option Slot → Option (List ℕ) → Type 0
+IsRecord k None found = ⊥
+IsRecord k (Some (Absent key)) found = found ≡ None
+IsRecord k (Some (Present key value)) found = (key ≡ k) × (found ≡ Some value)
 
-abbrev pub record_at : ℕ → List ℕ → ℕ → Option (List ℕ)
-record_at slots bytes k = value_in k (slot_of slots bytes k)
+-- data of so many slots, each of them sound, has just these records: of a key what its slot says, and none of another key
+pub record Holds (slots : ℕ) (table : Table) (bytes : List ℕ) : Type 0 where
+  pub long : length bytes ≡ 128 * slots
+  pub each : (k : ℕ) → k < slots → IsRecord k (slot_of slots bytes k) (get table k)
+  pub no_other : (k : ℕ) → slots ≤ k → get table k ≡ None
 
-abbrev pub with_record : Table → ℕ → Option (List ℕ) → Table
-with_record table k None = table
-with_record table k (Some value) = insert table k value
+-- each slot that lies in this page is sound
+abbrev pub IsSoundPage : ℕ → List ℕ → ℕ → Type 0
+IsSoundPage slots bytes page = (k : ℕ) → k < slots → slot_at slots k / 512 ≡ page → (v : Option (List ℕ)) × IsRecord k (slot_of slots bytes k) v
 
--- the records of the first n slots
-abbrev pub records_below : ℕ → List ℕ → ℕ → Table
-records_below slots bytes zero = empty
-records_below slots bytes (suc n) = with_record (records_below slots bytes n) n (record_at slots bytes n)
-
--- k to v exactly where slot k is present with the key k and the value v
-unfoldable pub records_of : ℕ → List ℕ → Table
-records_of slots bytes = records_below slots bytes slots
-
--- the slot of key k says something, and where it is present it carries that key
-abbrev pub IsSoundIn : ℕ → Option Slot → Type 0
-IsSoundIn k None = ⊥
-IsSoundIn k (Some (Absent key)) = Unit {0}
-IsSoundIn k (Some (Present key value)) = key ≡ k
-
-abbrev pub IsSoundSlot : ℕ → List ℕ → ℕ → Type 0
-IsSoundSlot slots bytes k = IsSoundIn k (slot_of slots bytes k)
-
--- so does each slot
-abbrev pub IsSoundData : ℕ → List ℕ → Type 0
-IsSoundData slots bytes = (k : ℕ) → k < slots → IsSoundSlot slots bytes k
-
--- a slot of this page is not sound, and each slot of the pages before it is
-pub record IsFirstDamaged (slots : ℕ) (bytes : List ℕ) (page : ℕ) : Type 0 where
-  pub slot : ℕ
-  pub below : slot < slots
-  pub in_page : page_of slots slot ≡ page
-  pub damaged : IsSoundSlot slots bytes slot → ⊥
-  pub before : (k : ℕ) → k < slots → page_of slots k < page → IsSoundSlot slots bytes k
+-- this page is not, and each before it is
+abbrev pub IsFirstDamaged : ℕ → List ℕ → ℕ → Type 0
+IsFirstDamaged slots bytes page = (IsSoundPage slots bytes page → ⊥) × ((earlier : ℕ) → earlier < page → IsSoundPage slots bytes earlier)
 
 -- a read of the data, wherever that is: it changes nothing
 abbrev pub reading : Command
 reading = read 0 0
-
--- data of so many slots that is sound, and has exactly these records
-pub record Holds (slots : ℕ) (table : Table) (bytes : List ℕ) : Type 0 where
-  pub long : length bytes ≡ 128 * slots
-  pub sound : IsSoundData slots bytes
-  pub exact : records_of slots bytes ≡ table

@@ -5,8 +5,8 @@ ghost use Rattle.eaw_face.specs.Command.{read};
 ghost use Rattle.eaw_face.specs.Does.{Does};
 ghost use Rattle.eaw_face.specs.Causes.{IsAlive};
 ghost use Rattle.record_slots.specs.Slots.{slot_said};
-ghost use Rattle.mars_shell.specs.Kept.{slots_of};
-ghost use Rattle.mars_shell.specs.Records.{IsSoundIn, IsSoundData, IsFirstDamaged, reading};
+ghost use Rattle.mars_shell.specs.SlotTable.{IsSoundIn, IsSoundData};
+ghost use Rattle.mars_shell.specs.Records.{IsFirstDamaged, reading, slots_of};
 
 use crate::records::{SLOTS_IN_PAGE, slot_count};
 use eaw_face::{EawFault, EawStore};

@@ -5,8 +5,7 @@ ghost use Rattle.history.specs.declared.call.Call.{Call};
 ghost use Rattle.history.specs.declared.call.Call.TheVariants.{Get, Put};
 ghost use Rattle.history.specs.declared.call.Reply.{Reply};
 ghost use Rattle.history.specs.declared.call.Reply.TheVariants.{Fine};
-ghost use Rattle.mars_shell.specs.Session.{puts_of};
-ghost use Rattle.mars_shell.specs.Live.{Mirrors};
+ghost use Rattle.mars_shell.specs.Live.{Mirrors, puts_of};
 
 use counted::NoMemory;
 use history::{Call, Calls, Reply};

@@ -8,8 +8,8 @@ ghost use Rattle.page_store.specs.Shown.{address, pages_of, state_of};
 ghost use Rattle.page_store.specs.State.{view_of};
 ghost use Rattle.record_slots.specs.Slots.{slot_said, slot_bytes};
 ghost use Rattle.record_slots.specs.declared.slot.Slot.TheVariants.{Present};
-ghost use Rattle.mars_shell.specs.Records.{slot_at, record_at, value_in};
-ghost use Rattle.mars_shell.specs.Kept.{slots_of};
+ghost use Rattle.mars_shell.specs.SlotTable.{record_at, value_in};
+ghost use Rattle.mars_shell.specs.Records.{slot_at, slots_of};
 
 use array_shape::Shape;
 use eaw_face::EawStore;

@@ -3,8 +3,8 @@ ghost use Rattle.std.specs.Prelude.{◌≡◌, None, IsTrue};
 ghost use Rattle.eaw_face.specs.Causes.{IsAlive};
 ghost use Rattle.script_io.specs.Written.{Wrote};
 ghost use Rattle.script_run.specs.Counts.{Counts};
-ghost use Rattle.mars_shell.specs.Kept.{slots_of};
-ghost use Rattle.mars_shell.specs.Records.{IsSoundData};
+ghost use Rattle.mars_shell.specs.SlotTable.{IsSoundData};
+ghost use Rattle.mars_shell.specs.Records.{slots_of};
 ghost use Rattle.mars_shell.specs.Served.{Served};
 
 use crate::session::Session;

@@ -8,9 +8,10 @@ ghost use Rattle.page_store.specs.Command.{read};
 ghost use Rattle.page_store.specs.Does.{Does};
 ghost use Rattle.page_store.specs.Shown.{pages_of};
 ghost use Rattle.mars_shell.specs.Called.{Called, KeepsPrefix};
-ghost use Rattle.mars_shell.specs.Kept.{IsReady, IsKept, FitsCall, slots_of, work_in};
-ghost use Rattle.mars_shell.specs.Records.{records_of};
-ghost use Rattle.mars_shell.specs.Session.{has_put};
+ghost use Rattle.mars_shell.specs.Live.{has_put};
+ghost use Rattle.mars_shell.specs.SlotTable.{records_of};
+ghost use Rattle.mars_shell.specs.Records.{slots_of};
+ghost use Rattle.mars_shell.specs.Kept.{IsReady, IsKept, FitsCall, work_in};
 
 use crate::live::Live;
 use crate::records::{CALLER, put_record, read_record};

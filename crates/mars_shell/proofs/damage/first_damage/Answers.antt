@@ -1,7 +1,6 @@
 use Rattle.std.proofs.Common.{◌≡◌, ℕ, ◌+◌, ◌*◌, ◌/◌, ◌<◌, refl, ap, sym, subst, ◌∙◌, arith}
 use Rattle.counted.specs.Bytes.{range}
-use Rattle.mars_shell.specs.Kept.{slots_of}
-use Rattle.mars_shell.specs.Records.{IsFirstDamaged}
+use Rattle.mars_shell.specs.Records.{IsFirstDamaged, slots_of}
 use Rattle.counted.proofs.Costing.{rounds_next, rounds_below}
 use Rattle.mars_shell.proofs.DamageLemmas.{slots_whole, sound_more, first_damaged, read_on}
 use Rattle.mars_shell.proofs.damage.first_damage.Goals as goal

@@ -1,10 +1,9 @@
 use Rattle.std.proofs.Common.{ℕ, ◌+◌, ◌*◌, ◌<◌, ◌≤◌, Result, Ok, IsTrue}
 use Rattle.eaw_face.specs.Command.{read}
-use Rattle.mars_shell.specs.Records.{reading}
+use Rattle.mars_shell.specs.Records.{reading, slots_of}
 use Rattle.eaw_face.specs.Does.{Does}
 use Rattle.eaw_face.specs.declared.fault.EawFault.{EawFault}
-use Rattle.mars_shell.specs.Kept.{slots_of}
-use Rattle.mars_shell.specs.Records.{IsSoundSlot}
+use Rattle.mars_shell.specs.SlotTable.{IsSoundSlot}
 use Rattle.mars_shell.proofs.damage.first_damage.Given as goal
 
 -- the store was read alone, and each slot before this page is sound

@@ -1,7 +1,7 @@
 use Rattle.std.proofs.Common.{below_more, ℕ, ◌+◌, ◌*◌}
 use Rattle.counted.specs.Bytes.{range}
 use Rattle.record_slots.specs.Slots.{slot_said}
-use Rattle.mars_shell.specs.Records.{IsSoundIn}
+use Rattle.mars_shell.specs.SlotTable.{IsSoundIn}
 use Rattle.mars_shell.proofs.damage.is_sound_page.Goals as goal
 
 pub loop-i-preserved : goal.loop-i-preserved

@@ -1,7 +1,7 @@
 use Rattle.std.proofs.Common.{ℕ, ◌+◌, ◌*◌, ◌<◌}
 use Rattle.counted.specs.Bytes.{range}
 use Rattle.record_slots.specs.Slots.{slot_said}
-use Rattle.mars_shell.specs.Records.{IsSoundIn}
+use Rattle.mars_shell.specs.SlotTable.{IsSoundIn}
 use Rattle.mars_shell.proofs.damage.is_sound_page.Given as goal
 
 -- each slot before this one is sound

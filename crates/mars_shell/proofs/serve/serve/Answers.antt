@@ -4,9 +4,10 @@ use Rattle.std.specs.Prelude.{List}
 use Rattle.history.specs.declared.transaction.Done.{Done}
 use Rattle.script_io.specs.Lines.{lines_of}
 use Rattle.script_run.specs.Transcript.{Ran}
-use Rattle.mars_shell.specs.Kept.{slots_of, work_of, work_in}
+use Rattle.mars_shell.specs.SlotTable.{IsSoundData}
+use Rattle.mars_shell.specs.Records.{slots_of}
+use Rattle.mars_shell.specs.Kept.{work_of, work_in}
 use Rattle.mars_shell.specs.Lines.{call_script}
-use Rattle.mars_shell.specs.Records.{IsSoundData}
 use Rattle.mars_shell.specs.Served.{first_state, Served}
 use Rattle.mars_shell.specs.Standing.{Stands, Comes}
 use Rattle.mars_shell.proofs.Serving.{stands_first, ready_first}
@@ -31,6 +32,7 @@ returns-clause-served g c =
           (subst (λ st. IsSoundData (slots_of (s.view st).shape) (s.view st).state.bytes) (sym same) sound) in
           let stands = subst (λ (h : List Done). Stands begun (work_of h None None) (first_state begun)) (sym c.new.ensures) first in
           let served : Served s.opens begun c.args.input.now c.answer_lines-ended.result ran.cut ran.text (s.view next.pages.store) = record {
+            held = first.kept.stored;
             work = work_in next;
             ran = subst (λ (h : List Done). Ran call_script (Stands (s.view next.pages.store) (work_in next)) (Comes s.opens begun (work_of h None None) (first_state begun) (s.view next.pages.store) (work_in next))
                 (first_state begun) (lines_of c.args.input.now) c.answer_lines-ended.result ran.cut ran.text) c.new.ensures (ran.holds told (first_state begun) stands);

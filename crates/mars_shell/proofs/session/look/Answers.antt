@@ -1,8 +1,8 @@
 use Rattle.std.proofs.Common.{◌≡◌, List, ℕ, Option, Result, Ok, Err, sym, ◌∙◌}
 use Rattle.std.specs.Prelude.{IfOk}
 use Rattle.page_store.specs.declared.fault.PageFault.{PageFault}
-use Rattle.mars_shell.specs.Kept.{slots_of}
-use Rattle.mars_shell.specs.Records.{records_of}
+use Rattle.mars_shell.specs.SlotTable.{records_of}
+use Rattle.mars_shell.specs.Records.{slots_of}
 use Rattle.mars_shell.proofs.PutLemmas.{seen_put, seen_left}
 use Rattle.mars_shell.proofs.RecordLemmas.{get-records_of}
 use Rattle.mars_shell.proofs.session.look.Goals as goal

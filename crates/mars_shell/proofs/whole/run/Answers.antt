@@ -33,7 +33,7 @@ returns-in-Ok-Run-clause-complete g c =
     (λ fit no_source no_sink no_media.
     let input = said.ran.holds.0 in
     complete_of (λ ended. Answers old input ended new said.ran.cut said.ran.text) (IsDamaged old) (λ shape. page_count shape / 2) old new said.ran.cut said.ran.text given _ _ _ _ _ _ _
-    fit.1 fit.3.0 fit.3.1 (λ page is. no_damage old fit.3.0 page fit.3.1 (fit.3.2 refl) is) no_source no_sink no_media c.run_lines.result.0 said.no_usage said.counts (said.input fit.0) (said.ran.holds.2 fit.2))
+    fit.1 fit.3.0 fit.3.1 (λ page is. no_damage old fit.3.0 page fit.3.1 (fit.3.2 refl).0 (fit.3.2 refl).1 is) no_source no_sink no_media c.run_lines.result.0 said.no_usage said.counts (said.input fit.0) (said.ran.holds.2 fit.2))
 
 pub returns-in-Ok-Eaw-clause-complete : goal.returns-in-Ok-Eaw-clause-complete
 returns-in-Ok-Eaw-clause-complete g c =

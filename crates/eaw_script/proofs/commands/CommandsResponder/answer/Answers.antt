@@ -5,7 +5,7 @@ use Rattle.script_text.specs.EawLines.{SaysEaw}
 use Rattle.script_text.specs.Replies.{bad_line}
 use Rattle.script_text.specs.declared.eaw_line.EawLine.TheVariants.{Nothing, Told, Bad}
 use Rattle.script_run.specs.declared.responder.Stop.TheVariants.{Media, NoMemory}
-use Rattle.eaw_script.proofs.Answering.{Reply, at, from_past, means_told, passed_over, refused, refused_short, performed, performed_short, failed}
+use Rattle.eaw_script.proofs.Answering.{Reply, from_past, means_told, passed_over, refused, refused_short, performed, performed_short, failed}
 use Rattle.eaw_script.proofs.commands.CommandsResponder.answer.Goals as goal
 
 pub returns-in-Nothing-clause-answers : goal.returns-in-Nothing-clause-answers

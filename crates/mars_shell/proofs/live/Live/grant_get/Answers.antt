@@ -1,7 +1,7 @@
 use Rattle.std.proofs.Common.{sym, ap, ◌∙◌}
 use Rattle.std.specs.FinMap.{get}
 use Rattle.history.specs.Table.{Table}
-use Rattle.mars_shell.specs.Session.{puts_of}
+use Rattle.mars_shell.specs.Live.{puts_of}
 use Rattle.mars_shell.proofs.PutLemmas.{puts-get}
 use Rattle.mars_shell.proofs.live.Live.grant_get.Goals as goal
 

@@ -3,7 +3,7 @@ use Rattle.std.specs.BTreeMap.{is_at}
 use Rattle.std.specs.FinMap.{get, get-empty}
 use Rattle.std.specs.Map.{lookup}
 use Rattle.std.specs.Ordering.{nat_cmp}
-use Rattle.mars_shell.specs.Session.{puts_of}
+use Rattle.mars_shell.specs.Live.{puts_of}
 use Rattle.mars_shell.proofs.live.Live.new.Goals as goal
 
 pub invariant_of-result : goal.invariant_of-result

@@ -3,8 +3,7 @@ use Rattle.std.specs.FinMap.{get}
 use Rattle.history.specs.Table.{Table}
 use Rattle.history.specs.declared.call.Call.TheVariants.{Put}
 use Rattle.history.specs.declared.call.Reply.TheVariants.{Fine}
-use Rattle.mars_shell.specs.Live.{Mirrors}
-use Rattle.mars_shell.specs.Session.{puts_of}
+use Rattle.mars_shell.specs.Live.{Mirrors, puts_of}
 use Rattle.mars_shell.proofs.LiveLemmas.{mirrors_back}
 use Rattle.mars_shell.proofs.PutLemmas.{popped, puts-put, get-put_same}
 use Rattle.mars_shell.proofs.live.Live.revoke_put.Goals as goal

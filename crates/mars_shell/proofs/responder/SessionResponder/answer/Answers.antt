@@ -3,7 +3,8 @@ use Rattle.script_text.specs.Line.{Says}
 use Rattle.script_text.specs.Replies.{reply_line, bad_line}
 use Rattle.script_text.specs.declared.line.Line.TheVariants.{Nothing, Told, Bad}
 use Rattle.script_run.specs.declared.responder.Stop.TheVariants.{Media, NoMemory}
-use Rattle.mars_shell.specs.Kept.{slots_of, work_in}
+use Rattle.mars_shell.specs.Records.{slots_of}
+use Rattle.mars_shell.specs.Kept.{work_in}
 use Rattle.mars_shell.proofs.Answering.{Answer, from_base, passed_over, refused, refused_short, told, told_short, failed, short}
 use Rattle.mars_shell.proofs.responder.SessionResponder.answer.Goals as goal
 

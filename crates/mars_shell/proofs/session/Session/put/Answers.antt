@@ -10,8 +10,8 @@ use Rattle.history.specs.declared.call.Call.{Call}
 use Rattle.history.specs.declared.call.Call.TheVariants.{Put}
 use Rattle.history.specs.declared.call.Reply.{Reply}
 use Rattle.history.specs.declared.call.Reply.TheVariants.{Fine}
-use Rattle.mars_shell.specs.Kept.{IsReady, work_of, slots_of}
-use Rattle.mars_shell.specs.Records.{slot_at}
+use Rattle.mars_shell.specs.Kept.{IsReady, work_of}
+use Rattle.mars_shell.specs.Records.{slot_at, slots_of}
 use Rattle.mars_shell.proofs.Calling.{called_at, put_done, put_full, put_failed}
 use Rattle.mars_shell.proofs.session.Session.put.Goals as goal
 
