@@ -1,0 +1,9 @@
+//! Records of an ordered table over pages, under any index: what a transaction sees, its writes, its savepoints, its commit.
+#![tactic(auto)]
+
+mod fault;
+mod records;
+mod slots;
+
+pub use fault::{AttachRecords, TableFault};
+pub use records::Records;
