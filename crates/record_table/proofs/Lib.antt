@@ -1,3 +1,5 @@
 pub mod Tables
 pub mod SlotParts
 pub mod Looking
+pub mod Writing
+pub mod States
