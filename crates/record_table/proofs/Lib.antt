@@ -3,3 +3,5 @@ pub mod SlotParts
 pub mod Looking
 pub mod Writing
 pub mod States
+pub mod Seeking
+pub mod Moving

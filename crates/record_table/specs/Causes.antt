@@ -8,21 +8,23 @@ use Rattle.page_store.specs.Pairs.{found}
 use Rattle.page_store.specs.Shown.{PagesView}
 use Rattle.record_table.specs.State.{is_rewritten}
 use Rattle.record_table.specs.Command.{TableCommand, look, put, del, scan, save, back, commit, abort, is_seen}
-use Rattle.record_table.specs.Shown.{state_of, logger_of_slot, held_on}
+use Rattle.record_table.specs.Shown.{state_of, held_on, needed_on}
 use Rattle.record_table.specs.declared.fault.TableFault.{TableFault}
 use Rattle.record_table.specs.declared.fault.TableFault.TheVariants.{SlotsFull, PagesFull, SavesFull, LogFull, Media, Dead, Damaged, NoMemory}
 
--- a write into this slot takes the place of one since the last save, or its logger has room for one more
+-- a write into this slot takes the place of one since the last save, or each logger has room for what it needs
 abbrev pub HasRoom : Index → ℕ → PagesView → ℕ → ℕ → Type 0
-HasRoom index t old key slot = is_rewritten (state_of index old) t key ≡ false → held_on old t (logger_of_slot old.store.shape slot) < old.store.shape.entries
+HasRoom index t old key slot = is_rewritten (state_of index old) t key ≡ false
+    → (g : ℕ) → g < old.store.shape.loggers → held_on old t g + needed_on old.store.shape slot g ≤ old.store.shape.entries
 
--- it takes the place of none, and logger g, which is the slot's, is full: it holds so many, and one more is needed
+-- it takes the place of none, and logger g is the first that has no room: it holds so many, and as many more are needed
 pub record IsFull (index : Index) (t : ℕ) (old : PagesView) (key slot g h n : ℕ) : Type 0 where
   pub anew : is_rewritten (state_of index old) t key ≡ false
-  pub logger : g ≡ logger_of_slot old.store.shape slot
+  pub logger : g < old.store.shape.loggers
   pub held : h ≡ held_on old t g
-  pub needed : n ≡ 1
-  pub full : old.store.shape.entries ≤ h
+  pub needed : n ≡ needed_on old.store.shape slot g
+  pub full : old.store.shape.entries < h + n
+  pub before : (k : ℕ) → k < g → held_on old t k + needed_on old.store.shape slot k ≤ old.store.shape.entries
 
 -- the slot of a key, where the index has the key
 abbrev pub slot_in : Index → PagesView → ℕ → Option ℕ

@@ -1,5 +1,5 @@
 -- What records show of the pages that they stand on.
-use Rattle.std.specs.Prelude.{ℕ, ◌+◌, ◌*◌, List, [], ◌∷◌, map, length, Option, Some, None}
+use Rattle.std.specs.Prelude.{ℕ, ◌+◌, ◌*◌, nat_eq, if◌then◌else◌, List, [], ◌∷◌, map, length, Option, Some, None}
 use Rattle.std.specs.FinMap.{empty}
 use Rattle.array_shape.specs.declared.shape.Shape.{Shape}
 use Rattle.array_shape.specs.Places.{logger_of}
@@ -55,9 +55,12 @@ state_of index view = shown_by index (pages.state_of view)
 abbrev pub keys_of : Index → List ℕ → Keys
 keys_of index bytes = record { pairs = index.pairs bytes; next_slot = next_slot bytes; next_page = next_page bytes }
 
--- the logger of a slot
+-- the logger that holds the writes into a slot, and how many of one it needs to hold
 abbrev pub logger_of_slot : Shape → ℕ → ℕ
 logger_of_slot shape slot = logger_of shape (64 * (slots_of shape + slot))
+
+abbrev pub needed_on : Shape → ℕ → ℕ → ℕ
+needed_on shape slot g = if nat_eq (logger_of_slot shape slot) g then 1 else 0
 
 -- how many writes of a number this logger holds
 abbrev pub held_on : PagesView → ℕ → ℕ → ℕ

@@ -2,12 +2,14 @@
 ghost use Rattle.std.specs.Prelude.{◌≡◌, ◌≢◌, ◌+◌, ◌*◌, ◌%◌, ◌<◌, Some, IfOk, IfErr, IfSome, IsErrOf, IsTrue, length};
 ghost use Rattle.counted.specs.Bytes.{range};
 ghost use Rattle.array_shape.specs.Places.{page_count};
+ghost use Rattle.eaw_face.specs.Causes.{IsAlive};
 ghost use Rattle.record_slots.specs.Slots.{slot_said, slot_bytes};
 ghost use Rattle.page_store.specs.Command.{write_as};
 ghost use Rattle.page_store.specs.Does.{Does};
 ghost use Rattle.page_store.specs.Index.{slots_of, index_pages_of};
 ghost use Rattle.page_store.specs.Looks.{LookCause, is_failed};
-ghost use Rattle.page_store.specs.Shown.{pages_of, state_of};
+ghost use Rattle.page_store.specs.Kept.{IsOrdered};
+ghost use Rattle.page_store.specs.Shown.{pages_of, outline_of, state_of};
 ghost use Rattle.page_store.specs.State.{view_of};
 ghost use Rattle.record_table.specs.Invariant.{Holds};
 ghost use Rattle.record_table.specs.Shown.{value_of};
@@ -70,10 +72,14 @@ pub fn write_as<S: EawStore>(
     ensures does { Does S.tells (S.opens (S.view pages.old.store).shape)
         (write_as tid (64 * (slots_of (S.view pages.old.store).shape + slot)) (slot_bytes said.now))
         (pages_of (S.view pages.old.store) pages.old) (pages_of (S.view pages.new.store) pages.new) result }
-    ensures reads_back { slot_said (slot_bytes said.now) ≡ Some said.now }
-    ensures whole { length (slot_bytes said.now) ≡ 64 }
+    ensures ordered { IsAlive (S.view pages.old.store) → IsOrdered (outline_of (pages_of (S.view pages.old.store) pages.old)) }
+    ensures reads_back { IsAlive (S.view pages.old.store) → slot_said (slot_bytes said.now) ≡ Some said.now }
+    ensures whole { IsAlive (S.view pages.old.store) → length (slot_bytes said.now) ≡ 64 }
     ensures refused { IfErr result (λ fault. fault ≢ PageFault.Media → pages.new ≡ pages.old) }
 {
+    if pages.is_dead() {
+        return Err(PageFault::Dead);
+    }
     let page = page_of(pages, slot);
     let mut bytes = [0; SLOT_LEN];
     write_slot(said, &mut bytes);
