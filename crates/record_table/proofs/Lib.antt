@@ -5,3 +5,4 @@ pub mod Writing
 pub mod States
 pub mod Seeking
 pub mod Moving
+pub mod Wrote
