@@ -6,3 +6,5 @@ pub mod States
 pub mod Seeking
 pub mod Moving
 pub mod Wrote
+pub mod Doing
+pub mod Ending

@@ -6,3 +6,4 @@ pub mod Does
 pub mod Invariant
 pub mod Attached
 pub mod Sought
+pub mod Faults
