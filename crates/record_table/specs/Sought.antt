@@ -32,3 +32,8 @@ pub record LooksAs (tells : Bool) (Opens : List ℕ → List ℕ → Type 0) (t 
 abbrev pub Finds : Index → ℕ → ℕ → PagesView → Option Place → Type 0
 Finds index t key old None = (slot_in index old key ≡ None) × (get (seen_by (state_of index old) t) key ≡ None)
 Finds index t key old (Some place) = (slot_in index old key ≡ Some place.slot) × (get (seen_by (state_of index old) t) key ≡ place.value)
+
+-- the value that was found
+abbrev pub value_at : Option Place → Option (List ℕ)
+value_at None = None
+value_at (Some place) = place.value

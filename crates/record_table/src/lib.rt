@@ -4,6 +4,7 @@
 mod fault;
 mod records;
 mod slots;
+mod told;
 
 pub use fault::{AttachRecords, TableFault};
 pub use records::Records;

@@ -1,5 +1,5 @@
 // Records over pages, under an index.
-ghost use Rattle.std.specs.Prelude.{◌≡◌, ◌<◌, ◌≤◌, ℕ, [], None, IfOk, IfErr, IsErrOf, IsTrue, length};
+ghost use Rattle.std.specs.Prelude.{◌≡◌, ◌<◌, ◌≤◌, ℕ, [], None, IfOk, IfErr, OnErr, IsErrOf, IsTrue, length};
 ghost use Rattle.std.specs.FinMap.{get};
 ghost use Rattle.eaw_face.specs.Causes.{IsAlive};
 ghost use Rattle.eaw_face.specs.State.{listed};
@@ -13,9 +13,11 @@ ghost use Rattle.record_table.specs.Shown.{state_of};
 ghost use Rattle.record_table.specs.State.{seen_by};
 
 use crate::fault::{AttachRecords, TableFault};
+use crate::slots::{seek, value_at, write_as};
+use crate::told::{insert_fault, table_fault, told};
 use array_shape::Shape;
 use eaw_face::EawStore;
-use page_store::{CheckFault, KeyIndex, PageFault, Pages};
+use page_store::{CheckFault, KeyIndex, Pages};
 use record_slots::{Slot, Value};
 use std::marker::{Model, PhantomData};
 
@@ -94,5 +96,109 @@ impl<S: EawStore, K: KeyIndex> Records<S, K> {
         ensures most { result ≤ 32 }
     {
         self.pages.saves(tid)
+    }
+
+    /// The value under a key, as the number sees it.
+    pub fn get(&mut self, tid: u8, key: u64) -> Result<Option<Value>, TableFault>
+        requires { tid < (S.view self.old.store).shape.numbers }
+        ensures does { Does S.tells (S.opens (S.view self.old.store).shape) K.index (look tid key)
+            (pages_of (S.view self.old.store) self.old) (pages_of (S.view self.new.store) self.new) result }
+        ensures seen { IsTrue S.tells → IfOk result (λ value. value ≡
+            get (seen_by (state_of K.index (pages_of (S.view self.old.store) self.old)) tid) key) }
+        ensures dead { IsErrOf result TableFault.Dead → self.new ≡ self.old }
+    {
+        match seek::<S, K>(&mut self.pages, tid, key) {
+            Ok(found) => Ok(value_at(&found)),
+            Err(fault) => Err(table_fault(fault)),
+        }
+    }
+
+    /// Gives the key this value, in the number's own view at once, and in the table once it commits. A key that the index lacks is
+    /// inserted before; it stays there whatever becomes of the number.
+    pub fn put(&mut self, tid: u8, key: u64, value: Value) -> Result<(), TableFault>
+        requires { tid < (S.view self.old.store).shape.numbers }
+        ensures does { Does S.tells (S.opens (S.view self.old.store).shape) K.index (put tid key value)
+            (pages_of (S.view self.old.store) self.old) (pages_of (S.view self.new.store) self.new) result }
+        ensures dead { IsErrOf result TableFault.Dead → self.new ≡ self.old }
+    {
+        let record = Slot::Present { key, value };
+        match K::find(&mut self.pages, key) {
+            Ok(Some(slot)) => told(write_as(&mut self.pages, tid, slot, &record)),
+            Ok(None) => match K::insert(&mut self.pages, tid, key) {
+                Ok(slot) => told(write_as(&mut self.pages, tid, slot, &record)),
+                Err(fault) => Err(insert_fault(fault)),
+            },
+            Err(fault) => Err(table_fault(fault)),
+        }
+    }
+
+    /// Removes the record of a key, in the number's own view at once, and in the table once it commits; answers whether the number saw
+    /// one.
+    pub fn del(&mut self, tid: u8, key: u64) -> Result<bool, TableFault>
+        requires { tid < (S.view self.old.store).shape.numbers }
+        ensures does { Does S.tells (S.opens (S.view self.old.store).shape) K.index (del tid key)
+            (pages_of (S.view self.old.store) self.old) (pages_of (S.view self.new.store) self.new) result }
+        ensures seen { IsTrue S.tells → IfOk result (λ was. was ≡ is_seen (state_of K.index (pages_of (S.view self.old.store) self.old)) tid key) }
+        ensures dead { IsErrOf result TableFault.Dead → self.new ≡ self.old }
+    {
+        let place = match seek::<S, K>(&mut self.pages, tid, key) {
+            Ok(Some(place)) => place,
+            Ok(None) => return Ok(false),
+            Err(fault) => return Err(table_fault(fault)),
+        };
+        if place.value.is_none() {
+            return Ok(false);
+        }
+        match write_as(&mut self.pages, tid, place.slot, &Slot::Absent { key }) {
+            Ok(()) => Ok(true),
+            Err(fault) => Err(table_fault(fault)),
+        }
+    }
+
+    /// Remembers what the number has written, and gives how often it has saved now.
+    pub fn save(&mut self, tid: u8) -> Result<u32, TableFault>
+        requires { tid < (S.view self.old.store).shape.numbers }
+        ensures does { Does S.tells (S.opens (S.view self.old.store).shape) K.index (save tid)
+            (pages_of (S.view self.old.store) self.old) (pages_of (S.view self.new.store) self.new) result }
+        ensures count { IfOk result (λ n. n ≡ length (counts_in self.new.marks tid)) }
+        ensures refused { OnErr result (self.new ≡ self.old) }
+    {
+        told(self.pages.save(tid))
+    }
+
+    /// Takes the number back to its save `n`, counted from 1: it sees again what it saw there, over the table as it is now. Later saves
+    /// are gone, this one stays.
+    pub fn back(&mut self, tid: u8, n: u32) -> Result<(), TableFault>
+        requires tid { tid < (S.view self.old.store).shape.numbers }
+        requires some { 0 < n }
+        requires there { n ≤ length (counts_in self.old.marks tid) }
+        ensures does { Does S.tells (S.opens (S.view self.old.store).shape) K.index (back tid n)
+            (pages_of (S.view self.old.store) self.old) (pages_of (S.view self.new.store) self.new) result }
+        ensures refused { OnErr result (self.new ≡ self.old) }
+    {
+        if self.pages.is_dead() {
+            return Err(TableFault::Dead);
+        }
+        told(self.pages.back(tid, n))
+    }
+
+    /// Makes what the number has written part of the table, at once, and forgets its saves.
+    pub fn commit(&mut self, tid: u8) -> Result<(), TableFault>
+        requires { tid < (S.view self.old.store).shape.numbers }
+        ensures does { Does S.tells (S.opens (S.view self.old.store).shape) K.index (commit tid)
+            (pages_of (S.view self.old.store) self.old) (pages_of (S.view self.new.store) self.new) result }
+        ensures dead { IsErrOf result TableFault.Dead → self.new ≡ self.old }
+    {
+        told(self.pages.end(tid, true))
+    }
+
+    /// Drops what the number has written, and its saves.
+    pub fn abort(&mut self, tid: u8) -> Result<(), TableFault>
+        requires { tid < (S.view self.old.store).shape.numbers }
+        ensures does { Does S.tells (S.opens (S.view self.old.store).shape) K.index (abort tid)
+            (pages_of (S.view self.old.store) self.old) (pages_of (S.view self.new.store) self.new) result }
+        ensures dead { IsErrOf result TableFault.Dead → self.new ≡ self.old }
+    {
+        told(self.pages.end(tid, false))
     }
 }

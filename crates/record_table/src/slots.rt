@@ -13,7 +13,7 @@ ghost use Rattle.page_store.specs.Shown.{pages_of, outline_of, state_of};
 ghost use Rattle.page_store.specs.State.{view_of};
 ghost use Rattle.record_table.specs.Invariant.{Holds};
 ghost use Rattle.record_table.specs.Shown.{value_of};
-ghost use Rattle.record_table.specs.Sought.{LooksAs, Finds};
+ghost use Rattle.record_table.specs.Sought.{LooksAs, Finds, value_at};
 
 use eaw_face::EawStore;
 use page_store::{KeyIndex, PageFault, Pages};
@@ -114,6 +114,16 @@ pub fn seek<S: EawStore, K: KeyIndex>(
         })),
         Ok(None) => Err(PageFault::Damaged { page }),
         Err(fault) => Err(fault),
+    }
+}
+
+// The value that was found.
+pub fn value_at(found: &Option<Place>) -> Option<Value>
+    ensures { result ≡ value_at found.now }
+{
+    match found {
+        Some(place) => place.value,
+        None => None,
     }
 }
 
