@@ -1,5 +1,5 @@
 -- From what calls below leave, what a call on records does.
-use Rattle.std.proofs.Common.{◌≡◌, ◌≢◌, ℕ, suc, ◌+◌, ◌<◌, ◌≤◌, Bool, true, false, inl, inr, IsTrue, List, length, Result, Ok, Err, refl, sym, ◌∙◌, ap, subst, arith}
+use Rattle.std.proofs.Common.{◌≡◌, ◌≢◌, ℕ, suc, ◌+◌, ◌<◌, ◌≤◌, Bool, true, false, cond, inl, inr, IsTrue, List, length, Result, Ok, Err, refl, sym, ◌∙◌, ap, subst, arith}
 use Rattle.std.specs.Prelude.{Option, Some, None, IsFalse, OnOk, OnErr}
 use Rattle.std.proofs.lemmas.Bool.{false≢true}
 use Rattle.counted.specs.Causes.{Rose}
@@ -13,8 +13,8 @@ use Rattle.page_store.specs.Pairs.{found}
 use Rattle.page_store.specs.Shown.{PagesView}
 use Rattle.page_store.specs.declared.fault.PageFault.{PageFault}
 use Rattle.page_store.specs.declared.fault.PageFault.TheVariants as page
-use Rattle.record_table.specs.Causes.{Cause, HasRoom, IsFull, IsShort, IsSought}
-use Rattle.record_table.specs.Command.{TableCommand, put, after, number_of, written}
+use Rattle.record_table.specs.Causes.{Cause, MaySave, Fits, HasRoom, IsFull, IsShort, IsSought}
+use Rattle.record_table.specs.Command.{TableCommand, look, put, del, after, number_of, written, is_seen}
 use Rattle.record_table.specs.Does.{Does, OpensWith, Indexed, saves_after}
 use Rattle.record_table.specs.Does as table
 use Rattle.record_table.specs.Faults.{as_table}
@@ -186,3 +186,22 @@ module _ (tells : Bool) (Opens : List ℕ → List ℕ → Type 0) (index : Inde
       )
   look_refused T U (page.LogFull g h n) sought cause looks dead = absurd cause
   look_refused T U page.SavesFull sought cause looks dead = absurd cause
+
+  -- a look was done
+  looked : {T : Type 0} (answer : T) → IsAlive old.store → LooksAs tells Opens (number_of c) false old new → MaySave old c → (IsTrue tells → Fits index old c) → (IsTrue tells → state_of index old ≡ after c (state_of index old))
+      → ((a b : Keys) → b ≡ a → (let r : Result T TableFault = Ok answer in Indexed c a b r)) → length (old.counts (number_of c)) ≡ saves_after c (length (old.counts (number_of c)))
+      → (let r : Result T TableFault = Ok answer in Does tells Opens index c old new r) × Holds tells index new
+  looked {T} answer alive looks may fits same indexed saves =
+      let moved = moved_by_look tells Opens index (number_of c) old new alive (holds alive) looks in
+      let r : Result T TableFault = Ok answer in
+      (does_moved tells Opens index c old new r alive refl moved (alive, may, fits) same (λ told. indexed _ _ (look_keys alive looks told)) saves, holds_moved alive moved)
+
+module _ (tells : Bool) (Opens : List ℕ → List ℕ → Type 0) (index : Index) (t key : ℕ) (old new : PagesView) (holds : Holds tells index old) where
+  pub got : (T : Type 0) (answer : T) → IsAlive old.store → LooksAs tells Opens t false old new → (let r : Result T TableFault = Ok answer in Does tells Opens index (look t key) old new r) × Holds tells index new
+  got T answer alive looks = looked tells Opens index (look t key) old new holds answer alive looks tt (λ told. tt) (λ told. refl) (λ a b same. same) refl
+
+  -- a record that is not seen is not removed
+  pub not_removed : (T : Type 0) (answer : T) → IsAlive old.store → LooksAs tells Opens t false old new → (IsTrue tells → is_seen (state_of index old) t key ≡ false)
+      → (let r : Result T TableFault = Ok answer in Does tells Opens index (del t key) old new r) × Holds tells index new
+  not_removed T answer alive looks unseen = looked tells Opens index (del t key) old new holds answer alive looks tt (λ told seen. absurd (false≢true (sym (unseen told) ∙ seen)))
+      (λ told. sym (ap (λ (b : Bool). cond b (written (state_of index old) t key None) (state_of index old)) (unseen told))) (λ a b same. same) refl

@@ -1,11 +1,12 @@
 -- Calls on records that are one call of pages: saves, ways back, and ends.
 use Rattle.std.proofs.Common.{◌≡◌, ◌≢◌, ℕ, suc, ◌+◌, ◌-◌, ◌<◌, ◌≤◌, ◌⊎◌, Bool, true, false, inl, inr, IsTrue, List, [], ◌∷◌, ◌++◌, length, take, Result, Ok, Err, refl, sym, ◌∙◌, ap, subst, arith}
-use Rattle.std.specs.Prelude.{Option, Some, None, IsFalse, OnOk, OnErr}
+use Rattle.std.specs.Prelude.{Option, Some, None, IsFalse, IfErr, OnOk, OnErr}
 use Rattle.std.proofs.lemmas.Bool.{false≢true}
 use Rattle.std.proofs.lemmas.List.{length-append, length-take-le, length-map}
 use Rattle.counted.proofs.Going.{stays, weaker}
 use Rattle.array_shape.specs.Logged.{Part, applied}
-use Rattle.eaw_face.specs.StoreView.{LeavesOnly}
+use Rattle.array_shape.specs.declared.shape.Shape.{Shape}
+use Rattle.eaw_face.specs.StoreView.{StoreView, LeavesOnly}
 use Rattle.eaw_face.specs.State.{State, listed}
 use Rattle.eaw_face.specs.Causes.{IsAlive}
 use Rattle.page_store.specs.Command.{PageCommand}
@@ -14,7 +15,7 @@ use Rattle.page_store.specs.Does as page_does
 use Rattle.page_store.specs.Index.{Index}
 use Rattle.page_store.specs.Kept.{IsOrdered}
 use Rattle.page_store.specs.Outline.{Outline, outline_after}
-use Rattle.page_store.specs.Shown.{PagesView, outline_of}
+use Rattle.page_store.specs.Shown.{PagesView, Shown, pages_of, outline_of}
 use Rattle.page_store.specs.Shown as pages
 use Rattle.page_store.specs.State.{PagesState, log_of}
 use Rattle.page_store.specs.State as pages_state
@@ -206,3 +207,28 @@ module _ (tells : Bool) (index : Index) (laws : Laws index) (old : PagesView) (r
         may_save = λ room. room;
         fits = tt;
       }
+
+pub err_same : {T A : Type 0} (r : Result T PageFault) → IfErr r (λ f. f ≢ fault.Media → A) → (f : PageFault) → r ≡ Err f → f ≢ fault.Media → A
+err_same (Ok x) h f e ne = absurd (cc)
+err_same {T} {A} (Err p) h f e ne = let q : p ≡ f = same_fault T p f e in h (λ m. ne (sym q ∙ m))
+  where
+    same_fault : (T : Type 0) (p f : PageFault) → (let x : Result T PageFault = Err p in let y : Result T PageFault = Err f in x ≡ y) → p ≡ f
+    same_fault T p f e = cc
+
+pub on_err_same : {T A : Type 0} (r : Result T PageFault) → OnErr r A → (f : PageFault) → r ≡ Err f → f ≢ fault.Media → A
+on_err_same (Ok x) h f e ne = absurd (cc)
+on_err_same (Err p) h f e ne = h
+
+-- the same of values that show pages
+module _ {S : Type 0} (view : S → StoreView) (tells : Bool) (Opens : Shape → List ℕ → List ℕ → Type 0) (index : Index) (c : TableCommand) (arg inside : Shown S) (same : inside ≡ arg) where
+  pub does_of : {T : Type 0} (new : PagesView) (r : Result T TableFault) → Does tells (Opens (view inside.store).shape) index c (pages_of (view inside.store) inside) new r → Does tells (Opens (view arg.store).shape) index c (pages_of (view arg.store) arg) new r
+  does_of new r does = subst (λ (p : Shown S). Does tells (Opens (view p.store).shape) index c (pages_of (view p.store) p) new r) same does
+
+  pub ended : (pc : PageCommand) (new : Shown S) → Holds tells index (pages_of (view inside.store) inside) → (T : Type 0) → (IsAlive (view inside.store) → IsCall T tells index pc c (pages_of (view inside.store) inside))
+      → (r : Result T PageFault) → page_does.Does tells (Opens (view inside.store).shape) pc (pages_of (view inside.store) inside) (pages_of (view new.store) new) r
+      → ((f : PageFault) → r ≡ Err f → f ≢ fault.Media → new ≡ inside) → (s : Result T TableFault) → s ≡ told_as r
+      → Does tells (Opens (view arg.store).shape) index c (pages_of (view arg.store) arg) (pages_of (view new.store) new) s × Holds tells index (pages_of (view new.store) new)
+  ended pc new holds T call r does unchanged s is =
+      let both = ends tells (Opens (view inside.store).shape) index pc c (pages_of (view inside.store) inside) (pages_of (view new.store) new) holds T call r does
+      (λ f e ne. ap (λ (p : Shown S). pages_of (view p.store) p) (unchanged f e ne)) in
+      (does_of (pages_of (view new.store) new) s (subst (λ (x : Result T TableFault). Does tells (Opens (view inside.store).shape) index c (pages_of (view inside.store) inside) (pages_of (view new.store) new) x) (sym is) both.0), both.1)

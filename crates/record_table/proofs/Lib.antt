@@ -8,3 +8,4 @@ pub mod Moving
 pub mod Wrote
 pub mod Doing
 pub mod Ending
+pub mod Putting
