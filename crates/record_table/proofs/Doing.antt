@@ -1,6 +1,6 @@
 -- From what calls below leave, what a call on records does.
 use Rattle.std.proofs.Common.{◌≡◌, ◌≢◌, ℕ, suc, ◌+◌, ◌<◌, ◌≤◌, Bool, true, false, cond, inl, inr, IsTrue, List, length, Result, Ok, Err, refl, sym, ◌∙◌, ap, subst, arith}
-use Rattle.std.specs.Prelude.{Option, Some, None, IsFalse, OnOk, OnErr}
+use Rattle.std.specs.Prelude.{Option, Some, None, IsFalse, IsErrOf, OnOk, OnErr}
 use Rattle.std.proofs.lemmas.Bool.{false≢true}
 use Rattle.counted.specs.Causes.{Rose}
 use Rattle.counted.proofs.Going.{then, weaker}
@@ -175,7 +175,7 @@ module _ (tells : Bool) (Opens : List ℕ → List ℕ → Type 0) (index : Inde
 
   -- a look was refused
   pub look_refused : (T U : Type 0) (fault : PageFault) → IsSought c → (let r : Result U PageFault = Err fault in LookCause tells old.store r) → (let r : Result U PageFault = Err fault in LooksAs tells Opens (number_of c) (is_failed r) old new)
-      → (fault ≡ page.Dead → new ≡ old) → (let r : Result T TableFault = Err (as_table fault) in Does tells Opens index c old new r) × Holds tells index new
+      → (let r : Result U PageFault = Err fault in IsErrOf r page.Dead → new ≡ old) → (let r : Result T TableFault = Err (as_table fault) in Does tells Opens index c old new r) × Holds tells index new
   look_refused T U page.Media sought cause looks dead = (does_failed tells Opens index c old new cause (failed_by_look tells Opens index (number_of c) old new cause (holds cause) looks), holds_dead tells Opens index c old new (looks.dies refl).0)
   look_refused T U page.Dead sought cause looks dead = (does_dead tells Opens index c old new (dead refl) cause, holds_same (dead refl))
   look_refused T U (page.Damaged bad) sought cause looks dead =

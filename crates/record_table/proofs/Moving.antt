@@ -129,7 +129,7 @@ module _ (tells : Bool) (Opens : List ℕ → List ℕ → Type 0) (index : Inde
     failed_by_look looks = record { shape = looks.shape; dies = looks.dies refl; counts = looks.saves; others = looks.others; time = looks_time true looks }
 
 -- what is found of a key after another was inserted
-found_inserted : (ps : List Pair) (key to q : ℕ) → q ≢ key → found (inserted ps key to) q ≡ found ps q
+pub found_inserted : (ps : List Pair) (key to q : ℕ) → q ≢ key → found (inserted ps key to) q ≡ found ps q
 found_inserted [] key to q ne = ap (λ (b : Bool). cond b (Some to) None) (ne_eqb key q (λ e. ne (sym e)))
 found_inserted (p ∷ ps) key to q ne = go (nat_lt key p.0) (found_inserted ps key to q ne)
   where
@@ -137,7 +137,7 @@ found_inserted (p ∷ ps) key to q ne = go (nat_lt key p.0) (found_inserted ps k
     go true rest = ap (λ (b : Bool). cond b (Some to) (found (p ∷ ps) q)) (ne_eqb key q (λ e. ne (sym e)))
     go false rest = ap (λ (o : Option ℕ). cond (nat_eq p.0 q) (Some p.1) o) rest
 
-found_new : (ps : List Pair) (key to : ℕ) → found ps key ≡ None → found (inserted ps key to) key ≡ Some to
+pub found_new : (ps : List Pair) (key to : ℕ) → found ps key ≡ None → found (inserted ps key to) key ≡ Some to
 found_new [] key to none = ap (λ (b : Bool). cond b (Some to) None) (eq-eqb key key refl)
 found_new (p ∷ ps) key to none = go (nat_lt key p.0) (found_new ps key to)
   where

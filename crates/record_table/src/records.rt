@@ -121,11 +121,11 @@ impl<S: EawStore, K: KeyIndex> Records<S, K> {
             (pages_of (S.view self.old.store) self.old) (pages_of (S.view self.new.store) self.new) result }
         ensures dead { IsErrOf result TableFault.Dead → self.new ≡ self.old }
     {
-        let record = Slot::Present { key, value };
+        let present = Slot::Present { key, value };
         match K::find(&mut self.pages, key) {
-            Ok(Some(slot)) => told(write_as(&mut self.pages, tid, slot, &record)),
+            Ok(Some(slot)) => told(write_as(&mut self.pages, tid, slot, &present)),
             Ok(None) => match K::insert(&mut self.pages, tid, key) {
-                Ok(slot) => told(write_as(&mut self.pages, tid, slot, &record)),
+                Ok(slot) => told(write_as(&mut self.pages, tid, slot, &present)),
                 Err(fault) => Err(insert_fault(fault)),
             },
             Err(fault) => Err(table_fault(fault)),
