@@ -13,7 +13,7 @@ use Rattle.record_slots.specs.Table.{Table, set_or_remove}
 use Rattle.page_store.specs.Pairs.{Pair, found}
 use Rattle.record_table.specs.Shown.{value_of, write_said, table_in}
 
-tied : (q k : ℕ) → eq_by_cmp nat_cmp q k ≡ nat_eq k q
+pub tied : (q k : ℕ) → eq_by_cmp nat_cmp q k ≡ nat_eq k q
 tied q k = elim (cases_eq q k) [
   | inl e ↦ unsigned_tied q k ∙ eq-eqb q k e ∙ sym (eq-eqb k q (sym e))
   | inr ne ↦ unsigned_tied q k ∙ ne_eqb q k ne ∙ sym (ne_eqb k q (λ e. ne (sym e)))
