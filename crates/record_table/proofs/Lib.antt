@@ -9,4 +9,4 @@ pub mod Wrote
 pub mod Doing
 pub mod Ending
 pub mod Putting
-pub mod Scanning
+pub mod RowsOf

@@ -7,3 +7,4 @@ pub mod Invariant
 pub mod Attached
 pub mod Sought
 pub mod Faults
+pub mod Scanned

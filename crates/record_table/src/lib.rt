@@ -3,6 +3,7 @@
 
 mod fault;
 mod records;
+mod scanning;
 mod slots;
 mod told;
 

@@ -13,12 +13,14 @@ ghost use Rattle.record_table.specs.Shown.{state_of};
 ghost use Rattle.record_table.specs.State.{seen_by};
 
 use crate::fault::{AttachRecords, TableFault};
+use crate::scanning::gather;
 use crate::slots::{seek, value_at, write_as};
 use crate::told::{insert_fault, table_fault, told};
 use array_shape::Shape;
 use eaw_face::EawStore;
 use page_store::{CheckFault, KeyIndex, Pages};
-use record_slots::{Slot, Value};
+use record_slots::{Rows, Slot, Value};
+use std::alloc::Global;
 use std::marker::{Model, PhantomData};
 
 /// Records under u64 keys over pages, under any index: a table, and over it what each transaction number has written and not
@@ -152,6 +154,25 @@ impl<S: EawStore, K: KeyIndex> Records<S, K> {
         match write_as(&mut self.pages, tid, place.slot, &Slot::Absent { key }) {
             Ok(()) => Ok(true),
             Err(fault) => Err(table_fault(fault)),
+        }
+    }
+
+    /// The records from one key to another, both of them included, as the number sees them. The memory for them is taken here.
+    pub fn scan(&mut self, alloc: Global, tid: u8, low: u64, high: u64) -> Result<Rows, TableFault>
+        requires { tid < (S.view self.old.store).shape.numbers }
+        ensures does { Does S.tells (S.opens (S.view self.old.store).shape) K.index (scan tid low high)
+            (pages_of (S.view self.old.store) self.old) (pages_of (S.view self.new.store) self.new) result }
+        ensures rows { IsTrue S.tells → IfOk result (λ rows. rows ≡
+            rows_within low high (seen_by (state_of K.index (pages_of (S.view self.old.store) self.old)) tid)) }
+        ensures dead { IsErrOf result TableFault.Dead → self.new ≡ self.old }
+    {
+        if self.pages.is_dead() {
+            return Err(TableFault::Dead);
+        }
+        let mut rows = Rows::new(alloc);
+        match gather::<S, K>(&mut self.pages, tid, low, high, &mut rows) {
+            Ok(()) => Ok(rows),
+            Err(fault) => Err(fault),
         }
     }
 

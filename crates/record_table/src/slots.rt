@@ -29,7 +29,7 @@ pub struct Place {
 }
 
 // The page of a slot: eight are in a page, behind the pages of the index.
-fn page_of<S: EawStore>(pages: &Pages<S>, slot: u32) -> u32
+pub fn page_of<S: EawStore>(pages: &Pages<S>, slot: u32) -> u32
     requires { slot < slots_of (S.view pages.now.store).shape }
     ensures at { 512 * result + slot % 8 * 64 ≡ 64 * (slots_of (S.view pages.now.store).shape + slot) }
     ensures inside { result < page_count (S.view pages.now.store).shape }
@@ -128,7 +128,7 @@ pub fn value_at(found: &Option<Place>) -> Option<Value>
 }
 
 // The value that a slot holds.
-fn value_in(said: &Slot) -> Option<Value>
+pub fn value_in(said: &Slot) -> Option<Value>
     ensures { result ≡ value_of (Some said.now) }
 {
     match said {

@@ -12,6 +12,7 @@ use Rattle.std.proofs.lemmas.Bool.{cases_eq, cases_Bool, eq-eqb, ne_eqb, false�
 use Rattle.std.proofs.lemmas.List.{append_assoc}
 use Rattle.record_slots.specs.Table.{Table, is_within, rows_within}
 use Rattle.page_store.specs.Pairs.{Pair, Rise, found, next}
+use Rattle.record_table.specs.Scanned.{row_at}
 use Rattle.record_table.specs.Shown.{table_in}
 use Rattle.record_table.proofs.Tables.{record_at, get-table_in, same_table, tied}
 
@@ -37,11 +38,6 @@ lt_of a b e = grind arith
 and_false : (a : Bool) → (a && false) ≡ false
 and_false true = refl
 and_false false = refl
-
--- the row of a key, where there is a record
-abbrev pub row_at : ℕ → Option (List ℕ) → List (ℕ × List ℕ)
-row_at key None = []
-row_at key (Some value) = (key, value) ∷ []
 
 -- of a row that a test keeps, or drops
 kept_row : (low high key : ℕ) (o : Option (List ℕ)) (rest : List (ℕ × List ℕ)) → (nat_le low key && nat_le key high) ≡ true → filter (is_within low high) (row_at key o ++ rest) ≡ row_at key o ++ filter (is_within low high) rest
