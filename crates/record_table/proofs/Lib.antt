@@ -10,3 +10,4 @@ pub mod Doing
 pub mod Ending
 pub mod Putting
 pub mod RowsOf
+pub mod Gathering

@@ -167,3 +167,18 @@ module _ (d : List ℕ) where
               (sym (dropped_row (suc key) high p.0 (record_at d (Some p.1)) (rows_of ps) (ap (λ (x : Bool). x && nat_le p.0 high) (le_false (suc key) p.0 (omega (arith, lt, rest.0)))))),
         )
   ]
+
+  -- the next key is above a bound
+  pub none_between : (from high key slot low top : ℕ) (ps : List Pair) → Rise low top ps → next ps from ≡ Some (key, slot) → high < key → filter (is_within from high) (rows_of ps) ≡ []
+  none_between from high key slot low top [] rise is lt = absurd (cc)
+  none_between from high key slot low top (p ∷ ps) rise is lt = elim (cases_Bool (nat_le from p.0)) [
+    | inl b ↦
+        let e : Some p ≡ Some (key, slot) = sym (ap (λ (x : Bool). cond x (Some p) (next ps from)) b) ∙ is in
+        let at : p ≡ (key, slot) = cc in
+        let k : p.0 ≡ key = λ i. (at i).0 in
+        dropped_row from high p.0 (record_at d (Some p.1)) (rows_of ps) (ap (λ (x : Bool). nat_le from p.0 && x) (le_false p.0 high (omega (arith, k, lt))) ∙ and_false (nat_le from p.0))
+        ∙ from_lower from (suc p.0) high (suc p.0) top ps rise.1 (omega (arith, le_of from p.0 b)) (omega arith) ∙ none_past (suc p.0) high ps (omega (arith, k, lt))
+    | inr b ↦
+        dropped_row from high p.0 (record_at d (Some p.1)) (rows_of ps) (ap (λ (x : Bool). x && nat_le p.0 high) b)
+        ∙ none_between from high key slot (suc p.0) top ps rise.1 (sym (ap (λ (x : Bool). cond x (Some p) (next ps from)) b) ∙ is) lt
+  ]

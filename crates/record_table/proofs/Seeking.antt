@@ -42,7 +42,7 @@ module _ (index : Index) (laws : Laws index) (t key : ℕ) (old : PagesView) (ti
     seen : List ℕ
     seen = applied (listed (old.store.state.logs t)) old.store.state.bytes
 
-    read_is : slot_said (range (view_of t (pages.state_of mid)) (64 * (slots_of mid.store.shape + slot)) 64) ≡ slot_said (slot_of (applied (listed (old.store.state.logs t)) old.store.state.bytes) slot)
+    pub read_is : slot_said (range (view_of t (pages.state_of mid)) (64 * (slots_of mid.store.shape + slot)) 64) ≡ slot_said (slot_of (applied (listed (old.store.state.logs t)) old.store.state.bytes) slot)
     read_is =
         (λ i. slot_said (range (applied (listed ((same i).logs t)) (same i).bytes) (64 * (slots_of (shape i) + slot)) 64))
         ∙ ap slot_said (slot_read (applied (listed (old.store.state.logs t)) old.store.state.bytes) old.store.shape slot
