@@ -2,7 +2,7 @@
 use Rattle.std.proofs.Common.{◌≡◌, ◌≢◌, ◌^◌, ℕ, suc, ◌+◌, ◌<◌, ◌≤◌, Bool, true, false, inl, inr, IsTrue, List, [], ◌∷◌, ◌++◌, refl, sym, ◌∙◌, ap, subst, arith}
 use Rattle.std.specs.Prelude.{filter, Option, Some, None}
 use Rattle.std.specs.FinMap.{entries}
-use Rattle.std.proofs.lemmas.List.{append-nil}
+use Rattle.std.proofs.lemmas.List.{append-nil, append_assoc}
 use Rattle.array_shape.specs.Logged.{applied}
 use Rattle.eaw_face.specs.State.{listed}
 use Rattle.record_slots.specs.Slots.{slot_said}
@@ -53,3 +53,14 @@ module _ (index : Index) (laws : Laws index) (t : ℕ) (old : PagesView) (tied :
         let f = first_from (applied (listed (old.store.state.logs t)) old.store.state.bytes) from high key slot 0 (2 ^ 64) (index.pairs old.store.state.bytes) rises is le in
         rows_are from high ∙ f.2
         ∙ (λ i. row_at key (value_of (sym read i)) ++ sym (rows_are (suc key) high) i)
+
+-- the last row, and none
+pub last_row : (rows row all from behind new : List (ℕ × List ℕ)) → rows ++ from ≡ all → from ≡ row ++ behind → behind ≡ [] → new ≡ rows ++ row → new ≡ all
+last_row rows row all from behind new sum is none e =
+    e ∙ ap (λ (l : List (ℕ × List ℕ)). rows ++ l) (sym (append-nil row)) ∙ ap (λ (l : List (ℕ × List ℕ)). rows ++ (row ++ l)) (sym none) ∙ ap (λ (l : List (ℕ × List ℕ)). rows ++ l) (sym is) ∙ sum
+
+pub no_row : (rows all from : List (ℕ × List ℕ)) → rows ++ from ≡ all → from ≡ [] → rows ≡ all
+no_row rows all from sum none = sym (append-nil rows) ∙ ap (λ (l : List (ℕ × List ℕ)). rows ++ l) (sym none) ∙ sum
+
+pub more_row : (rows row all from behind new : List (ℕ × List ℕ)) → rows ++ from ≡ all → from ≡ row ++ behind → new ≡ rows ++ row → new ++ behind ≡ all
+more_row rows row all from behind new sum is e = ap (λ (l : List (ℕ × List ℕ)). l ++ behind) e ∙ append_assoc rows row behind ∙ ap (λ (l : List (ℕ × List ℕ)). rows ++ l) (sym is) ∙ sum
