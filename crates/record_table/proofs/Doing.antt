@@ -14,16 +14,17 @@ use Rattle.page_store.specs.Shown.{PagesView}
 use Rattle.page_store.specs.declared.fault.PageFault.{PageFault}
 use Rattle.page_store.specs.declared.fault.PageFault.TheVariants as page
 use Rattle.record_table.specs.Causes.{Cause, MaySave, Fits, HasRoom, IsFull, IsShort, IsSought}
-use Rattle.record_table.specs.Command.{TableCommand, look, put, del, after, number_of, written, is_seen}
+use Rattle.record_table.specs.Command.{TableCommand, look, put, del, scan, after, number_of, written, is_seen}
 use Rattle.record_table.specs.Does.{Does, OpensWith, Indexed, saves_after}
 use Rattle.record_table.specs.Does as table
 use Rattle.record_table.specs.Faults.{as_table}
 use Rattle.record_table.specs.Invariant.{Rests, Holds}
 use Rattle.record_table.specs.Shown.{state_of, keys_of, held_on, needed_on}
+use Rattle.record_table.specs.Scanned.{ScanCause}
 use Rattle.record_table.specs.Sought.{LooksAs}
 use Rattle.record_table.specs.State.{TableState, Keys, TakesPages, is_rewritten}
 use Rattle.record_table.specs.declared.fault.TableFault.{TableFault}
-use Rattle.record_table.specs.declared.fault.TableFault.TheVariants.{LogFull, Media, Dead, Damaged}
+use Rattle.record_table.specs.declared.fault.TableFault.TheVariants.{SlotsFull, PagesFull, SavesFull, LogFull, Media, Dead, Damaged, NoMemory}
 use Rattle.record_table.proofs.Moving.{Moved, Failed, moved_by_look, failed_by_look, rests_moved}
 use Rattle.record_table.proofs.Wrote.{Wrote}
 
@@ -205,3 +206,30 @@ module _ (tells : Bool) (Opens : List ℕ → List ℕ → Type 0) (index : Inde
       → (let r : Result T TableFault = Ok answer in Does tells Opens index (del t key) old new r) × Holds tells index new
   not_removed T answer alive looks unseen = looked tells Opens index (del t key) old new holds answer alive looks tt (λ told seen. absurd (false≢true (sym (unseen told) ∙ seen)))
       (λ told. sym (ap (λ (b : Bool). cond b (written (state_of index old) t key None) (state_of index old)) (unseen told))) (λ a b same. same) refl
+
+-- the answer to a scan, with what was gathered
+abbrev pub scanned_as : {T : Type 0} → T → Result (Unit {0}) TableFault → Result T TableFault
+scanned_as rows (Ok done) = Ok rows
+scanned_as rows (Err f) = Err f
+
+module _ (tells : Bool) (Opens : List ℕ → List ℕ → Type 0) (index : Index) (t low high : ℕ) (old new : PagesView) (holds : Holds tells index old) (alive : IsAlive old.store) (T : Type 0) (rows : T) where
+  -- it was refused, and not by the media
+  unscanned : (f : TableFault) → (let r : Result T TableFault = Err f in IsFalse (table.is_failed r)) → (let r : Result T TableFault = Err f in Cause tells index (scan t low high) old r) → LooksAs tells Opens t false old new
+      → (let r : Result T TableFault = Err f in Does tells Opens index (scan t low high) old new r) × Holds tells index new
+  unscanned f well cause looks =
+      let moved = moved_by_look tells Opens index t old new alive (holds alive) looks in
+      let r : Result T TableFault = Err f in (
+        does_moved tells Opens index (scan t low high) old new r alive well moved cause (λ told. tt) (λ told. look_keys tells Opens index (scan t low high) old new holds alive looks told) tt,
+        holds_moved tells Opens index (scan t low high) old new holds alive moved,
+      )
+
+  pub scanned : (r : Result (Unit {0}) TableFault) → LooksAs tells Opens t (table.is_failed r) old new → ScanCause tells r → Does tells Opens index (scan t low high) old new (scanned_as rows r) × Holds tells index new
+  scanned (Ok done) looks cause = looked tells Opens index (scan t low high) old new holds rows alive looks tt (λ told. tt) (λ told. refl) (λ a b same. same) refl
+  scanned (Err Media) looks cause = (does_failed tells Opens index (scan t low high) old new alive (failed_by_look tells Opens index t old new alive (holds alive) looks), holds_dead tells Opens index (scan t low high) old new (looks.dies refl).0)
+  scanned (Err NoMemory) looks cause = unscanned NoMemory refl (alive, tt) looks
+  scanned (Err (Damaged bad)) looks cause = unscanned (Damaged bad) refl (alive, tt, cause) looks
+  scanned (Err Dead) looks cause = absurd cause
+  scanned (Err SavesFull) looks cause = absurd cause
+  scanned (Err (LogFull g h n)) looks cause = absurd cause
+  scanned (Err (SlotsFull n)) looks cause = absurd cause
+  scanned (Err (PagesFull n)) looks cause = absurd cause
