@@ -1,11 +1,10 @@
 -- From what calls below leave, what a call on records does.
-use Rattle.std.proofs.Common.{◌≡◌, ◌≢◌, ℕ, suc, ◌+◌, ◌<◌, ◌≤◌, Bool, true, false, cond, inl, inr, IsTrue, List, length, Result, Ok, Err, refl, sym, ◌∙◌, ap, subst, arith}
+use Rattle.std.proofs.Common.{◌≡◌, ℕ, ◌+◌, ◌<◌, ◌≤◌, Bool, true, false, cond, inl, IsTrue, List, length, Result, Ok, Err, refl, sym, ◌∙◌, ap, subst, arith}
 use Rattle.std.specs.Prelude.{Option, Some, None, IsFalse, IsErrOf, OnOk, OnErr}
 use Rattle.std.proofs.lemmas.Bool.{false≢true}
-use Rattle.counted.specs.Causes.{Rose}
 use Rattle.counted.proofs.Going.{then, weaker}
 use Rattle.array_shape.specs.declared.shape.Shape.{Shape}
-use Rattle.eaw_face.specs.State.{State, listed, count_on}
+use Rattle.eaw_face.specs.State.{State, count_on}
 use Rattle.eaw_face.specs.Causes.{IsAlive}
 use Rattle.page_store.specs.Index.{Index}
 use Rattle.page_store.specs.Looks.{LookCause, is_failed}
@@ -18,7 +17,7 @@ use Rattle.record_table.specs.Command.{TableCommand, look, put, del, scan, after
 use Rattle.record_table.specs.Does.{Does, OpensWith, Indexed, saves_after}
 use Rattle.record_table.specs.Does as table
 use Rattle.record_table.specs.Faults.{as_table}
-use Rattle.record_table.specs.Invariant.{Rests, Holds}
+use Rattle.record_table.specs.Invariant.{Holds}
 use Rattle.record_table.specs.Shown.{state_of, keys_of, held_on, needed_on}
 use Rattle.record_table.specs.Scanned.{ScanCause}
 use Rattle.record_table.specs.Sought.{LooksAs}

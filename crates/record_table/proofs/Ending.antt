@@ -1,13 +1,13 @@
 -- Calls on records that are one call of pages: saves, ways back, and ends.
-use Rattle.std.proofs.Common.{◌≡◌, ◌≢◌, ℕ, suc, ◌+◌, ◌-◌, ◌<◌, ◌≤◌, ◌⊎◌, Bool, true, false, inl, inr, IsTrue, List, [], ◌∷◌, ◌++◌, length, take, Result, Ok, Err, refl, sym, ◌∙◌, ap, subst, arith}
-use Rattle.std.specs.Prelude.{Option, Some, None, IsFalse, IfErr, OnOk, OnErr}
+use Rattle.std.proofs.Common.{◌≡◌, ◌≢◌, ℕ, ◌-◌, ◌<◌, ◌≤◌, ◌⊎◌, Bool, true, false, inl, inr, IsTrue, List, [], ◌∷◌, ◌++◌, length, take, Result, Ok, Err, refl, sym, ◌∙◌, ap, subst, arith}
+use Rattle.std.specs.Prelude.{Some, IfErr, OnErr}
 use Rattle.std.proofs.lemmas.Bool.{false≢true}
 use Rattle.std.proofs.lemmas.List.{length-append, length-take-le, length-map}
 use Rattle.counted.proofs.Going.{stays, weaker}
-use Rattle.array_shape.specs.Logged.{Part, applied}
+use Rattle.array_shape.specs.Logged.{Part}
 use Rattle.array_shape.specs.declared.shape.Shape.{Shape}
 use Rattle.eaw_face.specs.StoreView.{StoreView, LeavesOnly}
-use Rattle.eaw_face.specs.State.{State, listed}
+use Rattle.eaw_face.specs.State.{listed}
 use Rattle.eaw_face.specs.Causes.{IsAlive}
 use Rattle.page_store.specs.Command.{PageCommand}
 use Rattle.page_store.specs.Command as page
@@ -18,22 +18,20 @@ use Rattle.page_store.specs.Outline.{Outline, outline_after}
 use Rattle.page_store.specs.Shown.{PagesView, Shown, pages_of, outline_of}
 use Rattle.page_store.specs.Shown as pages
 use Rattle.page_store.specs.State.{PagesState, log_of}
-use Rattle.page_store.specs.State as pages_state
 use Rattle.page_store.specs.declared.fault.PageFault.{PageFault}
 use Rattle.page_store.specs.declared.fault.PageFault.TheVariants as fault
 use Rattle.page_store.proofs.Numbers.{with_here, with_there}
 use Rattle.page_store.proofs.Shown.{IsTold, kept}
-use Rattle.record_table.specs.Causes.{Cause, MaySave, IsSavedOut, Fits}
+use Rattle.record_table.specs.Causes.{MaySave, IsSavedOut, Fits}
 use Rattle.record_table.specs.Command.{TableCommand, save, back, commit, abort, after, number_of}
 use Rattle.record_table.specs.Does.{Does, OpensWith, Indexed, saves_after}
 use Rattle.record_table.specs.Faults.{told_as}
 use Rattle.record_table.specs.Invariant.{AreSlotParts, Rests, Holds}
-use Rattle.record_table.specs.Shown.{table_of, state_of, shown_by, keys_of}
+use Rattle.record_table.specs.Shown.{state_of, shown_by, keys_of}
 use Rattle.record_table.specs.State.{TableState, Keys}
 use Rattle.record_table.specs.declared.fault.TableFault.{TableFault}
-use Rattle.record_table.specs.declared.fault.TableFault.TheVariants.{SavesFull, Media, Dead}
-use Rattle.record_table.proofs.Doing.{does_dead, does_failed, holds_dead, holds_same, indexed_same}
-use Rattle.record_table.proofs.Moving.{Failed, Moved, moved_none}
+use Rattle.record_table.specs.declared.fault.TableFault.TheVariants.{SavesFull}
+use Rattle.record_table.proofs.Doing.{does_dead, holds_dead, holds_same, indexed_same}
 use Rattle.record_table.proofs.SlotParts.{Laws, applied_parts}
 use Rattle.record_table.proofs.States.{shown_save, shown_back, shown_commit, shown_abort, parts_back, parts_abort, parts_commit}
 

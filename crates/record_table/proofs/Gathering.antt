@@ -1,7 +1,6 @@
 -- The rows that a number sees, key by key.
-use Rattle.std.proofs.Common.{◌≡◌, ◌≢◌, ◌^◌, ℕ, suc, ◌+◌, ◌<◌, ◌≤◌, Bool, true, false, inl, inr, IsTrue, List, [], ◌∷◌, ◌++◌, refl, sym, ◌∙◌, ap, subst, arith}
+use Rattle.std.proofs.Common.{◌≡◌, ◌^◌, ℕ, suc, ◌<◌, ◌≤◌, List, [], ◌++◌, sym, ◌∙◌, ap}
 use Rattle.std.specs.Prelude.{filter, Option, Some, None}
-use Rattle.std.specs.FinMap.{entries}
 use Rattle.std.proofs.lemmas.List.{append-nil, append_assoc}
 use Rattle.array_shape.specs.Logged.{applied}
 use Rattle.eaw_face.specs.State.{listed}
@@ -15,9 +14,9 @@ use Rattle.page_store.specs.Shown.{PagesView}
 use Rattle.record_table.specs.Causes.{slot_in}
 use Rattle.record_table.specs.Invariant.{IsTied}
 use Rattle.record_table.specs.Scanned.{row_at, rows_seen}
-use Rattle.record_table.specs.Shown.{table_in, table_of, value_of, state_of}
+use Rattle.record_table.specs.Shown.{table_in, table_of, value_of}
 use Rattle.record_table.proofs.RowsOf.{rows_of, entries_are, none_from, none_past, none_between, first_from}
-use Rattle.record_table.proofs.SlotParts.{Laws, IsWritten, applied_parts}
+use Rattle.record_table.proofs.SlotParts.{Laws, applied_parts}
 
 module _ (index : Index) (laws : Laws index) (t : ℕ) (old : PagesView) (tied : IsTied index old) where
   seen_data : List ℕ

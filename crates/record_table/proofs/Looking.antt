@@ -1,22 +1,20 @@
 -- Looks as a number: none, one by the index, one read, and one after another.
-use Rattle.std.proofs.Common.{◌≡◌, ◌≢◌, ℕ, Bool, true, false, inl, inr, List, Result, Ok, Err, refl, sym, ◌∙◌, ap, subst, arith}
-use Rattle.std.specs.Prelude.{Some, None, IsTrue, IsFalse}
+use Rattle.std.proofs.Common.{◌≡◌, ◌≢◌, ℕ, Bool, false, inl, inr, List, Result, Ok, Err, refl, sym, ◌∙◌, ap, subst}
+use Rattle.std.specs.Prelude.{Some}
 use Rattle.std.proofs.lemmas.Bool.{false≢true}
 use Rattle.counted.specs.Causes.{Rose}
 use Rattle.counted.proofs.Going.{stays, then, weaker}
 use Rattle.array_shape.specs.declared.shape.Shape.{Shape}
 use Rattle.eaw_face.specs.State.{State}
-use Rattle.eaw_face.specs.StoreView.{StoreView}
-use Rattle.eaw_face.specs.Causes.{IsAlive}
 use Rattle.page_store.specs.State.{PagesState}
 use Rattle.page_store.specs.Command.{read_as}
 use Rattle.page_store.specs.Does.{Does}
 use Rattle.page_store.specs.Outline.{Outline}
-use Rattle.page_store.specs.Shown.{PagesView, outline_of, state_of}
-use Rattle.page_store.specs.Looks.{IsStill, Looks, is_failed, LookCause}
+use Rattle.page_store.specs.Shown.{PagesView}
+use Rattle.page_store.specs.Looks.{Looks, is_failed, LookCause}
 use Rattle.page_store.specs.declared.fault.PageFault.{PageFault}
 use Rattle.page_store.specs.declared.fault.PageFault.TheVariants.{LogFull, SavesFull, Media, Dead, Damaged}
-use Rattle.record_table.specs.Sought.{IsAsBefore, LooksAs}
+use Rattle.record_table.specs.Sought.{LooksAs}
 
 same_number : (a b : ℕ) → Some a ≡ Some b → a ≡ b
 same_number a b e = cc

@@ -1,32 +1,26 @@
 -- Calls below that leave records, writes and saves as they were: looks, and insertions. One after another, and with one that fails.
-use Rattle.std.proofs.Common.{◌≡◌, ◌≢◌, ℕ, suc, ◌+◌, ◌*◌, ◌/◌, ◌<◌, ◌≤◌, ◌⊎◌, Bool, true, false, cond, inl, inr, IsTrue, List, [], ◌∷◌, length, Result, Ok, Err, refl, sym, ◌∙◌, ap, subst, arith}
+use Rattle.std.proofs.Common.{◌≡◌, ◌≢◌, ℕ, ◌+◌, ◌*◌, ◌/◌, ◌⊎◌, Bool, true, false, cond, inl, inr, IsTrue, List, [], ◌∷◌, Result, Ok, Err, refl, sym, ◌∙◌, ap, subst}
 use Rattle.std.specs.Prelude.{nat_eq, nat_lt, map, Option, Some, None, IsFalse}
-use Rattle.std.specs.FinMap.{get}
 use Rattle.std.proofs.lemmas.Bool.{cases_eq, false≢true, cases_Bool, eq-eqb, ne_eqb}
-use Rattle.std.proofs.lemmas.Bool.Decides.{eqb_tells}
 use Rattle.counted.specs.Causes.{Rose}
 use Rattle.counted.proofs.Going.{stays, then, weaker}
-use Rattle.array_shape.specs.declared.shape.Shape.{Shape}
 use Rattle.array_shape.specs.Logged.{Part}
 use Rattle.eaw_face.specs.State.{State, listed}
-use Rattle.eaw_face.specs.StoreView.{StoreView, LeavesOnly}
+use Rattle.eaw_face.specs.StoreView.{LeavesOnly}
 use Rattle.eaw_face.specs.Causes.{IsAlive}
 use Rattle.record_slots.specs.Slots.{slot_said, slot_bytes}
-use Rattle.record_slots.specs.Places.{slot_of, next_slot, AreGiven, slot_at}
+use Rattle.record_slots.specs.Places.{next_slot}
 use Rattle.record_slots.specs.declared.slot.Slot.TheVariants.{Absent}
-use Rattle.record_slots.specs.Table.{Table, Write}
 use Rattle.page_store.specs.Index.{Index, Grows, Gains}
 use Rattle.page_store.specs.Index as face
-use Rattle.page_store.specs.Inserts.{Inserts, Made, MayBecome, is_insert_failed, KeepsLogs}
+use Rattle.page_store.specs.Inserts.{Inserts, Made, is_insert_failed}
 use Rattle.page_store.specs.Pairs.{Pair, found, inserted}
 use Rattle.page_store.specs.Shown.{PagesView, saved_of}
-use Rattle.page_store.specs.Shown as pages
-use Rattle.page_store.specs.State.{PagesState, log_of}
 use Rattle.page_store.specs.declared.index_fault.IndexFault.{IndexFault}
 use Rattle.page_store.specs.declared.index_fault.IndexFault.TheVariants as fault
 use Rattle.record_table.specs.Does.{OpensWith}
-use Rattle.record_table.specs.Invariant.{IsSlotPart, AreSlotParts, IsTied, Rests}
-use Rattle.record_table.specs.Shown.{value_of, table_in, table_of, write_of, writes_of, state_of, shown_by}
+use Rattle.record_table.specs.Invariant.{AreSlotParts, IsTied, Rests}
+use Rattle.record_table.specs.Shown.{value_of, table_in, table_of, write_of, writes_of, state_of}
 use Rattle.record_table.specs.Sought.{LooksAs}
 use Rattle.record_table.specs.State.{TableState}
 use Rattle.record_table.proofs.Tables.{same_table, record_at, get-table_in}

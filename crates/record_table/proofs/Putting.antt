@@ -1,9 +1,9 @@
 -- A value for a key: the index is looked up, the key inserted where it is new, and its slot written.
-use Rattle.std.proofs.Common.{◌≡◌, ◌≢◌, ℕ, suc, ◌+◌, ◌-◌, ◌*◌, ◌<◌, ◌≤◌, ◌⊎◌, Bool, true, false, cond, inl, inr, IsTrue, List, [], ◌∷◌, length, Result, Ok, Err, refl, sym, ◌∙◌, ap, subst, arith}
+use Rattle.std.proofs.Common.{◌≡◌, ◌≢◌, ℕ, suc, ◌+◌, ◌-◌, ◌*◌, ◌<◌, ◌≤◌, Bool, true, false, cond, inl, inr, IsTrue, List, [], ◌∷◌, length, Result, Ok, Err, refl, sym, ◌∙◌, ap, subst, arith}
 use Rattle.std.specs.Prelude.{filter, Option, Some, None, IsFalse, IfSome}
 use Rattle.std.proofs.lemmas.Bool.{false≢true}
 use Rattle.array_shape.specs.declared.shape.Shape.{Shape}
-use Rattle.eaw_face.specs.State.{State, Logs, listed, count_on}
+use Rattle.eaw_face.specs.State.{State, listed, count_on}
 use Rattle.eaw_face.specs.StoreView.{StoreView}
 use Rattle.eaw_face.specs.Causes.{IsAlive}
 use Rattle.record_slots.specs.Slots.{slot_said, slot_bytes}
@@ -29,15 +29,15 @@ use Rattle.record_table.specs.Command.{TableCommand, put, del, after, number_of,
 use Rattle.record_table.specs.Does.{Does, Indexed, IndexedAt, Inserted, saves_after}
 use Rattle.record_table.specs.Faults.{as_table, told_as, inserted_as}
 use Rattle.record_table.specs.Invariant.{Rests, Holds}
-use Rattle.record_table.specs.Shown.{write_said, state_of, keys_of, held_on}
+use Rattle.record_table.specs.Shown.{write_said, state_of, keys_of}
 use Rattle.record_table.specs.Sought.{LooksAs}
 use Rattle.record_table.specs.State.{Keys, GainsKey, KeepsKeys, TakesPages}
 use Rattle.record_table.specs.declared.fault.TableFault.{TableFault}
-use Rattle.record_table.specs.declared.fault.TableFault.TheVariants.{SlotsFull, PagesFull, LogFull, Media, Dead, Damaged}
+use Rattle.record_table.specs.declared.fault.TableFault.TheVariants.{SlotsFull, PagesFull, LogFull, Damaged}
 use Rattle.record_table.proofs.Doing.{look_keys, does_moved, does_wrote, does_failed, holds_dead, holds_moved, room_behind, full_behind, short_behind}
-use Rattle.record_table.proofs.Moving.{Moved, Failed, moved_by_look, moved_then, failed_then, rests_moved, moved_by_insert, failed_by_insert, found_new}
+use Rattle.record_table.proofs.Moving.{Moved, moved_by_look, moved_then, failed_then, rests_moved, moved_by_insert, failed_by_insert, found_new}
 use Rattle.record_table.proofs.SlotParts.{Laws}
-use Rattle.record_table.proofs.Wrote.{Wrote, wrote, write_failed, write_short}
+use Rattle.record_table.proofs.Wrote.{wrote, write_failed, write_short}
 
 -- stores of one shape, whose parts lie alike
 module _ (a b : StoreView) (t : ℕ) (shape : b.shape ≡ a.shape) (ranges : listed (b.ranges t) ≡ listed (a.ranges t)) where
@@ -75,7 +75,7 @@ module _ (a b : StoreView) (t : ℕ) (shape : b.shape ≡ a.shape) (ranges : lis
   comes index key B A over same to = (
     subst (λ (s : Shape). next_slot a.state.bytes < slots_of s) shape (subst (λ (d : List ℕ). next_slot d < slots_of b.shape) same to.0),
     over _ _ (subst (λ (s : Shape). B (index_pages_of s - next_page a.state.bytes) (index.actions a.state.bytes key)) shape
-    (subst (λ (d : List ℕ). B (index_pages_of b.shape - next_page d) (index.actions d key)) same to.1)),
+        (subst (λ (d : List ℕ). B (index_pages_of b.shape - next_page d) (index.actions d key)) same to.1)),
   )
 
   pub comes_fit : (index : Index) (key : ℕ) → b.state.bytes ≡ a.state.bytes → ComesTo index key b (AllFit b t) → ComesTo index key a (AllFit a t)
@@ -118,7 +118,7 @@ module _ (tells : Bool) (Opens : List ℕ → List ℕ → Type 0) (index : Inde
   slot_written (Ok tt) does same =
       let w = wrote tells Opens index laws (number_of c) slot said mid new mid_alive mid_rests told_by ordered named reads whole tt does in (
         does_wrote tells Opens index c old new x mid (write_said (Some said)).0 slot (write_said (Some said)).1 moved w
-        (alive, may, λ told. fits told (room_behind tells Opens index c old new (number_of c) mid moved told (write_said (Some said)).0 slot (w.room told))) one indexed saves,
+            (alive, may, λ told. fits told (room_behind tells Opens index c old new (number_of c) mid moved told (write_said (Some said)).0 slot (w.room told))) one indexed saves,
         λ living. record { closed = λ u. ap (λ (f : ℕ → Option ℕ). f u) w.tops ∙ mid_rests.closed u; tied = w.tied },
       )
   slot_written (Err fault.Media) does same =
@@ -132,10 +132,12 @@ module _ (tells : Bool) (Opens : List ℕ → List ℕ → Type 0) (index : Inde
       let e = same (fault.LogFull g h n) refl (λ x. cc) in
       let r : Result T TableFault = Err (LogFull g h n) in (
         subst (λ (v : PagesView). (let r : Result T TableFault = Err (LogFull g h n) in Does tells Opens index c old v r)) (sym e)
-        (does_moved tells Opens index c old mid r alive refl moved
-        (alive, short g h n (short_behind tells Opens index c old new (number_of c) mid moved g h n full.0),
-        λ told. lacks told g h n (full_behind tells Opens index c old new (number_of c) mid moved told (write_said (Some said)).0 slot g h n (full.1 told)))
-        (λ told. tt) (λ told. indexed_full told g h n) tt),
+            (does_moved tells Opens index c old mid r alive refl moved (
+              alive,
+              short g h n (short_behind tells Opens index c old new (number_of c) mid moved g h n full.0),
+              λ told. lacks told g h n (full_behind tells Opens index c old new (number_of c) mid moved told (write_said (Some said)).0 slot g h n (full.1 told)),
+            )
+            (λ told. tt) (λ told. indexed_full told g h n) tt),
         subst (Holds tells index) (sym e) (λ living. mid_rests),
       )
 
@@ -263,16 +265,16 @@ module _ (tells : Bool) (Opens : List ℕ → List ℕ → Type 0) (index : Inde
         let moved = refused (insert.SlotsFull n) refl inserts in
         let r : Result (Unit {0}) TableFault = Err (SlotsFull n) in (
           does_moved tells Opens index (put t key value) old far r alive refl moved
-          (alive, tt, inserts.cause.1 ∙ ap slots_of first.shape, λ told. (absent told, ap next_slot (sym (same_bytes told)) ∙ inserts.cause.2 told)) (λ told. tt)
-          (λ told. let made = inserts.made told mid_lives in at_none (SlotsFull n) told (kept_keys told made.0 made.1)) tt,
+              (alive, tt, inserts.cause.1 ∙ ap slots_of first.shape, λ told. (absent told, ap next_slot (sym (same_bytes told)) ∙ inserts.cause.2 told)) (λ told. tt)
+              (λ told. let made = inserts.made told mid_lives in at_none (SlotsFull n) told (kept_keys told made.0 made.1)) tt,
           holds_moved tells Opens index (put t key value) old far holds alive moved,
         )
     put_refused (insert.PagesFull n) inserts =
         let moved = refused (insert.PagesFull n) refl inserts in
         let r : Result (Unit {0}) TableFault = Err (PagesFull n) in (
           does_moved tells Opens index (put t key value) old far r alive refl moved
-          (alive, tt, inserts.cause.1 ∙ ap (λ (s : Shape). index_pages_of s - 1) first.shape, λ told. (absent told, comes_pages old.store mid.store t first.shape same_ranges index key (same_bytes told) (inserts.cause.2 told)))
-          (λ told. tt) (λ told. let made = inserts.made told mid_lives in at_none (PagesFull n) told (kept_keys told made.0 made.1)) tt,
+              (alive, tt, inserts.cause.1 ∙ ap (λ (s : Shape). index_pages_of s - 1) first.shape, λ told. (absent told, comes_pages old.store mid.store t first.shape same_ranges index key (same_bytes told) (inserts.cause.2 told)))
+              (λ told. tt) (λ told. let made = inserts.made told mid_lives in at_none (PagesFull n) told (kept_keys told made.0 made.1)) tt,
           holds_moved tells Opens index (put t key value) old far holds alive moved,
         )
     put_refused (insert.LogFull g h n) inserts =
@@ -281,12 +283,11 @@ module _ (tells : Bool) (Opens : List ℕ → List ℕ → Type 0) (index : Inde
         let lacks = lacking_same old.store mid.store t first.shape same_ranges full.0 g h n full.2 in
         let few = filter_short (is_page_on old.store.shape.loggers g) full.0 in
         let r : Result (Unit {0}) TableFault = Err (LogFull g h n) in (
-          does_moved tells Opens index (put t key value) old far r alive refl moved
-          (
+          does_moved tells Opens index (put t key value) old far r alive refl moved (
             alive,
             record { logger = lacks.logger; held = lacks.held_is; few = omega (arith, lacks.needed_is, few, full.1); full = lacks.full },
             λ told. subst (PutLacks index t key old g h n) (sym (absent told)) (inl (comes_room old.store mid.store t first.shape same_ranges index key g h n (same_bytes told) (inserts.cause.2 told))),
           ) (λ told. tt)
-          (λ told. let made = inserts.made told mid_lives in let k = kept_keys told made.0 made.1 in at_none (LogFull g h n) told (k.0, inl k.1)) tt,
+              (λ told. let made = inserts.made told mid_lives in let k = kept_keys told made.0 made.1 in at_none (LogFull g h n) told (k.0, inl k.1)) tt,
           holds_moved tells Opens index (put t key value) old far holds alive moved,
         )

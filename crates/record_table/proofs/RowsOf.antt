@@ -1,16 +1,15 @@
 -- The records of pairs as rows, and the next of them.
-use Rattle.std.proofs.Common.{◌≡◌, ◌≢◌, ℕ, suc, ◌+◌, ◌<◌, ◌≤◌, ◌⊎◌, Bool, true, false, cond, ◌&&◌, inl, inr, List, [], ◌∷◌, ◌++◌, refl, sym, ◌∙◌, ap, subst, arith}
+use Rattle.std.proofs.Common.{◌≡◌, ℕ, suc, ◌<◌, ◌≤◌, Bool, true, false, cond, ◌&&◌, inl, inr, List, [], ◌∷◌, ◌++◌, refl, sym, ◌∙◌, ap, subst, arith}
 use Rattle.std.specs.Prelude.{nat_eq, nat_le, filter, Option, Some, None}
 use Rattle.std.specs.declared.cmp.Ordering.{Ordering}
 use Rattle.std.specs.declared.cmp.Ordering.TheVariants.{Less}
-use Rattle.std.specs.Ordering.{nat_cmp, eq_by_cmp, is_lt}
+use Rattle.std.specs.Ordering.{nat_cmp, is_lt}
 use Rattle.std.specs.Cmp.{nat_cmp_is}
-use Rattle.std.specs.FinMap.{get, entries, find, is_sorted, from_sorted, entries-from_sorted, get-from_sorted}
+use Rattle.std.specs.FinMap.{entries, find, is_sorted, from_sorted, entries-from_sorted, get-from_sorted}
 use Rattle.std.specs.FinMap.Entries.{below_all}
 use lib.Dec.{T}
-use Rattle.std.proofs.lemmas.Bool.{cases_eq, cases_Bool, eq-eqb, ne_eqb, false≢true}
-use Rattle.std.proofs.lemmas.List.{append_assoc}
-use Rattle.record_slots.specs.Table.{Table, is_within, rows_within}
+use Rattle.std.proofs.lemmas.Bool.{cases_eq, cases_Bool, eq-eqb, ne_eqb}
+use Rattle.record_slots.specs.Table.{is_within}
 use Rattle.page_store.specs.Pairs.{Pair, Rise, found, next}
 use Rattle.record_table.specs.Scanned.{row_at}
 use Rattle.record_table.specs.Shown.{table_in}
@@ -152,10 +151,10 @@ module _ (d : List ℕ) where
           omega (arith, k, le_of from p.0 b),
           ap (λ (x : Bool). cond x (Some p.1) (found ps key)) (eq-eqb p.0 key k) ∙ ap Some s,
           kept_row from high p.0 (record_at d (Some p.1)) (rows_of ps) (λ i. b i && high_ok i)
-          ∙ ap (λ (l : List (ℕ × List ℕ)). row_at p.0 (record_at d (Some p.1)) ++ l)
+              ∙ ap (λ (l : List (ℕ × List ℕ)). row_at p.0 (record_at d (Some p.1)) ++ l)
               (from_lower from (suc p.0) high (suc p.0) top ps rise.1 (omega (arith, le_of from p.0 b)) (omega arith)
               ∙ sym (dropped_row (suc p.0) high p.0 (record_at d (Some p.1)) (rows_of ps) (ap (λ (x : Bool). x && nat_le p.0 high) (le_false (suc p.0) p.0 (omega arith)))))
-          ∙ (λ i. row_at (k i) (record_at d (Some (s i))) ++ filter (is_within (suc (k i)) high) (rows_of (p ∷ ps))),
+              ∙ (λ i. row_at (k i) (record_at d (Some (s i))) ++ filter (is_within (suc (k i)) high) (rows_of (p ∷ ps))),
         )
     | inr b ↦
         let rest = first_from from high key slot (suc p.0) top ps rise.1 (sym (ap (λ (x : Bool). cond x (Some p) (next ps from)) b) ∙ is) le in
@@ -163,7 +162,7 @@ module _ (d : List ℕ) where
           rest.0,
           ap (λ (x : Bool). cond x (Some p.1) (found ps key)) (ne_eqb p.0 key (λ e. absurd (omega (arith, e, lt, rest.0)))) ∙ rest.1,
           dropped_row from high p.0 (record_at d (Some p.1)) (rows_of ps) (ap (λ (x : Bool). x && nat_le p.0 high) b) ∙ rest.2
-          ∙ ap (λ (l : List (ℕ × List ℕ)). row_at key (record_at d (Some slot)) ++ l)
+              ∙ ap (λ (l : List (ℕ × List ℕ)). row_at key (record_at d (Some slot)) ++ l)
               (sym (dropped_row (suc key) high p.0 (record_at d (Some p.1)) (rows_of ps) (ap (λ (x : Bool). x && nat_le p.0 high) (le_false (suc key) p.0 (omega (arith, lt, rest.0)))))),
         )
   ]

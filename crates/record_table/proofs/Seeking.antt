@@ -1,6 +1,6 @@
 -- What a look finds of a key, and how records begin.
-use Rattle.std.proofs.Common.{◌≡◌, ◌≢◌, ℕ, ◌+◌, ◌*◌, ◌/◌, Bool, true, false, IsTrue, List, [], ◌∷◌, length, refl, sym, ◌∙◌, ap, subst, arith}
-use Rattle.std.specs.Prelude.{Option, Some, None, IsFalse}
+use Rattle.std.proofs.Common.{◌≡◌, ℕ, ◌+◌, ◌*◌, ◌/◌, Bool, false, IsTrue, List, [], ◌∷◌, length, refl, sym, ◌∙◌, ap, subst, arith}
+use Rattle.std.specs.Prelude.{Option, Some, None}
 use Rattle.std.specs.Option.{option_map}
 use Rattle.std.specs.FinMap.{get}
 use Rattle.counted.specs.Bytes.{range}
@@ -8,20 +8,19 @@ use Rattle.array_shape.specs.declared.shape.Shape.{Shape}
 use Rattle.array_shape.specs.Places.{data_len}
 use Rattle.array_shape.specs.Logged.{Part, ranges_of, applied}
 use Rattle.eaw_face.specs.State.{State, listed}
-use Rattle.eaw_face.specs.StoreView.{StoreView}
 use Rattle.eaw_face.specs.Causes.{IsAlive}
 use Rattle.record_slots.specs.Slots.{slot_said}
 use Rattle.record_slots.specs.Places.{slot_of, IsOfKey, Carries}
 use Rattle.record_slots.specs.declared.slot.Slot.{Slot}
 use Rattle.page_store.specs.Index.{Index, slots_of}
-use Rattle.page_store.specs.Looks.{Looks, is_failed}
+use Rattle.page_store.specs.Looks.{Looks}
 use Rattle.page_store.specs.Pairs.{found}
 use Rattle.page_store.specs.Shown.{PagesView}
 use Rattle.page_store.specs.Shown as pages
-use Rattle.page_store.specs.State.{PagesState, log_of, view_of}
+use Rattle.page_store.specs.State.{view_of}
 use Rattle.record_table.specs.Attached.{Attached}
 use Rattle.record_table.specs.Causes.{slot_in}
-use Rattle.record_table.specs.Invariant.{AreSlotParts, IsTied, Rests, Holds}
+use Rattle.record_table.specs.Invariant.{AreSlotParts, IsTied, Holds}
 use Rattle.record_table.specs.Shown.{value_of, table_of, writes_of, state_of}
 use Rattle.record_table.specs.State.{seen_by}
 use Rattle.record_table.proofs.Tables.{record_at}

@@ -1,6 +1,6 @@
 -- What parts that are whole slots make of data.
-use Rattle.std.proofs.Common.{◌≡◌, ◌≢◌, ◌^◌, ℕ, suc, ◌+◌, ◌*◌, ◌/◌, ◌<◌, ◌≤◌, ◌⊎◌, Bool, true, false, cond, inl, inr, List, [], ◌∷◌, ◌++◌, length, refl, sym, ◌∙◌, ap, subst, arith}
-use Rattle.std.specs.Prelude.{nat_eq, map, Option, Some, None, IsSome}
+use Rattle.std.proofs.Common.{◌≡◌, ◌≢◌, ◌^◌, ℕ, ◌+◌, ◌*◌, ◌/◌, ◌<◌, ◌≤◌, ◌⊎◌, Bool, true, false, cond, inl, inr, List, [], ◌∷◌, length, refl, sym, ◌∙◌, ap, subst, arith}
+use Rattle.std.specs.Prelude.{nat_eq, Option, Some, None, IsSome}
 use Rattle.std.specs.FinMap.{get}
 use Rattle.std.proofs.lemmas.Bool.{cases_eq, false≢true}
 use Rattle.std.proofs.lemmas.Bool.Decides.{eqb_tells}
@@ -11,7 +11,7 @@ use Rattle.pcm_media.proofs.Ranges.{range-put}
 use Rattle.array_shape.specs.Logged.{Part, applied}
 use Rattle.record_slots.specs.Slots.{slot_said}
 use Rattle.record_slots.specs.Super.{next_slot_said, next_page_said}
-use Rattle.record_slots.specs.Places.{page_bytes, page_count, slot_count, first_slot_page, slot_at, slot_of, next_slot, next_page, IsOfKey, Carries, AreGiven}
+use Rattle.record_slots.specs.Places.{page_bytes, slot_count, slot_at, slot_of, next_slot, next_page, IsOfKey, Carries, AreGiven}
 use Rattle.record_slots.specs.declared.slot.Slot.{Slot}
 use Rattle.record_slots.specs.declared.slot.Slot.TheVariants.{Absent, Present}
 use Rattle.record_slots.specs.Table.{Table, all_written, write_into}

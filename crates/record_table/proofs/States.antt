@@ -1,21 +1,18 @@
 -- What each call of pages makes of the state of records.
-use Rattle.std.proofs.Common.{◌≡◌, ◌≢◌, ℕ, zero, suc, ◌+◌, ◌-◌, ◌<◌, ◌≤◌, Bool, true, false, cond, inl, inr, List, [], ◌∷◌, ◌++◌, length, get_or, take, drop, refl, sym, ◌∙◌, ap, subst, arith}
+use Rattle.std.proofs.Common.{◌≡◌, ℕ, zero, suc, ◌-◌, Bool, true, false, cond, List, [], ◌∷◌, ◌++◌, length, get_or, take, refl, sym, ◌∙◌, ap, subst, arith}
 use Rattle.std.specs.Prelude.{nat_eq, map, max, Option, Some, None}
 use Rattle.std.specs.Option.{option_map, unwrap_or}
-use Rattle.std.proofs.lemmas.List.{map-append, take-map, length-map, take-take}
-use Rattle.std.proofs.lemmas.Bool.{cases_eq}
-use Rattle.array_shape.specs.declared.shape.Shape.{Shape}
+use Rattle.std.proofs.lemmas.List.{map-append, take-map, length-map}
 use Rattle.array_shape.specs.Logged.{Part, applied}
-use Rattle.eaw_face.specs.State.{State, Logs, listed, with_log}
-use Rattle.record_slots.specs.Table.{Table, Write}
+use Rattle.eaw_face.specs.State.{Logs, listed, with_log}
 use Rattle.page_store.specs.Edit.{with_write}
 use Rattle.page_store.specs.Index.{Index}
 use Rattle.page_store.specs.State as pages
 use Rattle.page_store.specs.State.{PagesState, log_of, with_one}
 use Rattle.page_store.specs.Command as page
-use Rattle.page_store.specs.Kept.{IsFront, IsKept}
+use Rattle.page_store.specs.Kept.{IsFront}
 use Rattle.page_store.proofs.Views.{saved_or_none}
-use Rattle.record_table.specs.State.{TableState, save_at, floor_of}
+use Rattle.record_table.specs.State.{save_at, floor_of}
 use Rattle.record_table.specs.Command.{save, back, commit, abort, written, after}
 use Rattle.record_table.specs.Shown.{table_of, write_of, writes_of, shown_by}
 use Rattle.record_table.specs.Invariant.{IsSlotPart, AreSlotParts}

@@ -1,22 +1,16 @@
 -- One write of a slot, as records see it.
-use Rattle.std.proofs.Common.{◌≡◌, ◌≢◌, ℕ, suc, ◌+◌, ◌*◌, ◌/◌, ◌<◌, ◌≤◌, Bool, true, false, cond, inl, inr, IsTrue, List, [], ◌∷◌, length, Result, Ok, Err, refl, sym, ◌∙◌, ap, subst, arith}
-use Rattle.std.specs.Prelude.{nat_eq, map, filter, is_some, Option, Some, None, IsSome, IsFalse}
-use Rattle.std.specs.Option.{option_map}
+use Rattle.std.proofs.Common.{◌≡◌, ◌≢◌, ℕ, ◌+◌, ◌*◌, ◌≤◌, Bool, true, false, cond, inl, inr, IsTrue, List, [], ◌∷◌, length, Result, Ok, Err, refl, sym, ◌∙◌, ap, subst, arith}
+use Rattle.std.specs.Prelude.{nat_eq, is_some, Option, Some, None}
 use Rattle.std.proofs.lemmas.Bool.{false≢true}
-use Rattle.counted.specs.Causes.{Rose}
 use Rattle.counted.proofs.Going.{weaker}
 use Rattle.array_shape.specs.declared.shape.Shape.{Shape}
-use Rattle.array_shape.specs.Places.{data_len, logger_of}
-use Rattle.array_shape.specs.Logged.{Part, ranges_of}
-use Rattle.eaw_face.specs.State.{State, listed, count_on, is_range_on}
-use Rattle.eaw_face.specs.StoreView.{StoreView, LeavesOnly}
-use Rattle.eaw_face.specs.Causes.{IsAlive, Fit, IsFirstFull}
+use Rattle.array_shape.specs.Places.{logger_of}
+use Rattle.eaw_face.specs.State.{listed, count_on}
+use Rattle.eaw_face.specs.StoreView.{LeavesOnly}
+use Rattle.eaw_face.specs.Causes.{IsAlive}
 use Rattle.record_slots.specs.Slots.{slot_said, slot_bytes}
-use Rattle.record_slots.specs.Places.{slot_at}
 use Rattle.record_slots.specs.declared.slot.Slot.{Slot}
-use Rattle.record_slots.specs.Table.{Table, Write}
 use Rattle.page_store.specs.Command.{write_as}
-
 use Rattle.page_store.specs.Does.{Does}
 use Rattle.page_store.specs.Edit.{edit_pos}
 use Rattle.page_store.specs.Index.{Index, slots_of}
@@ -26,7 +20,6 @@ use Rattle.page_store.specs.Pairs.{found}
 use Rattle.page_store.specs.Shown.{PagesView, outline_of}
 use Rattle.page_store.specs.Shown as pages
 use Rattle.page_store.specs.State.{PagesState, log_of}
-
 use Rattle.page_store.specs.declared.fault.PageFault.{PageFault}
 use Rattle.page_store.specs.declared.fault.PageFault.TheVariants.{LogFull, Media}
 use Rattle.page_store.proofs.Outline.{listed-ranges}
@@ -36,8 +29,8 @@ use Rattle.record_table.specs.Causes.{HasRoom, IsFull, IsShort}
 use Rattle.record_table.specs.Command.{written}
 use Rattle.record_table.specs.Does.{OpensWith}
 use Rattle.record_table.specs.Invariant.{IsSlotPart, AreSlotParts, IsTied, Rests}
-use Rattle.record_table.specs.Shown.{write_said, write_of, table_of, state_of, shown_by, held_on, needed_on, logger_of_slot}
-use Rattle.record_table.specs.State.{TableState, floor_of, is_rewritten}
+use Rattle.record_table.specs.Shown.{write_said, state_of, shown_by, held_on}
+use Rattle.record_table.specs.State.{floor_of, is_rewritten}
 use Rattle.record_table.proofs.SlotParts.{Laws}
 use Rattle.record_table.proofs.Writing.{rewrites}
 use Rattle.record_table.proofs.States.{floors, shown_write, parts_write}

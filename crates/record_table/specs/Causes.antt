@@ -7,7 +7,7 @@ use Rattle.page_store.specs.Inserts.{AllFit, LackPages, LackRoom, ComesTo}
 use Rattle.page_store.specs.Pairs.{found}
 use Rattle.page_store.specs.Shown.{PagesView}
 use Rattle.record_table.specs.State.{is_rewritten}
-use Rattle.record_table.specs.Command.{TableCommand, look, put, del, scan, save, back, commit, abort, is_seen}
+use Rattle.record_table.specs.Command.{TableCommand, look, put, del, scan, save, is_seen}
 use Rattle.record_table.specs.Shown.{state_of, held_on, needed_on}
 use Rattle.record_table.specs.declared.fault.TableFault.{TableFault}
 use Rattle.record_table.specs.declared.fault.TableFault.TheVariants.{SlotsFull, PagesFull, SavesFull, LogFull, Media, Dead, Damaged, NoMemory}

@@ -1,5 +1,5 @@
 -- The calls on records, and what each makes of the state.
-use Rattle.std.specs.Prelude.{ℕ, ◌≡◌, Bool, is_some, if◌then◌else◌, List, [], ◌∷◌, ◌++◌, take, Option, Some, None}
+use Rattle.std.specs.Prelude.{ℕ, Bool, is_some, if◌then◌else◌, List, [], ◌∷◌, ◌++◌, take, Option, Some, None}
 use Rattle.std.specs.FinMap.{get}
 use Rattle.page_store.specs.State.{with_one}
 use Rattle.record_table.specs.State.{TableState, seen_by, save_at, floor_of, with_write}

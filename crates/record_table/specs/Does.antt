@@ -1,7 +1,7 @@
 -- What a call on records does.
-use Rattle.std.specs.Prelude.{ℕ, zero, ◌≡◌, ◌≢◌, ◌+◌, ◌<◌, ◌≤◌, ◌⊎◌, nat_eq, if◌then◌else◌, Bool, true, false, IsTrue, IsFalse, List, length, Option, Some, None, Result, Ok, Err, OnOk, OnErr}
+use Rattle.std.specs.Prelude.{ℕ, ◌≡◌, ◌≢◌, ◌+◌, ◌⊎◌, Bool, true, false, IsTrue, IsFalse, List, length, Option, Some, None, Result, Ok, Err, OnOk, OnErr}
 use Rattle.counted.specs.Causes.{Rose}
-use Rattle.eaw_face.specs.StoreView.{StoreView, LeavesOnly}
+use Rattle.eaw_face.specs.StoreView.{LeavesOnly}
 use Rattle.eaw_face.specs.Causes.{IsAlive}
 use Rattle.record_slots.specs.Table.{Table}
 use Rattle.page_store.specs.Index.{Index}

@@ -1,5 +1,5 @@
 -- The model of records: a table, what numbers have written over it, and what they have saved.
-use Rattle.std.specs.Prelude.{ℕ, suc, ◌≡◌, ◌-◌, ◌≤◌, ◌+◌, Bool, nat_eq, ◌&&◌, not, if◌then◌else◌, List, [], ◌∷◌, ◌++◌, length, take, drop, slice_index_or}
+use Rattle.std.specs.Prelude.{ℕ, suc, ◌≡◌, ◌-◌, ◌≤◌, ◌+◌, Bool, ◌&&◌, not, if◌then◌else◌, List, [], ◌∷◌, ◌++◌, length, take, drop, slice_index_or}
 use Rattle.std.specs.List.{list_any}
 use Rattle.record_slots.specs.Table.{Table, Write, all_written, is_of}
 use Rattle.page_store.specs.Pairs.{Pair, inserted}

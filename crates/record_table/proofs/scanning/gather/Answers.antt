@@ -1,9 +1,9 @@
-use Rattle.std.proofs.Common.{◌≡◌, ◌≢◌, ◌<◌, ◌≤◌, IsTrue, ℕ, suc, ◌++◌, refl, sym, ◌∙◌, ap, arith}
+use Rattle.std.proofs.Common.{◌≡◌, suc, ◌++◌, sym, ◌∙◌, ap, arith}
 use Rattle.page_store.specs.Shown.{pages_of}
 use Rattle.record_slots.specs.Table.{rows_within}
 use Rattle.record_table.specs.Scanned.{row_at, rows_seen}
 use Rattle.record_table.specs.State.{TableState, seen_by}
-use Rattle.record_table.proofs.Gathering.{follows_past, last_row, no_row, more_row}
+use Rattle.record_table.proofs.Gathering.{follows_past, last_row, no_row}
 use Rattle.record_table.proofs.Moving.{moved_by_look, rests_moved}
 use Rattle.record_table.proofs.SlotParts.{Laws}
 use Rattle.record_table.proofs.scanning.gather.Goals as goal

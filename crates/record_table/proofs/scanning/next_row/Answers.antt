@@ -1,6 +1,5 @@
-use Rattle.std.proofs.Common.{◌≡◌, ◌≢◌, ◌<◌, ◌≤◌, IsTrue, ℕ, refl, sym, ◌∙◌, ap, arith}
+use Rattle.std.proofs.Common.{refl, sym, ◌∙◌, arith}
 use Rattle.page_store.specs.Shown.{pages_of}
-use Rattle.record_table.specs.Shown.{value_of}
 use Rattle.record_table.proofs.Gathering.{follows_none, follows_above, follows_some, next_is}
 use Rattle.record_table.proofs.Seeking.{read_is, some_slot}
 use Rattle.record_table.proofs.SlotParts.{Laws}
@@ -71,8 +70,10 @@ returns-in-Ok-None-read_as-clause-cause g c =
     let alive = c.in-Ok-Some.ensures.cause in
     let looks = c.in-Ok-Some.ensures.looks in
     let key = c.in-Ok-Some.pair.0 in
-    let slot = c.in-Ok-Some.pair.1 in
-    (alive, λ told.
-        let n = next_is I laws c.args.tid v0 ((c.requires.holds alive).tied told) c.args.from c.args.high key slot (sym (c.in-Ok-Some.ensures.next told) ∙ c.in-Ok-Some.field-0-is) (omega (arith, c.if-key-high.false)) in
-        some_slot I laws c.args.tid key v0 ((c.requires.holds alive).tied told) v1 looks.shape ((looks.still refl).state told) (g.met.S.EawStore.long c.args.pages.now.store told) slot n.1
-        (sym c.in-Ok-None-read_as.field-0-is ∙ c.in-Ok-None-read_as.ensures.said told))
+    let slot = c.in-Ok-Some.pair.1 in (
+      alive,
+      λ told.
+          let n = next_is I laws c.args.tid v0 ((c.requires.holds alive).tied told) c.args.from c.args.high key slot (sym (c.in-Ok-Some.ensures.next told) ∙ c.in-Ok-Some.field-0-is) (omega (arith, c.if-key-high.false)) in
+          some_slot I laws c.args.tid key v0 ((c.requires.holds alive).tied told) v1 looks.shape ((looks.still refl).state told) (g.met.S.EawStore.long c.args.pages.now.store told) slot n.1
+          (sym c.in-Ok-None-read_as.field-0-is ∙ c.in-Ok-None-read_as.ensures.said told),
+    )

@@ -21,10 +21,12 @@ returns-in-Ok-Some-read_as-clause-finds g c = λ told.
     let laws : Laws g.K.KeyIndex.index = record { rises = K.rises; given = K.given; counts = K.counts; rests = K.rests } in
     let alive = c.in-Ok-Some.ensures.cause in
     let looks = c.in-Ok-Some.ensures.looks in
-    let some = sym (c.in-Ok-Some.ensures.found told) ∙ c.in-Ok-Some.field-0-is in
-    (some, seen_some g.K.KeyIndex.index laws c.args.tid c.args.key (pages_of (V c.args.pages.now.store) c.args.pages.now) ((c.requires.holds alive).tied told)
-        (pages_of (V c.find.new.pages.store) c.find.new.pages) looks.shape ((looks.still refl).state told) (g.met.S.EawStore.long c.args.pages.now.store told) c.in-Ok-Some.slot some
-        c.in-Ok-Some-read_as.field-0 (c.in-Ok-Some-read_as.ensures.said told) ∙ ap value_of c.in-Ok-Some-read_as.field-0-is ∙ sym c.value_in.ensures)
+    let some = sym (c.in-Ok-Some.ensures.found told) ∙ c.in-Ok-Some.field-0-is in (
+      some,
+      seen_some g.K.KeyIndex.index laws c.args.tid c.args.key (pages_of (V c.args.pages.now.store) c.args.pages.now) ((c.requires.holds alive).tied told)
+          (pages_of (V c.find.new.pages.store) c.find.new.pages) looks.shape ((looks.still refl).state told) (g.met.S.EawStore.long c.args.pages.now.store told) c.in-Ok-Some.slot some
+          c.in-Ok-Some-read_as.field-0 (c.in-Ok-Some-read_as.ensures.said told) ∙ ap value_of c.in-Ok-Some-read_as.field-0-is ∙ sym c.value_in.ensures,
+    )
 
 pub returns-in-Ok-None-read_as-clause-cause : goal.returns-in-Ok-None-read_as-clause-cause
 returns-in-Ok-None-read_as-clause-cause g c =
@@ -32,9 +34,11 @@ returns-in-Ok-None-read_as-clause-cause g c =
     let V = g.S.EawStore.view in
     let laws : Laws g.K.KeyIndex.index = record { rises = K.rises; given = K.given; counts = K.counts; rests = K.rests } in
     let alive = c.in-Ok-Some.ensures.cause in
-    let looks = c.in-Ok-Some.ensures.looks in
-    (alive, λ told.
-        let some = sym (c.in-Ok-Some.ensures.found told) ∙ c.in-Ok-Some.field-0-is in
-        some_slot g.K.KeyIndex.index laws c.args.tid c.args.key (pages_of (V c.args.pages.now.store) c.args.pages.now) ((c.requires.holds alive).tied told)
-        (pages_of (V c.find.new.pages.store) c.find.new.pages) looks.shape ((looks.still refl).state told) (g.met.S.EawStore.long c.args.pages.now.store told) c.in-Ok-Some.slot some
-        (sym c.in-Ok-None-read_as.field-0-is ∙ c.in-Ok-None-read_as.ensures.said told))
+    let looks = c.in-Ok-Some.ensures.looks in (
+      alive,
+      λ told.
+          let some = sym (c.in-Ok-Some.ensures.found told) ∙ c.in-Ok-Some.field-0-is in
+          some_slot g.K.KeyIndex.index laws c.args.tid c.args.key (pages_of (V c.args.pages.now.store) c.args.pages.now) ((c.requires.holds alive).tied told)
+          (pages_of (V c.find.new.pages.store) c.find.new.pages) looks.shape ((looks.still refl).state told) (g.met.S.EawStore.long c.args.pages.now.store told) c.in-Ok-Some.slot some
+          (sym c.in-Ok-None-read_as.field-0-is ∙ c.in-Ok-None-read_as.ensures.said told),
+    )

@@ -1,4 +1,4 @@
-use Rattle.std.proofs.Common.{true, false, ℕ}
+use Rattle.std.proofs.Common.{true}
 use Rattle.page_store.specs.Command as page
 use Rattle.page_store.specs.Shown.{pages_of}
 use Rattle.record_table.specs.Command.{commit}
@@ -13,8 +13,8 @@ invariant_of-self g c =
     let laws : Laws g.K.KeyIndex.index = record { rises = K.rises; given = K.given; counts = K.counts; rests = K.rests } in
     let inside = c.self.inside.pages in
     (ended V g.S.EawStore.tells g.S.EawStore.opens g.K.KeyIndex.index (commit c.args.tid) c.args.self.now inside c.self.view_is (page.end c.args.tid true) c.end.new.self c.self.invariant (Unit {0})
-        (λ alive. commit_is g.S.EawStore.tells g.K.KeyIndex.index laws (pages_of (V inside.store) inside) (c.self.invariant alive) c.args.tid (Unit {0})) c.end.result c.end.ensures.does
-        (err_same c.end.result c.end.ensures.refused) c.told.result c.told.ensures).1
+    (λ alive. commit_is g.S.EawStore.tells g.K.KeyIndex.index laws (pages_of (V inside.store) inside) (c.self.invariant alive) c.args.tid (Unit {0})) c.end.result c.end.ensures.does
+    (err_same c.end.result c.end.ensures.refused) c.told.result c.told.ensures).1
 
 pub returns-clause-does : goal.returns-clause-does
 returns-clause-does g c =
@@ -23,5 +23,5 @@ returns-clause-does g c =
     let laws : Laws g.K.KeyIndex.index = record { rises = K.rises; given = K.given; counts = K.counts; rests = K.rests } in
     let inside = c.self.inside.pages in
     (ended V g.S.EawStore.tells g.S.EawStore.opens g.K.KeyIndex.index (commit c.args.tid) c.args.self.now inside c.self.view_is (page.end c.args.tid true) c.end.new.self c.self.invariant (Unit {0})
-        (λ alive. commit_is g.S.EawStore.tells g.K.KeyIndex.index laws (pages_of (V inside.store) inside) (c.self.invariant alive) c.args.tid (Unit {0})) c.end.result c.end.ensures.does
-        (err_same c.end.result c.end.ensures.refused) c.told.result c.told.ensures).0
+    (λ alive. commit_is g.S.EawStore.tells g.K.KeyIndex.index laws (pages_of (V inside.store) inside) (c.self.invariant alive) c.args.tid (Unit {0})) c.end.result c.end.ensures.does
+    (err_same c.end.result c.end.ensures.refused) c.told.result c.told.ensures).0

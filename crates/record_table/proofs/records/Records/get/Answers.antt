@@ -1,10 +1,7 @@
-use Rattle.std.proofs.Common.{ap, ℕ, List, Result, Ok, Err}
+use Rattle.std.proofs.Common.{ap, ℕ, List, Ok}
 use Rattle.std.specs.Prelude.{Option}
 use Rattle.page_store.specs.Shown.{Shown, pages_of}
-use Rattle.page_store.specs.declared.fault.PageFault.TheVariants.{Dead}
 use Rattle.record_table.specs.Command.{look}
-use Rattle.record_table.specs.Does.{Does}
-use Rattle.record_table.specs.declared.fault.TableFault.{TableFault}
 use Rattle.record_table.proofs.Doing.{got, look_refused}
 use Rattle.record_table.proofs.Ending.{does_of}
 use Rattle.record_table.proofs.records.Records.get.Goals.{in-Ok, in-Err}
