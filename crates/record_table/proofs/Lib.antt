@@ -11,3 +11,4 @@ pub mod Ending
 pub mod Putting
 pub mod RowsOf
 pub mod Gathering
+pub mod Holding

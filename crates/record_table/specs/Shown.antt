@@ -1,5 +1,5 @@
 -- What records show of the pages that they stand on.
-use Rattle.std.specs.Prelude.{ℕ, ◌+◌, ◌*◌, nat_eq, if◌then◌else◌, List, [], ◌∷◌, map, Option, Some, None}
+use Rattle.std.specs.Prelude.{Bool, false, ℕ, ◌+◌, ◌*◌, nat_eq, if◌then◌else◌, List, [], ◌∷◌, map, Option, Some, None}
 use Rattle.std.specs.FinMap.{empty}
 use Rattle.array_shape.specs.declared.shape.Shape.{Shape}
 use Rattle.array_shape.specs.Places.{logger_of}
@@ -10,7 +10,7 @@ use Rattle.record_slots.specs.Places.{slot_of, next_slot, next_page}
 use Rattle.record_slots.specs.declared.slot.Slot.{Slot}
 use Rattle.record_slots.specs.declared.slot.Slot.TheVariants.{Absent, Present}
 use Rattle.record_slots.specs.Table.{Table, Write, write_into}
-use Rattle.page_store.specs.Pairs.{Pair}
+use Rattle.page_store.specs.Pairs.{Pair, found}
 use Rattle.page_store.specs.Index.{Index, slots_of}
 use Rattle.page_store.specs.Shown.{PagesView}
 use Rattle.page_store.specs.Shown as pages
@@ -65,3 +65,11 @@ needed_on shape slot g = if nat_eq (logger_of_slot shape slot) g then 1 else 0
 -- how many writes of a number this logger holds
 abbrev pub held_on : PagesView → ℕ → ℕ → ℕ
 held_on pages t g = count_on pages.store.shape g (listed (pages.store.ranges t))
+
+-- a write into the slot of its key is this logger's
+abbrev pub is_slot_on : Shape → ℕ → Option ℕ → Bool
+is_slot_on shape g None = false
+is_slot_on shape g (Some slot) = nat_eq (logger_of_slot shape slot) g
+
+abbrev pub is_write_on : Shape → List Pair → ℕ → Write → Bool
+is_write_on shape pairs g write = is_slot_on shape g (found pairs write.0)
