@@ -1,0 +1,66 @@
+-- The rows that a number sees, key by key.
+use Rattle.std.proofs.Common.{◌≡◌, ◌^◌, ℕ, suc, ◌<◌, ◌≤◌, List, [], ◌++◌, sym, ◌∙◌, ap}
+use Rattle.std.specs.Prelude.{filter, Option, Some, None}
+use Rattle.std.proofs.lemmas.List.{append-nil, append_assoc}
+use Rattle.array_shape.specs.Logged.{applied}
+use Rattle.eaw_face.specs.State.{listed}
+use Rattle.record_slots.specs.Slots.{slot_said}
+use Rattle.record_slots.specs.Places.{slot_of}
+use Rattle.record_slots.specs.declared.slot.Slot.{Slot}
+use Rattle.history.specs.Table.{Table}
+use Rattle.record_table.specs.Writes.{is_within, rows_within}
+use Rattle.page_store.specs.Index.{Index}
+use Rattle.page_store.specs.Pairs.{Pair, Rise, next}
+use Rattle.page_store.specs.Shown.{PagesView}
+use Rattle.record_table.specs.Causes.{slot_in}
+use Rattle.record_table.specs.Invariant.{IsTied}
+use Rattle.record_table.specs.Scanned.{row_at, rows_seen}
+use Rattle.record_table.specs.Shown.{table_in, table_of, value_of}
+use Rattle.record_table.proofs.RowsOf.{rows_of, entries_are, none_from, none_past, none_between, first_from}
+use Rattle.record_table.proofs.SlotParts.{Laws, applied_parts}
+
+module _ (index : Index) (laws : Laws index) (t : ℕ) (old : PagesView) (tied : IsTied index old) where
+  seen_data : List ℕ
+  seen_data = applied (listed (old.store.state.logs t)) old.store.state.bytes
+
+  rises : Rise 0 (2 ^ 64) (index.pairs old.store.state.bytes)
+  rises = laws.rises old.store.state.bytes tied.sound
+
+  rows_are : (low high : ℕ) → rows_seen index t old low high ≡ filter (is_within low high) (rows_of (applied (listed (old.store.state.logs t)) old.store.state.bytes) (index.pairs old.store.state.bytes))
+  unfolding table_of
+  rows_are low high =
+      let w = applied_parts index laws (listed (old.store.state.logs t)) old.store.state.bytes tied.sound (tied.parts t) in
+      ap (λ (m : Table). rows_within low high m) (sym w.table)
+      ∙ ap (λ (l : List Pair). rows_within low high (table_in (applied (listed (old.store.state.logs t)) old.store.state.bytes) l)) w.pairs
+      ∙ ap (filter (is_within low high)) (entries_are (applied (listed (old.store.state.logs t)) old.store.state.bytes) 0 (2 ^ 64) (index.pairs old.store.state.bytes) rises)
+
+  pub follows_none : (from high : ℕ) → next (index.pairs old.store.state.bytes) from ≡ None → rows_seen index t old from high ≡ []
+  follows_none from high none = rows_are from high ∙ none_from (applied (listed (old.store.state.logs t)) old.store.state.bytes) from high (index.pairs old.store.state.bytes) none
+
+  pub follows_past : (from high : ℕ) → high < from → rows_seen index t old from high ≡ []
+  follows_past from high lt = rows_are from high ∙ none_past (applied (listed (old.store.state.logs t)) old.store.state.bytes) from high (index.pairs old.store.state.bytes) lt
+
+  module _ (from high key slot : ℕ) (is : next (index.pairs old.store.state.bytes) from ≡ Some (key, slot)) where
+    pub follows_above : high < key → rows_seen index t old from high ≡ []
+    follows_above lt = rows_are from high ∙ none_between (applied (listed (old.store.state.logs t)) old.store.state.bytes) from high key slot 0 (2 ^ 64) (index.pairs old.store.state.bytes) rises is lt
+
+    pub next_is : key ≤ high → (from ≤ key) × (slot_in index old key ≡ Some slot)
+    next_is le = let f = first_from (applied (listed (old.store.state.logs t)) old.store.state.bytes) from high key slot 0 (2 ^ 64) (index.pairs old.store.state.bytes) rises is le in (f.0, f.1)
+
+    pub follows_some : key ≤ high → (said : Option Slot) → said ≡ slot_said (slot_of (applied (listed (old.store.state.logs t)) old.store.state.bytes) slot)
+        → rows_seen index t old from high ≡ row_at key (value_of said) ++ rows_seen index t old (suc key) high
+    follows_some le said read =
+        let f = first_from (applied (listed (old.store.state.logs t)) old.store.state.bytes) from high key slot 0 (2 ^ 64) (index.pairs old.store.state.bytes) rises is le in
+        rows_are from high ∙ f.2
+        ∙ (λ i. row_at key (value_of (sym read i)) ++ sym (rows_are (suc key) high) i)
+
+-- the last row, and none
+pub last_row : (rows row all from behind new : List (ℕ × List ℕ)) → rows ++ from ≡ all → from ≡ row ++ behind → behind ≡ [] → new ≡ rows ++ row → new ≡ all
+last_row rows row all from behind new sum is none e =
+    e ∙ ap (λ (l : List (ℕ × List ℕ)). rows ++ l) (sym (append-nil row)) ∙ ap (λ (l : List (ℕ × List ℕ)). rows ++ (row ++ l)) (sym none) ∙ ap (λ (l : List (ℕ × List ℕ)). rows ++ l) (sym is) ∙ sum
+
+pub no_row : (rows all from : List (ℕ × List ℕ)) → rows ++ from ≡ all → from ≡ [] → rows ≡ all
+no_row rows all from sum none = sym (append-nil rows) ∙ ap (λ (l : List (ℕ × List ℕ)). rows ++ l) (sym none) ∙ sum
+
+pub more_row : (rows row all from behind new : List (ℕ × List ℕ)) → rows ++ from ≡ all → from ≡ row ++ behind → new ≡ rows ++ row → new ++ behind ≡ all
+more_row rows row all from behind new sum is e = ap (λ (l : List (ℕ × List ℕ)). l ++ behind) e ∙ append_assoc rows row behind ∙ ap (λ (l : List (ℕ × List ℕ)). rows ++ l) (sym is) ∙ sum

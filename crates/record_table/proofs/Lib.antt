@@ -1,0 +1,14 @@
+pub mod Tables
+pub mod SlotParts
+pub mod Looking
+pub mod Writing
+pub mod States
+pub mod Seeking
+pub mod Moving
+pub mod Wrote
+pub mod Doing
+pub mod Ending
+pub mod Putting
+pub mod RowsOf
+pub mod Gathering
+pub mod Holding

@@ -1,0 +1,245 @@
+-- Calls below that leave records, writes and saves as they were: looks, and insertions. One after another, and with one that fails.
+use Rattle.std.proofs.Common.{◌≡◌, ◌≢◌, ℕ, ◌+◌, ◌*◌, ◌/◌, ◌⊎◌, Bool, true, false, cond, inl, inr, IsTrue, List, [], ◌∷◌, Result, Ok, Err, refl, sym, ◌∙◌, ap, subst}
+use Rattle.std.specs.Prelude.{nat_eq, nat_lt, map, Option, Some, None, IsFalse}
+use Rattle.std.proofs.lemmas.Bool.{cases_eq, false≢true, cases_Bool, eq-eqb, ne_eqb}
+use Rattle.counted.specs.Causes.{Rose}
+use Rattle.counted.proofs.Going.{stays, then, weaker}
+use Rattle.array_shape.specs.Logged.{Part}
+use Rattle.eaw_face.specs.State.{State, listed}
+use Rattle.eaw_face.specs.StoreView.{LeavesOnly}
+use Rattle.eaw_face.specs.Causes.{IsAlive}
+use Rattle.record_slots.specs.Slots.{slot_said, slot_bytes}
+use Rattle.record_slots.specs.Places.{next_slot}
+use Rattle.record_slots.specs.declared.slot.Slot.TheVariants.{Absent}
+use Rattle.page_store.specs.Index.{Index, Grows, Gains}
+use Rattle.page_store.specs.Index as face
+use Rattle.page_store.specs.Inserts.{Inserts, Made, is_insert_failed}
+use Rattle.page_store.specs.Pairs.{Pair, found, inserted}
+use Rattle.page_store.specs.Shown.{PagesView, saved_of}
+use Rattle.page_store.specs.declared.index_fault.IndexFault.{IndexFault}
+use Rattle.page_store.specs.declared.index_fault.IndexFault.TheVariants as fault
+use Rattle.record_table.specs.Does.{OpensWith}
+use Rattle.record_table.specs.Invariant.{AreSlotParts, IsTied, Rests}
+use Rattle.record_table.specs.Shown.{value_of, table_in, table_of, write_of, writes_of, state_of}
+use Rattle.record_table.specs.Sought.{LooksAs}
+use Rattle.record_table.specs.State.{TableState}
+use Rattle.record_table.proofs.Tables.{same_table, record_at, get-table_in}
+use Rattle.record_table.proofs.SlotParts.{Laws, found_given}
+
+-- records, writes and saves are as they were, and all is as records keep it
+pub record Moved (tells : Bool) (Opens : List ℕ → List ℕ → Type 0) (index : Index) (t : ℕ) (old new : PagesView) : Type 0 where
+  pub shape : new.store.shape ≡ old.store.shape
+  pub dead : new.store.is_dead ≡ old.store.is_dead
+  pub faults : new.store.faults ≡ old.store.faults
+  pub counts : new.counts ≡ old.counts
+  pub tops : new.top ≡ old.top
+  pub ranges : (u : ℕ) → listed (new.store.ranges u) ≡ listed (old.store.ranges u)
+  pub others : (u : ℕ) → u ≢ t → new.store.ranges u ≡ old.store.ranges u
+  pub state : IsTrue tells → state_of index new ≡ state_of index old
+  pub tied : IsTrue tells → IsTied index new
+  pub time : IsTrue tells → LeavesOnly (λ image. OpensWith Opens index image (state_of index old).table) old.store new.store
+
+-- the media failed
+pub record Failed (tells : Bool) (Opens : List ℕ → List ℕ → Type 0) (index : Index) (t : ℕ) (old new : PagesView) : Type 0 where
+  pub shape : new.store.shape ≡ old.store.shape
+  pub dies : (new.store.is_dead ≡ true) × Rose old.store.faults new.store.faults
+  pub counts : new.counts ≡ old.counts
+  pub others : (u : ℕ) → u ≢ t → new.store.ranges u ≡ old.store.ranges u
+  pub time : IsTrue tells → LeavesOnly (λ image. OpensWith Opens index image (state_of index old).table) old.store new.store
+
+-- the state that records show follows from data, logs and counts
+pub shown_same : (index : Index) (old new : PagesView) → new.store.state ≡ old.store.state → new.counts ≡ old.counts → state_of index new ≡ state_of index old
+shown_same index old new state counts = λ i. record {
+  table = table_of index (state i).bytes;
+  writes = λ u. writes_of (listed ((state i).logs u));
+  saved = λ u. map writes_of (saved_of (listed ((state i).logs u)) (counts i u));
+}
+
+module _ (tells : Bool) (Opens : List ℕ → List ℕ → Type 0) (index : Index) (t : ℕ) where
+  pub moved_none : (old : PagesView) → IsAlive old.store → Rests tells index old → Moved tells Opens index t old old
+  moved_none old alive rests = record {
+    shape = refl;
+    dead = refl;
+    faults = refl;
+    counts = refl;
+    tops = refl;
+    ranges = λ u. refl;
+    others = λ u ne. refl;
+    state = λ told. refl;
+    tied = rests.tied;
+    time = λ told. stays old.store.moment old.store.left_since (λ image. OpensWith Opens index image (state_of index old).table);
+  }
+
+  pub rests_moved : (old new : PagesView) → Rests tells index old → Moved tells Opens index t old new → Rests tells index new
+  rests_moved old new rests moved = record { closed = λ u. ap (λ (f : ℕ → Option ℕ). f u) moved.tops ∙ rests.closed u; tied = moved.tied }
+
+  pub moved_then : (old mid new : PagesView) → Moved tells Opens index t old mid → Moved tells Opens index t mid new → Moved tells Opens index t old new
+  moved_then old mid new a b = record {
+    shape = b.shape ∙ a.shape;
+    dead = b.dead ∙ a.dead;
+    faults = b.faults ∙ a.faults;
+    counts = b.counts ∙ a.counts;
+    tops = b.tops ∙ a.tops;
+    ranges = λ u. b.ranges u ∙ a.ranges u;
+    others = λ u ne. b.others u ne ∙ a.others u ne;
+    state = λ told. b.state told ∙ a.state told;
+    tied = b.tied;
+    time = λ told. then (a.time told) (weaker (λ image. λ opens. subst (λ (s : TableState). OpensWith Opens index image s.table) (a.state told) opens) (b.time told));
+  }
+
+  pub failed_then : (old mid new : PagesView) → Moved tells Opens index t old mid → Failed tells Opens index t mid new → Failed tells Opens index t old new
+  failed_then old mid new a b = record {
+    shape = b.shape ∙ a.shape;
+    dies = (b.dies.0, subst (λ (n : ℕ). Rose n new.store.faults) a.faults b.dies.1);
+    counts = b.counts ∙ a.counts;
+    others = λ u ne. b.others u ne ∙ a.others u ne;
+    time = λ told. then (a.time told) (weaker (λ image. λ opens. subst (λ (s : TableState). OpensWith Opens index image s.table) (a.state told) opens) (b.time told));
+  }
+
+  module _ (old new : PagesView) (alive : IsAlive old.store) (rests : Rests tells index old) where
+    looks_time : (failed : Bool) → LooksAs tells Opens t failed old new → IsTrue tells → LeavesOnly (λ image. OpensWith Opens index image (state_of index old).table) old.store new.store
+    looks_time failed looks told = weaker (λ image. λ opens. record { bytes = old.store.state.bytes; opened = opens; sound = (rests.tied told).sound; shows = refl }) (looks.time told alive)
+
+    pub moved_by_look : LooksAs tells Opens t false old new → Moved tells Opens index t old new
+    moved_by_look looks =
+        let same = looks.same refl in
+        record {
+          shape = looks.shape;
+          dead = same.still.dead;
+          faults = same.still.faults;
+          counts = looks.saves;
+          tops = looks.tops;
+          ranges = λ u. ap (λ (f : ℕ → Option (List (ℕ × ℕ))). listed (f u)) same.ranges;
+          others = looks.others;
+          state = λ told. shown_same index old new (same.still.state told) looks.saves;
+          tied = λ told. record {
+            sound = subst (λ (s : State). index.sound s.bytes) (sym (same.still.state told)) (rests.tied told).sound;
+            parts = λ u. subst (λ (s : State). AreSlotParts index s.bytes (listed (s.logs u))) (sym (same.still.state told)) ((rests.tied told).parts u);
+          };
+          time = looks_time false looks;
+        }
+
+    pub failed_by_look : LooksAs tells Opens t true old new → Failed tells Opens index t old new
+    failed_by_look looks = record { shape = looks.shape; dies = looks.dies refl; counts = looks.saves; others = looks.others; time = looks_time true looks }
+
+-- what is found of a key after another was inserted
+pub found_inserted : (ps : List Pair) (key to q : ℕ) → q ≢ key → found (inserted ps key to) q ≡ found ps q
+found_inserted [] key to q ne = ap (λ (b : Bool). cond b (Some to) None) (ne_eqb key q (λ e. ne (sym e)))
+found_inserted (p ∷ ps) key to q ne = go (nat_lt key p.0) (found_inserted ps key to q ne)
+  where
+    go : (b : Bool) → found (inserted ps key to) q ≡ found ps q → found (cond b ((key, to) ∷ p ∷ ps) (p ∷ inserted ps key to)) q ≡ found (p ∷ ps) q
+    go true rest = ap (λ (b : Bool). cond b (Some to) (found (p ∷ ps) q)) (ne_eqb key q (λ e. ne (sym e)))
+    go false rest = ap (λ (o : Option ℕ). cond (nat_eq p.0 q) (Some p.1) o) rest
+
+pub found_new : (ps : List Pair) (key to : ℕ) → found ps key ≡ None → found (inserted ps key to) key ≡ Some to
+found_new [] key to none = ap (λ (b : Bool). cond b (Some to) None) (eq-eqb key key refl)
+found_new (p ∷ ps) key to none = go (nat_lt key p.0) (found_new ps key to)
+  where
+    other : nat_eq p.0 key ≡ false
+    other = elim (cases_Bool (nat_eq p.0 key)) [ inl is ↦ absurd (let e : Some p.1 ≡ None = sym (ap (λ (b : Bool). cond b (Some p.1) (found ps key)) is) ∙ none in cc) | inr isnt ↦ isnt ]
+
+    rest_none : found ps key ≡ None
+    rest_none = sym (ap (λ (b : Bool). cond b (Some p.1) (found ps key)) other) ∙ none
+
+    go : (b : Bool) → (found ps key ≡ None → found (inserted ps key to) key ≡ Some to) → found (cond b ((key, to) ∷ p ∷ ps) (p ∷ inserted ps key to)) key ≡ Some to
+    go true rest = ap (λ (b : Bool). cond b (Some to) (found (p ∷ ps) key)) (eq-eqb key key refl)
+    go false rest = ap (λ (b : Bool). cond b (Some p.1) (found (inserted ps key to) key)) other ∙ rest rest_none
+
+module _ (index : Index) (laws : Laws index) (key : ℕ) (d e : List ℕ) (sound : index.sound d) (absent : found (index.pairs d) key ≡ None) (grows : Grows index d e) where
+  -- slots of keys are as they were
+  record_kept : (o : Option ℕ) (q : ℕ) → found (index.pairs d) q ≡ o → record_at e o ≡ record_at d o
+  record_kept None q is = refl
+  record_kept (Some slot) q is = ap (λ (b : List ℕ). value_of (slot_said b)) (grows.slots slot (found_given d (index.pairs d) q slot (laws.given d sound) is).0)
+
+  part_kept : (pairs : (q slot : ℕ) → found (index.pairs d) q ≡ Some slot → found (index.pairs e) q ≡ Some slot) (log : List Part) → AreSlotParts index d log → AreSlotParts index e log
+  part_kept pairs [] parts = tt
+  part_kept pairs (p ∷ ps) parts = (
+    record {
+      slot = parts.0.slot;
+      named = pairs (write_of p).0 parts.0.slot parts.0.named;
+      place = parts.0.place ∙ ap (λ (n : ℕ). 64 * (4 * (n / 512) + parts.0.slot)) (sym grows.size);
+      size = parts.0.size;
+      says = parts.0.says;
+    },
+    part_kept pairs ps parts.1,
+  )
+
+  resting : face.Rests index d e → (table_of index e ≡ table_of index d) × ((log : List Part) → AreSlotParts index d log → AreSlotParts index e log)
+  unfolding table_of
+  resting rests = (
+    same_table (table_in e (index.pairs e)) (table_in d (index.pairs d)) (λ q.
+        get-table_in e (index.pairs e) q ∙ ap (λ (l : List Pair). record_at e (found l q)) rests.pairs ∙ record_kept (found (index.pairs d) q) q refl ∙ sym (get-table_in d (index.pairs d) q)),
+    part_kept (λ q slot is. ap (λ (l : List Pair). found l q) rests.pairs ∙ is),
+  )
+
+  other_than : (q slot : ℕ) → found (index.pairs d) q ≡ Some slot → q ≢ key
+  other_than q slot is same = let x : Some slot ≡ None = sym is ∙ ap (found (index.pairs d)) same ∙ absent in absurd (cc)
+
+  gaining : slot_said (slot_bytes (Absent key)) ≡ Some (Absent key) → Gains index key d e → (table_of index e ≡ table_of index d) × ((log : List Part) → AreSlotParts index d log → AreSlotParts index e log)
+  unfolding table_of
+  gaining reads gains = (
+    same_table (table_in e (index.pairs e)) (table_in d (index.pairs d)) (λ q.
+        get-table_in e (index.pairs e) q ∙ ap (λ (l : List Pair). record_at e (found l q)) gains.pairs
+        ∙ elim (cases_eq q key) [
+          | inl same ↦
+              ap (λ (k : ℕ). record_at e (found (inserted (index.pairs d) key (next_slot d)) k)) same
+              ∙ ap (record_at e) (found_new (index.pairs d) key (next_slot d) absent)
+              ∙ ap (λ (b : List ℕ). value_of (slot_said b)) gains.fresh ∙ ap value_of reads
+              ∙ sym (ap (λ (k : ℕ). record_at d (found (index.pairs d) k)) same ∙ ap (record_at d) absent)
+          | inr ne ↦ ap (record_at e) (found_inserted (index.pairs d) key (next_slot d) q ne) ∙ record_kept (found (index.pairs d) q) q refl
+        ]
+        ∙ sym (get-table_in d (index.pairs d) q)),
+    part_kept (λ q slot is. ap (λ (l : List Pair). found l q) gains.pairs ∙ found_inserted (index.pairs d) key (next_slot d) q (other_than q slot is) ∙ is),
+  )
+
+  -- data within or behind the insertion has the records before
+  pub insertion_keeps : slot_said (slot_bytes (Absent key)) ≡ Some (Absent key) → (face.Rests index d e ⊎ Gains index key d e)
+      → (table_of index e ≡ table_of index d) × ((log : List Part) → AreSlotParts index d log → AreSlotParts index e log)
+  insertion_keeps reads either = elim either [ inl r ↦ resting r | inr g ↦ gaining reads g ]
+
+either_of : (index : Index) (key : ℕ) (d e : List ℕ) (r : Result ℕ IndexFault) → IsFalse (is_insert_failed r) → Made index key d e r → Grows index d e × (face.Rests index d e ⊎ Gains index key d e)
+either_of index key d e (Ok slot) well made = (made.1, inr made.2)
+either_of index key d e (Err fault.Media) well made = absurd (false≢true (sym well))
+either_of index key d e (Err (fault.PagesFull n)) well made = (made.0, inl made.1)
+either_of index key d e (Err (fault.SlotsFull n)) well made = (made.0, inl made.1)
+either_of index key d e (Err (fault.LogFull g h n)) well made = (made.0, inl made.1)
+either_of index key d e (Err fault.Dead) well made = (made.0, inl made.1)
+either_of index key d e (Err (fault.Damaged p)) well made = (made.0, inl made.1)
+
+module _ (tells : Bool) (Opens : List ℕ → List ℕ → Type 0) (index : Index) (laws : Laws index) (t key : ℕ) (reads : slot_said (slot_bytes (Absent key)) ≡ Some (Absent key)) (old new : PagesView) (alive : IsAlive old.store)
+    (rests : Rests tells index old) (absent : IsTrue tells → found (index.pairs old.store.state.bytes) key ≡ None) (r : Result ℕ IndexFault) (does : Inserts tells Opens index t key old new r) where
+  insert_time : IsTrue tells → LeavesOnly (λ image. OpensWith Opens index image (state_of index old).table) old.store new.store
+  insert_time told = weaker (λ image left. record {
+    bytes = left.0;
+    opened = left.1;
+    sound = left.2.0.sound;
+    shows = (insertion_keeps index laws key old.store.state.bytes left.0 (rests.tied told).sound (absent told) left.2.0 reads left.2.1).0;
+  }) (does.time told alive)
+
+  pub moved_by_insert : IsFalse (is_insert_failed r) → Moved tells Opens index t old new
+  moved_by_insert well =
+      let kept = does.kept well in
+      let made = λ (told : IsTrue tells). either_of index key old.store.state.bytes new.store.state.bytes r well (does.made told alive) in
+      let keeps = λ (told : IsTrue tells). insertion_keeps index laws key old.store.state.bytes new.store.state.bytes (rests.tied told).sound (absent told) (made told).0 reads (made told).1 in
+      record {
+        shape = does.shape;
+        dead = kept.dead;
+        faults = kept.faults;
+        counts = does.saves;
+        tops = kept.tops;
+        ranges = kept.ranges;
+        others = does.others;
+        state = λ told i. record {
+          table = (keeps told).0 i;
+          writes = λ u. writes_of (kept.logs told u i);
+          saved = λ u. map writes_of (saved_of (kept.logs told u i) (does.saves i u));
+        };
+        tied = λ told. record {
+          sound = (made told).0.sound;
+          parts = λ u. subst (AreSlotParts index new.store.state.bytes) (sym (kept.logs told u)) ((keeps told).1 (listed (old.store.state.logs u)) ((rests.tied told).parts u));
+        };
+        time = insert_time;
+      }
+
+  pub failed_by_insert : IsTrue (is_insert_failed r) → Failed tells Opens index t old new
+  failed_by_insert failed = record { shape = does.shape; dies = does.dies failed; counts = does.saves; others = does.others; time = insert_time }

@@ -1,0 +1,27 @@
+use Rattle.std.proofs.Common.{true}
+use Rattle.page_store.specs.Command as page
+use Rattle.page_store.specs.Shown.{pages_of}
+use Rattle.record_table.specs.Command.{commit}
+use Rattle.record_table.proofs.Ending.{ended, err_same, commit_is}
+use Rattle.record_table.proofs.SlotParts.{Laws}
+use Rattle.record_table.proofs.records.Records.commit.Goals as goal
+
+pub invariant_of-self : goal.invariant_of-self
+invariant_of-self g c =
+    let K = g.met.K.KeyIndex in
+    let V = g.S.EawStore.view in
+    let laws : Laws g.K.KeyIndex.index = record { rises = K.rises; given = K.given; counts = K.counts; rests = K.rests } in
+    let inside = c.self.inside.pages in
+    (ended V g.S.EawStore.tells g.S.EawStore.opens g.K.KeyIndex.index (commit c.args.tid) c.args.self.now inside c.self.view_is (page.end c.args.tid true) c.end.new.self c.self.invariant (Unit {0})
+    (λ alive. commit_is g.S.EawStore.tells g.K.KeyIndex.index laws (pages_of (V inside.store) inside) (c.self.invariant alive) c.args.tid (Unit {0})) c.end.result c.end.ensures.does
+    (err_same c.end.result c.end.ensures.refused) c.told.result c.told.ensures).1
+
+pub returns-clause-does : goal.returns-clause-does
+returns-clause-does g c =
+    let K = g.met.K.KeyIndex in
+    let V = g.S.EawStore.view in
+    let laws : Laws g.K.KeyIndex.index = record { rises = K.rises; given = K.given; counts = K.counts; rests = K.rests } in
+    let inside = c.self.inside.pages in
+    (ended V g.S.EawStore.tells g.S.EawStore.opens g.K.KeyIndex.index (commit c.args.tid) c.args.self.now inside c.self.view_is (page.end c.args.tid true) c.end.new.self c.self.invariant (Unit {0})
+    (λ alive. commit_is g.S.EawStore.tells g.K.KeyIndex.index laws (pages_of (V inside.store) inside) (c.self.invariant alive) c.args.tid (Unit {0})) c.end.result c.end.ensures.does
+    (err_same c.end.result c.end.ensures.refused) c.told.result c.told.ensures).0

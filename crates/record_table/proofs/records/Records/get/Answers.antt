@@ -1,0 +1,36 @@
+use Rattle.std.proofs.Common.{ap, ℕ, List, Ok}
+use Rattle.std.specs.Prelude.{Option}
+use Rattle.page_store.specs.Shown.{Shown, pages_of}
+use Rattle.record_table.specs.Command.{look}
+use Rattle.record_table.proofs.Doing.{got, look_refused}
+use Rattle.record_table.proofs.Ending.{does_of}
+use Rattle.record_table.proofs.records.Records.get.Goals.{in-Ok, in-Err}
+use Rattle.record_table.proofs.records.Records.get.Goals as goal
+
+pub invariant_of-self : goal.invariant_of-self
+invariant_of-self g c =
+    let V = g.S.EawStore.view in
+    let inside = c.self.inside.pages in
+    let new = c.seek.new.pages in
+    let T = g.S.EawStore.tells in
+    let E = g.S.EawStore.opens (g.S.EawStore.view c.self.inside.pages.store).shape in
+    elim c.match-seek.branch [
+      | in-Ok w ↦ (got T E g.K.KeyIndex.index c.args.tid c.args.key (pages_of (V inside.store) inside) (pages_of (V new.store) new) c.self.invariant (Option (List ℕ)) w.value_at.result w.in-Ok.ensures.cause w.in-Ok.ensures.looks).1
+      | in-Err w ↦ (look_refused T E g.K.KeyIndex.index (look c.args.tid c.args.key) (pages_of (V inside.store) inside) (pages_of (V new.store) new) c.self.invariant (Option (List ℕ)) _ w.in-Err.fault tt w.in-Err.ensures.cause w.in-Err.ensures.looks
+          (λ e. ap (λ (p : Shown g.row.S.Denot). pages_of (V p.store) p) (w.in-Err.ensures.dead e))).1
+    ]
+
+pub returns-clause-does : goal.returns-clause-does
+returns-clause-does g c =
+    let V = g.S.EawStore.view in
+    let inside = c.self.inside.pages in
+    let new = c.seek.new.pages in
+    let T = g.S.EawStore.tells in
+    let E = g.S.EawStore.opens (g.S.EawStore.view c.self.inside.pages.store).shape in
+    elim c.match-seek.branch [
+      | in-Ok w ↦ rw w.result-is (does_of V T g.S.EawStore.opens g.K.KeyIndex.index (look c.args.tid c.args.key) c.args.self.now inside c.self.view_is (pages_of (V new.store) new) (Ok w.value_at.result)
+          (got T E g.K.KeyIndex.index c.args.tid c.args.key (pages_of (V inside.store) inside) (pages_of (V new.store) new) c.self.invariant (Option (List ℕ)) w.value_at.result w.in-Ok.ensures.cause w.in-Ok.ensures.looks).0)
+      | in-Err w ↦ rw (w.result-is, w.table_fault.ensures) (does_of V T g.S.EawStore.opens g.K.KeyIndex.index (look c.args.tid c.args.key) c.args.self.now inside c.self.view_is (pages_of (V new.store) new) _
+          (look_refused T E g.K.KeyIndex.index (look c.args.tid c.args.key) (pages_of (V inside.store) inside) (pages_of (V new.store) new) c.self.invariant (Option (List ℕ)) _ w.in-Err.fault tt w.in-Err.ensures.cause w.in-Err.ensures.looks
+          (λ e. ap (λ (p : Shown g.row.S.Denot). pages_of (V p.store) p) (w.in-Err.ensures.dead e))).0)
+    ]

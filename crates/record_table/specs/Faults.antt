@@ -1,0 +1,28 @@
+-- Refusals of pages and of insertions, as records tell them.
+use Rattle.std.specs.Prelude.{Result, Ok, Err}
+use Rattle.page_store.specs.declared.fault.PageFault.{PageFault}
+use Rattle.page_store.specs.declared.fault.PageFault.TheVariants as page
+use Rattle.page_store.specs.declared.index_fault.IndexFault.{IndexFault}
+use Rattle.page_store.specs.declared.index_fault.IndexFault.TheVariants as insert
+use Rattle.record_table.specs.declared.fault.TableFault.{TableFault}
+use Rattle.record_table.specs.declared.fault.TableFault.TheVariants.{SlotsFull, PagesFull, SavesFull, LogFull, Media, Dead, Damaged}
+
+abbrev pub as_table : PageFault → TableFault
+as_table (page.LogFull g h n) = LogFull g h n
+as_table page.SavesFull = SavesFull
+as_table page.Media = Media
+as_table page.Dead = Dead
+as_table (page.Damaged bad) = Damaged bad
+
+-- an answer of pages
+abbrev pub told_as : {T : Type 0} → Result T PageFault → Result T TableFault
+told_as (Ok answer) = Ok answer
+told_as (Err fault) = Err (as_table fault)
+
+abbrev pub inserted_as : IndexFault → TableFault
+inserted_as (insert.SlotsFull n) = SlotsFull n
+inserted_as (insert.PagesFull n) = PagesFull n
+inserted_as (insert.LogFull g h n) = LogFull g h n
+inserted_as insert.Media = Media
+inserted_as insert.Dead = Dead
+inserted_as (insert.Damaged bad) = Damaged bad

@@ -1,0 +1,76 @@
+-- What records show of the pages that they stand on.
+use Rattle.std.specs.Prelude.{Bool, false, ℕ, ◌+◌, ◌*◌, nat_eq, if◌then◌else◌, List, [], ◌∷◌, map, Option, Some, None}
+use Rattle.std.specs.FinMap.{empty}
+use Rattle.array_shape.specs.declared.shape.Shape.{Shape}
+use Rattle.array_shape.specs.Places.{logger_of}
+use Rattle.array_shape.specs.Logged.{Part}
+use Rattle.eaw_face.specs.State.{listed, count_on}
+use Rattle.record_slots.specs.Slots.{slot_said}
+use Rattle.record_slots.specs.Places.{slot_of, next_slot, next_page}
+use Rattle.record_slots.specs.declared.slot.Slot.{Slot}
+use Rattle.record_slots.specs.declared.slot.Slot.TheVariants.{Absent, Present}
+use Rattle.history.specs.Table.{Table}
+use Rattle.record_table.specs.Writes.{Write, write_into}
+use Rattle.page_store.specs.Pairs.{Pair, found}
+use Rattle.page_store.specs.Index.{Index, slots_of}
+use Rattle.page_store.specs.Shown.{PagesView}
+use Rattle.page_store.specs.Shown as pages
+use Rattle.page_store.specs.State.{PagesState, log_of}
+use Rattle.record_table.specs.State.{TableState, Keys}
+
+-- the value of a slot, where it holds one
+abbrev pub value_of : Option Slot → Option (List ℕ)
+value_of (Some (Present key value)) = Some value
+value_of _ = None
+
+-- the write that a slot stands for
+abbrev pub write_said : Option Slot → Write
+write_said None = (0, None)
+write_said (Some (Absent key)) = (key, None)
+write_said (Some (Present key value)) = (key, Some value)
+
+-- the records of some pairs: each key with what its slot holds
+abbrev pub table_in : List ℕ → List Pair → Table
+table_in bytes [] = empty
+table_in bytes (pair ∷ pairs) = write_into (table_in bytes pairs) (pair.0, value_of (slot_said (slot_of bytes pair.1)))
+
+-- the records of data
+unfoldable pub table_of : Index → List ℕ → Table
+table_of index bytes = table_in bytes (index.pairs bytes)
+
+abbrev pub write_of : Part → Write
+write_of part = write_said (slot_said part.1)
+
+-- the writes that logged parts stand for
+abbrev pub writes_of : List Part → List Write
+writes_of log = map write_of log
+
+-- the table, writes and saves that a state of pages stands for
+abbrev pub shown_by : Index → PagesState → TableState
+shown_by index s = record { table = table_of index s.store.bytes; writes = λ t. writes_of (log_of s t); saved = λ t. map writes_of (s.saved t) }
+
+abbrev pub state_of : Index → PagesView → TableState
+state_of index view = shown_by index (pages.state_of view)
+
+-- what the index is in the data
+abbrev pub keys_of : Index → List ℕ → Keys
+keys_of index bytes = record { pairs = index.pairs bytes; next_slot = next_slot bytes; next_page = next_page bytes }
+
+-- the logger that holds the writes into a slot, and how many of one it needs to hold
+abbrev pub logger_of_slot : Shape → ℕ → ℕ
+logger_of_slot shape slot = logger_of shape (64 * (slots_of shape + slot))
+
+abbrev pub needed_on : Shape → ℕ → ℕ → ℕ
+needed_on shape slot g = if nat_eq (logger_of_slot shape slot) g then 1 else 0
+
+-- how many writes of a number this logger holds
+abbrev pub held_on : PagesView → ℕ → ℕ → ℕ
+held_on pages t g = count_on pages.store.shape g (listed (pages.store.ranges t))
+
+-- a write into the slot of its key is this logger's
+abbrev pub is_slot_on : Shape → ℕ → Option ℕ → Bool
+is_slot_on shape g None = false
+is_slot_on shape g (Some slot) = nat_eq (logger_of_slot shape slot) g
+
+abbrev pub is_write_on : Shape → List Pair → ℕ → Write → Bool
+is_write_on shape pairs g write = is_slot_on shape g (found pairs write.0)

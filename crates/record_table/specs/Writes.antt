@@ -1,0 +1,31 @@
+-- Writes into a table of records.
+use Rattle.std.specs.Prelude.{ℕ, nat_eq, nat_le, ◌&&◌, Bool, List, [], ◌∷◌, filter, Option, Some, None}
+use Rattle.std.specs.FinMap.{insert, remove, entries}
+use Rattle.history.specs.Table.{Table}
+
+-- a key, and the value that it gets, or none where its record is removed
+abbrev pub Write : Type 0
+Write = ℕ × Option (List ℕ)
+
+abbrev pub set_or_remove : Table → ℕ → Option (List ℕ) → Table
+set_or_remove table key None = remove table key
+set_or_remove table key (Some value) = insert table key value
+
+abbrev pub write_into : Table → Write → Table
+write_into table write = set_or_remove table write.0 write.1
+
+-- written one after another
+abbrev pub all_written : Table → List Write → Table
+all_written table [] = table
+all_written table (write ∷ writes) = all_written (write_into table write) writes
+
+-- the write is of this key
+abbrev pub is_of : ℕ → Write → Bool
+is_of key write = nat_eq write.0 key
+
+abbrev pub is_within : ℕ → ℕ → ℕ × List ℕ → Bool
+is_within low high row = nat_le low row.0 && nat_le row.0 high
+
+-- the records from one key to another, both of them included, by rising keys
+abbrev pub rows_within : ℕ → ℕ → Table → List (ℕ × List ℕ)
+rows_within low high table = filter (is_within low high) (entries table)

@@ -1,0 +1,13 @@
+//! Records of an ordered table over pages, under any index: what a transaction sees, its writes, its savepoints, its commit.
+#![tactic(auto)]
+
+mod fault;
+mod records;
+mod rows;
+mod scanning;
+mod slots;
+mod told;
+
+pub use fault::{AttachRecords, TableFault};
+pub use records::Records;
+pub use rows::Rows;

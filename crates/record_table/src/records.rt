@@ -1,0 +1,229 @@
+// Records over pages, under an index.
+ghost use Rattle.std.specs.Prelude.{◌≡◌, ◌<◌, ◌≤◌, ℕ, [], None, IfOk, IfErr, OnErr, IsErrOf, IsTrue, filter, length};
+ghost use Rattle.std.specs.FinMap.{get};
+ghost use Rattle.eaw_face.specs.Causes.{IsAlive};
+ghost use Rattle.eaw_face.specs.State.{listed};
+ghost use Rattle.page_store.specs.Looks.{Looks};
+ghost use Rattle.page_store.specs.Shown.{counts_in, top_in, pages_of};
+ghost use Rattle.record_table.specs.Writes.{rows_within};
+ghost use Rattle.record_table.specs.Attached.{Attached, AttachCause, is_refused_by_media};
+ghost use Rattle.record_table.specs.Command.{look, put, del, scan, save, back, commit, abort, is_seen};
+ghost use Rattle.record_table.specs.Does.{Does};
+ghost use Rattle.record_table.specs.Shown.{state_of, held_on, is_write_on};
+ghost use Rattle.record_table.specs.State.{seen_by};
+
+use crate::fault::{AttachRecords, TableFault};
+use crate::rows::Rows;
+use crate::scanning::gather;
+use crate::slots::{seek, value_at, write_as};
+use crate::told::{insert_fault, table_fault, told};
+use array_shape::Shape;
+use eaw_face::EawStore;
+use page_store::{CheckFault, KeyIndex, Pages};
+use record_slots::{Slot, Value};
+use std::alloc::Global;
+use std::marker::{Model, PhantomData};
+
+/// Records under u64 keys over pages, under any index: a table, and over it what each transaction number has written and not
+/// committed.
+///
+/// Each call is one of the model's (`Does`): what it makes of the table, of writes and of saves, when each refusal comes, and what a
+/// loss of power within it may leave. After a refusal other than `Media` these are as they were. After `Media` each call that can be
+/// refused answers `Dead`.
+pub struct Records<S: EawStore, K: KeyIndex> {
+    pages: Pages<S>,
+    index: PhantomData<K>,
+}
+
+impl<S: EawStore, K: KeyIndex> Model for Records<S, K> {
+    ghost use Rattle.page_store.specs.Shown.{Shown, pages_of};
+    ghost use Rattle.record_table.specs.Invariant.{Holds};
+
+    ghost Value = { Shown S };
+
+    ghost view = { λ r. r.pages };
+
+    ghost invariant = { λ r. Holds S.tells K.index (pages_of (S.view r.pages.store) r.pages) };
+}
+
+impl<S: EawStore, K: KeyIndex> Records<S, K> {
+    /// Records over pages, once all of the index was tested. The pages are given back where it is not sound.
+    pub fn attach(pages: Pages<S>) -> Result<Records<S, K>, (AttachRecords, Pages<S>)>
+        requires idle { IsAlive (S.view pages.store) → (t : ℕ) → listed ((S.view pages.store).ranges t) ≡ [] }
+        requires closed { IsAlive (S.view pages.store) → (t : ℕ) → top_in pages.marks t ≡ None }
+        ensures attached { IfOk result (λ records. Attached S.tells (S.opens (S.view pages.store).shape) K.index
+            (pages_of (S.view pages.store) pages) (pages_of (S.view records.store) records)) }
+        ensures cause { IfErr result (λ failed. AttachCause S.tells K.index (S.view pages.store) failed.0) }
+        ensures looks { IfErr result (λ failed. Looks S.tells (S.opens (S.view pages.store).shape) (is_refused_by_media failed.0)
+            (pages_of (S.view pages.store) pages) (pages_of (S.view failed.1.store) failed.1)) }
+        ensures dead { IfErr result (λ failed. failed.0 ≡ AttachRecords.Dead → failed.1 ≡ pages) }
+    {
+        let mut pages = pages;
+        match K::check(&mut pages) {
+            Ok(()) => Ok(Records {
+                pages,
+                index: PhantomData,
+            }),
+            Err(CheckFault::Damaged { page }) => Err((AttachRecords::Damaged { page }, pages)),
+            Err(CheckFault::Media) => Err((AttachRecords::Media, pages)),
+            Err(CheckFault::Dead) => Err((AttachRecords::Dead, pages)),
+        }
+    }
+
+    /// The pages below. What numbers have written is still in them.
+    pub fn into_pages(self) -> Pages<S>
+        ensures { result ≡ self }
+    {
+        let Records { pages, index: _ } = self;
+        pages
+    }
+
+    /// The shape of the array below.
+    pub fn shape(&self) -> Shape
+        ensures { result ≡ (S.view self.now.store).shape }
+    {
+        self.pages.shape()
+    }
+
+    /// Whether an earlier call has met a fault of the media. While none has, what a logger holds of a number is the writes into its slots.
+    pub fn is_dead(&self) -> bool
+        ensures dead { result ≡ (S.view self.now.store).is_dead }
+        ensures held { IsTrue S.tells → IsAlive (S.view self.now.store) → (t g : ℕ) → held_on (pages_of (S.view self.now.store) self.now) t g ≡
+            length (filter (is_write_on (S.view self.now.store).shape (K.index.pairs (S.view self.now.store).state.bytes) g)
+            ((state_of K.index (pages_of (S.view self.now.store) self.now)).writes t)) }
+    {
+        self.pages.is_dead()
+    }
+
+    /// How often the number has saved, up to 32 times.
+    pub fn saves(&self, tid: u8) -> u32
+        requires { tid < (S.view self.now.store).shape.numbers }
+        ensures count { result ≡ length (counts_in self.now.marks tid) }
+        ensures most { result ≤ 32 }
+    {
+        self.pages.saves(tid)
+    }
+
+    /// The value under a key, as the number sees it.
+    pub fn get(&mut self, tid: u8, key: u64) -> Result<Option<Value>, TableFault>
+        requires { tid < (S.view self.old.store).shape.numbers }
+        ensures does { Does S.tells (S.opens (S.view self.old.store).shape) K.index (look tid key)
+            (pages_of (S.view self.old.store) self.old) (pages_of (S.view self.new.store) self.new) result }
+        ensures seen { IsTrue S.tells → IfOk result (λ value. value ≡
+            get (seen_by (state_of K.index (pages_of (S.view self.old.store) self.old)) tid) key) }
+        ensures dead { IsErrOf result TableFault.Dead → self.new ≡ self.old }
+    {
+        match seek::<S, K>(&mut self.pages, tid, key) {
+            Ok(found) => Ok(value_at(&found)),
+            Err(fault) => Err(table_fault(fault)),
+        }
+    }
+
+    /// Gives the key this value, in the number's own view at once, and in the table once it commits. A key that the index lacks is
+    /// inserted before; it stays there whatever becomes of the number.
+    pub fn put(&mut self, tid: u8, key: u64, value: Value) -> Result<(), TableFault>
+        requires { tid < (S.view self.old.store).shape.numbers }
+        ensures does { Does S.tells (S.opens (S.view self.old.store).shape) K.index (put tid key value)
+            (pages_of (S.view self.old.store) self.old) (pages_of (S.view self.new.store) self.new) result }
+        ensures dead { IsErrOf result TableFault.Dead → self.new ≡ self.old }
+    {
+        let present = Slot::Present { key, value };
+        match K::find(&mut self.pages, key) {
+            Ok(Some(slot)) => told(write_as(&mut self.pages, tid, slot, &present)),
+            Ok(None) => match K::insert(&mut self.pages, tid, key) {
+                Ok(slot) => told(write_as(&mut self.pages, tid, slot, &present)),
+                Err(fault) => Err(insert_fault(fault)),
+            },
+            Err(fault) => Err(table_fault(fault)),
+        }
+    }
+
+    /// Removes the record of a key, in the number's own view at once, and in the table once it commits; answers whether the number saw
+    /// one.
+    pub fn del(&mut self, tid: u8, key: u64) -> Result<bool, TableFault>
+        requires { tid < (S.view self.old.store).shape.numbers }
+        ensures does { Does S.tells (S.opens (S.view self.old.store).shape) K.index (del tid key)
+            (pages_of (S.view self.old.store) self.old) (pages_of (S.view self.new.store) self.new) result }
+        ensures seen { IsTrue S.tells → IfOk result (λ was. was ≡ is_seen (state_of K.index (pages_of (S.view self.old.store) self.old)) tid key) }
+        ensures dead { IsErrOf result TableFault.Dead → self.new ≡ self.old }
+    {
+        let place = match seek::<S, K>(&mut self.pages, tid, key) {
+            Ok(Some(place)) => place,
+            Ok(None) => return Ok(false),
+            Err(fault) => return Err(table_fault(fault)),
+        };
+        if place.value.is_none() {
+            return Ok(false);
+        }
+        match write_as(&mut self.pages, tid, place.slot, &Slot::Absent { key }) {
+            Ok(()) => Ok(true),
+            Err(fault) => Err(table_fault(fault)),
+        }
+    }
+
+    /// The records from one key to another, both of them included, as the number sees them. The memory for them is taken here.
+    pub fn scan(&mut self, alloc: Global, tid: u8, low: u64, high: u64) -> Result<Rows, TableFault>
+        requires { tid < (S.view self.old.store).shape.numbers }
+        ensures does { Does S.tells (S.opens (S.view self.old.store).shape) K.index (scan tid low high)
+            (pages_of (S.view self.old.store) self.old) (pages_of (S.view self.new.store) self.new) result }
+        ensures rows { IsTrue S.tells → IfOk result (λ rows. rows ≡
+            rows_within low high (seen_by (state_of K.index (pages_of (S.view self.old.store) self.old)) tid)) }
+        ensures dead { IsErrOf result TableFault.Dead → self.new ≡ self.old }
+    {
+        if self.pages.is_dead() {
+            return Err(TableFault::Dead);
+        }
+        let mut rows = Rows::new(alloc);
+        match gather::<S, K>(&mut self.pages, tid, low, high, &mut rows) {
+            Ok(()) => Ok(rows),
+            Err(fault) => Err(fault),
+        }
+    }
+
+    /// Remembers what the number has written, and gives how often it has saved now.
+    pub fn save(&mut self, tid: u8) -> Result<u32, TableFault>
+        requires { tid < (S.view self.old.store).shape.numbers }
+        ensures does { Does S.tells (S.opens (S.view self.old.store).shape) K.index (save tid)
+            (pages_of (S.view self.old.store) self.old) (pages_of (S.view self.new.store) self.new) result }
+        ensures count { IfOk result (λ n. n ≡ length (counts_in self.new.marks tid)) }
+        ensures refused { OnErr result (self.new ≡ self.old) }
+    {
+        told(self.pages.save(tid))
+    }
+
+    /// Takes the number back to its save `n`, counted from 1: it sees again what it saw there, over the table as it is now. Later saves
+    /// are gone, this one stays.
+    pub fn back(&mut self, tid: u8, n: u32) -> Result<(), TableFault>
+        requires tid { tid < (S.view self.old.store).shape.numbers }
+        requires some { 0 < n }
+        requires there { n ≤ length (counts_in self.old.marks tid) }
+        ensures does { Does S.tells (S.opens (S.view self.old.store).shape) K.index (back tid n)
+            (pages_of (S.view self.old.store) self.old) (pages_of (S.view self.new.store) self.new) result }
+        ensures refused { OnErr result (self.new ≡ self.old) }
+    {
+        if self.pages.is_dead() {
+            return Err(TableFault::Dead);
+        }
+        told(self.pages.back(tid, n))
+    }
+
+    /// Makes what the number has written part of the table, at once, and forgets its saves.
+    pub fn commit(&mut self, tid: u8) -> Result<(), TableFault>
+        requires { tid < (S.view self.old.store).shape.numbers }
+        ensures does { Does S.tells (S.opens (S.view self.old.store).shape) K.index (commit tid)
+            (pages_of (S.view self.old.store) self.old) (pages_of (S.view self.new.store) self.new) result }
+        ensures dead { IsErrOf result TableFault.Dead → self.new ≡ self.old }
+    {
+        told(self.pages.end(tid, true))
+    }
+
+    /// Drops what the number has written, and its saves.
+    pub fn abort(&mut self, tid: u8) -> Result<(), TableFault>
+        requires { tid < (S.view self.old.store).shape.numbers }
+        ensures does { Does S.tells (S.opens (S.view self.old.store).shape) K.index (abort tid)
+            (pages_of (S.view self.old.store) self.old) (pages_of (S.view self.new.store) self.new) result }
+        ensures dead { IsErrOf result TableFault.Dead → self.new ≡ self.old }
+    {
+        told(self.pages.end(tid, false))
+    }
+}

@@ -1,0 +1,109 @@
+// Records from one key to another, gathered along the index.
+ghost use Rattle.std.specs.Prelude.{◌≡◌, ◌≤◌, ◌<◌, [], ◌++◌, IfOk, IfSome, OnOk, IsErrOf, IsTrue};
+ghost use Rattle.eaw_face.specs.Causes.{IsAlive};
+ghost use Rattle.page_store.specs.Looks.{LookCause, is_failed};
+ghost use Rattle.page_store.specs.Shown.{pages_of};
+ghost use Rattle.record_table.specs.Does as table;
+ghost use Rattle.record_table.specs.Invariant.{Holds};
+ghost use Rattle.record_table.specs.Scanned.{row_at, rows_seen, Follows, ScanCause};
+ghost use Rattle.record_table.specs.Sought.{LooksAs};
+
+use crate::fault::TableFault;
+use crate::rows::Rows;
+use crate::slots::{page_of, read_as, value_in};
+use crate::told::table_fault;
+use counted::NoMemory;
+use eaw_face::EawStore;
+use page_store::{KeyIndex, PageFault, Pages};
+use record_slots::Value;
+
+/// A key of the index, and the value that a number sees under it.
+#[derive(Drop)]
+pub struct Next {
+    pub key: u64,
+    pub value: Option<Value>,
+}
+
+// The least key of the index from a first to a last one.
+fn next_row<S: EawStore, K: KeyIndex>(
+    pages: &mut Pages<S>,
+    tid: u8,
+    from: u64,
+    high: u64,
+) -> Result<Option<Next>, PageFault>
+    requires tid { tid < (S.view pages.old.store).shape.numbers }
+    requires holds { Holds S.tells K.index (pages_of (S.view pages.old.store) pages.old) }
+    ensures looks { LooksAs S.tells (S.opens (S.view pages.old.store).shape) tid (is_failed result)
+        (pages_of (S.view pages.old.store) pages.old) (pages_of (S.view pages.new.store) pages.new) }
+    ensures cause { LookCause S.tells (S.view pages.old.store) result }
+    ensures follows { IsTrue S.tells → IfOk result (Follows K.index tid from high (pages_of (S.view pages.old.store) pages.old)) }
+    ensures inside { IfOk result (λ next. IfSome next (λ next. (from ≤ next.key) × (next.key ≤ high))) }
+    ensures dead { IsErrOf result PageFault.Dead → pages.new ≡ pages.old }
+{
+    let (key, slot) = match K::next_key(pages, from) {
+        Ok(Some(pair)) => pair,
+        Ok(None) => return Ok(None),
+        Err(fault) => return Err(fault),
+    };
+    if key > high {
+        return Ok(None);
+    }
+    if key < from {
+        return Err(PageFault::Damaged { page: 0 });
+    }
+    let page = page_of(pages, slot);
+    match read_as(pages, tid, slot) {
+        Ok(Some(said)) => Ok(Some(Next {
+            key,
+            value: value_in(&said),
+        })),
+        Ok(None) => Err(PageFault::Damaged { page }),
+        Err(fault) => Err(fault),
+    }
+}
+
+// A further row, where there is a record.
+fn push_row(rows: &mut Rows, next: &Next) -> Result<(), NoMemory>
+    ensures { OnOk result (rows.new ≡ rows.old ++ row_at next.now.key next.now.value) }
+{
+    match next.value {
+        Some(value) => rows.push(next.key, value),
+        None => Ok(()),
+    }
+}
+
+// The records from one key to another, as the number sees them.
+pub fn gather<S: EawStore, K: KeyIndex>(
+    pages: &mut Pages<S>,
+    tid: u8,
+    low: u64,
+    high: u64,
+    rows: &mut Rows,
+) -> Result<(), TableFault>
+    requires tid { tid < (S.view pages.old.store).shape.numbers }
+    requires alive { IsAlive (S.view pages.old.store) }
+    requires holds { Holds S.tells K.index (pages_of (S.view pages.old.store) pages.old) }
+    requires empty { rows.old ≡ [] }
+    ensures looks { LooksAs S.tells (S.opens (S.view pages.old.store).shape) tid (table.is_failed result)
+        (pages_of (S.view pages.old.store) pages.old) (pages_of (S.view pages.new.store) pages.new) }
+    ensures cause { ScanCause S.tells result }
+    ensures rows { IsTrue S.tells → OnOk result (rows.new ≡ rows_seen K.index tid (pages_of (S.view pages.old.store) pages.old) low high) }
+{
+    let mut from = low;
+    while from <= high {
+        let next = match next_row::<S, K>(pages, tid, from, high) {
+            Ok(Some(next)) => next,
+            Ok(None) => return Ok(()),
+            Err(fault) => return Err(table_fault(fault)),
+        };
+        match push_row(rows, &next) {
+            Ok(()) => {}
+            Err(_) => return Err(TableFault::NoMemory),
+        }
+        if next.key == high {
+            return Ok(());
+        }
+        from = next.key + 1;
+    }
+    Ok(())
+}

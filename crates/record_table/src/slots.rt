@@ -1,0 +1,138 @@
+// Slots of keys, read and written as a number.
+ghost use Rattle.std.specs.Prelude.{◌≡◌, ◌≢◌, ◌+◌, ◌*◌, ◌%◌, ◌<◌, Some, IfOk, IfErr, IfSome, IsErrOf, IsTrue, length};
+ghost use Rattle.counted.specs.Bytes.{range};
+ghost use Rattle.array_shape.specs.Places.{page_count};
+ghost use Rattle.eaw_face.specs.Causes.{IsAlive};
+ghost use Rattle.record_slots.specs.Slots.{slot_said, slot_bytes};
+ghost use Rattle.page_store.specs.Command.{write_as};
+ghost use Rattle.page_store.specs.Does.{Does};
+ghost use Rattle.page_store.specs.Index.{slots_of, index_pages_of};
+ghost use Rattle.page_store.specs.Looks.{LookCause, is_failed};
+ghost use Rattle.page_store.specs.Kept.{IsOrdered};
+ghost use Rattle.page_store.specs.Shown.{pages_of, outline_of, state_of};
+ghost use Rattle.page_store.specs.State.{view_of};
+ghost use Rattle.record_table.specs.Invariant.{Holds};
+ghost use Rattle.record_table.specs.Shown.{value_of};
+ghost use Rattle.record_table.specs.Sought.{LooksAs, Finds, value_at};
+
+use eaw_face::EawStore;
+use page_store::{KeyIndex, PageFault, Pages};
+use record_slots::{SLOT_LEN, Slot, Value, read_slot, write_slot};
+
+const SLOTS_IN_PAGE: u32 = 8;
+
+/// The slot of a key, and the value that a number sees there.
+#[derive(Drop)]
+pub struct Place {
+    pub slot: u32,
+    pub value: Option<Value>,
+}
+
+// The page of a slot: eight are in a page, behind the pages of the index.
+pub fn page_of<S: EawStore>(pages: &Pages<S>, slot: u32) -> u32
+    requires { slot < slots_of (S.view pages.now.store).shape }
+    ensures at { 512 * result + slot % 8 * 64 ≡ 64 * (slots_of (S.view pages.now.store).shape + slot) }
+    ensures inside { result < page_count (S.view pages.now.store).shape }
+{
+    let shape = pages.shape();
+    let half = (u64::from(shape.loggers) * u64::from(shape.pages) / 2) as u32;
+    half + slot / SLOTS_IN_PAGE
+}
+
+// Reads what the number sees in a slot.
+pub fn read_as<S: EawStore>(
+    pages: &mut Pages<S>,
+    tid: u8,
+    slot: u32,
+) -> Result<Option<Slot>, PageFault>
+    requires tid { tid < (S.view pages.old.store).shape.numbers }
+    requires slot { slot < slots_of (S.view pages.old.store).shape }
+    ensures looks { LooksAs S.tells (S.opens (S.view pages.old.store).shape) tid (is_failed result)
+        (pages_of (S.view pages.old.store) pages.old) (pages_of (S.view pages.new.store) pages.new) }
+    ensures cause { LookCause S.tells (S.view pages.old.store) result }
+    ensures said { IsTrue S.tells → IfOk result (λ said. said ≡
+        slot_said (range (view_of tid (state_of (pages_of (S.view pages.old.store) pages.old))) (64 * (slots_of (S.view pages.old.store).shape + slot)) 64)) }
+    ensures dead { IsErrOf result PageFault.Dead → pages.new ≡ pages.old }
+{
+    let page = page_of(pages, slot);
+    let mut bytes = [0; SLOT_LEN];
+    pages.read_as(tid, page, slot % SLOTS_IN_PAGE * 64, &mut bytes)?;
+    Ok(read_slot(&bytes))
+}
+
+// Writes a whole slot as the number.
+pub fn write_as<S: EawStore>(
+    pages: &mut Pages<S>,
+    tid: u8,
+    slot: u32,
+    said: &Slot,
+) -> Result<(), PageFault>
+    requires tid { tid < (S.view pages.old.store).shape.numbers }
+    requires slot { slot < slots_of (S.view pages.old.store).shape }
+    ensures does { Does S.tells (S.opens (S.view pages.old.store).shape)
+        (write_as tid (64 * (slots_of (S.view pages.old.store).shape + slot)) (slot_bytes said.now))
+        (pages_of (S.view pages.old.store) pages.old) (pages_of (S.view pages.new.store) pages.new) result }
+    ensures ordered { IsAlive (S.view pages.old.store) → IsOrdered (outline_of (pages_of (S.view pages.old.store) pages.old)) }
+    ensures reads_back { IsAlive (S.view pages.old.store) → slot_said (slot_bytes said.now) ≡ Some said.now }
+    ensures whole { IsAlive (S.view pages.old.store) → length (slot_bytes said.now) ≡ 64 }
+    ensures refused { IfErr result (λ fault. fault ≢ PageFault.Media → pages.new ≡ pages.old) }
+{
+    if pages.is_dead() {
+        return Err(PageFault::Dead);
+    }
+    let page = page_of(pages, slot);
+    let mut bytes = [0; SLOT_LEN];
+    write_slot(said, &mut bytes);
+    pages.write_as(tid, page, slot % SLOTS_IN_PAGE * 64, &bytes)
+}
+
+// Looks a key up in the index, and then at its slot.
+pub fn seek<S: EawStore, K: KeyIndex>(
+    pages: &mut Pages<S>,
+    tid: u8,
+    key: u64,
+) -> Result<Option<Place>, PageFault>
+    requires tid { tid < (S.view pages.old.store).shape.numbers }
+    requires holds { Holds S.tells K.index (pages_of (S.view pages.old.store) pages.old) }
+    ensures looks { LooksAs S.tells (S.opens (S.view pages.old.store).shape) tid (is_failed result)
+        (pages_of (S.view pages.old.store) pages.old) (pages_of (S.view pages.new.store) pages.new) }
+    ensures cause { LookCause S.tells (S.view pages.old.store) result }
+    ensures finds { IsTrue S.tells → IfOk result (Finds K.index tid key (pages_of (S.view pages.old.store) pages.old)) }
+    ensures inside { IfOk result (λ place. IfSome place (λ place. place.slot < slots_of (S.view pages.old.store).shape)) }
+    ensures dead { IsErrOf result PageFault.Dead → pages.new ≡ pages.old }
+{
+    let slot = match K::find(pages, key) {
+        Ok(Some(slot)) => slot,
+        Ok(None) => return Ok(None),
+        Err(fault) => return Err(fault),
+    };
+    let page = page_of(pages, slot);
+    match read_as(pages, tid, slot) {
+        Ok(Some(said)) => Ok(Some(Place {
+            slot,
+            value: value_in(&said),
+        })),
+        Ok(None) => Err(PageFault::Damaged { page }),
+        Err(fault) => Err(fault),
+    }
+}
+
+// The value that was found.
+pub fn value_at(found: &Option<Place>) -> Option<Value>
+    ensures { result ≡ value_at found.now }
+{
+    match found {
+        Some(place) => place.value,
+        None => None,
+    }
+}
+
+// The value that a slot holds.
+pub fn value_in(said: &Slot) -> Option<Value>
+    ensures { result ≡ value_of (Some said.now) }
+{
+    match said {
+        Slot::Present { key: _, value } => Some(*value),
+        Slot::Absent { key: _ } => None,
+    }
+}
