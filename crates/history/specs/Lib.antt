@@ -1,2 +1,5 @@
+pub mod Writes
 pub mod Table
 pub mod Legal
+pub mod Log
+pub mod Locks

@@ -1,43 +1,70 @@
 -- The one-thread table: what it answers, and what calls leave of it.
-use Rattle.std.specs.Prelude.{ℕ, ◌≡◌, List, [], ◌∷◌, Option, unwrap_or}
+use Rattle.std.specs.Prelude.{ℕ, ◌≡◌, ◌+◌, ◌-◌, Bool, ◌&&◌, nat_lt, nat_le, if◌then◌else◌, IsTrue, List, [], ◌∷◌, ◌++◌, length, take, slice_index_or, Option, Some, None}
 use Rattle.std.specs.List.{fold}
-use Rattle.std.specs.Option.{option_map}
-use Rattle.std.specs.Ordering.{nat_cmp}
-use Rattle.std.specs.FinMap.{FinMap, get, insert, code}
-use Rattle.std.specs.Coded.{Coded, coded_ℕ, coded_list}
+use Rattle.std.specs.FinMap.{get, insert, remove}
+use Rattle.history.specs.Writes.{Table, rows_within}
 use Rattle.history.specs.declared.call.Call.{Call}
-use Rattle.history.specs.declared.call.Call.TheVariants.{Get, Put}
+use Rattle.history.specs.declared.call.Call.TheVariants.{Get, Put, Del, Scan, Save, Back}
 use Rattle.history.specs.declared.call.Reply.{Reply}
-use Rattle.history.specs.declared.call.Reply.TheVariants.{Fine, Found, Absent}
+use Rattle.history.specs.declared.call.Reply.TheVariants.{Fine, Found, Absent, Listed, Saved}
 
--- a value at each of some keys
-abbrev pub Table : Type 0
-Table = FinMap nat_cmp (List ℕ)
+-- granted calls, each with its reply
+abbrev pub Granted : Type 0
+Granted = List (Call × Reply)
 
--- how a table is stored as data
-abbrev pub table_code : Coded Table
-table_code = code coded_ℕ (coded_list coded_ℕ)
+-- a table as a transaction has it, and the tables that it saved, the first save first
+pub record Work : Type 0 where
+  pub table : Table
+  pub saves : List Table
+
+abbrev pub begun : Table → Work
+begun table = record { table = table; saves = [] }
 
 -- the reply to a get that finds this
 abbrev pub found : Option (List ℕ) → Reply
-found value = unwrap_or (option_map Found value) Absent
+found None = Absent
+found (Some value) = Found value
 
--- The table answers the call so. A begin and a commit are no calls of a table.
-abbrev pub Answers : Table → Call → Reply → Type 0
-Answers table (Get key) reply = reply ≡ found (get table key)
-Answers table (Put key value) reply = reply ≡ Fine
-Answers table _ reply = ⊥
+-- the reply to a removal that finds this
+abbrev pub removed : Option (List ℕ) → Reply
+removed None = Absent
+removed (Some value) = Fine
 
--- the table after a call
-abbrev pub after : Table → Call → Table
-after table (Put key value) = insert table key value
-after table _ = table
+-- there is such a save, where they are counted from 1
+abbrev pub has_save : {A : Type 0} → List A → ℕ → Bool
+has_save saves n = nat_lt 0 n && nat_le n (length saves)
 
--- the table that calls leave
-abbrev pub left_by : Table → List (Call × Reply) → Table
-left_by table entries = fold (λ was entry. after was entry.0) table entries
+-- The table answers the call so. A begin, a commit and an abort are no calls of a table.
+abbrev pub Answers : Work → Call → Reply → Type 0
+Answers work (Get key) reply = reply ≡ found (get work.table key)
+Answers work (Put key value) reply = reply ≡ Fine
+Answers work (Del key) reply = reply ≡ removed (get work.table key)
+Answers work (Scan low high) reply = reply ≡ Listed (rows_within low high work.table)
+Answers work Save reply = reply ≡ Saved (length work.saves + 1)
+Answers work (Back n) reply = IsTrue (has_save work.saves n) × (reply ≡ Fine)
+Answers work _ reply = ⊥
 
--- the table gives these replies to these calls, one after another
-abbrev pub IsRight : Table → List (Call × Reply) → Type 0
-IsRight table [] = Unit {0}
-IsRight table (entry ∷ entries) = Answers table entry.0 entry.1 × IsRight (after table entry.0) entries
+-- the table after a call; a way back takes the table of that save, and forgets the later saves
+abbrev pub after : Work → Call → Work
+after work (Put key value) = record { table = insert work.table key value; saves = work.saves }
+after work (Del key) = record { table = remove work.table key; saves = work.saves }
+after work Save = record { table = work.table; saves = work.saves ++ work.table ∷ [] }
+after work (Back n) = if has_save work.saves n then record { table = slice_index_or work.saves (n - 1) work.table; saves = take n work.saves } else work
+after work _ = work
+
+-- what calls leave
+abbrev pub worked : Work → Granted → Work
+worked work calls = fold (λ was entry. after was entry.0) work calls
+
+-- these replies are given to these calls, one after another
+abbrev pub IsRightFrom : Work → Granted → Type 0
+IsRightFrom work [] = Unit {0}
+IsRightFrom work (entry ∷ entries) = Answers work entry.0 entry.1 × IsRightFrom (after work entry.0) entries
+
+-- a transaction that is begun on a table gets these replies
+abbrev pub IsRight : Table → Granted → Type 0
+IsRight table calls = IsRightFrom (begun table) calls
+
+-- the table that a transaction leaves
+abbrev pub left_by : Table → Granted → Table
+left_by table calls = (worked (begun table) calls).table

@@ -2,7 +2,9 @@
 #![tactic(auto)]
 
 mod call;
+mod rows;
 mod transaction;
 
 pub use call::{Call, Reply};
+pub use rows::Rows;
 pub use transaction::{Calls, Done, History};

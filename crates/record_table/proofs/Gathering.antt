@@ -7,8 +7,8 @@ use Rattle.eaw_face.specs.State.{listed}
 use Rattle.record_slots.specs.Slots.{slot_said}
 use Rattle.record_slots.specs.Places.{slot_of}
 use Rattle.record_slots.specs.declared.slot.Slot.{Slot}
-use Rattle.history.specs.Table.{Table}
-use Rattle.record_table.specs.Writes.{is_within, rows_within}
+use Rattle.history.specs.Writes.{Table}
+use Rattle.history.specs.Writes.{is_within, rows_within}
 use Rattle.page_store.specs.Index.{Index}
 use Rattle.page_store.specs.Pairs.{Pair, Rise, next}
 use Rattle.page_store.specs.Shown.{PagesView}

@@ -9,7 +9,7 @@ use Rattle.std.specs.FinMap.{entries, find, is_sorted, from_sorted, entries-from
 use Rattle.std.specs.FinMap.Entries.{below_all}
 use lib.Dec.{T}
 use Rattle.std.proofs.lemmas.Bool.{cases_eq, cases_Bool, eq-eqb, ne_eqb}
-use Rattle.record_table.specs.Writes.{is_within}
+use Rattle.history.specs.Writes.{is_within}
 use Rattle.page_store.specs.Pairs.{Pair, Rise, found, next}
 use Rattle.record_table.specs.Scanned.{row_at}
 use Rattle.record_table.specs.Shown.{table_in}

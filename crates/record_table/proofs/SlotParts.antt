@@ -14,8 +14,8 @@ use Rattle.record_slots.specs.Super.{next_slot_said, next_page_said}
 use Rattle.record_slots.specs.Places.{page_bytes, slot_count, slot_at, slot_of, next_slot, next_page, IsOfKey, Carries, AreGiven}
 use Rattle.record_slots.specs.declared.slot.Slot.{Slot}
 use Rattle.record_slots.specs.declared.slot.Slot.TheVariants.{Absent, Present}
-use Rattle.history.specs.Table.{Table}
-use Rattle.record_table.specs.Writes.{all_written, write_into}
+use Rattle.history.specs.Writes.{Table}
+use Rattle.history.specs.Writes.{all_written, write_into}
 use Rattle.page_store.specs.Pairs.{Pair, Rise, found}
 use Rattle.page_store.specs.Index.{Index, HasCounts, KeepsIndex}
 use Rattle.page_store.proofs.Reading.{part_missed}

@@ -12,7 +12,8 @@ use Rattle.page_store.specs.State.{PagesState, log_of, with_one}
 use Rattle.page_store.specs.Command as page
 use Rattle.page_store.specs.Kept.{IsFront}
 use Rattle.page_store.proofs.Views.{saved_or_none}
-use Rattle.record_table.specs.State.{save_at, floor_of}
+use Rattle.history.specs.Log.{save_at}
+use Rattle.record_table.specs.State.{floor_of}
 use Rattle.record_table.specs.Command.{save, back, commit, abort, written, after}
 use Rattle.record_table.specs.Shown.{table_of, write_of, writes_of, shown_by}
 use Rattle.record_table.specs.Invariant.{IsSlotPart, AreSlotParts}

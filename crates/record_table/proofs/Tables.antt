@@ -9,8 +9,8 @@ use Rattle.record_slots.specs.Slots.{slot_said}
 use Rattle.record_slots.specs.Places.{slot_of}
 use Rattle.record_slots.specs.declared.slot.Slot.{Slot}
 use Rattle.record_slots.specs.declared.slot.Slot.TheVariants.{Absent, Present}
-use Rattle.history.specs.Table.{Table}
-use Rattle.record_table.specs.Writes.{set_or_remove}
+use Rattle.history.specs.Writes.{Table}
+use Rattle.history.specs.Writes.{set_or_remove}
 use Rattle.page_store.specs.Pairs.{Pair, found}
 use Rattle.record_table.specs.Shown.{value_of, write_said, table_in}
 

@@ -8,15 +8,14 @@ use Rattle.std.proofs.lemmas.Option.{same_Some}
 use Rattle.array_shape.specs.Logged.{Part, ranges_of}
 use Rattle.record_slots.specs.Slots.{slot_said}
 use Rattle.record_slots.specs.Places.{slot_at}
-use Rattle.record_table.specs.Writes.{Write, is_of}
+use Rattle.history.specs.Writes.{Write, is_of, replaced}
 use Rattle.page_store.specs.Edit.{meet, meets_none, is_same, edit_pos, written_at, with_write}
 use Rattle.page_store.specs.Index.{Index}
 use Rattle.page_store.specs.Pairs.{found}
 use Rattle.page_store.proofs.Edit.{written_later}
 use Rattle.page_store.proofs.Parts.{put_whole}
 use Rattle.page_store.proofs.Writes.{write_ind}
-use Rattle.record_table.specs.State as table
-use Rattle.record_table.specs.State.{replaced}
+use Rattle.history.specs.Writes as table
 use Rattle.record_table.specs.Shown.{write_said, write_of, writes_of}
 use Rattle.record_table.specs.Invariant.{IsSlotPart, AreSlotParts}
 use Rattle.record_table.proofs.SlotParts.{Laws, one_slot}

@@ -2,7 +2,9 @@
 use Rattle.std.specs.Prelude.{ℕ, Bool, is_some, if◌then◌else◌, List, [], ◌∷◌, ◌++◌, take, Option, Some, None}
 use Rattle.std.specs.FinMap.{get}
 use Rattle.page_store.specs.State.{with_one}
-use Rattle.record_table.specs.State.{TableState, seen_by, save_at, floor_of, with_write}
+use Rattle.history.specs.Writes.{with_write}
+use Rattle.history.specs.Log.{save_at}
+use Rattle.record_table.specs.State.{TableState, seen_by, floor_of}
 
 -- As a number: a look at a key, a value for it, its removal, the records from one key to another, a save, the way back to save n;
 -- and its end, by a commit or an abort.

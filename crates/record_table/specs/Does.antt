@@ -1,9 +1,9 @@
 -- What a call on records does.
-use Rattle.std.specs.Prelude.{ℕ, ◌≡◌, ◌≢◌, ◌+◌, ◌⊎◌, Bool, true, false, IsTrue, IsFalse, List, length, Option, Some, None, Result, Ok, Err, OnOk, OnErr}
+use Rattle.std.specs.Prelude.{ℕ, ◌≡◌, ◌≢◌, ◌+◌, ◌≤◌, ◌⊎◌, Bool, true, false, IsTrue, IsFalse, List, length, Option, Some, None, Result, Ok, Err, OnOk, OnErr}
 use Rattle.counted.specs.Causes.{Rose}
 use Rattle.eaw_face.specs.StoreView.{LeavesOnly}
 use Rattle.eaw_face.specs.Causes.{IsAlive}
-use Rattle.history.specs.Table.{Table}
+use Rattle.history.specs.Writes.{Table}
 use Rattle.page_store.specs.Index.{Index}
 use Rattle.page_store.specs.Pairs.{found}
 use Rattle.page_store.specs.Shown.{PagesView}
@@ -12,7 +12,7 @@ use Rattle.record_table.specs.Command.{TableCommand, put, save, back, commit, ab
 use Rattle.record_table.specs.Shown.{table_of, state_of, keys_of}
 use Rattle.record_table.specs.Causes.{Cause}
 use Rattle.record_table.specs.declared.fault.TableFault.{TableFault}
-use Rattle.record_table.specs.declared.fault.TableFault.TheVariants.{LogFull, Media}
+use Rattle.record_table.specs.declared.fault.TableFault.TheVariants.{LogFull, PagesFull, Media}
 
 -- an image opens with sound data that has these records
 pub record OpensWith (Opens : List ℕ → List ℕ → Type 0) (index : Index) (image : List ℕ) (table : Table) : Type 0 where
@@ -26,10 +26,12 @@ abbrev pub is_failed : {T : Type 0} → Result T TableFault → Bool
 is_failed (Err Media) = true
 is_failed _ = false
 
--- what an insertion that came due makes of the index; where the log is full behind it, the key stays
+-- What an insertion that came due makes of the index. Where the log is full behind it, the key stays; where pages ran out, all but one
+-- at most are given, or the index has as many levels as it may.
 abbrev pub Inserted : {T : Type 0} → ℕ → Keys → Keys → Result T TableFault → Type 0
 Inserted key old new (Ok answer) = TakesPages old new × GainsKey key old new
 Inserted key old new (Err (LogFull g h n)) = TakesPages old new × (KeepsKeys old new ⊎ GainsKey key old new)
+Inserted key old new (Err (PagesFull n)) = TakesPages old new × KeepsKeys old new × ((n ≤ new.next_page) ⊎ (7 ≤ new.level))
 Inserted key old new (Err _) = TakesPages old new × KeepsKeys old new
 
 abbrev pub IndexedAt : {T : Type 0} → ℕ → Option ℕ → Keys → Keys → Result T TableFault → Type 0

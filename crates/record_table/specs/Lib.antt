@@ -1,4 +1,3 @@
-pub mod Writes
 pub mod State
 pub mod Command
 pub mod Shown

@@ -1,6 +1,6 @@
 -- What a scan meets, key by key.
 use Rattle.std.specs.Prelude.{ℕ, suc, ◌≡◌, Bool, IsTrue, List, [], ◌∷◌, ◌++◌, Option, Some, None, Result, Ok, Err}
-use Rattle.record_table.specs.Writes.{rows_within}
+use Rattle.history.specs.Writes.{rows_within}
 use Rattle.page_store.specs.Index.{Index}
 use Rattle.page_store.specs.Shown.{PagesView}
 use Rattle.record_table.specs.State.{seen_by}

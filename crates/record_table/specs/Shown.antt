@@ -9,8 +9,7 @@ use Rattle.record_slots.specs.Slots.{slot_said}
 use Rattle.record_slots.specs.Places.{slot_of, next_slot, next_page}
 use Rattle.record_slots.specs.declared.slot.Slot.{Slot}
 use Rattle.record_slots.specs.declared.slot.Slot.TheVariants.{Absent, Present}
-use Rattle.history.specs.Table.{Table}
-use Rattle.record_table.specs.Writes.{Write, write_into}
+use Rattle.history.specs.Writes.{Table, Write, write_into}
 use Rattle.page_store.specs.Pairs.{Pair, found}
 use Rattle.page_store.specs.Index.{Index, slots_of}
 use Rattle.page_store.specs.Shown.{PagesView}
@@ -54,7 +53,7 @@ state_of index view = shown_by index (pages.state_of view)
 
 -- what the index is in the data
 abbrev pub keys_of : Index → List ℕ → Keys
-keys_of index bytes = record { pairs = index.pairs bytes; next_slot = next_slot bytes; next_page = next_page bytes }
+keys_of index bytes = record { pairs = index.pairs bytes; next_slot = next_slot bytes; next_page = next_page bytes; level = index.level bytes }
 
 -- the logger that holds the writes into a slot, and how many of one it needs to hold
 abbrev pub logger_of_slot : Shape → ℕ → ℕ

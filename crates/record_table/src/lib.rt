@@ -3,11 +3,9 @@
 
 mod fault;
 mod records;
-mod rows;
 mod scanning;
 mod slots;
 mod told;
 
 pub use fault::{AttachRecords, TableFault};
 pub use records::Records;
-pub use rows::Rows;

@@ -9,11 +9,11 @@ ghost use Rattle.record_table.specs.Scanned.{row_at, rows_seen, Follows, ScanCau
 ghost use Rattle.record_table.specs.Sought.{LooksAs};
 
 use crate::fault::TableFault;
-use crate::rows::Rows;
 use crate::slots::{page_of, read_as, value_in};
 use crate::told::table_fault;
 use counted::NoMemory;
 use eaw_face::EawStore;
+use history::Rows;
 use page_store::{KeyIndex, PageFault, Pages};
 use record_slots::Value;
 

@@ -1,6 +1,6 @@
 use Rattle.std.proofs.Common.{◌≡◌, suc, ◌++◌, sym, ◌∙◌, ap, arith}
 use Rattle.page_store.specs.Shown.{pages_of}
-use Rattle.record_table.specs.Writes.{rows_within}
+use Rattle.history.specs.Writes.{rows_within}
 use Rattle.record_table.specs.Scanned.{row_at, rows_seen}
 use Rattle.record_table.specs.State.{TableState, seen_by}
 use Rattle.record_table.proofs.Gathering.{follows_past, last_row, no_row}

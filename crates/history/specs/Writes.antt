@@ -1,7 +1,12 @@
--- Writes into a table of records.
-use Rattle.std.specs.Prelude.{ℕ, nat_eq, nat_le, ◌&&◌, Bool, List, [], ◌∷◌, filter, Option, Some, None}
-use Rattle.std.specs.FinMap.{insert, remove, entries}
-use Rattle.history.specs.Table.{Table}
+-- Tables of records, and writes into them.
+use Rattle.std.specs.Prelude.{ℕ, nat_eq, nat_le, ◌&&◌, not, if◌then◌else◌, Bool, List, [], ◌∷◌, ◌++◌, filter, take, drop, Option, Some, None}
+use Rattle.std.specs.List.{list_any}
+use Rattle.std.specs.Ordering.{nat_cmp}
+use Rattle.std.specs.FinMap.{FinMap, insert, remove, entries}
+
+-- a value at each of some keys
+abbrev pub Table : Type 0
+Table = FinMap nat_cmp (List ℕ)
 
 -- a key, and the value that it gets, or none where its record is removed
 abbrev pub Write : Type 0
@@ -22,6 +27,16 @@ all_written table (write ∷ writes) = all_written (write_into table write) writ
 -- the write is of this key
 abbrev pub is_of : ℕ → Write → Bool
 is_of key write = nat_eq write.0 key
+
+-- a write in the place of the last one of its key, or behind them all
+abbrev pub replaced : Write → List Write → List Write
+replaced write [] = write ∷ []
+replaced write (other ∷ writes) =
+    if is_of write.0 other && not (list_any (is_of write.0) writes) then write ∷ writes else other ∷ replaced write writes
+
+-- the writes after one more, which takes the place of one of its key behind the first so many
+abbrev pub with_write : ℕ → Write → List Write → List Write
+with_write floor write writes = take floor writes ++ replaced write (drop floor writes)
 
 abbrev pub is_within : ℕ → ℕ → ℕ × List ℕ → Bool
 is_within low high row = nat_le low row.0 && nat_le row.0 high

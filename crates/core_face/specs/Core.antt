@@ -1,0 +1,39 @@
+-- What a core shows, and what a step does.
+use Rattle.std.specs.Prelude.{ℕ, ◌≡◌, Bool, IsTrue, IsFalse, List, length}
+use Rattle.counted.specs.Causes.{Rose}
+use Rattle.counted.specs.Moments.{Elapses}
+use Rattle.history.specs.Writes.{Table}
+use Rattle.history.specs.declared.call.Call.{Call}
+use Rattle.history.specs.declared.call.Reply.{Reply}
+use Rattle.core_face.specs.State.{State}
+use Rattle.core_face.specs.Room.{Limits}
+use Rattle.core_face.specs.Step.{Step}
+use Rattle.core_face.specs.Fate.{Moves, is_media}
+use Rattle.core_face.specs.Prefix.{HasPrefixOf}
+
+-- Its limits; its state; how often its media has failed; the moment; whether a loss of power at some moment from this one on might have
+-- left this image; and whether an image opens with these records.
+pub record CoreView : Type 1 where
+  pub limits : Limits
+  pub state : State
+  pub faults : ℕ
+  pub moment : ℕ
+  pub left_since : ℕ → List ℕ → Type 0
+  pub opens : List ℕ → Table → Type 0
+
+-- the prefix law: what might have been left since a moment opens with the records of the first transactions, of at least so many
+abbrev pub IsSafe : CoreView → ℕ → ℕ → Type 0
+IsSafe core since least = (image : List ℕ) → core.left_since since image → HasPrefixOf core.opens core.state least image
+
+-- A caller's call of a core. A fault of the media is told as one, and hides behind no other reply. Where the core tells its records,
+-- the reply is that of the step; whenever power was lost within it, all transactions that were committed before are kept; and what may
+-- be left now has all of the history.
+pub record Steps (tells : Bool) (caller : ℕ) (call : Call) (old new : CoreView) (reply : Reply) : Type 0 where
+  pub limits : new.limits ≡ old.limits
+  pub opens : (image : List ℕ) (table : Table) → old.opens image table → new.opens image table
+  pub moves : Moves old.state caller call reply new.state
+  pub failed : IsTrue (is_media reply) → Rose old.faults new.faults
+  pub kept : IsFalse (is_media reply) → new.faults ≡ old.faults
+  pub step : IsTrue tells → Step old.limits old.state caller call reply new.state
+  pub time : IsTrue tells → Elapses old.moment new.moment old.left_since new.left_since (HasPrefixOf new.opens new.state (length old.state.history))
+  pub now : IsTrue tells → IsSafe new new.moment (length new.state.history)

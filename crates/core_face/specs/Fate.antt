@@ -1,0 +1,47 @@
+-- What replies say of transactions.
+use Rattle.std.specs.Prelude.{ℕ, ◌≡◌, ◌≢◌, Bool, true, false, ◌||◌, if◌then◌else◌, IsTrue, IsFalse, List, [], ◌∷◌, ◌++◌, Option, Some, None}
+use Rattle.history.specs.Table.{Granted}
+use Rattle.history.specs.declared.call.Call.{Call}
+use Rattle.history.specs.declared.call.Call.TheVariants.{Begin, Commit, Abort}
+use Rattle.history.specs.declared.call.Reply.{Reply}
+use Rattle.history.specs.declared.call.Reply.TheVariants.{Fine, Found, Absent, Listed, Saved, Committed, Media}
+use Rattle.history.specs.declared.transaction.Done.{Done}
+use Rattle.core_face.specs.State.{State, calls_of, done_by}
+
+-- a reply to a call that was not done
+abbrev pub is_refusal : Reply → Bool
+is_refusal Fine = false
+is_refusal (Found value) = false
+is_refusal Absent = false
+is_refusal (Listed rows) = false
+is_refusal (Saved n) = false
+is_refusal (Committed n) = false
+is_refusal _ = true
+
+abbrev pub is_media : Reply → Bool
+is_media Media = true
+is_media _ = false
+
+abbrev pub is_committed : Reply → Bool
+is_committed (Committed n) = true
+is_committed _ = false
+
+-- a commit appends the caller's transaction, and nothing else changes the history
+abbrev pub history_after : State → ℕ → Reply → List Done
+history_after old caller reply = if is_committed reply then old.history ++ done_by old caller (calls_of old caller) ∷ [] else old.history
+
+-- what a call that was done leaves of the caller's live transaction
+abbrev pub live_with : Granted → Call → Reply → Option Granted
+live_with calls Begin reply = Some []
+live_with calls Commit reply = None
+live_with calls Abort reply = None
+live_with calls call reply = Some (calls ++ (call, reply) ∷ [])
+
+-- What each step does to transactions, over any store. A fault of the media may end the caller's transaction, in a commit.
+pub record Moves (old : State) (caller : ℕ) (call : Call) (reply : Reply) (new : State) : Type 0 where
+  pub base : new.base ≡ old.base
+  pub history : new.history ≡ history_after old caller reply
+  pub dead : new.is_dead ≡ (old.is_dead || is_media reply)
+  pub own : IsFalse (is_refusal reply) → new.live caller ≡ live_with (calls_of old caller) call reply
+  pub others : (other : ℕ) → other ≢ caller → new.live other ≡ old.live other
+  pub refused : IsTrue (is_refusal reply) → IsFalse (is_media reply) → new.live ≡ old.live
