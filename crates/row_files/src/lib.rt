@@ -18,6 +18,7 @@
 //! | `words WORD ..` | the words of the run; where no line says them there are none |
 //! | `> TEXT` | a line of its input |
 //! | `drawn N SEED` | N lines of raw commands, drawn from a seed |
+//! | `loads N A to B` | the keys A to B are put, each K with the value `vK`, N in a transaction; and the answers that all this was done |
 //! | `fail read A to B` | one read fails. The run is made once for the A-th read, once for the next, and so on to the B-th. `fail write` and `fail media` are the same of the sink and of the media |
 //! | `power A to B` | power is lost: the media takes A calls, and fails each behind them. Again one run for each number |
 //!
@@ -46,6 +47,7 @@ mod draws;
 mod fault;
 mod fields;
 mod file;
+mod loads;
 mod row;
 mod run;
 mod texts;

@@ -1,6 +1,7 @@
 use crate::draws::push_drawn;
 use crate::fault::LineFault;
 use crate::fields::{bytes, number, size, span, two_words, word_and_rest, words};
+use crate::loads::push_loads;
 use crate::texts::push_lines;
 use std::alloc::Global;
 
@@ -114,6 +115,11 @@ impl Run {
             "drawn" => {
                 let (count, seed) = two_words(rest)?;
                 push_drawn(alloc, &mut self.input, number(count)?, number(seed)?)?;
+            }
+            "loads" => {
+                let (size, keys) = two_words(rest)?;
+                let (first, last) = span(keys)?;
+                push_loads(alloc, self, first, last, number(size)?)?;
             }
             "fail" | "power" => self.trouble = Trouble::read(word, rest)?,
             "or" => self.wanted.push(Wanted::new(alloc))?,
