@@ -1,12 +1,13 @@
 #!/usr/bin/env bash
 # Lines a second, growth and peak memory of `mars`. With a folder as argument also transactions a second on a file in it.
 #
-# Four mixes of lines over the image in memory, of some lines and of ten times as many; keys are below 1,000, values have 16 bytes:
+# Five mixes of lines over the image in memory, of some lines and of ten times as many; keys are below 1,000, values have 16 bytes:
 #   puts   run: a transaction is a begin, a put and a commit
 #   reads  run: a transaction is a begin, a put, three gets of committed keys, and a commit
 #   edits  run: a transaction is a begin, ten puts of one key, and a commit
+#   turns  run: eight callers in turn, a transaction is a begin, two puts, and a commit; every second put finds its key held
 #   raw    eaw: 64 bytes are logged, and committed
-# Each script is run three times, and the best time counts. The answers go to a file, and the last is compared, so a
+# And of 1,000 records on a file: their load, a scan of all of them, and a dump. Each script is run three times, and the best time counts. The answers go to a file, and the last is compared, so a
 # run that stops early is no result. A time has the start of the process in it, about a millisecond.
 
 set -eu
@@ -19,7 +20,7 @@ program=$top/crates/mars/out/mars
 
 # size MIX: the lines of one transaction
 size() {
-    case $1 in puts) echo 3 ;; reads) echo 6 ;; edits) echo 12 ;; raw) echo 2 ;; esac
+    case $1 in puts) echo 3 ;; reads) echo 6 ;; edits) echo 12 ;; turns) echo 4 ;; raw) echo 2 ;; esac
 }
 
 # word MIX: the word of the command line
@@ -29,7 +30,7 @@ word() {
 
 # last MIX TRANSACTIONS: the last answer
 last() {
-    [ "$1" = raw ] && echo "0 ok" || echo "0 committed $2"
+    case $1 in raw) echo "0 ok" ;; turns) echo "7 committed $2" ;; *) echo "0 committed $2" ;; esac
 }
 
 # script MIX TRANSACTIONS: the lines of one script
@@ -37,6 +38,15 @@ script() {
     awk -v mix="$1" -v count="$2" 'BEGIN {
         if (mix == "raw")
             for (i = 0; i < 64; i++) block = block sprintf("%02x", i)
+        if (mix == "turns") {
+            for (n = 0; n < count; n += 8) {
+                for (c = 0; c < 8; c++) print c " begin"
+                for (c = 0; c < 8; c++) printf "%d put %d value%011d\n", c, (n + c) % 1000, n + c
+                for (c = 0; c < 8; c++) printf "%d put %d value%011d\n", c, (n + (c + 1) % 8) % 1000, n + c
+                for (c = 0; c < 8; c++) print c " commit"
+            }
+            exit
+        }
         for (n = 0; n < count; n++) {
             if (mix == "raw") {
                 print "0 logwrite " 64 * (n % 1000) " " block
@@ -113,10 +123,41 @@ on_file() {
     rm -f "$image"
 }
 
+# timed FILE WORD..: milliseconds of a run over the image with this input; what it writes goes to $work/answers
+timed() {
+    local input=$1 start=${EPOCHREALTIME/[.,]/}
+    shift
+    "$program" "$work/image" "$@" <"$input" >"$work/answers"
+    awk -v time="$((${EPOCHREALTIME/[.,]/} - start))" 'BEGIN { printf "%.1f", time / 1000 }'
+}
+
+# records COUNT: their load into a fresh file, eight in a transaction; a hundred scans of all; a dump
+records() {
+    local load scan dump
+    "$program" "$work/image" format --pages 128 >"$work/answers"
+    awk -v count="$1" 'BEGIN {
+        for (n = 0; n < count; n++) {
+            if (n % 8 == 0) print "0 begin"
+            printf "0 put %d value%011d\n", n, n
+            if (n % 8 == 7 || n == count - 1) print "0 commit"
+        }
+    }' >"$work/load"
+    awk 'BEGIN { for (n = 0; n < 100; n++) { print "0 begin"; print "0 scan 0 18446744073709551615"; print "0 commit" } }' >"$work/scans"
+    load=$(timed "$work/load" run)
+    scan=$(timed "$work/scans" run)
+    dump=$(timed /dev/null dump)
+    [ "$(tail -n 1 "$work/answers")" = "records $1" ] || {
+        echo "bench: the dump tells other than $1 records" >&2
+        exit 1
+    }
+    echo "records $1: loaded in $load ms, scanned a hundred times in $scan ms, dumped in $dump ms"
+}
+
 printf '%-6s %8s %10s %9s %12s %10s %8s\n' mix lines bytes ms lines/s peak-KB peak/in
-for mix in puts reads edits raw; do
+for mix in puts reads edits turns raw; do
     # Ten times as many raw lines as 30,000 were too long an input.
-    lines=30000
+    lines=32000
+    [ "$mix" = turns ] || lines=30000
     [ "$mix" != raw ] || lines=20000
     measure "$mix" "$lines"
     small=$best
@@ -124,4 +165,6 @@ for mix in puts reads edits raw; do
     awk -v mix="$mix" -v small="$small" -v large="$best" \
         'BEGIN { printf "%-6s ten times the lines take %.1f times as long\n", mix, large / small }'
 done
+records 100
+records 1000
 [ $# -eq 0 ] || on_file "$1"
