@@ -1,6 +1,6 @@
 -- One more call of a transaction, and one more transaction of a history.
-use Rattle.std.proofs.Common.{◌≡◌, ℕ, ◌+◌, ◌||◌, Bool, true, false, List, [], ◌∷◌, ◌++◌, length, refl, sym, ap, ◌∙◌, arith}
-use Rattle.std.specs.List.{fold, list_any}
+use Rattle.std.proofs.Common.{◌≡◌, ℕ, ◌+◌, ◌||◌, Bool, true, false, List, [], ◌∷◌, ◌++◌, length, refl, ap, ◌∙◌, arith}
+use Rattle.std.specs.List.{fold}
 use Rattle.history.specs.Writes.{Table}
 use Rattle.history.specs.Table.{Granted, Work, begun, Answers, after, worked, left_by, IsRightFrom, IsRight}
 use Rattle.history.specs.Legal.{records, IsLegalFrom, IsLegal}
