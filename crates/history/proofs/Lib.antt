@@ -1,1 +1,4 @@
 pub mod OneMore
+pub mod Tables
+pub mod Pending
+pub mod Saves
