@@ -1,8 +1,7 @@
 -- The prefix law along steps.
-use Rattle.std.proofs.Common.{◌≡◌, ℕ, ◌+◌, ◌≤◌, ◌||◌, Bool, true, false, inl, inr, ⊎_elim, List, [], ◌∷◌, ◌++◌, length, take, Option, Some, None, refl, sym, ap, subst, ◌∙◌, arith, length-append}
+use Rattle.std.proofs.Common.{◌≡◌, ℕ, ◌≤◌, Bool, true, false, ⊎_elim, List, [], ◌∷◌, ◌++◌, length, take, Option, Some, None, refl, sym, ap, subst, ◌∙◌, arith, length-append}
 use Rattle.std.specs.Prelude.{IsTrue, if◌then◌else◌}
 use Rattle.std.proofs.lemmas.List.{take-append-le, append_assoc, append-nil}
-use Rattle.counted.specs.Moments.{Elapses}
 use Rattle.counted.proofs.Going as going
 use Rattle.history.specs.Writes.{Table}
 use Rattle.history.specs.Legal.{records, with_doubt}
@@ -12,7 +11,7 @@ use Rattle.history.specs.declared.transaction.Done.{Done}
 use Rattle.core_face.specs.State.{State, calls_of, done_by}
 use Rattle.core_face.specs.Prefix.{HasPrefix, HasPrefixOf, Grows}
 use Rattle.core_face.specs.Sound.{IsSound}
-use Rattle.core_face.specs.Step.{Step, StepIf}
+use Rattle.core_face.specs.Step.{StepIf}
 use Rattle.core_face.specs.Fate.{is_committed, history_after}
 use Rattle.core_face.specs.Core.{CoreView, IsSafe, Steps, Continues}
 use Rattle.core_face.proofs.Sound.{step_sound}
