@@ -3,3 +3,4 @@ pub mod Tables
 pub mod Pending
 pub mod Saves
 pub mod Locking
+pub mod Counting
