@@ -4,3 +4,4 @@ pub mod Pending
 pub mod Saves
 pub mod Locking
 pub mod Counting
+pub mod Replaying
