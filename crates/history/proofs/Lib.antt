@@ -5,3 +5,5 @@ pub mod Saves
 pub mod Locking
 pub mod Counting
 pub mod Replaying
+pub mod Comparing
+pub mod Judging

@@ -14,7 +14,7 @@ use Rattle.history.specs.Rows.{table_of}
 use Rattle.history.specs.Table.{Work, has_save, after}
 use Rattle.history.specs.Replay.{table_in}
 use Rattle.history.specs.declared.call.Call.TheVariants.{Back}
-use Rattle.std.proofs.lemmas.Bool.{and_from, lt-ltb, le-leb}
+use Rattle.std.proofs.lemmas.Bool.{and_parts, ltb-true, leb-true}
 use Rattle.std.proofs.lemmas.List.{length-map, take-map, get_or-map, drop_more}
 use Rattle.history.proofs.Tables.{get-set, same_table}
 
@@ -32,14 +32,20 @@ table_in-written old new key value updates = same_table (table_in new) (set_or_r
     get-table_in new q ∙ updates.0 q ∙ ap (λ (b : Bool). cond b value (tree.get nat_cmp old q)) (unsigned_tied key q)
     ∙ ap (cond (nat_eq key q) value) (sym (get-table_in old q)) ∙ sym (get-set (table_in old) key value q))
 
+-- there is such a save in memory
+pub within_saves : (saves : List (BTreeMap ℕ (List ℕ))) (n : ℕ) → has_save (map table_in saves) n ≡ true → (0 < n) × (n ≤ length saves)
+within_saves saves n is =
+    let both : (nat_lt 0 n ≡ true) × (nat_le n (length saves) ≡ true) = and_parts (nat_lt 0 n) (nat_le n (length saves)) (sym (ap (λ (k : ℕ). nat_lt 0 n && nat_le n k) (length-map saves table_in)) ∙ is) in
+    (ltb-true 0 n both.0, leb-true n (length saves) both.1)
+
 -- a copy of a save is that save, where there is one
-pub back_in_memory : (table copy item : BTreeMap ℕ (List ℕ)) (saves : List (BTreeMap ℕ (List ℕ))) (n : ℕ) → 0 < n → n ≤ length saves
+pub back_in_memory : (table copy item : BTreeMap ℕ (List ℕ)) (saves : List (BTreeMap ℕ (List ℕ))) (n : ℕ) → has_save (map table_in saves) n ≡ true
     → item ≡ get_or saves (n - 1) item → copy.entries ≡ item.entries
     → ◌≡◌ {A = Work} (record { table = table_in copy; saves = map table_in (take n saves) }) (after (record { table = table_in table; saves = map table_in saves }) (Back n))
-back_in_memory table copy item saves n some within at same =
-    let is : has_save (map table_in saves) n ≡ true = ap (λ (k : ℕ). nat_lt 0 n && nat_le n k) (length-map saves table_in) ∙ and_from (nat_lt 0 n) (nat_le n (length saves)) (lt-ltb 0 n some) (le-leb n (length saves) within) in
+back_in_memory table copy item saves n is at same =
+    let bounds : (0 < n) × (n ≤ length saves) = within_saves saves n is in
     let found : table_in copy ≡ slice_index_or (map table_in saves) (n - 1) (table_in table) =
-    ap table_of same ∙ ap table_in at ∙ sym (get_or-map table_in saves (n - 1) item (table_in table) (omega (arith, some, within))) in
+    ap table_of same ∙ ap table_in at ∙ sym (get_or-map table_in saves (n - 1) item (table_in table) (omega (arith, bounds.0, bounds.1))) in
     let kept : map table_in (take n saves) ≡ take n (map table_in saves) = sym (take-map table_in n saves) in
     let both : ◌≡◌ {A = Work} (record { table = table_in copy; saves = map table_in (take n saves) }) (record { table = slice_index_or (map table_in saves) (n - 1) (table_in table); saves = take n (map table_in saves) }) =
     (λ i. record { table = found i; saves = kept i }) in

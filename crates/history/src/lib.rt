@@ -9,6 +9,6 @@ mod transaction;
 
 pub use call::{Call, Reply};
 pub use laws::{logs_show_what_is_seen, others_stay_right, strict_locking};
-pub use replay::play;
+pub use replay::{is_legal, play};
 pub use rows::Rows;
 pub use transaction::{Calls, Done, History};

@@ -1,9 +1,11 @@
 // Histories made once more, on a table in memory.
-ghost use Rattle.std.specs.Prelude.{◌≡◌, IfOk, OnOk};
-ghost use Rattle.std.specs.FinMap.{entries, insert, remove};
-ghost use Rattle.history.specs.Table.{after, begun, worked};
-ghost use Rattle.history.specs.Legal.{records};
+ghost use Rattle.std.specs.Prelude.{◌≡◌, ◌↔◌, ◌+◌, length, IsTrue, IfOk, OnOk};
+ghost use Rattle.std.specs.FinMap.{get, entries, insert, remove};
+ghost use Rattle.history.specs.Writes.{rows_within};
+ghost use Rattle.history.specs.Table.{Answers, after, begun, worked, IsRight, left_by, found, removed, has_save};
+ghost use Rattle.history.specs.Legal.{records, IsLegal};
 ghost use Rattle.history.specs.declared.call.Call.TheVariants.{Save, Back};
+ghost use Rattle.history.specs.declared.call.Reply.TheVariants.{Fine, Found, Absent, Listed, Saved};
 ghost use Rattle.history.specs.Rows.{table_of};
 ghost use Rattle.history.specs.Replay.{table_in, work_in};
 
@@ -31,6 +33,25 @@ pub fn play(history: &History, base: &Rows, alloc: Global) -> Result<Rows, NoMem
     replay.rows(alloc)
 }
 
+/// Whether the history is legal on these records: each transaction has the next number, and the replies of a table to which those
+/// before it were made.
+pub fn is_legal(history: &History, base: &Rows, alloc: Global) -> Result<bool, NoMemory>
+    ensures { IfOk result (λ legal. IsTrue legal ↔ IsLegal (table_of base.now) history.now) }
+{
+    let mut replay = Replay::new(base, alloc)?;
+    let items = history.items();
+    for i in 0..items.len() {
+        let done = &items[i];
+        if done.at != i as u64 + 1 {
+            return Ok(false);
+        }
+        if !replay.is_right(&done.calls, alloc)? {
+            return Ok(false);
+        }
+    }
+    Ok(true)
+}
+
 impl Replay {
     fn new(base: &Rows, alloc: Global) -> Result<Replay, NoMemory>
         ensures { IfOk result (λ replay. work_in replay ≡ begun (table_of base.now)) }
@@ -50,6 +71,91 @@ impl Replay {
             self.make(call)?;
         }
         Ok(())
+    }
+
+    // Makes the calls of a transaction while their replies are those of the table. Whether all are.
+    fn is_right(&mut self, calls: &Calls, alloc: Global) -> Result<bool, NoMemory>
+        ensures right { IfOk result (λ right. IsTrue right ↔ IsRight (work_in self.old).table calls.now) }
+        ensures made { IfOk result (λ right. IsTrue right → (work_in self.new).table ≡ left_by (work_in self.old).table calls.now) }
+    {
+        self.begin();
+        for (call, reply) in calls.entries() {
+            if !self.answers(call, reply, alloc)? {
+                return Ok(false);
+            }
+            self.make(call)?;
+        }
+        Ok(true)
+    }
+
+    // Whether the table answers the call so.
+    fn answers(&self, call: &Call, reply: &Reply, alloc: Global) -> Result<bool, NoMemory>
+        ensures { IfOk result (λ right. IsTrue right ↔ Answers (work_in self.now) call.now reply.now) }
+    {
+        match call {
+            Call::Get { key } => Ok(self.finds(*key, reply)),
+            Call::Put { .. } => Ok(is_fine(reply)),
+            Call::Del { key } => Ok(self.removes(*key, reply)),
+            Call::Scan { low, high } => self.lists(*low, *high, reply, alloc),
+            Call::Save => Ok(self.saves_as(reply)),
+            Call::Back { save } => Ok(self.has_save(*save) && is_fine(reply)),
+            Call::Begin | Call::Commit | Call::Abort => Ok(false),
+        }
+    }
+
+    fn finds(&self, key: u64, reply: &Reply) -> bool
+        ensures { IsTrue result ↔ (reply.now ≡ found (get (work_in self.now).table key)) }
+    {
+        match self.table.get(&key) {
+            None => is_absent(reply),
+            Some(value) => is_found(reply, value),
+        }
+    }
+
+    fn removes(&self, key: u64, reply: &Reply) -> bool
+        ensures { IsTrue result ↔ (reply.now ≡ removed (get (work_in self.now).table key)) }
+    {
+        match self.table.get(&key) {
+            None => is_absent(reply),
+            Some(_) => is_fine(reply),
+        }
+    }
+
+    fn lists(&self, low: u64, high: u64, reply: &Reply, alloc: Global) -> Result<bool, NoMemory>
+        ensures { IfOk result (λ right. IsTrue right ↔ (reply.now ≡ Listed (rows_within low high (work_in self.now).table))) }
+    {
+        let Reply::Listed(told) = reply else {
+            return Ok(false);
+        };
+        let rows = self.rows_within(low, high, alloc)?;
+        Ok(rows == *told)
+    }
+
+    fn rows_within(&self, low: u64, high: u64, alloc: Global) -> Result<Rows, NoMemory>
+        ensures { IfOk result (λ rows. rows ≡ rows_within low high (work_in self.now).table) }
+    {
+        let mut rows = Rows::new(alloc);
+        for (key, value) in self.table.iter() {
+            if low <= *key && *key <= high {
+                rows.push(*key, *value)?;
+            }
+        }
+        Ok(rows)
+    }
+
+    fn saves_as(&self, reply: &Reply) -> bool
+        ensures { IsTrue result ↔ (reply.now ≡ Saved (length (work_in self.now).saves + 1)) }
+    {
+        match reply {
+            Reply::Saved(count) => *count != 0 && *count as usize - 1 == self.saves.len(),
+            _ => false,
+        }
+    }
+
+    fn has_save(&self, save: u32) -> bool
+        ensures { result ≡ has_save (work_in self.now).saves save }
+    {
+        save != 0 && save as usize <= self.saves.len()
     }
 
     fn begin(&mut self)
@@ -98,10 +204,10 @@ impl Replay {
     fn back(&mut self, save: u32) -> Result<(), NoMemory>
         ensures { OnOk result (work_in self.new ≡ after (work_in self.old) (Back save)) }
     {
-        let count = save as usize;
-        if count == 0 || count > self.saves.len() {
+        if !self.has_save(save) {
             return Ok(());
         }
+        let count = save as usize;
         self.table = copy_of(&self.saves[count - 1])?;
         self.saves.truncate(count);
         Ok(())
@@ -115,6 +221,27 @@ impl Replay {
             rows.push(*key, *value)?;
         }
         Ok(rows)
+    }
+}
+
+fn is_fine(reply: &Reply) -> bool
+    ensures { IsTrue result ↔ (reply.now ≡ Fine) }
+{
+    matches!(reply, Reply::Fine)
+}
+
+fn is_absent(reply: &Reply) -> bool
+    ensures { IsTrue result ↔ (reply.now ≡ Absent) }
+{
+    matches!(reply, Reply::Absent)
+}
+
+fn is_found(reply: &Reply, value: &Value) -> bool
+    ensures { IsTrue result ↔ (reply.now ≡ Found value.now) }
+{
+    match reply {
+        Reply::Found(told) => told.as_bytes() == value.as_bytes(),
+        _ => false,
     }
 }
 
