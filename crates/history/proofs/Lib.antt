@@ -4,3 +4,6 @@ pub mod Pending
 pub mod Saves
 pub mod Locking
 pub mod Counting
+pub mod Replaying
+pub mod Comparing
+pub mod Judging
