@@ -1,0 +1,23 @@
+// Numbers drawn from a seed.
+ghost use Rattle.std.specs.Prelude.{◌≡◌, ◌<◌, ◌^◌, ◌+◌, ◌*◌, ◌%◌};
+ghost use Rattle.drill_gen.specs.Draws.{draw};
+
+/// Goes on from a number of 31 bits.
+#[derive(Clone, Copy, Debug)]
+pub struct Draws {
+    pub x: u64,
+}
+
+impl Draws {
+    /// The next number, which is below 32,768.
+    pub fn next(&mut self) -> u64
+        requires { self.old.x < 2 ^ 31 }
+        ensures small { self.new.x < 2 ^ 31 }
+        ensures on { self.new.x ≡ (self.old.x * 1103515245 + 12345) % 2 ^ 31 }
+        ensures drawn { result ≡ draw self.new.x }
+        ensures below { result < 32768 }
+    {
+        self.x = (self.x * 1_103_515_245 + 12_345) % 2_147_483_648;
+        self.x / 65_536
+    }
+}

@@ -1,0 +1,99 @@
+// A transaction of a drill.
+ghost use Rattle.std.specs.Prelude.{◌≡◌, ◌<◌, ◌^◌, ◌∷◌, ◌++◌, codes, OnOk};
+ghost use Rattle.std.specs.Fmt.{decimal};
+ghost use Rattle.record_slots.specs.Text.{IsValue};
+ghost use Rattle.drill_gen.specs.Draws.{draw, drawn_on};
+ghost use Rattle.drill_gen.specs.Drill.{alone, paired, drawn_from, put_of, end_of};
+
+use crate::draws::Draws;
+use crate::turns::Turns;
+use counted::NoMemory;
+use history::Call;
+use itoa::Buffer;
+use record_slots::Value;
+
+// Keys are below it.
+const KEYS: u64 = 256;
+
+// One transaction in so many aborts.
+const ENDS: u64 = 8;
+
+/// Two puts, and how the transaction ends.
+#[derive(Clone, Copy, Debug)]
+pub struct Transaction {
+    pub first: Call,
+    pub second: Call,
+    pub end: Call,
+}
+
+/// Draws a transaction, five times.
+pub fn draw_transaction(draws: &mut Draws) -> Transaction
+    requires { draws.old.x < 2 ^ 31 }
+    ensures drawn { result ≡ drawn_from draws.old.x }
+    ensures on { draws.new.x ≡ drawn_on draws.old.x 5 }
+    ensures small { draws.new.x < 2 ^ 31 }
+{
+    let first = draw_put(draws);
+    let second = draw_put(draws);
+    let end = end_of(draws.next());
+    Transaction { first, second, end }
+}
+
+fn draw_put(draws: &mut Draws) -> Call
+    requires { draws.old.x < 2 ^ 31 }
+    ensures drawn { result ≡ put_of (draw (drawn_on draws.old.x 1)) (draw (drawn_on draws.old.x 2)) }
+    ensures on { draws.new.x ≡ drawn_on draws.old.x 2 }
+    ensures small { draws.new.x < 2 ^ 31 }
+{
+    let key = draws.next() % KEYS;
+    let value = value_of(draws.next());
+    Call::Put { key, value }
+}
+
+fn end_of(drawn: u64) -> Call
+    ensures { result ≡ end_of drawn }
+{
+    if drawn % ENDS == 0 {
+        Call::Abort
+    } else {
+        Call::Commit
+    }
+}
+
+// The letter v, and the number.
+fn value_of(drawn: u64) -> Value
+    requires { drawn < 32768 }
+    ensures { result ≡ codes "v" ++ decimal drawn }
+{
+    let mut buffer = Buffer::new();
+    let digits = buffer.format(drawn).as_bytes();
+    let mut text = [b'v'; 24];
+    let end = 1 + digits.len();
+    text[1..end].copy_from_slice(digits);
+    match Value::of(&text[..end]) {
+        Some(value) => value,
+        None => unreachable!(),
+    }
+}
+
+pub fn push_alone(turns: &mut Turns, drawn: &Transaction) -> Result<(), NoMemory>
+    ensures { OnOk result (turns.new ≡ turns.old ++ alone drawn.now) }
+{
+    turns.push(0, Call::Begin)?;
+    turns.push(0, drawn.first)?;
+    turns.push(0, drawn.second)?;
+    turns.push(0, drawn.end)
+}
+
+pub fn push_pair(turns: &mut Turns, one: &Transaction, other: &Transaction) -> Result<(), NoMemory>
+    ensures { OnOk result (turns.new ≡ turns.old ++ paired one.now other.now) }
+{
+    turns.push(0, Call::Begin)?;
+    turns.push(1, Call::Begin)?;
+    turns.push(0, one.first)?;
+    turns.push(1, other.first)?;
+    turns.push(0, one.second)?;
+    turns.push(1, other.second)?;
+    turns.push(0, one.end)?;
+    turns.push(1, other.end)
+}
