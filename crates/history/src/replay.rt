@@ -22,7 +22,7 @@ struct Replay {
     saves: Vec<BTreeMap<u64, Value>>,
 }
 
-/// The records after a history, by rising keys.
+/// The records after a history, by rising keys. Where a key stands twice among the first records, the former counts.
 pub fn play(history: &History, base: &Rows, alloc: Global) -> Result<Rows, NoMemory>
     ensures { IfOk result (λ rows. rows ≡ entries (records (table_of base.now) history.now)) }
 {
@@ -33,8 +33,8 @@ pub fn play(history: &History, base: &Rows, alloc: Global) -> Result<Rows, NoMem
     replay.rows(alloc)
 }
 
-/// Whether the history is legal on these records: each transaction has the next number, and the replies of a table to which those
-/// before it were made.
+/// Whether the history is legal on these first records: each transaction has the next number, and its replies are those of a table
+/// that has been through the transactions before it.
 pub fn is_legal(history: &History, base: &Rows, alloc: Global) -> Result<bool, NoMemory>
     ensures { IfOk result (λ legal. IsTrue legal ↔ IsLegal (table_of base.now) history.now) }
 {
