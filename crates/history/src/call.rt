@@ -18,7 +18,7 @@ pub enum Call {
 }
 
 /// What a call is answered.
-#[derive(Debug, Drop)]
+#[derive(Debug, PartialEq, Eq, Drop)]
 pub enum Reply {
     /// A begin, a put, the removal of a record that was there, a way back, or an abort was done.
     Fine,
