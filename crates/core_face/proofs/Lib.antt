@@ -1,0 +1,4 @@
+pub mod Fates
+pub mod Sound
+pub mod First
+pub mod Exact
