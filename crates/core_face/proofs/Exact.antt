@@ -1,5 +1,5 @@
 -- Each call has one reply, where the array is not full, does not fail, and memory is not short.
-use Rattle.std.proofs.Common.{◌≡◌, ℕ, ◌<◌, ◌≤◌, inl, inr, Bool, true, false, List, [], ◌∷◌, length, Option, Some, None, refl, sym, ap, subst, ◌∙◌, arith}
+use Rattle.std.proofs.Common.{◌≡◌, ℕ, inl, inr, Bool, true, false, Option, Some, None, sym, ap, ◌∙◌, arith}
 use Rattle.std.proofs.lemmas.Bool.{true≢false, both_ways, cases_order}
 use Rattle.history.specs.Table.{Granted, Work, has_save, Answers}
 use Rattle.history.specs.declared.call.Call.{Call}
@@ -9,7 +9,7 @@ use Rattle.history.specs.declared.call.Reply.TheVariants.{Busy}
 use Rattle.core_face.specs.State.{State, view_of}
 use Rattle.core_face.specs.Locked.{IsFree, IsBusyWith}
 use Rattle.core_face.specs.Room.{Limits}
-use Rattle.core_face.specs.Step.{IsHeld, Grants, Asks, StepAt, StepIf, Step, most_saves}
+use Rattle.core_face.specs.Step.{Asks, StepAt, StepIf, Step}
 use Rattle.core_face.specs.Fate.{is_of_array}
 use Rattle.core_face.proofs.Fates.{lacks_of_array}
 

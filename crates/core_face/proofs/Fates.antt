@@ -1,6 +1,5 @@
 -- What a step comes to: the call is refused, or begins, grows or ends the caller's transaction; and what follows from that.
 use Rattle.std.proofs.Common.{◌≡◌, ◌||◌, Bool, ◌≢◌, ℕ, inl, inr, true, false, nat_eq, List, [], ◌∷◌, ◌++◌, ◌+◌, length, Option, Some, None, unwrap_or, refl, sym, ap, ◌∙◌}
-use Rattle.std.specs.Prelude.{IsTrue, IsFalse}
 use Rattle.std.specs.Map.{update}
 use Rattle.std.specs.FinMap.{get}
 use Rattle.std.proofs.lemmas.Map.{update_here, update_apart}
@@ -9,11 +8,11 @@ use Rattle.history.specs.Table.{Granted, Work, found, removed, Answers}
 use Rattle.history.specs.declared.call.Call.{Call}
 use Rattle.history.specs.declared.call.Call.TheVariants.{Begin, Get, Put, Del, Scan, Save, Back, Commit, Abort}
 use Rattle.history.specs.declared.call.Reply.{Reply}
-use Rattle.history.specs.declared.call.Reply.TheVariants.{Fine, Found, Absent, Listed, Saved, Committed, NoTransaction, Already, NoSave, SavesFull, Busy, LogFull, SlotsFull, PagesFull, Media, Dead, NoMemory}
+use Rattle.history.specs.declared.call.Reply.TheVariants.{Fine, Committed, NoTransaction, Already, NoSave, SavesFull, Busy, LogFull, SlotsFull, PagesFull, Media, Dead, NoMemory}
 use Rattle.core_face.specs.State.{State, Index, calls_of, view_of, with_live, done_by}
 use Rattle.core_face.specs.Locked.{IsFree}
 use Rattle.core_face.specs.Room.{Limits, Lacks, LacksAt}
-use Rattle.core_face.specs.Step.{Says, IsHeld, Grants, Refuses, Fails, Asks, StepAt, StepIf, Step, Runs}
+use Rattle.core_face.specs.Step.{Says, Asks, StepAt, StepIf, Step, Runs}
 use Rattle.core_face.specs.Fate.{is_refusal, is_media, is_committed, is_of_array, history_after, live_with, Moves}
 
 pub data Fate (old : State) (caller : ℕ) (call : Call) (reply : Reply) (new : State) : Type 0 where

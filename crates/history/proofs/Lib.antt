@@ -3,3 +3,5 @@ pub mod Tables
 pub mod Pending
 pub mod Saves
 pub mod Locking
+pub mod Counting
+pub mod Replaying
