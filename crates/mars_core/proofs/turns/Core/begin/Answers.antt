@@ -13,6 +13,10 @@ use Rattle.mars_core.specs.Masks.{IsMaskOf}
 use Rattle.mars_core.specs.Over.{Begins, IsOver}
 use Rattle.mars_core.specs.Seats.{live_in}
 use Rattle.mars_core.specs.Works.{IsOfTable, IsShown}
+use Rattle.mars_core.proofs.Mirroring.{mirrors_granted}
+use Rattle.mars_core.proofs.Entering.{room_empty}
+use Rattle.mars_core.proofs.Rooming.{written_room}
+use Rattle.mars_core.proofs.Indexing.{slot_after}
 use Rattle.mars_core.proofs.turns.Core.begin.Goals as goal
 
 -- src/turns.rt:132:5
