@@ -4,3 +4,6 @@ pub mod Mirroring
 pub mod Indexing
 pub mod Rooming
 pub mod Entering
+pub mod Prefixes
+pub mod Stepping
+pub mod Answering

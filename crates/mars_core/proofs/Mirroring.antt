@@ -80,7 +80,7 @@ module _ (s : TableState) (t : ℕ) where
   same_table Abort of = absurd of
   same_table Begin of = absurd of
 
-  has_save_is : (saved : List (List Write)) (n : ℕ) → 0 < n → n ≤ length saved → has_save saved n ≡ true
+  pub has_save_is : (saved : List (List Write)) (n : ℕ) → 0 < n → n ≤ length saved → has_save saved n ≡ true
   has_save_is saved n some there = (λ i. lt-ltb 0 n some i && nat_le n (length saved)) ∙ le-leb n (length saved) there
 
   -- its own has the log behind the call

@@ -45,11 +45,11 @@ use Rattle.mars_core.specs.Works.{command_of, IsOfTable, Replies, HasSaves, IsSh
 use Rattle.mars_core.proofs.Indexing.{Slots, indexes_slots, slot_after}
 use Rattle.mars_core.proofs.Mirroring.{seen_is, calls_here, calls_there}
 
-same_slot_on : (shape : Shape) (g : ℕ) (o : Option ℕ) → is_slot_on (limits_of shape) g o ≡ shown.is_slot_on shape g o
+pub same_slot_on : (shape : Shape) (g : ℕ) (o : Option ℕ) → is_slot_on (limits_of shape) g o ≡ shown.is_slot_on shape g o
 same_slot_on shape g None = refl
 same_slot_on shape g (Some slot) = refl
 
-named_is : (index : Index) (pairs : List Pair) (writes : List Write) → ((key : ℕ) → index.slot_of key ≡ found pairs key) → shown.AreNamed pairs writes → AreNamed index writes
+pub named_is : (index : Index) (pairs : List Pair) (writes : List Write) → ((key : ℕ) → index.slot_of key ≡ found pairs key) → shown.AreNamed pairs writes → AreNamed index writes
 named_is index pairs [] same named = tt
 named_is index pairs (write ∷ writes) same named = (subst (λ (o : Option ℕ). IsSome o) (sym (same write.0)) named.0, named_is index pairs writes same named.1)
 

@@ -14,6 +14,9 @@ use Rattle.mars_core.specs.Over.{Begins, IsOver}
 use Rattle.mars_core.specs.Seats.{live_in}
 use Rattle.mars_core.specs.Works.{IsOfTable, IsShown}
 use Rattle.mars_core.proofs.Mirroring.{mirrors_granted}
+use Rattle.mars_core.proofs.Answering.{refused_steps}
+use Rattle.mars_core.proofs.Stepping.{counts_is}
+use Rattle.mars_core.proofs.Prefixes.{safe_alive}
 use Rattle.mars_core.proofs.Entering.{room_empty}
 use Rattle.mars_core.proofs.Rooming.{written_room}
 use Rattle.mars_core.proofs.Indexing.{slot_after}
