@@ -7,3 +7,4 @@ pub mod Entering
 pub mod Prefixes
 pub mod Stepping
 pub mod Answering
+pub mod Staying

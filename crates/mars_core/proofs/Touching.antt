@@ -78,7 +78,7 @@ search_below (suc n) P = elim (search_below n P) [
       | inr ne ↦ none i (omega (arith, lt, ne))
     ])
 
-both : (a b : Bool) → (a && b) ≡ true → (a ≡ true) × (b ≡ true)
+pub both : (a b : Bool) → (a && b) ≡ true → (a ≡ true) × (b ≡ true)
 both true true e = (refl, refl)
 both true false e = absurd (cc)
 both false b e = absurd (cc)

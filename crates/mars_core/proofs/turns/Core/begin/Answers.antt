@@ -1,31 +1,39 @@
-use Rattle.std.proofs.Common.{rules, ◌≡◌, ◌<◌, [], ℕ, Some, None, IfOk, IfErr, MatchOption, IsTrue, is_some, length, ◌+◌, ◌-◌, ◌*◌, ◌≤◌, ◌/◌, ◌%◌, Bool, true, false, nat_eq, nat_lt, List, ◌∷◌, ◌++◌, slice_index_or, slice_set, bit_and, bit_or, Fits, w8, w32, w64, Bor, MutBor}
-use Rattle.std.specs.FinMap.{entries}
+use Rattle.std.proofs.Common.{ℕ, false, Some, [], ap, subst, sym, ◌∙◌, refl}
+use Rattle.std.specs.Prelude.{◌≡◌, Option, length}
 use Rattle.eaw_face.specs.Causes.{IsAlive}
-use Rattle.eaw_face.specs.State.{listed}
 use Rattle.page_store.specs.Shown.{pages_of}
-use Rattle.history.specs.declared.call.Call.TheVariants.{Begin, Commit, Abort}
+use Rattle.history.specs.Rows.{table_of}
+use Rattle.history.specs.Table.{Granted}
+use Rattle.history.specs.declared.call.Call.TheVariants.{Begin}
+use Rattle.history.specs.declared.call.Reply.TheVariants.{Fine}
 use Rattle.core_face.specs.Core.{Steps}
-use Rattle.core_face.specs.State.{calls_of}
-use Rattle.record_table.specs.Shown.{state_of}
-use Rattle.mars_core.specs.Attached.{CoreCause, GivesBack, is_media_fault, attach_fault, scan_fault}
-use Rattle.mars_core.specs.Held.{core_of}
-use Rattle.mars_core.specs.Masks.{IsMaskOf}
-use Rattle.mars_core.specs.Over.{Begins, IsOver}
+use Rattle.mars_core.specs.Held.{Held, core_of, state_at}
 use Rattle.mars_core.specs.Seats.{live_in}
-use Rattle.mars_core.specs.Works.{IsOfTable, IsShown}
-use Rattle.mars_core.proofs.Mirroring.{mirrors_granted}
-use Rattle.mars_core.proofs.Answering.{refused_steps}
-use Rattle.mars_core.proofs.Stepping.{counts_is}
-use Rattle.mars_core.proofs.Prefixes.{safe_alive}
-use Rattle.mars_core.proofs.Entering.{room_empty}
-use Rattle.mars_core.proofs.Rooming.{written_room}
-use Rattle.mars_core.proofs.Indexing.{slot_after}
+use Rattle.mars_core.proofs.Staying.{none_of, begun_keeps, begun_steps}
 use Rattle.mars_core.proofs.turns.Core.begin.Goals as goal
 
--- src/turns.rt:132:5
 pub invariant_of-self : goal.invariant_of-self
-invariant_of-self g c = ?
+invariant_of-self g c =
+    let V = g.S.EawStore.view in
+    let i = c.self.inside in
+    let store = i.records.store in
+    begun_keeps g.S.EawStore.tells g.S.EawStore.opens g.K.KeyIndex.index (pages_of (V store) i.records)
+        (record { long = λ told. g.met.S.EawStore.long store told; some = λ told alive. g.met.S.EawStore.some_now store told alive; counts = λ told t image le left. g.met.S.EawStore.counts_now store t image told le left; only = λ told alive image left. g.met.S.EawStore.only_now store image told alive left })
+        (state_at g.K.KeyIndex.index (V store) (table_of i.base) i.history (live_in i.seats) i.doubt) _ (record { indexed = refl; dead = refl }) (length i.seats) (length c.begin.new.self) c.begin.ensures.count i.base c.self.invariant
+        (subst (λ (h : Held g.row.S.Denot). IsAlive (V h.records.store)) (sym c.self.view_is) c.requires.alive) c.args.caller (none_of (live_in i.seats c.args.caller) (sym c.is_live.ensures ∙ c.if-is_live.false))
+        (ap (λ (live : ℕ → Option Granted). state_at g.K.KeyIndex.index (V store) (table_of i.base) i.history live i.doubt) c.begin.ensures.live)
 
--- src/turns.rt:132:5
 pub returns : goal.returns
-returns g c = ?
+returns g c =
+    let V = g.S.EawStore.view in
+    let i = c.self.inside in
+    let store = i.records.store in
+    record {
+      steps = subst (λ (h : Held g.row.S.Denot). Steps g.S.EawStore.tells c.args.caller Begin (core_of g.S.EawStore.opens g.K.KeyIndex.index (V h.records.store) h)
+          (core_of g.S.EawStore.opens g.K.KeyIndex.index (V store) (record { records = i.records; base = i.base; seats = c.begin.new.self; history = i.history; doubt = i.doubt })) Fine) c.self.view_is
+          (begun_steps g.S.EawStore.tells g.S.EawStore.opens g.K.KeyIndex.index (pages_of (V store) i.records)
+          (record { long = λ told. g.met.S.EawStore.long store told; some = λ told alive. g.met.S.EawStore.some_now store told alive; counts = λ told t image le left. g.met.S.EawStore.counts_now store t image told le left; only = λ told alive image left. g.met.S.EawStore.only_now store image told alive left })
+          (state_at g.K.KeyIndex.index (V store) (table_of i.base) i.history (live_in i.seats) i.doubt) _ (record { indexed = refl; dead = refl }) (length i.seats) (length c.begin.new.self) c.begin.ensures.count i.base c.self.invariant
+          (subst (λ (h : Held g.row.S.Denot). IsAlive (V h.records.store)) (sym c.self.view_is) c.requires.alive) c.args.caller (none_of (live_in i.seats c.args.caller) (sym c.is_live.ensures ∙ c.if-is_live.false))
+          (ap (λ (live : ℕ → Option Granted). state_at g.K.KeyIndex.index (V store) (table_of i.base) i.history live i.doubt) c.begin.ensures.live));
+    }
