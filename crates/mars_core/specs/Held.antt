@@ -1,0 +1,53 @@
+-- What a core holds, and what it shows of that.
+use Rattle.std.specs.Prelude.{ℕ, List, Option}
+use Rattle.array_shape.specs.declared.shape.Shape.{Shape}
+use Rattle.eaw_face.specs.StoreView.{StoreView}
+use Rattle.page_store.specs.Index.{Index}
+use Rattle.page_store.specs.Shown.{Shown}
+use Rattle.record_table.specs.Does.{OpensWith}
+use Rattle.record_table.specs.Shown.{keys_of}
+use Rattle.history.specs.Rows.{table_of}
+use Rattle.history.specs.Table.{Granted}
+use Rattle.history.specs.Writes.{Table}
+use Rattle.history.specs.declared.transaction.Done.{Done}
+use Rattle.core_face.specs.State.{State}
+use Rattle.core_face.specs.Core.{CoreView}
+use Rattle.mars_core.specs.Over.{limits_of, index_of}
+use Rattle.mars_core.specs.Seats.{Seats, live_in}
+
+-- The records below, over a store; the rows of the records at the opening; the callers' live transactions; the transactions committed
+-- since; and the one in doubt.
+pub record Held (S : Type 0) : Type 0 where
+  pub records : Shown S
+  pub base : List (ℕ × List ℕ)
+  pub seats : Seats
+  pub history : List Done
+  pub doubt : Option Done
+
+-- the state of these records at the opening, transactions committed since, live ones, and one in doubt, over what a store shows
+abbrev pub state_at : Index → StoreView → Table → List Done → (ℕ → Option Granted) → Option Done → State
+state_at index store base history live doubt = record {
+  base = base;
+  history = history;
+  live = live;
+  doubt = doubt;
+  is_dead = store.is_dead;
+  index = index_of (keys_of index store.state.bytes);
+}
+
+abbrev pub state_over : {S : Type 0} → Index → StoreView → Held S → State
+state_over index store held = state_at index store (table_of held.base) held.history (live_in held.seats) held.doubt
+
+-- a core in this state over a store
+abbrev pub core_over : (Shape → List ℕ → List ℕ → Type 0) → Index → StoreView → State → CoreView
+core_over Opens index store state = record {
+  limits = limits_of store.shape;
+  state = state;
+  faults = store.faults;
+  moment = store.moment;
+  left_since = store.left_since;
+  opens = OpensWith (Opens store.shape) index;
+}
+
+abbrev pub core_of : {S : Type 0} → (Shape → List ℕ → List ℕ → Type 0) → Index → StoreView → Held S → CoreView
+core_of Opens index store held = core_over Opens index store (state_over index store held)

@@ -1,0 +1,147 @@
+// The callers: for each its live transaction, if it has one.
+ghost use Rattle.std.specs.Prelude.{◌≡◌, ◌<◌, ◌≤◌, [], ◌∷◌, ◌++◌, List, ℕ, Some, None, IfOk, IfSome, IfNone, OnOk, OnErr, is_some, length};
+ghost use Rattle.history.specs.Table.{Granted};
+ghost use Rattle.history.specs.declared.call.Call.{Call};
+ghost use Rattle.history.specs.declared.call.Reply.{Reply};
+ghost use Rattle.history.specs.declared.call.Reply.TheVariants.{Fine};
+ghost use Rattle.core_face.specs.Locked.{IsFree, IsBusyWith};
+ghost use Rattle.mars_core.specs.Masks.{IsMaskOf};
+ghost use Rattle.mars_core.specs.Seats.{live_in, calls_at, Seated, bare};
+
+use crate::live::Live;
+use crate::masks::mask_of;
+use counted::NoMemory;
+use history::{Call, Calls, Reply};
+use std::alloc::Global;
+use std::marker::Model;
+
+#[derive(Drop)]
+pub struct Seats {
+    live: Vec<Option<Live>>,
+}
+
+impl Model for Seats {
+    ghost use Rattle.std.specs.Prelude.{List, Option};
+    ghost use Rattle.history.specs.Table.{Granted};
+
+    ghost Value = { List (Option Granted) };
+
+    ghost view = { λ s. s.live.items };
+}
+
+impl Seats {
+    /// So many callers, without a live transaction.
+    pub fn new(alloc: Global, count: u8) -> Result<Seats, NoMemory>
+        ensures { IfOk result (λ seats. (length seats ≡ count) × ((caller : ℕ) → live_in seats caller ≡ None)) }
+    {
+        let mut live = Vec::with_capacity(alloc, usize::from(count))?;
+        for _caller in 0..count {
+            live.push(None)?;
+        }
+        Ok(Seats { live })
+    }
+
+    pub fn is_live(&self, caller: u8) -> bool
+        requires { caller < length self.now }
+        ensures { result ≡ is_some (live_in self.now caller) }
+    {
+        self.live[usize::from(caller)].is_some()
+    }
+
+    /// A bit for each stripe that the caller's live transaction touched.
+    pub fn touched(&self, caller: u8) -> u64
+        requires { caller < length self.now }
+        ensures { IsMaskOf (calls_at self.now caller) result }
+    {
+        match &self.live[usize::from(caller)] {
+            Some(live) => live.touched(),
+            None => 0,
+        }
+    }
+
+    /// Begins a transaction. It takes no memory.
+    pub fn begin(&mut self, alloc: Global, caller: u8)
+        requires { caller < length self.old }
+        ensures { Seated self.old caller (Some []) self.new }
+    {
+        self.live[usize::from(caller)] = Some(Live::new(alloc));
+    }
+
+    /// Adds a call to the caller's live transaction.
+    pub fn push(&mut self, caller: u8, call: &Call) -> Result<(), NoMemory>
+        requires inside { caller < length self.old }
+        requires live { (calls : Granted) × (live_in self.old caller ≡ Some calls) }
+        ensures ok { OnOk result (Seated self.old caller (Some (calls_at self.old caller ++ (call.now, Fine) ∷ [])) self.new) }
+        ensures err { OnErr result (self.new ≡ self.old) }
+    {
+        match &mut self.live[usize::from(caller)] {
+            Some(live) => live.push(call, Reply::Fine),
+            None => unreachable!(),
+        }
+    }
+
+    /// Takes the last call of the caller's live transaction off again; the others touched these stripes.
+    pub fn pop(&mut self, caller: u8, mask: u64)
+        requires inside { caller < length self.old }
+        requires last { (calls : Granted) × (call : Call) × (reply : Reply) × (live_in self.old caller ≡ Some (calls ++ (call, reply) ∷ [])) × IsMaskOf calls mask }
+        ensures { (calls : Granted) (entry : Call × Reply) → live_in self.old caller ≡ Some (calls ++ entry ∷ []) → Seated self.old caller (Some calls) self.new }
+    {
+        match &mut self.live[usize::from(caller)] {
+            Some(live) => live.pop(mask),
+            None => unreachable!(),
+        }
+    }
+
+    /// Gives the last call of the caller's live transaction another reply.
+    pub fn set_last_reply(&mut self, caller: u8, reply: Reply)
+        requires inside { caller < length self.old }
+        requires last { (calls : Granted) × (call : Call) × (was : Reply) × (live_in self.old caller ≡ Some (calls ++ (call, was) ∷ [])) }
+        ensures { (calls : Granted) (call : Call) (was : Reply) → live_in self.old caller ≡ Some (calls ++ (call, was) ∷ [])
+            → Seated self.old caller (Some (calls ++ (call, reply) ∷ [])) self.new }
+    {
+        match &mut self.live[usize::from(caller)] {
+            Some(live) => live.set_last_reply(reply),
+            None => unreachable!(),
+        }
+    }
+
+    /// Takes the caller's live transaction out.
+    pub fn take(&mut self, caller: u8) -> Option<Live>
+        requires { caller < length self.old }
+        ensures live { result ≡ live_in self.old caller }
+        ensures out { Seated self.old caller None self.new }
+    {
+        self.live[usize::from(caller)].take()
+    }
+
+    /// Ends the caller's live transaction.
+    pub fn end(&mut self, caller: u8)
+        requires { caller < length self.old }
+        ensures { Seated self.old caller None self.new }
+    {
+        self.live[usize::from(caller)] = None;
+    }
+
+    /// Gives the caller this live transaction.
+    pub fn put(&mut self, caller: u8, live: Live)
+        requires { caller < length self.old }
+        ensures { Seated self.old caller (Some live) self.new }
+    {
+        self.live[usize::from(caller)] = Some(live);
+    }
+
+    /// The lowest of the other callers whose live transaction touched a stripe of the call.
+    pub fn holder(&self, caller: u8, call: &Call) -> Option<u8>
+        requires { length self.now ≤ 64 }
+        ensures busy { IfSome result (IsBusyWith (bare self.now) caller call.now) }
+        ensures free { IfNone result (IsFree (bare self.now) caller call.now) }
+    {
+        let mask = mask_of(call);
+        for other in 0..self.live.len() as u8 {
+            if other != caller && self.touched(other) & mask != 0 {
+                return Some(other);
+            }
+        }
+        None
+    }
+}
