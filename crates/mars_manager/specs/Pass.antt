@@ -1,0 +1,70 @@
+-- What a pass knows.
+use Rattle.std.specs.Prelude.{ℕ, zero, suc, ◌≡◌, ◌+◌, ◌<◌, ◌≤◌, ◌==◌, nat_eq, if◌then◌else◌, List, [], ◌∷◌, ◌++◌, map, filter, length, Some, None}
+use Rattle.atomic_table.specs.Seated.{TableId}
+use Rattle.history.specs.declared.transaction.Done.{Done}
+use Rattle.core_face.specs.State.{State}
+use Rattle.core_face.specs.Prefix.{Grows}
+use Rattle.mars_manager.specs.declared.view.Known.{Known}
+
+-- the transactions of a caller in a history, in order
+abbrev pub commits_of : ℕ → List Done → List Done
+commits_of caller history = filter (λ (done : Done). nat_eq done.caller caller) history
+
+module _ {C : Type 0} where
+  -- What a pass knows is so of a state of a core that was shared as `first`, from a moment on: what it has seen begins the history, whose
+  -- transactions of its caller are its own; its live calls are those of its caller; and no length that it heard is above the history's.
+  pub record Fits (from : ℕ) (first : C) (state : State) (known : Known C) : Type 0 where
+    pub from_is : known.from ≡ from
+    pub first_is : known.first ≡ Some first
+    pub seen : Grows known.seen state.history
+    pub mine : known.mine ≡ commits_of known.number state.history
+    pub live : known.live ≡ state.live known.number
+    pub heard : known.heard ≤ length state.history
+
+  -- that is so of each
+  abbrev pub AllFit : ℕ → C → State → List (Known C) → Type 0
+  AllFit from first state [] = Unit {0}
+  AllFit from first state (known ∷ others) = Fits from first state known × AllFit from first state others
+
+  -- a pass of a caller that has seen nothing
+  abbrev pub newcomer : ℕ → C → ℕ → Known C
+  newcomer from first caller = record { number = caller; from = from; first = Some first; seen = []; mine = []; live = None; heard = 0 }
+
+  -- how many of the passes are of the caller
+  abbrev pub times : ℕ → List (Known C) → ℕ
+  times caller [] = 0
+  times caller (known ∷ others) = (if known.number == caller then 1 else 0) + times caller others
+
+-- what contracts see of a pass: which table it is of, and what it knows
+pub record PassView (C : Type 0) : Type 0 where
+  pub table : TableId
+  pub known : Known C
+
+-- the passes at hand, and for how many there is room
+pub record PassesView (C : Type 0) : Type 0 where
+  pub table : TableId
+  pub list : List (PassView C)
+  pub room : ℕ
+
+module _ {C : Type 0} where
+  abbrev pub known_of : PassView C → Known C
+  known_of pass = pass.known
+
+  -- the passes are all of one table
+  abbrev pub AllOf : TableId → List (PassView C) → Type 0
+  AllOf table [] = Unit {0}
+  AllOf table (pass ∷ passes) = (pass.table ≡ table) × AllOf table passes
+
+  -- the passes of the callers 0, 1 and so on, so many
+  abbrev pub dealt : TableId → ℕ → C → ℕ → List (PassView C)
+  dealt table from first zero = []
+  dealt table from first (suc n) = dealt table from first n ++ record { table = table; known = newcomer from first n } ∷ []
+
+  -- each caller has its pass among these
+  abbrev pub HasEach : ℕ → List (PassView C) → Type 0
+  HasEach callers passes = (caller : ℕ) → caller < callers → 0 < times caller (map known_of passes)
+
+  -- what each of the passes knows is so of a state
+  abbrev pub AreSo : ℕ → C → State → List (PassView C) → Type 0
+  AreSo from first state [] = Unit {0}
+  AreSo from first state (pass ∷ passes) = Fits from first state pass.known × AreSo from first state passes

@@ -1,0 +1,76 @@
+-- What holds of a core while it is shared, and what a call does.
+use Rattle.std.specs.Prelude.{ℕ, ◌≡◌, ◌+◌, ◌<◌, ◌≤◌, Bool, false, IsTrue, IsFalse, MatchBool, List, [], ◌∷◌, ◌++◌, length, Option, Some, None, unwrap_or}
+use Rattle.counted.specs.Causes.{Rose}
+use Rattle.atomic_table.specs.Seated.{TableId}
+use Rattle.history.specs.Writes.{Table}
+use Rattle.history.specs.Legal.{IsLegal}
+use Rattle.history.specs.declared.transaction.Done.{Done}
+use Rattle.history.specs.declared.call.Call.{Call}
+use Rattle.history.specs.declared.call.Reply.{Reply}
+use Rattle.history.specs.declared.call.Reply.TheVariants.{Committed, Dead}
+use Rattle.core_face.specs.Prefix.{Grows}
+use Rattle.core_face.specs.Sound.{IsSound}
+use Rattle.core_face.specs.Core.{CoreView, IsSafe, Steps, Continues}
+use Rattle.mars_manager.specs.declared.view.Known.{Known}
+use Rattle.mars_manager.specs.Pass.{commits_of}
+
+-- what contracts see of a shared core: its table, for how many callers, since when the prefix law holds, and the core as it was shared
+pub record MarsView (C : Type 0) : Type 0 where
+  pub table : TableId
+  pub callers : ℕ
+  pub from : ℕ
+  pub first : C
+
+-- A core that can be shared among so many callers: it has not failed, nothing was done on it, and where it tells its records, the prefix
+-- law holds from a moment on and from now on.
+pub record CanShare (tells : Bool) (callers from : ℕ) (core : CoreView) : Type 0 where
+  pub alive : core.state.is_dead ≡ false
+  pub history : core.state.history ≡ []
+  pub live : (caller : ℕ) → core.state.live caller ≡ None
+  pub callers : callers ≤ core.limits.callers
+  pub sound : IsTrue tells → IsSound core.state
+  pub from : IsTrue tells → from ≤ core.moment
+  pub safe : IsTrue tells → IsSafe core from 0
+  pub now : IsTrue tells → IsSafe core core.moment 0
+
+-- From the core that was shared to a later one: it has the same limits and the same records at the opening, its media has failed just
+-- where it is dead, and where it tells its records, it continues that one, and the prefix law still holds from that moment on.
+pub record Since (tells : Bool) (from : ℕ) (first core : CoreView) : Type 0 where
+  pub limits : core.limits ≡ first.limits
+  pub base : core.state.base ≡ first.state.base
+  pub opens : (image : List ℕ) (table : Table) → first.opens image table → core.opens image table
+  pub faults : MatchBool core.state.is_dead (Rose first.faults core.faults) (core.faults ≡ first.faults)
+  pub continues : IsTrue tells → Continues first core
+  pub safe : IsTrue tells → IsSafe core from 0
+
+module _ {C : Type 0} where
+  -- A call that got the turn is one step of a core that the shared one has come to. What the pass had seen begins that core's history, and
+  -- its caller's live calls were the pass's; and what the pass knows then is what is so behind the step.
+  pub record Called (tells : Bool) (show : C → CoreView) (was : Known C) (call : Call) (reply : Reply) (now : Known C) : Type 0 where
+    pub first : C
+    pub old : C
+    pub new : C
+    pub first_is : was.first ≡ Some first
+    pub since : Since tells was.from (show first) (show old)
+    pub seen : Grows was.seen (show old).state.history
+    pub live : (show old).state.live was.number ≡ was.live
+    pub steps : Steps tells was.number call (show old) (show new) reply
+    pub dead : IsTrue (show old).state.is_dead → (reply ≡ Dead) × (new ≡ old)
+    pub now : now ≡ record was { seen = (show new).state.history; mine = commits_of was.number (show new).state.history; live = (show new).state.live was.number }
+
+  -- the transaction that a pass commits
+  abbrev pub done_of : Known C → ℕ → Done
+  done_of was at = record { caller = was.number; calls = unwrap_or was.live []; at = at }
+
+  -- A commit: the last transaction that the pass has seen then is its caller's, with just its live calls; just that one is new among its
+  -- own; and where the core tells its records, it has the number that was told.
+  pub record HasCommitted (tells : Bool) (was : Known C) (number : ℕ) (now : Known C) : Type 0 where
+    pub before : List Done
+    pub seen : now.seen ≡ before ++ done_of was (length now.seen) ∷ []
+    pub mine : now.mine ≡ was.mine ++ done_of was (length now.seen) ∷ []
+    pub number : IsTrue tells → number ≡ length now.seen
+
+  -- at a commit that is so, and at each other reply the pass's own transactions are the same
+  abbrev pub Commits : Bool → Known C → Reply → Known C → Type 0
+  Commits tells was (Committed number) now = HasCommitted tells was number now
+  Commits tells was _ now = now.mine ≡ was.mine

@@ -1,0 +1,32 @@
+// What the rule keeps of a seat. No value of it is made.
+use history::{Calls, History};
+use std::collections::LinkedList;
+
+/// What a pass knows: its caller's number, the moment from which the prefix law holds, the core as it was shared, the history that was
+/// told at its last turn, the transactions of its caller in that history, the granted calls of its caller's live transaction, and the
+/// length of the history when it last looked.
+pub struct Known<C> {
+    pub number: u8,
+    pub from: u64,
+    pub first: Option<C>,
+    pub seen: History,
+    pub mine: History,
+    pub live: Option<Calls>,
+    pub heard: u64,
+}
+
+/// How far the sharing has come.
+pub enum Stage {
+    /// The slot of the core is empty.
+    Vacant,
+    /// The opener has the first turn, and brings the core.
+    Opening,
+    Shared,
+}
+
+/// The passes that a seat stands for, and the core as it last told of it while it has the turn.
+pub struct View<C> {
+    pub stage: Stage,
+    pub passes: LinkedList<Known<C>>,
+    pub held: Option<C>,
+}
