@@ -27,9 +27,9 @@ pub record CanShare (tells : Bool) (callers from : ℕ) (core : CoreView) : Type
   pub alive : core.state.is_dead ≡ false
   pub history : core.state.history ≡ []
   pub live : (caller : ℕ) → core.state.live caller ≡ None
-  pub callers : callers ≤ core.limits.callers
+  pub enough : callers ≤ core.limits.callers
   pub sound : IsTrue tells → IsSound core.state
-  pub from : IsTrue tells → from ≤ core.moment
+  pub past : IsTrue tells → from ≤ core.moment
   pub safe : IsTrue tells → IsSafe core from 0
   pub now : IsTrue tells → IsSafe core core.moment 0
 
@@ -56,7 +56,7 @@ module _ {C : Type 0} where
     pub live : (show old).state.live was.number ≡ was.live
     pub steps : Steps tells was.number call (show old) (show new) reply
     pub dead : IsTrue (show old).state.is_dead → (reply ≡ Dead) × (new ≡ old)
-    pub now : now ≡ record was { seen = (show new).state.history; mine = commits_of was.number (show new).state.history; live = (show new).state.live was.number }
+    pub after : now ≡ record was { seen = (show new).state.history; mine = commits_of was.number (show new).state.history; live = (show new).state.live was.number }
 
   -- the transaction that a pass commits
   abbrev pub done_of : Known C → ℕ → Done
@@ -68,7 +68,7 @@ module _ {C : Type 0} where
     pub before : List Done
     pub seen : now.seen ≡ before ++ done_of was (length now.seen) ∷ []
     pub mine : now.mine ≡ was.mine ++ done_of was (length now.seen) ∷ []
-    pub number : IsTrue tells → number ≡ length now.seen
+    pub told : IsTrue tells → number ≡ length now.seen
 
   -- at a commit that is so, and at each other reply the pass's own transactions are the same
   abbrev pub Commits : Bool → Known C → Reply → Known C → Type 0

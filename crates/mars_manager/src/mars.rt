@@ -36,6 +36,7 @@ pub struct Mars<C: Core + Drop> {
 }
 
 impl<C: Core + Drop> Model for Mars<C> {
+    ghost use Rattle.std.specs.Prelude.{◌≡◌};
     ghost use Rattle.mars_manager.specs.Sharing.{MarsView};
 
     ghost Value = { MarsView C };
@@ -77,7 +78,11 @@ impl<C: Core + Drop> Mars<C> {
             first: core,
         };
         let vacant = Table::vacant(alloc, &[0, 0], 1, &setup);
-        let Setup { first: core, .. } = setup;
+        let Setup {
+            callers: _,
+            from: _,
+            first: core,
+        } = setup;
         let Ok((table, seat)) = vacant else {
             return Err((NoMemory, core));
         };

@@ -17,7 +17,7 @@ impl<C> Model for Pass<C> {
     ghost use Rattle.mars_manager.specs.Pass.{PassView};
     ghost use Rattle.mars_manager.specs.Seat.{first_of, IsIdle};
 
-    ghost Value = { PassView };
+    ghost Value = { PassView C };
 
     ghost view = { λ p. record { table = p.seat.table_id; known = first_of p.seat.me.0.passes } };
 
@@ -52,7 +52,7 @@ impl<C> Model for Passes<C> {
     ghost use Rattle.mars_manager.specs.Pass.{PassesView, AllOf};
     ghost use Rattle.mars_manager.specs.Seat.{IsEmpty};
 
-    ghost Value = { PassesView };
+    ghost Value = { PassesView C };
 
     ghost view = { λ p. record { table = p.opener.table_id; list = p.list.items; room = vec_capacity p.list } };
 
