@@ -8,6 +8,7 @@ use Rattle.history.specs.declared.transaction.Done.{Done}
 use Rattle.history.specs.declared.call.Call.{Call}
 use Rattle.history.specs.declared.call.Reply.{Reply}
 use Rattle.history.specs.declared.call.Reply.TheVariants.{Committed, Dead}
+use Rattle.core_face.specs.Fate.{is_committed}
 use Rattle.core_face.specs.Prefix.{Grows}
 use Rattle.core_face.specs.Sound.{IsSound}
 use Rattle.core_face.specs.Core.{CoreView, IsSafe, Steps, Continues}
@@ -41,6 +42,7 @@ pub record Since (tells : Bool) (from : ℕ) (first core : CoreView) : Type 0 wh
   pub opens : (image : List ℕ) (table : Table) → first.opens image table → core.opens image table
   pub faults : MatchBool core.state.is_dead (Rose first.faults core.faults) (core.faults ≡ first.faults)
   pub continues : IsTrue tells → Continues first core
+  pub past : IsTrue tells → from ≤ core.moment
   pub safe : IsTrue tells → IsSafe core from 0
 
 module _ {C : Type 0} where
@@ -63,14 +65,13 @@ module _ {C : Type 0} where
   done_of was at = record { caller = was.number; calls = unwrap_or was.live []; at = at }
 
   -- A commit: the last transaction that the pass has seen then is its caller's, with just its live calls; just that one is new among its
-  -- own; and where the core tells its records, it has the number that was told.
-  pub record HasCommitted (tells : Bool) (was : Known C) (number : ℕ) (now : Known C) : Type 0 where
+  -- own; and where the core tells its records, its number was told.
+  pub record HasCommitted (tells : Bool) (was : Known C) (reply : Reply) (now : Known C) : Type 0 where
     pub before : List Done
     pub seen : now.seen ≡ before ++ done_of was (length now.seen) ∷ []
     pub mine : now.mine ≡ was.mine ++ done_of was (length now.seen) ∷ []
-    pub told : IsTrue tells → number ≡ length now.seen
+    pub told : IsTrue tells → reply ≡ Committed (length now.seen)
 
   -- at a commit that is so, and at each other reply the pass's own transactions are the same
   abbrev pub Commits : Bool → Known C → Reply → Known C → Type 0
-  Commits tells was (Committed number) now = HasCommitted tells was number now
-  Commits tells was _ now = now.mine ≡ was.mine
+  Commits tells was reply now = MatchBool (is_committed reply) (HasCommitted tells was reply now) (now.mine ≡ was.mine)

@@ -1,0 +1,4 @@
+pub mod Past
+pub mod Seats
+pub mod Turns
+pub mod Calls
