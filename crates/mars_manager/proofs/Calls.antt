@@ -66,14 +66,15 @@ module _ {C : Type 0} (f : Face C) where
     since = since_step f.tells setup.from n call reply (f.show setup.first) (f.show old) (f.show new) s;
   }
 
-  module _ (from : ℕ) (first old new : C) (k : Known C) (call : Call) (reply : Reply) (fit : Fits from first (f.show old).state k) (s : Steps f.tells k.number call (f.show old) (f.show new) reply) where
-    pub called : Since f.tells from (f.show first) (f.show old) → (IsTrue (f.show old).state.is_dead → (reply ≡ Dead) × (new ≡ old)) → Called f.tells f.show k call reply (shown f new k)
+  module _ (setup : Setup C) (old new : C) (k : Known C) (call : Call) (reply : Reply) (fit : Fits setup (f.show old).state k) (s : Steps f.tells k.number call (f.show old) (f.show new) reply) where
+    pub called : Since f.tells setup.from (f.show setup.first) (f.show old) → (IsTrue (f.show old).state.is_dead → (reply ≡ Dead) × (new ≡ old)) → Called f.tells f.show k call reply (shown f new k)
     called since dead = record {
-      first = first;
+      setup = setup;
       old = old;
       new = new;
-      first_is = fit.first_is;
-      since = subst (λ t. Since f.tells t (f.show first) (f.show old)) (sym fit.from_is) since;
+      setup_is = fit.setup_is;
+      since = since;
+      comes = since_step f.tells setup.from k.number call reply (f.show setup.first) (f.show old) (f.show new) s since;
       seen = fit.seen;
       live = sym fit.live;
       steps = s;

@@ -32,25 +32,25 @@ only_zero x (suc i) a e = absurd (some-ne-none a (sym e))
 
 module _ {C : Type 0} where
   -- each of the new passes is there once
-  few_before : (first : C) (n from m count : ℕ) → n < m → times n (newcomers from first m count) ≡ 0
-  few_before first n from m zero l = refl
-  few_before first n from m (suc count) l =
-      let i = few_before first n from (suc m) count (omega arith) in
+  few_before : (setup : Setup C) (n m count : ℕ) → n < m → times n (newcomers setup m count) ≡ 0
+  few_before setup n m zero l = refl
+  few_before setup n m (suc count) l =
+      let i = few_before setup n (suc m) count (omega arith) in
       let e : eqb m n ≡ false = grind (arith, nat_tests) in
-      ap (λ b. (if b then 1 else 0) + times n (newcomers from first (suc m) count)) e ∙ (let z : 0 + times n (newcomers from first (suc m) count) ≡ 0 = omega arith in z)
+      ap (λ b. (if b then 1 else 0) + times n (newcomers setup (suc m) count)) e ∙ (let z : 0 + times n (newcomers setup (suc m) count) ≡ 0 = omega arith in z)
 
-  pub once_each : (first : C) (n from m count : ℕ) → times n (newcomers from first m count) ≤ 1
-  once_each first n from m zero = omega arith
-  once_each first n from m (suc count) =
+  pub once_each : (setup : Setup C) (n m count : ℕ) → times n (newcomers setup m count) ≤ 1
+  once_each setup n m zero = omega arith
+  once_each setup n m (suc count) =
       dite (ℕ_discrete m n)
-      (λ (e : m ≡ n). let i = few_before first n from (suc m) count (omega arith) in let t : times n (newcomers from first m (suc count)) ≡ 1 + times n (newcomers from first (suc m) count) = ap (λ b. (if b then 1 else 0) + times n (newcomers from first (suc m) count)) (eq-eqb m n e) in omega arith)
-      (λ (ne : m ≢ n). let i = once_each first n from (suc m) count in let t : times n (newcomers from first m (suc count)) ≡ 0 + times n (newcomers from first (suc m) count) = ap (λ b. (if b then 1 else 0) + times n (newcomers from first (suc m) count)) (ne_eqb m n ne) in omega arith)
+      (λ (e : m ≡ n). let i = few_before setup n (suc m) count (omega arith) in let t : times n (newcomers setup m (suc count)) ≡ 1 + times n (newcomers setup (suc m) count) = ap (λ b. (if b then 1 else 0) + times n (newcomers setup (suc m) count)) (eq-eqb m n e) in omega arith)
+      (λ (ne : m ≢ n). let i = once_each setup n (suc m) count in let t : times n (newcomers setup m (suc count)) ≡ 0 + times n (newcomers setup (suc m) count) = ap (λ b. (if b then 1 else 0) + times n (newcomers setup (suc m) count)) (ne_eqb m n ne) in omega arith)
 
-  pub none_above : (first : C) (n from m count : ℕ) → m + count ≤ n → times n (newcomers from first m count) ≡ 0
-  none_above first n from m zero l = refl
-  none_above first n from m (suc count) l =
-      let i = none_above first n from (suc m) count (omega arith) in
-      let t : times n (newcomers from first m (suc count)) ≡ 0 + times n (newcomers from first (suc m) count) = ap (λ b. (if b then 1 else 0) + times n (newcomers from first (suc m) count)) (ne_eqb m n (λ e. omega arith)) in omega arith
+  pub none_above : (setup : Setup C) (n m count : ℕ) → m + count ≤ n → times n (newcomers setup m count) ≡ 0
+  none_above setup n m zero l = refl
+  none_above setup n m (suc count) l =
+      let i = none_above setup n (suc m) count (omega arith) in
+      let t : times n (newcomers setup m (suc count)) ≡ 0 + times n (newcomers setup (suc m) count) = ap (λ b. (if b then 1 else 0) + times n (newcomers setup (suc m) count)) (ne_eqb m n (λ e. omega arith)) in omega arith
 
 module _ {C : Type 0} (f : Face C) (setup : Setup C) where
   abbrev V : Type 0
@@ -104,12 +104,11 @@ module _ {C : Type 0} (f : Face C) (setup : Setup C) where
         refl,
       )
 
-  fresh_fit : (state : CoreState) (m n : ℕ) → state.history ≡ [] → ((k : ℕ) → state.live k ≡ None) → AllFit setup.from setup.first state (newcomers setup.from setup.first m n)
+  fresh_fit : (state : CoreState) (m n : ℕ) → state.history ≡ [] → ((k : ℕ) → state.live k ≡ None) → AllFit setup state (newcomers setup m n)
   fresh_fit state m zero none_done none_live = tt
   fresh_fit state m (suc n) none_done none_live = (
     record {
-      from_is = refl;
-      first_is = refl;
+      setup_is = refl;
       seen = record { more = []; is = none_done };
       mine = sym (ap (commits_of m) none_done);
       live = sym (none_live m);
@@ -141,9 +140,9 @@ module _ {C : Type 0} (f : Face C) (setup : Setup C) where
             nobody = only (λ v. v.held ≡ None) refl;
           });
           staged = only (λ v. v.stage ≡ Shared) refl;
-          fit = only (λ v. AllFit setup.from setup.first (f.show core).state v.passes) (fresh_fit (f.show core).state 0 setup.callers can.history can.live);
-          once = λ n. (let t : count n (set s.views id w) ≡ times n w.passes + 0 = ap (count n) views in let o = once_each setup.first n setup.from 0 setup.callers in omega arith);
-          below = λ n b. (let t : count n (set s.views id w) ≡ times n w.passes + 0 = ap (count n) views in let o = none_above setup.first n setup.from 0 setup.callers (omega arith) in omega arith);
+          fit = only (λ v. AllFit setup (f.show core).state v.passes) (fresh_fit (f.show core).state 0 setup.callers can.history can.live);
+          once = λ n. (let t : count n (set s.views id w) ≡ times n w.passes + 0 = ap (count n) views in let o = once_each setup n 0 setup.callers in omega arith);
+          below = λ n b. (let t : count n (set s.views id w) ≡ times n w.passes + 0 = ap (count n) views in let o = none_above setup n 0 setup.callers (omega arith) in omega arith);
           few = few;
           enough = can.enough;
           since = since_shared f.tells setup.callers setup.from (f.show core) can;
@@ -196,7 +195,7 @@ module _ {C : Type 0} (f : Face C) (setup : Setup C) where
             }))
             h.place;
         staged = after_deal (λ _ u. u.stage ≡ Shared) s.views id left right refl (λ _. refl) h.staged;
-        fit = after_deal (λ _ u. AllFit setup.from setup.first (f.show h.core).state u.passes) s.views id left right fit.1 (λ _. (fit.0, tt)) h.fit;
+        fit = after_deal (λ _ u. AllFit setup (f.show h.core).state u.passes) s.views id left right fit.1 (λ _. (fit.0, tt)) h.fit;
         once = λ n. (let t = counts n in let o = h.once n in omega arith);
         below = λ n b. counts n ∙ h.below n b;
         few = h.few;
@@ -207,9 +206,9 @@ module _ {C : Type 0} (f : Face C) (setup : Setup C) where
   pub deals_keeps : (id : ℕ) (k : Known C) (ks : List (Known C)) → Splits (Rule f setup) id (shared_view (k ∷ ks) None) (shared_view ks None) (shared_view (k ∷ []) None)
   deals_keeps id k ks s rule at = inr (inr (dealt_by s id k ks (is_open f setup s id (shared_view (k ∷ ks) None) rule at refl) at))
 
-  all_append : (from : ℕ) (first : C) (state : CoreState) (ks ls : List (Known C)) → AllFit from first state ks → AllFit from first state ls → AllFit from first state (ks ++ ls)
-  all_append from first state [] ls a b = b
-  all_append from first state (k ∷ ks) ls a b = (a.0, all_append from first state ks ls a.1 b)
+  all_append : (setup : Setup C) (state : CoreState) (ks ls : List (Known C)) → AllFit setup state ks → AllFit setup state ls → AllFit setup state (ks ++ ls)
+  all_append setup state [] ls a b = b
+  all_append setup state (k ∷ ks) ls a b = (a.0, all_append setup state ks ls a.1 b)
 
   after_join : (P : ℕ → V → Type 0) (vs : List V) (id other : ℕ) (both gone : V) → P id both → P other gone → ((j : ℕ) (v : V) → get_elem? vs j ≡ some v → P j v) → (j : ℕ) (v : V) → get_elem? (set (set vs id both) other gone) j ≡ some v → P j v
   after_join P vs id other both gone a b each = each_set P (set vs id both) other gone b (λ j v _ e. each_set P vs id both a (λ j v _ e. each j v e) j v e)
@@ -246,7 +245,7 @@ module _ {C : Type 0} (f : Face C) (setup : Setup C) where
             }))
             h.place;
         staged = after_join (λ _ u. u.stage ≡ Shared) s.views id other both rest refl refl h.staged;
-        fit = after_join (λ _ u. AllFit setup.from setup.first (f.show h.core).state u.passes) s.views id other both rest (all_append setup.from setup.first (f.show h.core).state ks ls (h.fit id v at) (h.fit other w there)) tt h.fit;
+        fit = after_join (λ _ u. AllFit setup (f.show h.core).state u.passes) s.views id other both rest (all_append setup (f.show h.core).state ks ls (h.fit id v at) (h.fit other w there)) tt h.fit;
         once = λ n. (let t = counts n in let o = h.once n in omega arith);
         below = λ n b. counts n ∙ h.below n b;
         few = h.few;
@@ -260,7 +259,7 @@ module _ {C : Type 0} (f : Face C) (setup : Setup C) where
 
   -- what the end tells of the core in the slot
   pub record Ended (ks : List (Known C)) (core : C) : Type 0 where
-    pub fit : AllFit setup.from setup.first (f.show core).state ks
+    pub fit : AllFit setup (f.show core).state ks
     pub since : Since f.tells setup.from (f.show setup.first) (f.show core)
 
   pub ends : (id : ℕ) (ks : List (Known C)) (ws : List ℕ) (xs : List (Option C)) → ((n : ℕ) → n < setup.callers → 0 < times n ks) → Final (Seen (Rule f setup) id (shared_view ks None)) ws xs
@@ -300,23 +299,23 @@ module _ {C : Type 0} (f : Face C) (setup : Setup C) where
 
 module _ {C : Type 0} where
   -- the next pass to be dealt out
-  pub next_pass : (first : C) (from n callers : ℕ) → n < callers
-      → newcomers from first n (callers - n) ≡ newcomer from first n ∷ newcomers from first (n + 1) (callers - (n + 1))
-  next_pass first from n callers l =
+  pub next_pass : (setup : Setup C) (n callers : ℕ) → n < callers
+      → newcomers setup n (callers - n) ≡ newcomer setup n ∷ newcomers setup (n + 1) (callers - (n + 1))
+  next_pass setup n callers l =
       let more : callers - n ≡ suc (callers - (n + 1)) = omega arith in
       let one : suc n ≡ n + 1 = omega arith in
-      ap (λ c. newcomers from first n c) more ∙ ap (λ m. newcomer from first n ∷ newcomers from first m (callers - (n + 1))) one
+      ap (λ c. newcomers setup n c) more ∙ ap (λ m. newcomer setup n ∷ newcomers setup m (callers - (n + 1))) one
 
-  pub dealt_more : (table : TableId) (first : C) (from n : ℕ) → dealt table from first (n + 1) ≡ dealt table from first n ++ record { table = table; known = newcomer from first n } ∷ []
-  dealt_more table first from n = let one : n + 1 ≡ suc n = omega arith in ap (dealt table from first) one
+  pub dealt_more : (table : TableId) (setup : Setup C) (n : ℕ) → dealt table setup (n + 1) ≡ dealt table setup n ++ record { table = table; known = newcomer setup n } ∷ []
+  dealt_more table setup n = let one : n + 1 ≡ suc n = omega arith in ap (dealt table setup) one
 
   pub all_of_snoc : (table : TableId) (ps : List (PassView C)) (p : PassView C) → AllOf table ps → p.table ≡ table → AllOf table (ps ++ p ∷ [])
   all_of_snoc table [] p a e = (e, tt)
   all_of_snoc table (q ∷ ps) p a e = (a.0, all_of_snoc table ps p a.1 e)
 
-  pub all_of_dealt : (table : TableId) (first : C) (from n : ℕ) → AllOf table (dealt table from first n)
-  all_of_dealt table first from zero = tt
-  all_of_dealt table first from (suc n) = all_of_snoc table (dealt table from first n) (record { table = table; known = newcomer from first n }) (all_of_dealt table first from n) refl
+  pub all_of_dealt : (table : TableId) (setup : Setup C) (n : ℕ) → AllOf table (dealt table setup n)
+  all_of_dealt table setup zero = tt
+  all_of_dealt table setup (suc n) = all_of_snoc table (dealt table setup n) (record { table = table; known = newcomer setup n }) (all_of_dealt table setup n) refl
 
   pub all_of_init : (table : TableId) (ps qs : List (PassView C)) → AllOf table (ps ++ qs) → AllOf table ps × AllOf table qs
   all_of_init table [] qs a = (tt, a)
@@ -330,7 +329,7 @@ module _ {C : Type 0} (f : Face C) (setup : Setup C) where
       let G : Me (Option C) (View C) → Me (Option C) (View C) = λ m. (view Opening m.0.passes None, (0, None) ∷ []) in
       e2 ∙ ap F e1 ∙ ap (λ (m : Me (Option C) (View C)). F (G m)) e0
 
-  pub all_known : (core : C) (ps : List (PassView C)) → AllFit setup.from setup.first (f.show core).state (map known_of ps) → AreSo setup.from setup.first (f.show core).state ps
+  pub all_known : (core : C) (ps : List (PassView C)) → AllFit setup (f.show core).state (map known_of ps) → AreSo setup (f.show core).state ps
   all_known core [] a = tt
   all_known core (p ∷ ps) a = (a.0, all_known core ps a.1)
 

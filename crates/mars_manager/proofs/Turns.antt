@@ -94,17 +94,16 @@ module _ {C : Type 0} (f : Face C) (setup : Setup C) where
       let t = total_has (λ (v : View C). times n v.passes) s.views i v at in
       dite (dec_le setup.callers n) (λ (le : setup.callers ≤ n). let b = h.below n le in absurd (omega arith)) (λ (ge : ¬ (setup.callers ≤ n)). omega arith)
 
-  moves_one : (n : ℕ) (core new : C) (k : Known C) → Moved f setup n core new → k.number ≢ n → Fits setup.from setup.first (f.show core).state k → Fits setup.from setup.first (f.show new).state k
+  moves_one : (n : ℕ) (core new : C) (k : Known C) → Moved f setup n core new → k.number ≢ n → Fits setup (f.show core).state k → Fits setup (f.show new).state k
   moves_one n core new k m ne h = record {
-    from_is = h.from_is;
-    first_is = h.first_is;
+    setup_is = h.setup_is;
     seen = grows_on k.seen (f.show core).state.history (f.show new).state.history h.seen m.grows;
     mine = h.mine ∙ sym (m.others k.number ne).0;
     live = h.live ∙ sym (m.others k.number ne).1;
     heard = (let l = grows_longer (f.show core).state.history (f.show new).state.history m.grows in let o = h.heard in omega arith);
   }
 
-  pub moves_all : (n : ℕ) (core new : C) (ks : List (Known C)) → Moved f setup n core new → times n ks ≡ 0 → AllFit setup.from setup.first (f.show core).state ks → AllFit setup.from setup.first (f.show new).state ks
+  pub moves_all : (n : ℕ) (core new : C) (ks : List (Known C)) → Moved f setup n core new → times n ks ≡ 0 → AllFit setup (f.show core).state ks → AllFit setup (f.show new).state ks
   moves_all n core new [] m zero_times h = tt
   moves_all n core new (k ∷ ks) m zero_times h =
       (moves_one n core new k m (λ (e : k.number ≡ n). let t = times_first k ks in let u : times k.number (k ∷ ks) ≡ 0 = ap (λ (x : ℕ). times x (k ∷ ks)) e ∙ zero_times in absurd (omega arith)) h.0, moves_all n core new ks m (omega arith) h.1)
@@ -130,7 +129,7 @@ module _ {C : Type 0} (f : Face C) (setup : Setup C) where
           others = λ i u ne e. x.nobody i u (sym (set_else s.views id i w ne) ∙ e);
         });
         staged = each_set (λ i u. u.stage ≡ Shared) s.views id w refl (λ j u _ e. h.staged j u e);
-        fit = each_set (λ i u. AllFit setup.from setup.first (f.show h.core).state u.passes) s.views id w (h.fit id v at) (λ j u _ e. h.fit j u e);
+        fit = each_set (λ i u. AllFit setup (f.show h.core).state u.passes) s.views id w (h.fit id v at) (λ j u _ e. h.fit j u e);
         once = λ n. (let t = same_count n s.views id v w at refl in let o = h.once n in omega arith);
         below = λ n b. same_count n s.views id v w at refl ∙ h.below n b;
         few = h.few;
@@ -153,8 +152,7 @@ module _ {C : Type 0} (f : Face C) (setup : Setup C) where
         (
           λ _. record {
             core = h.core;
-            from = setup.from;
-            first = setup.first;
+            setup = setup;
             now = refl;
             fit = h.fit id (shared_view (k ∷ []) None) at;
             since = h.since;
@@ -216,7 +214,7 @@ module _ {C : Type 0} (f : Face C) (setup : Setup C) where
       let v : V = shared_view (k ∷ []) (Some old) in
       let w : V = shared_view (shown f new k ∷ []) (Some new) in
       let long : 1 < length s.words = (let t = h.two in omega arith) in
-      let mine : Fits setup.from setup.first (f.show h.core).state k = (h.fit id v at).0 in record {
+      let mine : Fits setup (f.show h.core).state k = (h.fit id v at).0 in record {
         core = new;
         two = length-set s.words 1 told ∙ h.two;
         one = h.one;
@@ -232,10 +230,9 @@ module _ {C : Type 0} (f : Face C) (setup : Setup C) where
           others = λ i u ne e. x.others i u (λ z. ne (z ∙ seat)) (sym (set_else s.views id i w ne) ∙ e);
         });
         staged = each_set (λ i u. u.stage ≡ Shared) s.views id w refl (λ j u _ e. h.staged j u e);
-        fit = each_set (λ i u. AllFit setup.from setup.first (f.show new).state u.passes) s.views id w (
+        fit = each_set (λ i u. AllFit setup (f.show new).state u.passes) s.views id w (
           record {
-            from_is = mine.from_is;
-            first_is = mine.first_is;
+            setup_is = mine.setup_is;
             seen = grows_none (f.show new).state.history;
             mine = refl;
             live = refl;
@@ -283,7 +280,7 @@ module _ {C : Type 0} (f : Face C) (setup : Setup C) where
           nobody = each_set (λ i u. u.held ≡ None) s.views id w refl (λ j u ne e. x.others j u (λ z. ne (z ∙ seat)) e);
         });
         staged = each_set (λ i u. u.stage ≡ Shared) s.views id w refl (λ j u _ e. h.staged j u e);
-        fit = each_set (λ i u. AllFit setup.from setup.first (f.show h.core).state u.passes) s.views id w (h.fit id v at) (λ j u _ e. h.fit j u e);
+        fit = each_set (λ i u. AllFit setup (f.show h.core).state u.passes) s.views id w (h.fit id v at) (λ j u _ e. h.fit j u e);
         once = λ n. (let t = same_count n s.views id v w at refl in let o = h.once n in omega arith);
         below = λ n b. same_count n s.views id v w at refl ∙ h.below n b;
         few = h.few;
@@ -305,7 +302,7 @@ module _ {C : Type 0} (f : Face C) (setup : Setup C) where
       let n : ℕ = get_or s.words 1 0 in
       let v : V = shared_view (k ∷ []) None in
       let w : V = shared_view (hears n k ∷ []) None in
-      let mine : Fits setup.from setup.first (f.show h.core).state k = (h.fit id v at).0 in
+      let mine : Fits setup (f.show h.core).state k = (h.fit id v at).0 in
       let long : 1 < length s.words = (let t = h.two in omega arith) in record {
         core = h.core;
         two = length-set s.words 1 n ∙ h.two;
@@ -329,8 +326,8 @@ module _ {C : Type 0} (f : Face C) (setup : Setup C) where
             }))
             h.place;
         staged = each_set (λ i u. u.stage ≡ Shared) s.views id w refl (λ j u _ e. h.staged j u e);
-        fit = each_set (λ i u. AllFit setup.from setup.first (f.show h.core).state u.passes) s.views id w
-            (record { from_is = mine.from_is; first_is = mine.first_is; seen = mine.seen; mine = mine.mine; live = mine.live; heard = (let e = h.told in omega arith) }, tt)
+        fit = each_set (λ i u. AllFit setup (f.show h.core).state u.passes) s.views id w
+            (record { setup_is = mine.setup_is; seen = mine.seen; mine = mine.mine; live = mine.live; heard = (let e = h.told in omega arith) }, tt)
             (λ j u _ e. h.fit j u e);
         once = λ n. (let t = same_count n s.views id v w at refl in let o = h.once n in omega arith);
         below = λ n b. same_count n s.views id v w at refl ∙ h.below n b;
@@ -344,7 +341,7 @@ module _ {C : Type 0} (f : Face C) (setup : Setup C) where
   looks_keeps slots id k s rule wide at _ =
       let v : V = shared_view (k ∷ []) None in
       let h : IsKept f setup s = is_open s id v rule at refl in
-      let mine : Fits setup.from setup.first (f.show h.core).state k = (h.fit id v at).0 in (
+      let mine : Fits setup (f.show h.core).state k = (h.fit id v at).0 in (
         shared_view (hears (get_or s.words 1 0) k ∷ []) None,
         keeps,
         tt,

@@ -4,6 +4,7 @@ use Rattle.atomic_table.specs.Seated.{TableId}
 use Rattle.history.specs.declared.transaction.Done.{Done}
 use Rattle.core_face.specs.State.{State}
 use Rattle.core_face.specs.Prefix.{Grows}
+use Rattle.mars_manager.specs.declared.setup.Setup.{Setup}
 use Rattle.mars_manager.specs.declared.view.Known.{Known}
 
 -- the transactions of a caller in a history, in order
@@ -11,24 +12,23 @@ abbrev pub commits_of : ℕ → List Done → List Done
 commits_of caller history = filter (λ (done : Done). nat_eq done.caller caller) history
 
 module _ {C : Type 0} where
-  -- What a pass knows is so of a state of a core that was shared as `first`, from a moment on: what it has seen begins the history, whose
-  -- transactions of its caller are its own; its live calls are those of its caller; and no length that it heard is above the history's.
-  pub record Fits (from : ℕ) (first : C) (state : State) (known : Known C) : Type 0 where
-    pub from_is : known.from ≡ from
-    pub first_is : known.first ≡ Some first
+  -- What a pass knows is so of a state of a core that was shared so: what it has seen begins the history, whose transactions of its caller
+  -- are its own; its live calls are those of its caller; and no length that it heard is above the history's.
+  pub record Fits (setup : Setup C) (state : State) (known : Known C) : Type 0 where
+    pub setup_is : known.setup ≡ Some setup
     pub seen : Grows known.seen state.history
     pub mine : known.mine ≡ commits_of known.number state.history
     pub live : known.live ≡ state.live known.number
     pub heard : known.heard ≤ length state.history
 
   -- that is so of each
-  abbrev pub AllFit : ℕ → C → State → List (Known C) → Type 0
-  AllFit from first state [] = Unit {0}
-  AllFit from first state (known ∷ others) = Fits from first state known × AllFit from first state others
+  abbrev pub AllFit : Setup C → State → List (Known C) → Type 0
+  AllFit setup state [] = Unit {0}
+  AllFit setup state (known ∷ others) = Fits setup state known × AllFit setup state others
 
   -- a pass of a caller that has seen nothing
-  abbrev pub newcomer : ℕ → C → ℕ → Known C
-  newcomer from first caller = record { number = caller; from = from; first = Some first; seen = []; mine = []; live = None; heard = 0 }
+  abbrev pub newcomer : Setup C → ℕ → Known C
+  newcomer setup caller = record { number = caller; setup = Some setup; seen = []; mine = []; live = None; heard = 0 }
 
   -- how many of the passes are of the caller
   abbrev pub times : ℕ → List (Known C) → ℕ
@@ -56,15 +56,15 @@ module _ {C : Type 0} where
   AllOf table (pass ∷ passes) = (pass.table ≡ table) × AllOf table passes
 
   -- the passes of the callers 0, 1 and so on, so many
-  abbrev pub dealt : TableId → ℕ → C → ℕ → List (PassView C)
-  dealt table from first zero = []
-  dealt table from first (suc n) = dealt table from first n ++ record { table = table; known = newcomer from first n } ∷ []
+  abbrev pub dealt : TableId → Setup C → ℕ → List (PassView C)
+  dealt table setup zero = []
+  dealt table setup (suc n) = dealt table setup n ++ record { table = table; known = newcomer setup n } ∷ []
 
   -- each caller has its pass among these
   abbrev pub HasEach : ℕ → List (PassView C) → Type 0
   HasEach callers passes = (caller : ℕ) → caller < callers → 0 < times caller (map known_of passes)
 
   -- what each of the passes knows is so of a state
-  abbrev pub AreSo : ℕ → C → State → List (PassView C) → Type 0
-  AreSo from first state [] = Unit {0}
-  AreSo from first state (pass ∷ passes) = Fits from first state pass.known × AreSo from first state passes
+  abbrev pub AreSo : Setup C → State → List (PassView C) → Type 0
+  AreSo setup state [] = Unit {0}
+  AreSo setup state (pass ∷ passes) = Fits setup state pass.known × AreSo setup state passes

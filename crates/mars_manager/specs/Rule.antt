@@ -73,7 +73,7 @@ module _ {C : Type 0} where
       pub told : slice_index s.words 1 ≡ length (f.show core).state.history
       pub place : IsFree core s ⊎ IsHeld core s
       pub staged : (i : ℕ) (v : View C) → get_elem? s.views i ≡ some v → v.stage ≡ Shared
-      pub fit : (i : ℕ) (v : View C) → get_elem? s.views i ≡ some v → AllFit setup.from setup.first (f.show core).state v.passes
+      pub fit : (i : ℕ) (v : View C) → get_elem? s.views i ≡ some v → AllFit setup (f.show core).state v.passes
       pub once : (n : ℕ) → total (λ v. times n v.passes) s.views ≤ 1
       pub below : (n : ℕ) → setup.callers ≤ n → total (λ v. times n v.passes) s.views ≡ 0
       pub few : setup.callers < 256
@@ -90,11 +90,10 @@ module _ {C : Type 0} where
     -- the turn was taken, with this core
     pub record Took (m n : Me (Option C) (View C)) : Type 0 where
       pub core : C
-      pub from : ℕ
-      pub first : C
+      pub setup : Setup C
       pub now : n ≡ (shared_view m.0.passes (Some core), (0, Some core) ∷ [])
-      pub fit : AllFit from first (f.show core).state m.0.passes
-      pub since : Since f.tells from (f.show first) (f.show core)
+      pub fit : AllFit setup (f.show core).state m.0.passes
+      pub since : Since f.tells setup.from (f.show setup.first) (f.show core)
       pub few : (k : ℕ) → 0 < times k m.0.passes → k < (f.show core).limits.callers
 
     -- What a step tells, by the step, the seat before, the number found and the seat after. Where the turn was not free, another pass had

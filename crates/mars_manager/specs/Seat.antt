@@ -10,9 +10,9 @@ use Rattle.mars_manager.specs.Pass.{newcomer}
 
 module _ {C : Type 0} where
   -- the passes of the callers n, n + 1 and so on
-  abbrev pub newcomers : ℕ → C → ℕ → ℕ → List (Known C)
-  newcomers from first n zero = []
-  newcomers from first n (suc count) = newcomer from first n ∷ newcomers from first (suc n) count
+  abbrev pub newcomers : Setup C → ℕ → ℕ → List (Known C)
+  newcomers setup n zero = []
+  newcomers setup n (suc count) = newcomer setup n ∷ newcomers setup (suc n) count
 
   -- all but the first of the passes, and the first
   abbrev pub behind : List (Known C) → List (Known C)
@@ -25,7 +25,7 @@ module _ {C : Type 0} where
 
   -- the first of the passes; none of them stands for no caller
   abbrev pub first_of : List (Known C) → Known C
-  first_of [] = record { number = 0; from = 0; first = None; seen = []; mine = []; live = None; heard = 0 }
+  first_of [] = record { number = 0; setup = None; seen = []; mine = []; live = None; heard = 0 }
   first_of (known ∷ others) = known
 
   abbrev pub view : Stage → List (Known C) → Option C → View C
@@ -36,7 +36,7 @@ module _ {C : Type 0} where
 
   -- the opener's, with all passes
   abbrev pub opener : Stage → Setup C → View C
-  opener stage setup = view stage (newcomers setup.from setup.first 0 setup.callers) None
+  opener stage setup = view stage (newcomers setup 0 setup.callers) None
 
   -- one pass, without the turn
   abbrev pub IsIdle : ℕ → Me (Option C) (View C) → Type 0

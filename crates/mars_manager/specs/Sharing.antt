@@ -12,15 +12,14 @@ use Rattle.core_face.specs.Fate.{is_committed}
 use Rattle.core_face.specs.Prefix.{Grows}
 use Rattle.core_face.specs.Sound.{IsSound}
 use Rattle.core_face.specs.Core.{CoreView, IsSafe, Steps, Continues}
+use Rattle.mars_manager.specs.declared.setup.Setup.{Setup}
 use Rattle.mars_manager.specs.declared.view.Known.{Known}
 use Rattle.mars_manager.specs.Pass.{commits_of}
 
--- what contracts see of a shared core: its table, for how many callers, since when the prefix law holds, and the core as it was shared
+-- what contracts see of a shared core: its table, and how it was shared
 pub record MarsView (C : Type 0) : Type 0 where
   pub table : TableId
-  pub callers : ℕ
-  pub from : ℕ
-  pub first : C
+  pub setup : Setup C
 
 -- A core that can be shared among so many callers: it has not failed, nothing was done on it, and where it tells its records, the prefix
 -- law holds from a moment on and from now on.
@@ -49,11 +48,12 @@ module _ {C : Type 0} where
   -- A call that got the turn is one step of a core that the shared one has come to. What the pass had seen begins that core's history, and
   -- its caller's live calls were the pass's; and what the pass knows then is what is so behind the step.
   pub record Called (tells : Bool) (show : C → CoreView) (was : Known C) (call : Call) (reply : Reply) (now : Known C) : Type 0 where
-    pub first : C
+    pub setup : Setup C
     pub old : C
     pub new : C
-    pub first_is : was.first ≡ Some first
-    pub since : Since tells was.from (show first) (show old)
+    pub setup_is : was.setup ≡ Some setup
+    pub since : Since tells setup.from (show setup.first) (show old)
+    pub comes : Since tells setup.from (show setup.first) (show new)
     pub seen : Grows was.seen (show old).state.history
     pub live : (show old).state.live was.number ≡ was.live
     pub steps : Steps tells was.number call (show old) (show new) reply

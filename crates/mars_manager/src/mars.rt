@@ -28,8 +28,7 @@ pub struct Again {
     pub holder: u8,
 }
 
-/// One core that threads share by turns. To a contract it is its table, how many callers there are, the moment from which the prefix law
-/// holds, and the core as it was shared.
+/// One core that threads share by turns. To a contract it is its table, and how it was shared.
 #[derive(Drop)]
 pub struct Mars<C: Core + Drop> {
     table: Table<Option<C>, View<C>, Setup<C>, Turns<C>, Global>,
@@ -41,7 +40,7 @@ impl<C: Core + Drop> Model for Mars<C> {
 
     ghost Value = { MarsView C };
 
-    ghost view = { λ m. record { table = m.table.shared.table_id; callers = m.table.shared.key.callers; from = m.table.shared.key.from; first = m.table.shared.key.first } };
+    ghost view = { λ m. record { table = m.table.shared.table_id; setup = m.table.shared.key } };
 
     ghost invariant = { λ m. (m.table.shared.table_id.words ≡ 2) × (m.table.shared.table_id.slots ≡ 1) };
 }
@@ -65,8 +64,8 @@ impl<C: Core + Drop> Mars<C> {
         from: u64,
     ) -> Result<(Mars<C>, Passes<C>), (NoMemory, C)>
         requires { CanShare C.tells callers from (C.view core) }
-        ensures shared { IfOk result (λ r. r.0 ≡ record { table = r.1.table; callers = callers; from = from; first = core }) }
-        ensures passes { IfOk result (λ r. (r.1.list ≡ dealt r.1.table from core callers) × (callers ≤ r.1.room)) }
+        ensures shared { IfOk result (λ r. r.0 ≡ record { table = r.1.table; setup = record { callers = callers; from = from; first = core } }) }
+        ensures passes { IfOk result (λ r. (r.1.list ≡ dealt r.1.table r.0.setup callers) × (callers ≤ r.1.room)) }
         ensures given_back { IfErr result (λ e. e.1 ≡ core) }
     {
         let Ok(list) = Vec::with_capacity(alloc, usize::from(callers)) else {
@@ -100,12 +99,12 @@ impl<C: Core + Drop> Mars<C> {
         callers: u8,
     ) -> Passes<C>
         requires own { seat.table_id ≡ self.now.table }
-        requires callers { callers ≡ self.now.callers }
-        requires core { core ≡ self.now.first }
-        requires first { seat.me ≡ (opener Vacant (record { callers = self.now.callers; from = self.now.from; first = self.now.first }), []) }
+        requires callers { callers ≡ self.now.setup.callers }
+        requires core { core ≡ self.now.setup.first }
+        requires first { seat.me ≡ (opener Vacant self.now.setup, []) }
         requires list { (list.items ≡ []) × (vec_len list ≡ 0) × (callers ≤ vec_capacity list) }
-        requires ready { CanShare C.tells self.now.callers self.now.from (C.view core) }
-        ensures { (result.table ≡ seat.table_id) × (result.list ≡ dealt seat.table_id self.now.from core callers) × (result.room ≡ vec_capacity list) }
+        requires ready { CanShare C.tells self.now.setup.callers self.now.setup.from (C.view core) }
+        ensures { (result.table ≡ seat.table_id) × (result.list ≡ dealt seat.table_id self.now.setup callers) × (result.room ≡ vec_capacity list) }
     {
         let shared = &self.table.shared;
         shared.store::<Begin>(&mut seat, TURN, 1);
@@ -161,9 +160,9 @@ impl<C: Core + Drop> Mars<C> {
     /// Gives the core back, once the passes of all callers are at hand.
     pub fn close(self, passes: Passes<C>) -> C
         requires own { passes.table ≡ self.table }
-        requires all { HasEach self.callers passes.list }
-        ensures since { Since C.tells self.from (C.view self.first) (C.view result) }
-        ensures passes { AreSo self.from self.first (C.view result).state passes.list }
+        requires all { HasEach self.setup.callers passes.list }
+        ensures since { Since C.tells self.setup.from (C.view self.setup.first) (C.view result) }
+        ensures passes { AreSo self.setup (C.view result).state passes.list }
     {
         let (list, mut opener) = passes.into_parts();
         for pass in list {

@@ -1,14 +1,13 @@
 // What the rule keeps of a seat. No value of it is made.
+use crate::setup::Setup;
 use history::{Calls, History};
 use std::collections::LinkedList;
 
-/// What a pass knows: its caller's number, the moment from which the prefix law holds, the core as it was shared, the history that was
-/// told at its last turn, the transactions of its caller in that history, the granted calls of its caller's live transaction, and the
-/// length of the history when it last looked.
+/// What a pass knows: its caller's number, how the core was shared, the history that was told at its last turn, the transactions of its
+/// caller in that history, the granted calls of its caller's live transaction, and the length of the history when it last looked.
 pub struct Known<C> {
     pub number: u8,
-    pub from: u64,
-    pub first: Option<C>,
+    pub setup: Option<Setup<C>>,
     pub seen: History,
     pub mine: History,
     pub live: Option<Calls>,

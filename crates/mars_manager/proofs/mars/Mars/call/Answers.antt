@@ -127,9 +127,9 @@ returns-clause-step g c =
     let told = told_seat f _ _ i.0 took.core c.step-reply.new.self home c.store.ensures.2 in
     let known : i.0 ≡ c.args.pass.now.known = sym (ap (λ (m : Me (Option g.row.C.Denot) (View g.row.C.Denot)). first_of m.0.passes) i.1) ∙ ap (λ (p : PassView g.row.C.Denot). p.known) c.pass.view_is in
     let after : shown f c.step-reply.new.self i.0 ≡ first_of c.store-2.new.seat.me.0.passes = sym (ap (λ (m : Me (Option g.row.C.Denot) (View g.row.C.Denot)). first_of m.0.passes) (idle_again f _ _ i.0 c.step-reply.new.self told c.store-2.ensures.2)) in
-    let fits : Fits took.from took.first (g.C.Core.view took.core).state i.0 = (subst (λ (ks : List (Known g.row.C.Denot)). AllFit took.from took.first (g.C.Core.view took.core).state ks) (ap (λ (m : Me (Option g.row.C.Denot) (View g.row.C.Denot)). m.0.passes) i.1) took.fit).0 in
+    let fits : Fits took.setup (g.C.Core.view took.core).state i.0 = (subst (λ (ks : List (Known g.row.C.Denot)). AllFit took.setup (g.C.Core.view took.core).state ks) (ap (λ (m : Me (Option g.row.C.Denot) (View g.row.C.Denot)). m.0.passes) i.1) took.fit).0 in
     let dead = subst (λ (x : g.row.C.Denot). IsTrue (g.C.Core.view x).state.is_dead → (c.step-reply.result ≡ Dead) × (c.step-reply.new.self ≡ x)) (sym core) c.step-reply.ensures.dead in
-    subst (λ (v : Known g.row.C.Denot × Known g.row.C.Denot). Called g.C.Core.tells g.C.Core.view v.0 c.args.call.now c.step-reply.result v.1) (λ j. (known j, after j)) (called f took.from took.first took.core c.step-reply.new.self i.0 c.args.call.now c.step-reply.result fits steps took.since dead)
+    subst (λ (v : Known g.row.C.Denot × Known g.row.C.Denot). Called g.C.Core.tells g.C.Core.view v.0 c.args.call.now c.step-reply.result v.1) (λ j. (known j, after j)) (called f took.setup took.core c.step-reply.new.self i.0 c.args.call.now c.step-reply.result fits steps took.since dead)
 
 pub returns-clause-seen : goal.returns-clause-seen
 returns-clause-seen g c =
@@ -146,8 +146,8 @@ returns-clause-seen g c =
     let told = told_seat f _ _ i.0 took.core c.step-reply.new.self home c.store.ensures.2 in
     let known : i.0 ≡ c.args.pass.now.known = sym (ap (λ (m : Me (Option g.row.C.Denot) (View g.row.C.Denot)). first_of m.0.passes) i.1) ∙ ap (λ (p : PassView g.row.C.Denot). p.known) c.pass.view_is in
     let after : shown f c.step-reply.new.self i.0 ≡ first_of c.store-2.new.seat.me.0.passes = sym (ap (λ (m : Me (Option g.row.C.Denot) (View g.row.C.Denot)). first_of m.0.passes) (idle_again f _ _ i.0 c.step-reply.new.self told c.store-2.ensures.2)) in
-    let fits : Fits took.from took.first (g.C.Core.view took.core).state i.0 = (subst (λ (ks : List (Known g.row.C.Denot)). AllFit took.from took.first (g.C.Core.view took.core).state ks) (ap (λ (m : Me (Option g.row.C.Denot) (View g.row.C.Denot)). m.0.passes) i.1) took.fit).0 in
-    subst (λ (v : Known g.row.C.Denot × Known g.row.C.Denot). Grows v.0.seen v.1.seen) (λ j. (known j, after j)) (seen_grows f took.from took.first took.core c.step-reply.new.self i.0 c.args.call.now c.step-reply.result fits steps)
+    let fits : Fits took.setup (g.C.Core.view took.core).state i.0 = (subst (λ (ks : List (Known g.row.C.Denot)). AllFit took.setup (g.C.Core.view took.core).state ks) (ap (λ (m : Me (Option g.row.C.Denot) (View g.row.C.Denot)). m.0.passes) i.1) took.fit).0 in
+    subst (λ (v : Known g.row.C.Denot × Known g.row.C.Denot). Grows v.0.seen v.1.seen) (λ j. (known j, after j)) (seen_grows f took.setup took.core c.step-reply.new.self i.0 c.args.call.now c.step-reply.result fits steps)
 
 pub returns-clause-commit : goal.returns-clause-commit
 returns-clause-commit g c =
@@ -164,5 +164,5 @@ returns-clause-commit g c =
     let told = told_seat f _ _ i.0 took.core c.step-reply.new.self home c.store.ensures.2 in
     let known : i.0 ≡ c.args.pass.now.known = sym (ap (λ (m : Me (Option g.row.C.Denot) (View g.row.C.Denot)). first_of m.0.passes) i.1) ∙ ap (λ (p : PassView g.row.C.Denot). p.known) c.pass.view_is in
     let after : shown f c.step-reply.new.self i.0 ≡ first_of c.store-2.new.seat.me.0.passes = sym (ap (λ (m : Me (Option g.row.C.Denot) (View g.row.C.Denot)). first_of m.0.passes) (idle_again f _ _ i.0 c.step-reply.new.self told c.store-2.ensures.2)) in
-    let fits : Fits took.from took.first (g.C.Core.view took.core).state i.0 = (subst (λ (ks : List (Known g.row.C.Denot)). AllFit took.from took.first (g.C.Core.view took.core).state ks) (ap (λ (m : Me (Option g.row.C.Denot) (View g.row.C.Denot)). m.0.passes) i.1) took.fit).0 in
-    subst (λ (v : Known g.row.C.Denot × Known g.row.C.Denot). Commits g.C.Core.tells v.0 c.step-reply.result v.1) (λ j. (known j, after j)) (commits f took.from took.first took.core c.step-reply.new.self i.0 c.args.call.now c.step-reply.result fits steps)
+    let fits : Fits took.setup (g.C.Core.view took.core).state i.0 = (subst (λ (ks : List (Known g.row.C.Denot)). AllFit took.setup (g.C.Core.view took.core).state ks) (ap (λ (m : Me (Option g.row.C.Denot) (View g.row.C.Denot)). m.0.passes) i.1) took.fit).0 in
+    subst (λ (v : Known g.row.C.Denot × Known g.row.C.Denot). Commits g.C.Core.tells v.0 c.step-reply.result v.1) (λ j. (known j, after j)) (commits f took.setup took.core c.step-reply.new.self i.0 c.args.call.now c.step-reply.result fits steps)

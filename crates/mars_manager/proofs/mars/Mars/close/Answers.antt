@@ -52,7 +52,7 @@ unwrap-core-requires g c =
     let i = c.loop-pass.invariant in
     let gone = sym c.loop-pass.pass-iterator.rest.ok.0 ∙ c.in-None.ensures.steps.0 in
     let all = taken_all f key _ i.taken.0 c.loop-pass.pass-iterator.rest.items c.args.passes.list i.taken.1 i.taken.2 gone in
-    let each : (n : ℕ) → n < key.callers → 0 < times n (map known_of c.args.passes.list) = subst (λ (m : MarsView g.row.C.Denot). HasEach m.callers c.args.passes.list) (sym c.self.view_is) c.requires.all in
+    let each : (n : ℕ) → n < key.callers → 0 < times n (map known_of c.args.passes.list) = subst (λ (m : MarsView g.row.C.Denot). HasEach m.setup.callers c.args.passes.list) (sym c.self.view_is) c.requires.all in
     let last = last_core f key _ (map known_of c.args.passes.list) _ _ _ c.take.result all each c.close_with-closed.ensures.values.2 c.take.ensures.value in
     subst (λ (o : Option g.row.C.Denot). IsSome o) (sym last.1) refl
 
@@ -63,10 +63,10 @@ returns-clause-since g c =
     let i = c.loop-pass.invariant in
     let gone = sym c.loop-pass.pass-iterator.rest.ok.0 ∙ c.in-None.ensures.steps.0 in
     let all = taken_all f key _ i.taken.0 c.loop-pass.pass-iterator.rest.items c.args.passes.list i.taken.1 i.taken.2 gone in
-    let each : (n : ℕ) → n < key.callers → 0 < times n (map known_of c.args.passes.list) = subst (λ (m : MarsView g.row.C.Denot). HasEach m.callers c.args.passes.list) (sym c.self.view_is) c.requires.all in
+    let each : (n : ℕ) → n < key.callers → 0 < times n (map known_of c.args.passes.list) = subst (λ (m : MarsView g.row.C.Denot). HasEach m.setup.callers c.args.passes.list) (sym c.self.view_is) c.requires.all in
     let last = last_core f key _ (map known_of c.args.passes.list) _ _ _ c.take.result all each c.close_with-closed.ensures.values.2 c.take.ensures.value in
     let end = ended_as f key _ last.0 c.unwrap-core.result c.take.result last.1 c.unwrap-core.ensures last.2 in
-    subst (λ (m : MarsView g.row.C.Denot). Since g.C.Core.tells m.from (g.C.Core.view m.first) (g.C.Core.view c.unwrap-core.result)) c.self.view_is end.since
+    subst (λ (m : MarsView g.row.C.Denot). Since g.C.Core.tells m.setup.from (g.C.Core.view m.setup.first) (g.C.Core.view c.unwrap-core.result)) c.self.view_is end.since
 
 pub returns-clause-passes : goal.returns-clause-passes
 returns-clause-passes g c =
@@ -75,7 +75,7 @@ returns-clause-passes g c =
     let i = c.loop-pass.invariant in
     let gone = sym c.loop-pass.pass-iterator.rest.ok.0 ∙ c.in-None.ensures.steps.0 in
     let all = taken_all f key _ i.taken.0 c.loop-pass.pass-iterator.rest.items c.args.passes.list i.taken.1 i.taken.2 gone in
-    let each : (n : ℕ) → n < key.callers → 0 < times n (map known_of c.args.passes.list) = subst (λ (m : MarsView g.row.C.Denot). HasEach m.callers c.args.passes.list) (sym c.self.view_is) c.requires.all in
+    let each : (n : ℕ) → n < key.callers → 0 < times n (map known_of c.args.passes.list) = subst (λ (m : MarsView g.row.C.Denot). HasEach m.setup.callers c.args.passes.list) (sym c.self.view_is) c.requires.all in
     let last = last_core f key _ (map known_of c.args.passes.list) _ _ _ c.take.result all each c.close_with-closed.ensures.values.2 c.take.ensures.value in
     let end = ended_as f key _ last.0 c.unwrap-core.result c.take.result last.1 c.unwrap-core.ensures last.2 in
-    subst (λ (m : MarsView g.row.C.Denot). AreSo m.from m.first (g.C.Core.view c.unwrap-core.result).state c.args.passes.list) c.self.view_is (all_known f key c.unwrap-core.result c.args.passes.list end.fit)
+    subst (λ (m : MarsView g.row.C.Denot). AreSo m.setup (g.C.Core.view c.unwrap-core.result).state c.args.passes.list) c.self.view_is (all_known f key c.unwrap-core.result c.args.passes.list end.fit)

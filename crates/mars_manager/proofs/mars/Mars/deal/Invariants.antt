@@ -8,8 +8,8 @@ use Rattle.mars_manager.proofs.mars.Mars.deal.Given as goal
 abbrev pub invariant-loop-number : goal.invariant-loop-number
 invariant-loop-number g l = record {
   table : l.seat.table_id ≡ l.fn.seat.table_id;
-  me : l.seat.me ≡ (shared_view (newcomers l.fn.self.from l.fn.self.first l.number (l.fn.callers - l.number)) None, []);
-  list : l.list.items ≡ dealt l.fn.seat.table_id l.fn.self.from l.fn.self.first l.number;
+  me : l.seat.me ≡ (shared_view (newcomers l.fn.self.setup l.number (l.fn.callers - l.number)) None, []);
+  list : l.list.items ≡ dealt l.fn.seat.table_id l.fn.self.setup l.number;
   len : vec_len l.list ≡ l.number;
   room : vec_capacity l.list ≡ vec_capacity l.fn.list;
 }
