@@ -8,6 +8,7 @@ use Rattle.history.specs.declared.call.Call.{Call}
 use Rattle.history.specs.declared.call.Call.TheVariants.{Get, Put, Del, Scan, Save, Back}
 use Rattle.history.specs.declared.call.Reply.{Reply}
 use Rattle.history.specs.declared.call.Reply.TheVariants.{Committed, Dead}
+use Rattle.history.specs.Legal.{IsLegal}
 use Rattle.history.specs.declared.transaction.Done.{Done}
 use Rattle.core_face.specs.State.{State, calls_of, done_by}
 use Rattle.core_face.specs.Fate.{is_refusal, is_committed, history_after}
@@ -21,11 +22,11 @@ use Rattle.mars_manager.specs.declared.view.Known.{Known}
 use Rattle.mars_manager.specs.declared.view.View.{View}
 use Rattle.mars_manager.specs.declared.setup.Setup.{Setup}
 use Rattle.mars_manager.specs.Pass.{Fits, commits_of}
-use Rattle.mars_manager.specs.Sharing.{Since, Called, done_of, HasCommitted, Commits}
+use Rattle.mars_manager.specs.Sharing.{Since, Called, IsLegalIn, done_of, HasCommitted, Commits}
 use Rattle.mars_manager.specs.Seat.{shared_view}
 use Rattle.mars_manager.specs.Rule.{Face, shown}
 use Rattle.mars_manager.proofs.Past.{after_grows, own_commits, other_commits, since_step}
-use Rattle.mars_manager.proofs.Turns.{out, Moved}
+use Rattle.mars_manager.proofs.Turns.{out, some_same, Moved}
 
 refusal_none : (reply : Reply) → is_refusal reply ≡ true → is_committed reply ≡ false
 refusal_none (Committed n) e = absurd (true≢false (sym e))
@@ -85,6 +86,13 @@ module _ {C : Type 0} (f : Face C) where
     pub seen_grows : Grows k.seen (shown f new k).seen
     seen_grows = grows_on k.seen (f.show old).state.history (f.show new).state.history fit.seen
         (subst (λ h. Grows (f.show old).state.history h) (sym s.moves.history) (after_grows (f.show old).state k.number reply))
+
+    pub legal_now : Since f.tells setup.from (f.show setup.first) (f.show old) → IsTrue f.tells → IsLegalIn f.show (shown f new k)
+    legal_now since told given is =
+        let comes = since_step f.tells setup.from k.number call reply (f.show setup.first) (f.show old) (f.show new) s since in
+        let same : setup ≡ given = some_same setup given (sym fit.setup_is ∙ is) in
+        subst (λ (g : Setup C). IsLegal (f.show g.first).state.base (f.show new).state.history) same
+            (subst (λ b. IsLegal b (f.show new).state.history) comes.base (comes.continues told).sound.legal)
 
     done_is : done_by (f.show old).state k.number (calls_of (f.show old).state k.number) ≡ done_of k (length (f.show old).state.history + 1)
     done_is = ap (λ (live : Option Granted). record { caller = k.number; calls = unwrap_or live []; at = length (f.show old).state.history + 1 }) (sym fit.live)

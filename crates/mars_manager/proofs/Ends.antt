@@ -18,7 +18,7 @@ use Rattle.mars_manager.specs.declared.view.Stage.{Stage}
 use Rattle.mars_manager.specs.declared.view.Stage.TheVariants.{Vacant, Opening, Shared}
 use Rattle.mars_manager.specs.declared.view.View.{View}
 use Rattle.mars_manager.specs.declared.setup.Setup.{Setup}
-use Rattle.mars_manager.specs.Pass.{Fits, AllFit, AreSo, commits_of, times, newcomer, PassView, PassesView, AllOf, dealt, known_of, HasEach}
+use Rattle.mars_manager.specs.Pass.{Fits, AllFit, AreSo, commits_of, times, newcomer, PassView, PassesView, AllOf, dealt, known_of, HasEach, HasNoOthers}
 use Rattle.mars_manager.specs.Sharing.{CanShare, Since}
 use Rattle.mars_manager.specs.Seat.{view, shared_view, opener, newcomers, behind, front, joined, spent}
 use Rattle.mars_manager.specs.Rule.{Face, total, IsFree, IsHeld, IsKept, IsFresh, IsOpening, Rule, began, gives_turn}
@@ -146,6 +146,7 @@ module _ {C : Type 0} (f : Face C) (setup : Setup C) where
           few = few;
           enough = can.enough;
           since = since_shared f.tells setup.callers setup.from (f.show core) can;
+          strangers = λ n b. (ap (commits_of n) can.history, can.live n);
         })),
         refl,
       )
@@ -201,6 +202,7 @@ module _ {C : Type 0} (f : Face C) (setup : Setup C) where
         few = h.few;
         enough = h.enough;
         since = h.since;
+        strangers = h.strangers;
       }
 
   pub deals_keeps : (id : ℕ) (k : Known C) (ks : List (Known C)) → Splits (Rule f setup) id (shared_view (k ∷ ks) None) (shared_view ks None) (shared_view (k ∷ []) None)
@@ -251,6 +253,7 @@ module _ {C : Type 0} (f : Face C) (setup : Setup C) where
         few = h.few;
         enough = h.enough;
         since = h.since;
+        strangers = h.strangers;
       }
 
   pub gathers_keeps : (id other : ℕ) (ks ls : List (Known C)) → Joins (Rule f setup) id (shared_view ks None) other (shared_view ls None) (shared_view (ks ++ ls) None) (shared_view [] None)
@@ -261,6 +264,7 @@ module _ {C : Type 0} (f : Face C) (setup : Setup C) where
   pub record Ended (ks : List (Known C)) (core : C) : Type 0 where
     pub fit : AllFit setup (f.show core).state ks
     pub since : Since f.tells setup.from (f.show setup.first) (f.show core)
+    pub strangers : HasNoOthers setup.callers (f.show core).state
 
   pub ends : (id : ℕ) (ks : List (Known C)) (ws : List ℕ) (xs : List (Option C)) → ((n : ℕ) → n < setup.callers → 0 < times n ks) → Final (Seen (Rule f setup) id (shared_view ks None)) ws xs
       → (core : C) × (get_elem? xs 0 ≡ some (Some core)) × Ended ks core
@@ -270,7 +274,7 @@ module _ {C : Type 0} (f : Face C) (setup : Setup C) where
       let v : V = shared_view ks None in
       let h : IsKept f setup s = is_open f setup s id v final.1.0 at refl in
       ⊎_elim
-      (λ (x : IsFree h.core s). (h.core, final.4 0 (Some h.core) x.home, record { fit = h.fit id v at; since = h.since }))
+      (λ (x : IsFree h.core s). (h.core, final.4 0 (Some h.core) x.home, record { fit = h.fit id v at; since = h.since; strangers = h.strangers }))
       (λ (x : IsHeld h.core s).
       let t = total_two (λ (v : View C). times x.number v.passes) s.views x.seat id x.holder v (not_holder s h.core x id v at refl) x.there at in
       let o = h.once x.number in

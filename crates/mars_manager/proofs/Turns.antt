@@ -135,6 +135,7 @@ module _ {C : Type 0} (f : Face C) (setup : Setup C) where
         few = h.few;
         enough = h.enough;
         since = h.since;
+        strangers = h.strangers;
       }
 
   Taking : (s : St) (slots id turn : ℕ) (k : Known C) → ℕ → Type 0
@@ -185,6 +186,14 @@ module _ {C : Type 0} (f : Face C) (setup : Setup C) where
                 let seat = one_seat s h m x.seat id x.holder (shared_view (k ∷ []) None) x.there at (subst (λ n. 0 < times n x.holder.passes) same x.has) (omega arith) in
                 let held = same_at s.views id x.holder (shared_view (k ∷ []) None) (subst (λ i. get_elem? s.views i ≡ some x.holder) seat x.there) at in
                 some≢none h.core (sym x.holds ∙ ap (λ (v : V). v.held) held)),
+            (
+              λ given is.
+                  let t = x.turn in
+                  let same = ap (λ (g : Setup C). g.callers) (some_same given setup (sym is ∙ (h.fit id (shared_view (k ∷ []) None) at).0.setup_is)) in
+                  let l = number_below s h x.number x.seat x.holder x.there x.has in
+                  omega arith,
+              tt,
+            ),
           ),
         ),
       ))
@@ -248,6 +257,7 @@ module _ {C : Type 0} (f : Face C) (setup : Setup C) where
         few = h.few;
         enough = h.enough;
         since = m.since h.since;
+        strangers = λ n b. (let ne : n ≢ k.number = (λ e. let l = number_below s h k.number id v at (times_first k []) in omega arith) in let o = m.others n ne in (o.0 ∙ (h.strangers n b).0, o.1 ∙ (h.strangers n b).1));
       }
 
   pub tells_keeps : (slots id told : ℕ) (k : Known C) (old new : C) → Moved f setup k.number old new → told ≡ length ((f.show new).state.history)
@@ -286,6 +296,7 @@ module _ {C : Type 0} (f : Face C) (setup : Setup C) where
         few = h.few;
         enough = h.enough;
         since = h.since;
+        strangers = h.strangers;
       }
 
   pub gives_keeps : (slots id : ℕ) (k : Known C) (core : C)
@@ -334,6 +345,7 @@ module _ {C : Type 0} (f : Face C) (setup : Setup C) where
         few = h.few;
         enough = h.enough;
         since = h.since;
+        strangers = h.strangers;
       }
 
   pub looks_keeps : (slots id : ℕ) (k : Known C)

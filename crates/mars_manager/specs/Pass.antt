@@ -1,5 +1,5 @@
 -- What a pass knows.
-use Rattle.std.specs.Prelude.{ℕ, zero, suc, ◌≡◌, ◌+◌, ◌<◌, ◌≤◌, ◌==◌, nat_eq, if◌then◌else◌, List, [], ◌∷◌, ◌++◌, map, filter, length, Some, None}
+use Rattle.std.specs.Prelude.{ℕ, zero, suc, ◌≡◌, ◌≢◌, ◌+◌, ◌<◌, ◌≤◌, ◌==◌, nat_eq, if◌then◌else◌, List, [], ◌∷◌, ◌++◌, map, filter, length, Some, None}
 use Rattle.atomic_table.specs.Seated.{TableId}
 use Rattle.history.specs.declared.transaction.Done.{Done}
 use Rattle.core_face.specs.State.{State}
@@ -10,6 +10,10 @@ use Rattle.mars_manager.specs.declared.view.Known.{Known}
 -- the transactions of a caller in a history, in order
 abbrev pub commits_of : ℕ → List Done → List Done
 commits_of caller history = filter (λ (done : Done). nat_eq done.caller caller) history
+
+-- nobody but so many callers has done anything
+abbrev pub HasNoOthers : ℕ → State → Type 0
+HasNoOthers callers state = (caller : ℕ) → callers ≤ caller → (commits_of caller state.history ≡ []) × (state.live caller ≡ None)
 
 module _ {C : Type 0} where
   -- What a pass knows is so of a state of a core that was shared so: what it has seen begins the history, whose transactions of its caller
@@ -25,6 +29,10 @@ module _ {C : Type 0} where
   abbrev pub AllFit : Setup C → State → List (Known C) → Type 0
   AllFit setup state [] = Unit {0}
   AllFit setup state (known ∷ others) = Fits setup state known × AllFit setup state others
+
+  -- the number of another pass of the same sharing
+  abbrev pub IsOther : Known C → ℕ → Type 0
+  IsOther known holder = (holder ≢ known.number) × ((setup : Setup C) → known.setup ≡ Some setup → holder < setup.callers)
 
   -- a pass of a caller that has seen nothing
   abbrev pub newcomer : Setup C → ℕ → Known C

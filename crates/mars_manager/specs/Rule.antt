@@ -9,7 +9,7 @@ use Rattle.mars_manager.specs.declared.view.Known.{Known}
 use Rattle.mars_manager.specs.declared.view.Stage.TheVariants.{Vacant, Opening, Shared}
 use Rattle.mars_manager.specs.declared.view.View.{View}
 use Rattle.mars_manager.specs.declared.setup.Setup.{Setup}
-use Rattle.mars_manager.specs.Pass.{Fits, AllFit, commits_of, times}
+use Rattle.mars_manager.specs.Pass.{Fits, AllFit, commits_of, times, HasNoOthers}
 use Rattle.mars_manager.specs.Sharing.{Since}
 use Rattle.mars_manager.specs.Seat.{view, shared_view, newcomers, opener}
 
@@ -27,6 +27,11 @@ module _ {C : Type 0} where
   abbrev pub AllHeard : ℕ → List (Known C) → Type 0
   AllHeard n [] = Unit {0}
   AllHeard n (known ∷ others) = (length known.seen ≤ n) × (known.heard ≤ n) × AllHeard n others
+
+  -- each pass is of a sharing of at least so many callers
+  abbrev pub AreAbove : ℕ → List (Known C) → Type 0
+  AreAbove n [] = Unit {0}
+  AreAbove n (known ∷ others) = ((setup : Setup C) → known.setup ≡ Some setup → n ≤ setup.callers) × AreAbove n others
 
   abbrev pub face : Bool → (C → CoreView) → Face C
   face tells show = record { tells = tells; show = show }
@@ -79,6 +84,7 @@ module _ {C : Type 0} where
       pub few : setup.callers < 256
       pub enough : setup.callers ≤ (f.show setup.first).limits.callers
       pub since : Since f.tells setup.from (f.show setup.first) (f.show core)
+      pub strangers : HasNoOthers setup.callers (f.show core).state
 
     abbrev pub Rule : Setup C → State (Option C) (View C) → Type 0
     Rule setup s = IsFresh setup s ⊎ (IsOpening setup s ⊎ IsKept setup s)
@@ -99,7 +105,7 @@ module _ {C : Type 0} where
     -- What a step tells, by the step, the seat before, the number found and the seat after. Where the turn was not free, another pass had
     -- it, and the seat stays as it was.
     abbrev pub takes_turn : Step (Option C) → Me (Option C) (View C) → ℕ → Me (Option C) (View C) → Type 0
-    takes_turn st m r n = (r ≡ 0 → Took m n) × (r ≢ 0 → (n ≡ m) × (r < 256) × ((k : ℕ) → r ≡ k + 1 → times k m.0.passes ≡ 0))
+    takes_turn st m r n = (r ≡ 0 → Took m n) × (r ≢ 0 → (n ≡ m) × (r < 256) × ((k : ℕ) → r ≡ k + 1 → times k m.0.passes ≡ 0) × AreAbove r m.0.passes)
 
     abbrev pub tells_length : Step (Option C) → Me (Option C) (View C) → ℕ → Me (Option C) (View C) → Type 0
     tells_length st m r n = (core : C) → m.1 ≡ (0, Some core) ∷ [] → n ≡ (shared_view (map (shown core) m.0.passes) (Some core), m.1)

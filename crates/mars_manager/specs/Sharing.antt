@@ -60,6 +60,10 @@ module _ {C : Type 0} where
     pub dead : IsTrue (show old).state.is_dead → (reply ≡ Dead) × (new ≡ old)
     pub after : now ≡ record was { seen = (show new).state.history; mine = commits_of was.number (show new).state.history; live = (show new).state.live was.number }
 
+  -- what a pass has seen is a legal history on the records at the opening
+  abbrev pub IsLegalIn : (C → CoreView) → Known C → Type 0
+  IsLegalIn show known = (setup : Setup C) → known.setup ≡ Some setup → IsLegal (show setup.first).state.base known.seen
+
   -- the transaction that a pass commits
   abbrev pub done_of : Known C → ℕ → Done
   done_of was at = record { caller = was.number; calls = unwrap_or was.live []; at = at }

@@ -1,11 +1,10 @@
 // The shared core.
-ghost use Rattle.std.specs.Prelude.{◌≡◌, ◌≢◌, ◌≤◌, ◌<◌, ℕ, IsTrue, [], length, IfOk, IfErr};
+ghost use Rattle.std.specs.Prelude.{◌≡◌, ◌≤◌, IsTrue, [], length, IfOk, IfErr};
 ghost use Rattle.std.specs.Vec.{vec_len, vec_capacity};
-ghost use Rattle.history.specs.Legal.{IsLegal};
 ghost use Rattle.core_face.specs.Prefix.{Grows};
 ghost use Rattle.mars_manager.specs.declared.view.Stage.TheVariants.{Vacant};
-ghost use Rattle.mars_manager.specs.Pass.{dealt, known_of, HasEach, AreSo, commits_of};
-ghost use Rattle.mars_manager.specs.Sharing.{CanShare, Since, Called, Commits};
+ghost use Rattle.mars_manager.specs.Pass.{dealt, HasEach, AreSo, HasNoOthers, IsOther};
+ghost use Rattle.mars_manager.specs.Sharing.{CanShare, Since, Called, Commits, IsLegalIn};
 ghost use Rattle.mars_manager.specs.Seat.{opener};
 ghost use Rattle.mars_manager.specs.Rule.{hears};
 
@@ -126,8 +125,9 @@ impl<C: Core + Drop> Mars<C> {
         ensures table { pass.new.table ≡ pass.old.table }
         ensures step { IfOk result (λ reply. Called C.tells C.view pass.old.known call.now reply pass.new.known) }
         ensures seen { Grows pass.old.known.seen pass.new.known.seen }
+        ensures legal { IfOk result (λ reply. IsTrue C.tells → IsLegalIn C.view pass.new.known) }
         ensures commit { IfOk result (λ reply. Commits C.tells pass.old.known reply pass.new.known) }
-        ensures again { IfErr result (λ a. (a.holder ≢ pass.old.known.number) × (pass.new ≡ pass.old)) }
+        ensures again { IfErr result (λ a. IsOther pass.old.known a.holder × (pass.new ≡ pass.old)) }
     {
         let shared = &self.table.shared;
         let turn = u64::from(pass.number) + 1;
@@ -163,6 +163,7 @@ impl<C: Core + Drop> Mars<C> {
         requires all { HasEach self.setup.callers passes.list }
         ensures since { Since C.tells self.setup.from (C.view self.setup.first) (C.view result) }
         ensures passes { AreSo self.setup (C.view result).state passes.list }
+        ensures others { HasNoOthers self.setup.callers (C.view result).state }
     {
         let (list, mut opener) = passes.into_parts();
         for pass in list {
@@ -183,6 +184,7 @@ impl<C: Core + Drop> Mars<C> {
         ensures table { pass.new.table ≡ pass.old.table }
         ensures step { Called C.tells C.view pass.old.known call.now result pass.new.known }
         ensures seen { Grows pass.old.known.seen pass.new.known.seen }
+        ensures legal { IsTrue C.tells → IsLegalIn C.view pass.new.known }
         ensures commit { Commits C.tells pass.old.known result pass.new.known }
     {
         let backoff = Backoff::new();

@@ -8,12 +8,12 @@ use Rattle.atomic_table.specs.Table.{Me, rest}
 use Rattle.mars_manager.specs.declared.view.Known.{Known}
 use Rattle.mars_manager.specs.declared.view.View.{View}
 use Rattle.mars_manager.specs.Pass.{PassView, Fits, AllFit, times}
-use Rattle.mars_manager.specs.Sharing.{MarsView, Called, Commits}
+use Rattle.mars_manager.specs.Sharing.{MarsView, Called, Commits, IsLegalIn}
 use Rattle.mars_manager.specs.Seat.{first_of, view}
-use Rattle.mars_manager.specs.Rule.{Face, face, Took, shown}
+use Rattle.mars_manager.specs.Rule.{Face, face, Took, shown, AreAbove}
 use Rattle.mars_manager.proofs.Seats.{times_first}
 use Rattle.mars_manager.proofs.Turns.{top_of, out, some_same, Moved, takes_turn_as, tells_as, gives_as}
-use Rattle.mars_manager.proofs.Calls.{moved, called, seen_grows, commits, homed, told_seat, idle_again}
+use Rattle.mars_manager.proofs.Calls.{moved, called, legal_now, seen_grows, commits, homed, told_seat, idle_again}
 use Rattle.mars_manager.proofs.mars.Mars.call.Goals as goal
 
 pub compare_exchange-found-requires : goal.compare_exchange-found-requires
@@ -31,13 +31,17 @@ returns-then-found-ne0-clause-again g c =
     let e = c.compare_exchange-found.ensures in
     let missed = e.2.1 c.if-found-ne0.true in
     let known : i.0 ≡ c.args.pass.now.known = sym (ap (λ (m : Me (Option g.row.C.Denot) (View g.row.C.Denot)). first_of m.0.passes) i.1) ∙ ap (λ (p : PassView g.row.C.Denot). p.known) c.pass.view_is in (
-      (λ same.
+      ((λ same.
           let ne = c.if-found-ne0.true in
           let number = ap (λ (k : Known g.row.C.Denot). k.number) known in
           let none = missed.2 i.0.number (omega arith) in
           let first = times_first i.0 [] in
           let same_times = ap (λ (m : Me (Option g.row.C.Denot) (View g.row.C.Denot)). times i.0.number m.0.passes) i.1 in
           omega arith),
+      (λ setup is.
+          let ne = c.if-found-ne0.true in
+          let above = (subst (λ (ks : List (Known g.row.C.Denot)). AreAbove c.compare_exchange-found.result ks) (ap (λ (m : Me (Option g.row.C.Denot) (View g.row.C.Denot)). m.0.passes) i.1) missed.3).0 setup (ap (λ (k : Known g.row.C.Denot). k.setup) known ∙ is) in
+          omega arith)),
       (let back : PassView g.row.C.Denot = record { table = c.compare_exchange-found.new.seat.table_id; known = first_of c.compare_exchange-found.new.seat.me.0.passes } in
           let p : back ≡ record { table = c.pass.inside.seat.table_id; known = first_of c.pass.inside.seat.me.0.passes } = (λ j. record { table = e.0 j; known = first_of (missed.0 j).0.passes }) in
           p ∙ c.pass.view_is),
@@ -148,6 +152,24 @@ returns-clause-seen g c =
     let after : shown f c.step-reply.new.self i.0 ≡ first_of c.store-2.new.seat.me.0.passes = sym (ap (λ (m : Me (Option g.row.C.Denot) (View g.row.C.Denot)). first_of m.0.passes) (idle_again f _ _ i.0 c.step-reply.new.self told c.store-2.ensures.2)) in
     let fits : Fits took.setup (g.C.Core.view took.core).state i.0 = (subst (λ (ks : List (Known g.row.C.Denot)). AllFit took.setup (g.C.Core.view took.core).state ks) (ap (λ (m : Me (Option g.row.C.Denot) (View g.row.C.Denot)). m.0.passes) i.1) took.fit).0 in
     subst (λ (v : Known g.row.C.Denot × Known g.row.C.Denot). Grows v.0.seen v.1.seen) (λ j. (known j, after j)) (seen_grows f took.setup took.core c.step-reply.new.self i.0 c.args.call.now c.step-reply.result fits steps)
+
+pub returns-clause-legal : goal.returns-clause-legal
+returns-clause-legal g c =
+    let f = face g.C.Core.tells g.C.Core.view in
+    let i = c.pass.invariant in
+    let e = c.compare_exchange-found.ensures in
+    let took = e.2.0 c.if-found-ne0.false in
+    let carried = ap (λ (m : Me (Option g.row.C.Denot) (View g.row.C.Denot)). m.1) took.now in
+    let core = some_same took.core c.unwrap-core.result (ap (λ (l : List (ℕ × Option g.row.C.Denot)). top_of l) (sym carried ∙ c.exchange.ensures.2) ∙ c.unwrap-core.ensures) in
+    let steps : Steps g.C.Core.tells i.0.number c.args.call.now (g.C.Core.view took.core) (g.C.Core.view c.step-reply.new.self) c.step-reply.result =
+    subst (λ (n : ℕ). Steps g.C.Core.tells n c.args.call.now (g.C.Core.view took.core) (g.C.Core.view c.step-reply.new.self) c.step-reply.result) (sym i.2)
+    (subst (λ (x : g.row.C.Denot). Steps g.C.Core.tells c.pass.inside.number c.args.call.now (g.C.Core.view x) (g.C.Core.view c.step-reply.new.self) c.step-reply.result) (sym core) c.step-reply.ensures.steps) in
+    let home = homed f _ _ _ _ i.0 took.core c.step-reply.new.self None i.1 took.now c.exchange.ensures.3 c.exchange-2.ensures.3 in
+    let told = told_seat f _ _ i.0 took.core c.step-reply.new.self home c.store.ensures.2 in
+    let known : i.0 ≡ c.args.pass.now.known = sym (ap (λ (m : Me (Option g.row.C.Denot) (View g.row.C.Denot)). first_of m.0.passes) i.1) ∙ ap (λ (p : PassView g.row.C.Denot). p.known) c.pass.view_is in
+    let after : shown f c.step-reply.new.self i.0 ≡ first_of c.store-2.new.seat.me.0.passes = sym (ap (λ (m : Me (Option g.row.C.Denot) (View g.row.C.Denot)). first_of m.0.passes) (idle_again f _ _ i.0 c.step-reply.new.self told c.store-2.ensures.2)) in
+    let fits : Fits took.setup (g.C.Core.view took.core).state i.0 = (subst (λ (ks : List (Known g.row.C.Denot)). AllFit took.setup (g.C.Core.view took.core).state ks) (ap (λ (m : Me (Option g.row.C.Denot) (View g.row.C.Denot)). m.0.passes) i.1) took.fit).0 in
+    λ told. subst (λ (k : Known g.row.C.Denot). IsLegalIn g.C.Core.view k) after (legal_now f took.setup took.core c.step-reply.new.self i.0 c.args.call.now c.step-reply.result fits steps took.since told)
 
 pub returns-clause-commit : goal.returns-clause-commit
 returns-clause-commit g c =
