@@ -92,7 +92,7 @@ module _ {C : Type 0} (f : Face C) where
         let comes = since_step f.tells setup.from k.number call reply (f.show setup.first) (f.show old) (f.show new) s since in
         let same : setup ≡ given = some_same setup given (sym fit.setup_is ∙ is) in
         subst (λ (g : Setup C). IsLegal (f.show g.first).state.base (f.show new).state.history) same
-            (subst (λ b. IsLegal b (f.show new).state.history) comes.base (comes.continues told).sound.legal)
+        (subst (λ b. IsLegal b (f.show new).state.history) comes.base (comes.continues told).sound.legal)
 
     done_is : done_by (f.show old).state k.number (calls_of (f.show old).state k.number) ≡ done_of k (length (f.show old).state.history + 1)
     done_is = ap (λ (live : Option Granted). record { caller = k.number; calls = unwrap_or live []; at = length (f.show old).state.history + 1 }) (sym fit.live)

@@ -31,17 +31,19 @@ returns-then-found-ne0-clause-again g c =
     let e = c.compare_exchange-found.ensures in
     let missed = e.2.1 c.if-found-ne0.true in
     let known : i.0 ≡ c.args.pass.now.known = sym (ap (λ (m : Me (Option g.row.C.Denot) (View g.row.C.Denot)). first_of m.0.passes) i.1) ∙ ap (λ (p : PassView g.row.C.Denot). p.known) c.pass.view_is in (
-      ((λ same.
-          let ne = c.if-found-ne0.true in
-          let number = ap (λ (k : Known g.row.C.Denot). k.number) known in
-          let none = missed.2 i.0.number (omega arith) in
-          let first = times_first i.0 [] in
-          let same_times = ap (λ (m : Me (Option g.row.C.Denot) (View g.row.C.Denot)). times i.0.number m.0.passes) i.1 in
-          omega arith),
-      (λ setup is.
-          let ne = c.if-found-ne0.true in
-          let above = (subst (λ (ks : List (Known g.row.C.Denot)). AreAbove c.compare_exchange-found.result ks) (ap (λ (m : Me (Option g.row.C.Denot) (View g.row.C.Denot)). m.0.passes) i.1) missed.3).0 setup (ap (λ (k : Known g.row.C.Denot). k.setup) known ∙ is) in
-          omega arith)),
+      (
+        (λ same.
+            let ne = c.if-found-ne0.true in
+            let number = ap (λ (k : Known g.row.C.Denot). k.number) known in
+            let none = missed.2 i.0.number (omega arith) in
+            let first = times_first i.0 [] in
+            let same_times = ap (λ (m : Me (Option g.row.C.Denot) (View g.row.C.Denot)). times i.0.number m.0.passes) i.1 in
+            omega arith),
+        (λ setup is.
+            let ne = c.if-found-ne0.true in
+            let above = (subst (λ (ks : List (Known g.row.C.Denot)). AreAbove c.compare_exchange-found.result ks) (ap (λ (m : Me (Option g.row.C.Denot) (View g.row.C.Denot)). m.0.passes) i.1) missed.3).0 setup (ap (λ (k : Known g.row.C.Denot). k.setup) known ∙ is) in
+            omega arith),
+      ),
       (let back : PassView g.row.C.Denot = record { table = c.compare_exchange-found.new.seat.table_id; known = first_of c.compare_exchange-found.new.seat.me.0.passes } in
           let p : back ≡ record { table = c.pass.inside.seat.table_id; known = first_of c.pass.inside.seat.me.0.passes } = (λ j. record { table = e.0 j; known = first_of (missed.0 j).0.passes }) in
           p ∙ c.pass.view_is),
