@@ -3,6 +3,7 @@ use Rattle.mars_manager.specs.Pass.{PassView}
 use Rattle.mars_manager.specs.Sharing.{MarsView}
 use Rattle.mars_manager.specs.Rule.{face}
 use Rattle.mars_manager.proofs.Turns.{looks_as}
+use Rattle.mars_manager.proofs.Notes.{IndexMoves}
 use Rattle.mars_manager.proofs.mars.Mars.look.Goals as goal
 
 pub load-requires : goal.load-requires
