@@ -1,6 +1,6 @@
 -- What a whole turn tells, from what its steps tell and from the core's step.
-use Rattle.std.proofs.Common.{◌≡◌, ◌≢◌, ℕ, ◌+◌, ◌<◌, ◌≤◌, Bool, true, false, List, [], ◌∷◌, ◌++◌, length, Option, Some, None, refl, sym, ap, ◌∙◌, subst, arith, map, length-append}
-use Rattle.std.specs.Prelude.{IsTrue, IsFalse, MatchBool, unwrap_or, if◌then◌else◌}
+use Rattle.std.proofs.Common.{◌≡◌, ℕ, ◌+◌, Bool, true, false, List, [], ◌∷◌, ◌++◌, length, Option, Some, None, refl, sym, ap, ◌∙◌, subst, arith, map, length-append}
+use Rattle.std.specs.Prelude.{IsTrue, MatchBool, unwrap_or}
 use Rattle.std.specs.FinMap.{get}
 use Rattle.std.proofs.lemmas.Bool.{true≢false, cond-true, cond-false}
 use Rattle.history.specs.Table.{Granted, Work, Answers, found, removed}
@@ -9,10 +9,10 @@ use Rattle.history.specs.declared.call.Call.TheVariants.{Get, Put, Del, Scan, Sa
 use Rattle.history.specs.declared.call.Reply.{Reply}
 use Rattle.history.specs.declared.call.Reply.TheVariants.{Committed, Dead}
 use Rattle.history.specs.Legal.{IsLegal}
-use Rattle.history.specs.declared.transaction.Done.{Done}
 use Rattle.core_face.specs.State.{State, calls_of, done_by}
-use Rattle.core_face.specs.Fate.{is_refusal, is_committed, history_after}
+use Rattle.core_face.specs.Fate.{is_refusal, is_committed}
 use Rattle.core_face.specs.Prefix.{Grows}
+use Rattle.core_face.specs.Step.{Step}
 use Rattle.core_face.specs.Core.{Steps}
 use Rattle.core_face.proofs.Continuing.{grows_on}
 use Rattle.core_face.proofs.Fates.{Fate, step_fate}
@@ -21,11 +21,13 @@ use Rattle.atomic_table.specs.Table.{Me, rest}
 use Rattle.mars_manager.specs.declared.view.Known.{Known}
 use Rattle.mars_manager.specs.declared.view.View.{View}
 use Rattle.mars_manager.specs.declared.setup.Setup.{Setup}
+use Rattle.mars_manager.specs.Notes.{Notes}
 use Rattle.mars_manager.specs.Pass.{Fits, commits_of}
 use Rattle.mars_manager.specs.Sharing.{Since, Called, IsLegalIn, done_of, HasCommitted, Commits}
 use Rattle.mars_manager.specs.Seat.{shared_view}
 use Rattle.mars_manager.specs.Rule.{Face, shown}
 use Rattle.mars_manager.proofs.Past.{after_grows, own_commits, other_commits, since_step}
+use Rattle.mars_manager.proofs.Notes.{noted_step}
 use Rattle.mars_manager.proofs.Turns.{out, some_same, Moved}
 
 refusal_none : (reply : Reply) → is_refusal reply ≡ true → is_committed reply ≡ false
@@ -60,15 +62,18 @@ number_at old caller call reply new (doubted calls c r l index e) is = absurd (t
 number_at old caller call reply new (aborted c r e) is = absurd (true≢false (sym is ∙ ap is_committed r))
 
 module _ {C : Type 0} (f : Face C) where
-  pub moved : (setup : Setup C) (n : ℕ) (call : Call) (reply : Reply) (old new : C) → Steps f.tells n call (f.show old) (f.show new) reply → Moved f setup n old new
+  pub moved : (setup : Setup C) (n : ℕ) (call : Call) (reply : Reply) (old new : C) → Steps f.tells n call (f.show old) (f.show new) reply → Moved f setup n call reply old new
   moved setup n call reply old new s = record {
     grows = subst (λ h. Grows (f.show old).state.history h) (sym s.moves.history) (after_grows (f.show old).state n reply);
     others = λ m ne. (ap (commits_of m) s.moves.history ∙ other_commits (f.show old).state n m reply ne, s.moves.others m ne);
     since = since_step f.tells setup.from n call reply (f.show setup.first) (f.show old) (f.show new) s;
+    noted = λ notes few strangers since noted told.
+        let step = subst (λ limits. Step limits (f.show old).state n call reply (f.show new).state) since.limits (s.step told) in
+        noted_step (f.show setup.first).limits setup.callers (f.show setup.first).state.index (f.show old).state (f.show new).state n call reply step s.moves notes few (λ other le. (strangers other le).1) (noted told);
   }
 
-  module _ (setup : Setup C) (old new : C) (k : Known C) (call : Call) (reply : Reply) (fit : Fits setup (f.show old).state k) (s : Steps f.tells k.number call (f.show old) (f.show new) reply) where
-    pub called : Since f.tells setup.from (f.show setup.first) (f.show old) → (IsTrue (f.show old).state.is_dead → (reply ≡ Dead) × (new ≡ old)) → Called f.tells f.show k call reply (shown f new k)
+  module _ (setup : Setup C) (notes : ℕ → Notes) (old new : C) (k : Known C) (call : Call) (reply : Reply) (fit : Fits setup (f.show old).state notes k) (s : Steps f.tells k.number call (f.show old) (f.show new) reply) where
+    pub called : Since f.tells setup.from (f.show setup.first) (f.show old) → (IsTrue (f.show old).state.is_dead → (reply ≡ Dead) × (new ≡ old)) → Called f.tells f.show k call reply (shown f call reply new k)
     called since dead = record {
       setup = setup;
       old = old;
@@ -83,11 +88,11 @@ module _ {C : Type 0} (f : Face C) where
       after = refl;
     }
 
-    pub seen_grows : Grows k.seen (shown f new k).seen
+    pub seen_grows : Grows k.seen (shown f call reply new k).seen
     seen_grows = grows_on k.seen (f.show old).state.history (f.show new).state.history fit.seen
         (subst (λ h. Grows (f.show old).state.history h) (sym s.moves.history) (after_grows (f.show old).state k.number reply))
 
-    pub legal_now : Since f.tells setup.from (f.show setup.first) (f.show old) → IsTrue f.tells → IsLegalIn f.show (shown f new k)
+    pub legal_now : Since f.tells setup.from (f.show setup.first) (f.show old) → IsTrue f.tells → IsLegalIn f.show (shown f call reply new k)
     legal_now since told given is =
         let comes = since_step f.tells setup.from k.number call reply (f.show setup.first) (f.show old) (f.show new) s since in
         let same : setup ≡ given = some_same setup given (sym fit.setup_is ∙ is) in
@@ -97,7 +102,7 @@ module _ {C : Type 0} (f : Face C) where
     done_is : done_by (f.show old).state k.number (calls_of (f.show old).state k.number) ≡ done_of k (length (f.show old).state.history + 1)
     done_is = ap (λ (live : Option Granted). record { caller = k.number; calls = unwrap_or live []; at = length (f.show old).state.history + 1 }) (sym fit.live)
 
-    commits_at : (b : Bool) → is_committed reply ≡ b → MatchBool b (HasCommitted f.tells k reply (shown f new k)) ((shown f new k).mine ≡ k.mine)
+    commits_at : (b : Bool) → is_committed reply ≡ b → MatchBool b (HasCommitted f.tells k reply (shown f call reply new k)) ((shown f call reply new k).mine ≡ k.mine)
     commits_at true is =
         let log = (f.show old).state.history in
         let done = done_by (f.show old).state k.number (calls_of (f.show old).state k.number) in
@@ -115,7 +120,7 @@ module _ {C : Type 0} (f : Face C) where
         ap (commits_of k.number) s.moves.history ∙ own_commits (f.show old).state k.number reply
         ∙ cond-false (is_committed reply) (commits_of k.number (f.show old).state.history ++ done_by (f.show old).state k.number (calls_of (f.show old).state k.number) ∷ []) (commits_of k.number (f.show old).state.history) is ∙ sym fit.mine
 
-    pub commits : Commits f.tells k reply (shown f new k)
+    pub commits : Commits f.tells k reply (shown f call reply new k)
     commits = commits_at (is_committed reply) refl
 
   abbrev Sat : Type 0
@@ -131,11 +136,11 @@ module _ {C : Type 0} (f : Face C) where
       e3 ∙ ap F e2 ∙ ap (λ (m : Sat). F (G m)) e1 ∙ ap (λ (m : Sat). F (G (H m))) e0
 
   -- the seat once the length is told
-  pub told_seat : (m3 m4 : Sat) (k : Known C) (core new : C) → m3 ≡ (shared_view (k ∷ []) (Some core), out new) → ((c : C) → m3.1 ≡ out c → m4 ≡ (shared_view (map (shown f c) m3.0.passes) (Some c), m3.1))
-      → m4 ≡ (shared_view (shown f new k ∷ []) (Some new), out new)
-  told_seat m3 m4 k core new e tells =
-      let F : Sat → Sat = λ m. (shared_view (map (shown f new) m.0.passes) (Some new), m.1) in
+  pub told_seat : (m3 m4 : Sat) (k : Known C) (call : Call) (reply : Reply) (core new : C) → m3 ≡ (shared_view (k ∷ []) (Some core), out new) → ((c : C) → m3.1 ≡ out c → m4 ≡ (shared_view (map (shown f call reply c) m3.0.passes) (Some c), m3.1))
+      → m4 ≡ (shared_view (shown f call reply new k ∷ []) (Some new), out new)
+  told_seat m3 m4 k call reply core new e tells =
+      let F : Sat → Sat = λ m. (shared_view (map (shown f call reply new) m.0.passes) (Some new), m.1) in
       tells new (ap (λ (m : Sat). m.1) e) ∙ ap F e
 
-  pub idle_again : (m4 m5 : Sat) (k : Known C) (new : C) → m4 ≡ (shared_view (shown f new k ∷ []) (Some new), out new) → m5 ≡ (shared_view m4.0.passes None, []) → m5 ≡ (shared_view (shown f new k ∷ []) None, [])
-  idle_again m4 m5 k new e give = let F : Sat → Sat = λ m. (shared_view m.0.passes None, []) in give ∙ ap F e
+  pub idle_again : (m4 m5 : Sat) (k : Known C) (call : Call) (reply : Reply) (new : C) → m4 ≡ (shared_view (shown f call reply new k ∷ []) (Some new), out new) → m5 ≡ (shared_view m4.0.passes None, []) → m5 ≡ (shared_view (shown f call reply new k ∷ []) None, [])
+  idle_again m4 m5 k call reply new e give = let F : Sat → Sat = λ m. (shared_view m.0.passes None, []) in give ∙ ap F e

@@ -1,6 +1,6 @@
 -- Opening the table, dealing out the passes, taking them in, and the end.
-use Rattle.std.proofs.Common.{◌≡◌, ◌≢◌, ◌⊎◌, ℕ, zero, suc, ◌+◌, ◌-◌, ◌<◌, ◌≤◌, eqb, List, [], ◌∷◌, ◌++◌, length, set, get_or, Bool, true, false, Option, Some, None, refl, sym, ap, ◌∙◌, subst, inl, inr, ⊎_elim, arith, length-set, map, eq-eqb, ne_eqb, append_assoc}
-use Rattle.std.specs.Prelude.{if◌then◌else◌, IfSome}
+use Rattle.std.proofs.Common.{◌≡◌, ◌≢◌, ◌⊎◌, ℕ, zero, suc, ◌+◌, ◌-◌, ◌<◌, ◌≤◌, eqb, List, [], ◌∷◌, ◌++◌, length, set, get_or, false, Option, Some, None, refl, sym, ap, ◌∙◌, subst, inl, inr, ⊎_elim, arith, length-set, map, eq-eqb, ne_eqb, append_assoc}
+use Rattle.std.specs.Prelude.{if◌then◌else◌, IfSome, IsTrue}
 use Rattle.std.specs.Option.{option_to_list}
 use mathlib.Core.Logic.{dite}
 use mathlib.Core.List.{append-nil}
@@ -9,8 +9,7 @@ use native.Mathlib.Decide.{dec_le, ℕ_discrete}
 use lib.ListN.{get_elem?}
 use Rattle.std.proofs.lemmas.Bool.Decides.{nat_tests}
 use Rattle.core_face.specs.State.{State as CoreState}
-use Rattle.core_face.specs.Prefix.{Grows}
-use Rattle.atomic_table.specs.Table.{State, Me, Step, step, Act, keeps, takes, gives, stepped, Valid, carried_after, Allows, Splits, Joins, Final, Seen, opening, rest}
+use Rattle.atomic_table.specs.Table.{State, Me, step, takes, gives, Allows, Splits, Joins, Final, Seen, opening, rest}
 use Rattle.atomic_table.specs.Seated.{TableId}
 use Rattle.atomic_table.proofs.Lists.{set_here, set_else, at_snoc, at_longer}
 use Rattle.mars_manager.specs.declared.view.Known.{Known}
@@ -18,13 +17,15 @@ use Rattle.mars_manager.specs.declared.view.Stage.{Stage}
 use Rattle.mars_manager.specs.declared.view.Stage.TheVariants.{Vacant, Opening, Shared}
 use Rattle.mars_manager.specs.declared.view.View.{View}
 use Rattle.mars_manager.specs.declared.setup.Setup.{Setup}
-use Rattle.mars_manager.specs.Pass.{Fits, AllFit, AreSo, commits_of, times, newcomer, PassView, PassesView, AllOf, dealt, known_of, HasEach, HasNoOthers}
+use Rattle.mars_manager.specs.Notes.{Notes, AreNoted}
+use Rattle.mars_manager.specs.Pass.{AllFit, AreSo, commits_of, times, newcomer, PassView, PassesView, AllOf, dealt, known_of, HasNoOthers}
 use Rattle.mars_manager.specs.Sharing.{CanShare, Since}
 use Rattle.mars_manager.specs.Seat.{view, shared_view, opener, newcomers, behind, front, joined, spent}
 use Rattle.mars_manager.specs.Rule.{Face, total, IsFree, IsHeld, IsKept, IsFresh, IsOpening, Rule, began, gives_turn}
 use Rattle.mars_manager.proofs.Past.{since_shared}
-use Rattle.mars_manager.proofs.Seats.{times_append, inside, at_only, each_set, total_set, total_two, total_snoc, total_has}
-use Rattle.mars_manager.proofs.Turns.{out, some_same, some≢none, carried_same, is_open, vacant≢shared, opening≢shared, vacant≢opening}
+use Rattle.mars_manager.proofs.Notes.{none_noted}
+use Rattle.mars_manager.proofs.Seats.{times_append, at_only, each_set, total_set, total_two, total_snoc, total_has}
+use Rattle.mars_manager.proofs.Turns.{out, some_same, some≢none, is_open, vacant≢shared, opening≢shared, vacant≢opening}
 
 only_zero : {A : Type 0} (x : A) (i : ℕ) (a : A) → get_elem? (x ∷ []) i ≡ some a → i ≡ 0
 only_zero x zero a e = refl
@@ -51,6 +52,9 @@ module _ {C : Type 0} where
   none_above setup n m (suc count) l =
       let i = none_above setup n (suc m) count (omega arith) in
       let t : times n (newcomers setup m (suc count)) ≡ 0 + times n (newcomers setup (suc m) count) = ap (λ b. (if b then 1 else 0) + times n (newcomers setup (suc m) count)) (ne_eqb m n (λ e. omega arith)) in omega arith
+
+abbrev nothing : Notes
+nothing = record { asked = []; hit = [] }
 
 module _ {C : Type 0} (f : Face C) (setup : Setup C) where
   abbrev V : Type 0
@@ -104,7 +108,7 @@ module _ {C : Type 0} (f : Face C) (setup : Setup C) where
         refl,
       )
 
-  fresh_fit : (state : CoreState) (m n : ℕ) → state.history ≡ [] → ((k : ℕ) → state.live k ≡ None) → AllFit setup state (newcomers setup m n)
+  fresh_fit : (state : CoreState) (m n : ℕ) → state.history ≡ [] → ((k : ℕ) → state.live k ≡ None) → AllFit setup state (λ caller. nothing) (newcomers setup m n)
   fresh_fit state m zero none_done none_live = tt
   fresh_fit state m (suc n) none_done none_live = (
     record {
@@ -113,6 +117,8 @@ module _ {C : Type 0} (f : Face C) (setup : Setup C) where
       mine = sym (ap (commits_of m) none_done);
       live = sym (none_live m);
       heard = omega arith;
+      asked = refl;
+      hit = refl;
     },
     fresh_fit state (suc m) n none_done none_live,
   )
@@ -131,6 +137,7 @@ module _ {C : Type 0} (f : Face C) (setup : Setup C) where
         tt,
         inr (inr (record {
           core = core;
+          notes = λ caller. nothing;
           two = ap length words;
           one = length-set s.homes 0 (some (Some core)) ∙ x.0.one;
           told = ap (λ l. get_or l 1 0) words ∙ sym (ap length can.history);
@@ -140,13 +147,14 @@ module _ {C : Type 0} (f : Face C) (setup : Setup C) where
             nobody = only (λ v. v.held ≡ None) refl;
           });
           staged = only (λ v. v.stage ≡ Shared) refl;
-          fit = only (λ v. AllFit setup (f.show core).state v.passes) (fresh_fit (f.show core).state 0 setup.callers can.history can.live);
+          fit = only (λ v. AllFit setup (f.show core).state (λ caller. nothing) v.passes) (fresh_fit (f.show core).state 0 setup.callers can.history can.live);
           once = λ n. (let t : count n (set s.views id w) ≡ times n w.passes + 0 = ap (count n) views in let o = once_each setup n 0 setup.callers in omega arith);
           below = λ n b. (let t : count n (set s.views id w) ≡ times n w.passes + 0 = ap (count n) views in let o = none_above setup n 0 setup.callers (omega arith) in omega arith);
           few = few;
           enough = can.enough;
           since = since_shared f.tells setup.callers setup.from (f.show core) can;
           strangers = λ n b. (ap (commits_of n) can.history, can.live n);
+          noted = λ told. none_noted (f.show core).limits setup.callers (f.show core).state can.live can.alive;
         })),
         refl,
       )
@@ -179,6 +187,7 @@ module _ {C : Type 0} (f : Face C) (setup : Setup C) where
       let c = times_append n (k ∷ []) ks in
       omega arith) in record {
         core = h.core;
+        notes = h.notes;
         two = h.two;
         one = h.one;
         told = h.told;
@@ -196,21 +205,22 @@ module _ {C : Type 0} (f : Face C) (setup : Setup C) where
             }))
             h.place;
         staged = after_deal (λ _ u. u.stage ≡ Shared) s.views id left right refl (λ _. refl) h.staged;
-        fit = after_deal (λ _ u. AllFit setup (f.show h.core).state u.passes) s.views id left right fit.1 (λ _. (fit.0, tt)) h.fit;
+        fit = after_deal (λ _ u. AllFit setup (f.show h.core).state h.notes u.passes) s.views id left right fit.1 (λ _. (fit.0, tt)) h.fit;
         once = λ n. (let t = counts n in let o = h.once n in omega arith);
         below = λ n b. counts n ∙ h.below n b;
         few = h.few;
         enough = h.enough;
         since = h.since;
         strangers = h.strangers;
+        noted = h.noted;
       }
 
   pub deals_keeps : (id : ℕ) (k : Known C) (ks : List (Known C)) → Splits (Rule f setup) id (shared_view (k ∷ ks) None) (shared_view ks None) (shared_view (k ∷ []) None)
   deals_keeps id k ks s rule at = inr (inr (dealt_by s id k ks (is_open f setup s id (shared_view (k ∷ ks) None) rule at refl) at))
 
-  all_append : (setup : Setup C) (state : CoreState) (ks ls : List (Known C)) → AllFit setup state ks → AllFit setup state ls → AllFit setup state (ks ++ ls)
-  all_append setup state [] ls a b = b
-  all_append setup state (k ∷ ks) ls a b = (a.0, all_append setup state ks ls a.1 b)
+  all_append : (setup : Setup C) (state : CoreState) (notes : ℕ → Notes) (ks ls : List (Known C)) → AllFit setup state notes ks → AllFit setup state notes ls → AllFit setup state notes (ks ++ ls)
+  all_append setup state notes [] ls a b = b
+  all_append setup state notes (k ∷ ks) ls a b = (a.0, all_append setup state notes ks ls a.1 b)
 
   after_join : (P : ℕ → V → Type 0) (vs : List V) (id other : ℕ) (both gone : V) → P id both → P other gone → ((j : ℕ) (v : V) → get_elem? vs j ≡ some v → P j v) → (j : ℕ) (v : V) → get_elem? (set (set vs id both) other gone) j ≡ some v → P j v
   after_join P vs id other both gone a b each = each_set P (set vs id both) other gone b (λ j v _ e. each_set P vs id both a (λ j v _ e. each j v e) j v e)
@@ -230,6 +240,7 @@ module _ {C : Type 0} (f : Face C) (setup : Setup C) where
       let c = times_append n ks ls in
       omega arith) in record {
         core = h.core;
+        notes = h.notes;
         two = h.two;
         one = h.one;
         told = h.told;
@@ -247,13 +258,14 @@ module _ {C : Type 0} (f : Face C) (setup : Setup C) where
             }))
             h.place;
         staged = after_join (λ _ u. u.stage ≡ Shared) s.views id other both rest refl refl h.staged;
-        fit = after_join (λ _ u. AllFit setup (f.show h.core).state u.passes) s.views id other both rest (all_append setup (f.show h.core).state ks ls (h.fit id v at) (h.fit other w there)) tt h.fit;
+        fit = after_join (λ _ u. AllFit setup (f.show h.core).state h.notes u.passes) s.views id other both rest (all_append setup (f.show h.core).state h.notes ks ls (h.fit id v at) (h.fit other w there)) tt h.fit;
         once = λ n. (let t = counts n in let o = h.once n in omega arith);
         below = λ n b. counts n ∙ h.below n b;
         few = h.few;
         enough = h.enough;
         since = h.since;
         strangers = h.strangers;
+        noted = h.noted;
       }
 
   pub gathers_keeps : (id other : ℕ) (ks ls : List (Known C)) → Joins (Rule f setup) id (shared_view ks None) other (shared_view ls None) (shared_view (ks ++ ls) None) (shared_view [] None)
@@ -262,9 +274,11 @@ module _ {C : Type 0} (f : Face C) (setup : Setup C) where
 
   -- what the end tells of the core in the slot
   pub record Ended (ks : List (Known C)) (core : C) : Type 0 where
-    pub fit : AllFit setup (f.show core).state ks
+    pub notes : ℕ → Notes
+    pub fit : AllFit setup (f.show core).state notes ks
     pub since : Since f.tells setup.from (f.show setup.first) (f.show core)
     pub strangers : HasNoOthers setup.callers (f.show core).state
+    pub noted : IsTrue f.tells → AreNoted (f.show setup.first).limits setup.callers (f.show setup.first).state.index (f.show core).state notes
 
   pub ends : (id : ℕ) (ks : List (Known C)) (ws : List ℕ) (xs : List (Option C)) → ((n : ℕ) → n < setup.callers → 0 < times n ks) → Final (Seen (Rule f setup) id (shared_view ks None)) ws xs
       → (core : C) × (get_elem? xs 0 ≡ some (Some core)) × Ended ks core
@@ -274,7 +288,7 @@ module _ {C : Type 0} (f : Face C) (setup : Setup C) where
       let v : V = shared_view ks None in
       let h : IsKept f setup s = is_open f setup s id v final.1.0 at refl in
       ⊎_elim
-      (λ (x : IsFree h.core s). (h.core, final.4 0 (Some h.core) x.home, record { fit = h.fit id v at; since = h.since; strangers = h.strangers }))
+      (λ (x : IsFree h.core s). (h.core, final.4 0 (Some h.core) x.home, record { notes = h.notes; fit = h.fit id v at; since = h.since; strangers = h.strangers; noted = h.noted }))
       (λ (x : IsHeld h.core s).
       let t = total_two (λ (v : View C). times x.number v.passes) s.views x.seat id x.holder v (not_holder s h.core x id v at refl) x.there at in
       let o = h.once x.number in
@@ -333,9 +347,9 @@ module _ {C : Type 0} (f : Face C) (setup : Setup C) where
       let G : Me (Option C) (View C) → Me (Option C) (View C) = λ m. (view Opening m.0.passes None, (0, None) ∷ []) in
       e2 ∙ ap F e1 ∙ ap (λ (m : Me (Option C) (View C)). F (G m)) e0
 
-  pub all_known : (core : C) (ps : List (PassView C)) → AllFit setup (f.show core).state (map known_of ps) → AreSo setup (f.show core).state ps
-  all_known core [] a = tt
-  all_known core (p ∷ ps) a = (a.0, all_known core ps a.1)
+  pub all_known : (core : C) (notes : ℕ → Notes) (ps : List (PassView C)) → AllFit setup (f.show core).state notes (map known_of ps) → AreSo setup (f.show core).state notes ps
+  all_known core notes [] a = tt
+  all_known core notes (p ∷ ps) a = (a.0, all_known core notes ps a.1)
 
 module _ {C : Type 0} where
   pub popped : (table : TableId) (old new : List (PassView C)) (given : PassesView C) (result : Option (PassView C)) → old ≡ new ++ option_to_list result → AllOf table old → table ≡ given.table → old ≡ given.list

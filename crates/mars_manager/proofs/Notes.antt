@@ -1,5 +1,5 @@
 -- What is so of what callers have asked for and met, along steps.
-use Rattle.std.proofs.Common.{◌≡◌, ◌≢◌, ◌⊎◌, ◌||◌, ◌&&◌, ℕ, suc, ◌+◌, ◌-◌, ◌<◌, ◌≤◌, inl, inr, ⊎_elim, List, [], ◌∷◌, ◌++◌, length, Bool, true, false, not, Option, Some, None, refl, sym, ap, ◌∙◌, subst, arith, eqb, eq-eqb, ne_eqb}
+use Rattle.std.proofs.Common.{◌≡◌, ◌≢◌, ◌⊎◌, ◌||◌, ◌&&◌, ℕ, ◌-◌, ◌<◌, ◌≤◌, inl, inr, ⊎_elim, List, [], ◌∷◌, ◌++◌, Bool, true, false, not, Option, Some, None, refl, sym, ap, ◌∙◌, subst, arith, eqb, eq-eqb, ne_eqb}
 use Rattle.std.specs.Prelude.{nat_eq, IsTrue, IsFalse, unwrap_or, if◌then◌else◌}
 use Rattle.std.specs.List.{list_any}
 use Rattle.std.specs.Map.{update}
@@ -8,21 +8,21 @@ use mathlib.Core.Logic.{dite}
 use native.Mathlib.Decide.{ℕ_discrete, dec_le}
 use Rattle.std.proofs.lemmas.Bool.{true≢false}
 use Rattle.std.proofs.lemmas.List.Folds.{list_any-append}
-use Rattle.std.proofs.lemmas.Map.{update_here, update_apart}
+use Rattle.std.proofs.lemmas.Map.{update_here}
 use Rattle.history.specs.Table.{Granted, Work, Answers, found, removed}
 use Rattle.history.specs.Locks.{touches, touched}
 use Rattle.history.specs.declared.call.Call.{Call}
 use Rattle.history.specs.declared.call.Call.TheVariants.{Begin, Get, Put, Del, Scan, Save, Back, Commit, Abort}
 use Rattle.history.specs.declared.call.Reply.{Reply}
 use Rattle.history.specs.declared.call.Reply.TheVariants.{Fine, NoTransaction, Already, NoSave, SavesFull, Busy, LogFull, SlotsFull, PagesFull, Media, Dead, NoMemory}
-use Rattle.core_face.specs.State.{State, Index, calls_of, with_live, view_of}
+use Rattle.core_face.specs.State.{State, Index, calls_of, view_of}
 use Rattle.core_face.specs.Locked.{Blocks}
 use Rattle.core_face.specs.Room.{Limits, LacksAt, Lacks, GainsKey, KeepsKeys, TakesPages, Inserts, IndexesAt, Indexes}
 use Rattle.core_face.specs.Step.{Says, Asks, StepAt, StepIf, Step}
 use Rattle.core_face.specs.Fate.{is_media, is_refusal, Moves}
 use Rattle.core_face.proofs.Fates.{Fate, step_fate}
 use Rattle.core_face.proofs.Fates.Fate.{refused, failed, began, granted, committed, doubted, aborted}
-use Rattle.mars_manager.specs.Notes.{Notes, hits_of, is_noted, is_begin, names, is_put, IsAsked, AreAsked, Gained, LacksPages, Stands, AllStand, has_media, AreNoted}
+use Rattle.mars_manager.specs.Notes.{Notes, hits_of, is_noted, is_begin, names, is_put, AreAsked, Gained, LacksPages, Stands, AllStand, has_media, AreNoted}
 
 -- an index after a call: it has no fewer pages and levels, and the same keys or one more, which the call puts
 pub record IndexMoves (limits : Limits) (call : Call) (old new : Index) : Type 0 where
@@ -258,7 +258,7 @@ module _ (limits : Limits) (callers : ℕ) (first : Index) (old new : State) (ca
   more_asked : (p : Call → Bool) (other : ℕ) → list_any p (notes other).asked ≡ true → list_any p (notes' other).asked ≡ true
   more_asked p other e = dite (ℕ_discrete other caller)
       (λ (same : other ≡ caller). subst (λ c. list_any p (notes' c).asked ≡ true) (sym same)
-          (ap (λ (n : Notes). list_any p n.asked) (note_here notes caller (added (notes caller) call reply)) ∙ any_left p (notes caller).asked (call ∷ []) (subst (λ c. list_any p (notes c).asked ≡ true) same e)))
+      (ap (λ (n : Notes). list_any p n.asked) (note_here notes caller (added (notes caller) call reply)) ∙ any_left p (notes caller).asked (call ∷ []) (subst (λ c. list_any p (notes c).asked ≡ true) same e)))
       (λ (ne : other ≢ caller). ap (λ (n : Notes). list_any p n.asked) (note_apart notes caller (added (notes caller) call reply) other ne) ∙ e)
 
   here_asked : (p : Call → Bool) → p call ≡ true → list_any p (notes' caller).asked ≡ true
@@ -267,7 +267,7 @@ module _ (limits : Limits) (callers : ℕ) (first : Index) (old new : State) (ca
   more_media : (other : ℕ) → has_media (notes other).hit ≡ true → has_media (notes' other).hit ≡ true
   more_media other e = dite (ℕ_discrete other caller)
       (λ (same : other ≡ caller). subst (λ c. has_media (notes' c).hit ≡ true) (sym same)
-          (ap (λ (n : Notes). has_media n.hit) (note_here notes caller (added (notes caller) call reply)) ∙ any_left (λ entry. is_media entry.1) (notes caller).hit (hits_of call reply) (subst (λ c. has_media (notes c).hit ≡ true) same e)))
+      (ap (λ (n : Notes). has_media n.hit) (note_here notes caller (added (notes caller) call reply)) ∙ any_left (λ entry. is_media entry.1) (notes caller).hit (hits_of call reply) (subst (λ c. has_media (notes c).hit ≡ true) same e)))
       (λ (ne : other ≢ caller). ap (λ (n : Notes). has_media n.hit) (note_apart notes caller (added (notes caller) call reply) other ne) ∙ e)
 
   more_keys : (keys : List ℕ) → AreAsked callers notes keys → AreAsked callers notes' keys
@@ -304,10 +304,10 @@ module _ (limits : Limits) (callers : ℕ) (first : Index) (old new : State) (ca
   live_now : (other stripe : ℕ) → touched (calls_of new other) stripe ≡ true → names (notes' other).asked stripe ≡ true
   live_now other stripe t = dite (ℕ_discrete other caller)
       (λ (same : other ≡ caller). subst (λ c. names (notes' c).asked stripe ≡ true) (sym same)
-          (⊎_elim
-          (λ b. more_asked (λ made. touches made stripe) caller (noted.live caller stripe b))
-          (λ h. here_asked (λ made. touches made stripe) h)
-          (live_at stripe (step_fate limits old caller new call reply step) (subst (λ c. touched (calls_of new c) stripe ≡ true) same t))))
+      (⊎_elim
+      (λ b. more_asked (λ made. touches made stripe) caller (noted.live caller stripe b))
+      (λ h. here_asked (λ made. touches made stripe) h)
+      (live_at stripe (step_fate limits old caller new call reply step) (subst (λ c. touched (calls_of new c) stripe ≡ true) same t))))
       (λ (ne : other ≢ caller). more_asked (λ made. touches made stripe) other (noted.live other stripe (ap (λ (o : Option Granted). touched (unwrap_or o []) stripe) (sym (moves.others other ne)) ∙ t)))
 
   keys_now : IsFalse new.is_dead → (keys : List ℕ) × Gained first keys new.index × AreAsked callers notes' keys
@@ -354,8 +354,8 @@ module _ (limits : Limits) (callers : ℕ) (first : Index) (old new : State) (ca
   stand_now : (other : ℕ) → AllStand limits callers new notes' other (notes' other).hit
   stand_now other = dite (ℕ_discrete other caller)
       (λ (same : other ≡ caller). subst (λ c. AllStand limits callers new notes' c (notes' c).hit) (sym same)
-          (subst (λ (n : Notes). AllStand limits callers new notes' caller n.hit) (sym (note_here notes caller (added (notes caller) call reply)))
-          (all_append caller (notes caller).hit (hits_of call reply) (all_on caller (notes caller).hit (noted.stand caller)) (hits_stand (is_noted reply || (is_begin call && not (is_refusal reply)))))))
+      (subst (λ (n : Notes). AllStand limits callers new notes' caller n.hit) (sym (note_here notes caller (added (notes caller) call reply)))
+      (all_append caller (notes caller).hit (hits_of call reply) (all_on caller (notes caller).hit (noted.stand caller)) (hits_stand (is_noted reply || (is_begin call && not (is_refusal reply)))))))
       (λ (ne : other ≢ caller). subst (λ (n : Notes). AllStand limits callers new notes' other n.hit) (sym (note_apart notes caller (added (notes caller) call reply) other ne)) (all_on other (notes other).hit (noted.stand other)))
 
   cause_now : IsTrue new.is_dead → (other : ℕ) × (other < callers) × IsTrue (has_media (notes' other).hit)

@@ -1,25 +1,29 @@
 -- Each step keeps the rule.
-use Rattle.std.proofs.Common.{◌≡◌, ◌≢◌, ◌⊎◌, ℕ, zero, suc, ◌+◌, ◌<◌, ◌≤◌, eqb, List, [], ◌∷◌, ◌++◌, length, set, get_or, Bool, true, false, Option, Some, None, refl, sym, ap, ◌∙◌, subst, inl, inr, ⊎_elim, arith, length-set, get_or-set_same, get_or-set_other, map}
+use Rattle.std.proofs.Common.{◌≡◌, ◌≢◌, ◌⊎◌, ℕ, ◌+◌, ◌<◌, ◌≤◌, eqb, List, [], ◌∷◌, ◌++◌, length, set, get_or, Option, Some, None, refl, sym, ap, ◌∙◌, subst, inl, inr, ⊎_elim, arith, length-set, get_or-set_same, get_or-set_other}
 use mathlib.Core.Logic.{dite}
-use mathlib.Core.Option.{some, none, some-injective, some-ne-none}
+use mathlib.Core.Option.{some, none, some-injective}
 use native.Mathlib.Decide.{dec_le, ℕ_discrete}
 use lib.ListN.{get_elem?}
 use lib.Seq.{set-get_or}
 use prog.Atomic.{either}
+use Rattle.std.specs.Prelude.{IsTrue}
+use Rattle.history.specs.declared.call.Call.{Call}
+use Rattle.history.specs.declared.call.Reply.{Reply}
 use Rattle.core_face.specs.Room.{Limits}
 use Rattle.core_face.specs.Prefix.{Grows}
 use Rattle.core_face.proofs.Continuing.{grows_none, grows_on, grows_longer}
-use Rattle.atomic_table.specs.Table.{State, Me, Step, step, Act, keeps, takes, gives, stepped, Valid, carried_after, Allows}
+use Rattle.atomic_table.specs.Table.{State, Me, step, Act, keeps, takes, gives, stepped, Valid, carried_after, Allows}
 use Rattle.atomic_table.proofs.Lists.{set_here, set_else, set_again, exchanged}
 use Rattle.mars_manager.specs.declared.view.Known.{Known}
-use Rattle.mars_manager.specs.declared.view.Stage.{Stage}
 use Rattle.mars_manager.specs.declared.view.Stage.TheVariants.{Vacant, Opening, Shared}
 use Rattle.mars_manager.specs.declared.view.View.{View}
 use Rattle.mars_manager.specs.declared.setup.Setup.{Setup}
-use Rattle.mars_manager.specs.Pass.{Fits, AllFit, commits_of, times}
+use Rattle.mars_manager.specs.Notes.{Notes, hits_of, AreNoted}
+use Rattle.mars_manager.specs.Pass.{Fits, AllFit, HasNoOthers, commits_of, times}
 use Rattle.mars_manager.specs.Sharing.{Since}
-use Rattle.mars_manager.specs.Seat.{view, shared_view, opener}
-use Rattle.mars_manager.specs.Rule.{Face, total, IsFree, IsHeld, IsKept, IsFresh, IsOpening, Rule, Took, takes_turn, shown, tells_length, gives_turn, AllHeard, looks, hears}
+use Rattle.mars_manager.specs.Seat.{shared_view, opener}
+use Rattle.mars_manager.specs.Rule.{Face, total, IsFree, IsHeld, IsKept, IsFresh, IsOpening, Rule, takes_turn, shown, tells_length, gives_turn, looks, hears}
+use Rattle.mars_manager.proofs.Notes.{put_note, added, note_here, note_apart}
 use Rattle.mars_manager.proofs.Seats.{times_first, inside, at_only, each_set, total_set, total_has, total_two}
 
 pub vacant≢shared : {X : Type 0} → Vacant ≡ Shared → X
@@ -49,10 +53,13 @@ pub carried_same : {A : Type 0} (a b : A) → out a ≡ out b → a ≡ b
 carried_same {A} a b e = let top : Some a ≡ Some b = ap (λ (l : List (ℕ × Option A)). top_of l) e in some_same a b top
 
 -- what a step by the pass n does to a core
-pub record Moved {C : Type 0} (f : Face C) (setup : Setup C) (n : ℕ) (core new : C) : Type 0 where
+pub record Moved {C : Type 0} (f : Face C) (setup : Setup C) (n : ℕ) (call : Call) (reply : Reply) (core new : C) : Type 0 where
   pub grows : Grows (f.show core).state.history (f.show new).state.history
   pub others : (m : ℕ) → m ≢ n → (commits_of m (f.show new).state.history ≡ commits_of m (f.show core).state.history) × ((f.show new).state.live m ≡ (f.show core).state.live m)
   pub since : Since f.tells setup.from (f.show setup.first) (f.show core) → Since f.tells setup.from (f.show setup.first) (f.show new)
+  pub noted : (notes : ℕ → Notes) → n < setup.callers → HasNoOthers setup.callers (f.show core).state → Since f.tells setup.from (f.show setup.first) (f.show core)
+      → (IsTrue f.tells → AreNoted (f.show setup.first).limits setup.callers (f.show setup.first).state.index (f.show core).state notes)
+      → IsTrue f.tells → AreNoted (f.show setup.first).limits setup.callers (f.show setup.first).state.index (f.show new).state (put_note notes n (added (notes n) call reply))
 
 module _ {C : Type 0} (f : Face C) (setup : Setup C) where
   abbrev V : Type 0
@@ -94,19 +101,25 @@ module _ {C : Type 0} (f : Face C) (setup : Setup C) where
       let t = total_has (λ (v : View C). times n v.passes) s.views i v at in
       dite (dec_le setup.callers n) (λ (le : setup.callers ≤ n). let b = h.below n le in absurd (omega arith)) (λ (ge : ¬ (setup.callers ≤ n)). omega arith)
 
-  moves_one : (n : ℕ) (core new : C) (k : Known C) → Moved f setup n core new → k.number ≢ n → Fits setup (f.show core).state k → Fits setup (f.show new).state k
-  moves_one n core new k m ne h = record {
+  moves_one : (n : ℕ) (call : Call) (reply : Reply) (core new : C) (notes : ℕ → Notes) (note : Notes) (k : Known C) → Moved f setup n call reply core new → k.number ≢ n
+      → Fits setup (f.show core).state notes k → Fits setup (f.show new).state (put_note notes n note) k
+  moves_one n call reply core new notes note k m ne h = record {
     setup_is = h.setup_is;
     seen = grows_on k.seen (f.show core).state.history (f.show new).state.history h.seen m.grows;
     mine = h.mine ∙ sym (m.others k.number ne).0;
     live = h.live ∙ sym (m.others k.number ne).1;
     heard = (let l = grows_longer (f.show core).state.history (f.show new).state.history m.grows in let o = h.heard in omega arith);
+    asked = h.asked ∙ sym (ap (λ (x : Notes). x.asked) (note_apart notes n note k.number ne));
+    hit = h.hit ∙ sym (ap (λ (x : Notes). x.hit) (note_apart notes n note k.number ne));
   }
 
-  pub moves_all : (n : ℕ) (core new : C) (ks : List (Known C)) → Moved f setup n core new → times n ks ≡ 0 → AllFit setup (f.show core).state ks → AllFit setup (f.show new).state ks
-  moves_all n core new [] m zero_times h = tt
-  moves_all n core new (k ∷ ks) m zero_times h =
-      (moves_one n core new k m (λ (e : k.number ≡ n). let t = times_first k ks in let u : times k.number (k ∷ ks) ≡ 0 = ap (λ (x : ℕ). times x (k ∷ ks)) e ∙ zero_times in absurd (omega arith)) h.0, moves_all n core new ks m (omega arith) h.1)
+  pub moves_all : (n : ℕ) (call : Call) (reply : Reply) (core new : C) (notes : ℕ → Notes) (note : Notes) (ks : List (Known C)) → Moved f setup n call reply core new → times n ks ≡ 0
+      → AllFit setup (f.show core).state notes ks → AllFit setup (f.show new).state (put_note notes n note) ks
+  moves_all n call reply core new notes note [] m zero_times h = tt
+  moves_all n call reply core new notes note (k ∷ ks) m zero_times h = (
+    moves_one n call reply core new notes note k m (λ (e : k.number ≡ n). let t = times_first k ks in let u : times k.number (k ∷ ks) ≡ 0 = ap (λ (x : ℕ). times x (k ∷ ks)) e ∙ zero_times in absurd (omega arith)) h.0,
+    moves_all n call reply core new notes note ks m (omega arith) h.1,
+  )
 
   turn_taken : (s : St) (id turn : ℕ) (k : Known C) (h : IsKept f setup s) → turn ≡ k.number + 1 → get_elem? s.views id ≡ some (shared_view (k ∷ []) None)
       → (x : IsFree h.core s) → IsKept f setup (stepped s 0 turn id [] (shared_view (k ∷ []) (Some h.core)) (takes 0 (Some h.core)))
@@ -115,6 +128,7 @@ module _ {C : Type 0} (f : Face C) (setup : Setup C) where
       let w : V = shared_view (k ∷ []) (Some h.core) in
       let long : 0 < length s.words = (let t = h.two in omega arith) in record {
         core = h.core;
+        notes = h.notes;
         two = length-set s.words 0 turn ∙ h.two;
         one = length-set s.homes 0 none ∙ h.one;
         told = get_or-set_other s.words 0 1 turn 0 (λ e. omega arith) ∙ h.told;
@@ -129,13 +143,14 @@ module _ {C : Type 0} (f : Face C) (setup : Setup C) where
           others = λ i u ne e. x.nobody i u (sym (set_else s.views id i w ne) ∙ e);
         });
         staged = each_set (λ i u. u.stage ≡ Shared) s.views id w refl (λ j u _ e. h.staged j u e);
-        fit = each_set (λ i u. AllFit setup (f.show h.core).state u.passes) s.views id w (h.fit id v at) (λ j u _ e. h.fit j u e);
+        fit = each_set (λ i u. AllFit setup (f.show h.core).state h.notes u.passes) s.views id w (h.fit id v at) (λ j u _ e. h.fit j u e);
         once = λ n. (let t = same_count n s.views id v w at refl in let o = h.once n in omega arith);
         below = λ n b. same_count n s.views id v w at refl ∙ h.below n b;
         few = h.few;
         enough = h.enough;
         since = h.since;
         strangers = h.strangers;
+        noted = h.noted;
       }
 
   Taking : (s : St) (slots id turn : ℕ) (k : Known C) → ℕ → Type 0
@@ -154,6 +169,7 @@ module _ {C : Type 0} (f : Face C) (setup : Setup C) where
           λ _. record {
             core = h.core;
             setup = setup;
+            notes = h.notes;
             now = refl;
             fit = h.fit id (shared_view (k ∷ []) None) at;
             since = h.since;
@@ -216,15 +232,19 @@ module _ {C : Type 0} (f : Face C) (setup : Setup C) where
       (λ (ne : id ≢ x.seat). some≢none core (sym held ∙ x.others id v ne at)))
       h.place
 
-  told_by : (s : St) (id told : ℕ) (k : Known C) (old new : C) (h : IsKept f setup s) → Moved f setup k.number h.core new → told ≡ length ((f.show new).state.history) → get_elem? s.views id ≡ some (shared_view (k ∷ []) (Some old))
+  told_by : (s : St) (id told : ℕ) (k : Known C) (call : Call) (reply : Reply) (old new : C) (h : IsKept f setup s) → Moved f setup k.number call reply h.core new → told ≡ length ((f.show new).state.history) → get_elem? s.views id ≡ some (shared_view (k ∷ []) (Some old))
       → (x : IsHeld h.core s) → x.seat ≡ id → x.holder ≡ shared_view (k ∷ []) (Some old)
-      → IsKept f setup (stepped s 1 told id ((0, Some new) ∷ []) (shared_view (shown f new k ∷ []) (Some new)) keeps)
-  told_by s id told k old new h m is at x seat holder =
+      → IsKept f setup (stepped s 1 told id ((0, Some new) ∷ []) (shared_view (shown f call reply new k ∷ []) (Some new)) keeps)
+  told_by s id told k call reply old new h m is at x seat holder =
       let v : V = shared_view (k ∷ []) (Some old) in
-      let w : V = shared_view (shown f new k ∷ []) (Some new) in
+      let w : V = shared_view (shown f call reply new k ∷ []) (Some new) in
       let long : 1 < length s.words = (let t = h.two in omega arith) in
-      let mine : Fits setup (f.show h.core).state k = (h.fit id v at).0 in record {
+      let mine : Fits setup (f.show h.core).state h.notes k = (h.fit id v at).0 in
+      let note : Notes = added (h.notes k.number) call reply in
+      let notes : ℕ → Notes = put_note h.notes k.number note in
+      let few : k.number < setup.callers = number_below s h k.number id v at (times_first k []) in record {
         core = new;
+        notes = notes;
         two = length-set s.words 1 told ∙ h.two;
         one = h.one;
         told = get_or-set_same s.words 1 told 0 long ∙ is;
@@ -239,17 +259,19 @@ module _ {C : Type 0} (f : Face C) (setup : Setup C) where
           others = λ i u ne e. x.others i u (λ z. ne (z ∙ seat)) (sym (set_else s.views id i w ne) ∙ e);
         });
         staged = each_set (λ i u. u.stage ≡ Shared) s.views id w refl (λ j u _ e. h.staged j u e);
-        fit = each_set (λ i u. AllFit setup (f.show new).state u.passes) s.views id w (
+        fit = each_set (λ i u. AllFit setup (f.show new).state notes u.passes) s.views id w (
           record {
             setup_is = mine.setup_is;
             seen = grows_none (f.show new).state.history;
             mine = refl;
             live = refl;
             heard = (let l = grows_longer (f.show h.core).state.history (f.show new).state.history m.grows in let o = mine.heard in omega arith);
+            asked = ap (λ l. l ++ call ∷ []) mine.asked ∙ sym (ap (λ (x : Notes). x.asked) (note_here h.notes k.number note));
+            hit = ap (λ l. l ++ hits_of call reply) mine.hit ∙ sym (ap (λ (x : Notes). x.hit) (note_here h.notes k.number note));
           },
           tt,
         )
-            (λ j u ne e. moves_all k.number h.core new u.passes m
+            (λ j u ne e. moves_all k.number call reply h.core new h.notes note u.passes m
             (dite (ℕ_discrete (times k.number u.passes) 0) (λ (z : times k.number u.passes ≡ 0). z) (λ (nz : times k.number u.passes ≢ 0). absurd (ne (one_seat s h k.number j id u v e at (omega arith) (times_first k [])))))
             (h.fit j u e));
         once = λ n. (let t = same_count n s.views id v w at refl in let o = h.once n in omega arith);
@@ -257,20 +279,21 @@ module _ {C : Type 0} (f : Face C) (setup : Setup C) where
         few = h.few;
         enough = h.enough;
         since = m.since h.since;
-        strangers = λ n b. (let ne : n ≢ k.number = (λ e. let l = number_below s h k.number id v at (times_first k []) in omega arith) in let o = m.others n ne in (o.0 ∙ (h.strangers n b).0, o.1 ∙ (h.strangers n b).1));
+        strangers = λ n b. (let ne : n ≢ k.number = (λ e. omega arith) in let o = m.others n ne in (o.0 ∙ (h.strangers n b).0, o.1 ∙ (h.strangers n b).1));
+        noted = m.noted h.notes few h.strangers h.since h.noted;
       }
 
-  pub tells_keeps : (slots id told : ℕ) (k : Known C) (old new : C) → Moved f setup k.number old new → told ≡ length ((f.show new).state.history)
-      → Allows (Rule f setup) slots id (shared_view (k ∷ []) (Some old), (0, Some new) ∷ []) 1 (λ _. told) (λ _. tells_length f (step slots 1 told 0 none) (shared_view (k ∷ []) (Some old), (0, Some new) ∷ []) told)
-  tells_keeps slots id told k old new m is s rule wide at _ =
+  pub tells_keeps : (slots id told : ℕ) (k : Known C) (call : Call) (reply : Reply) (old new : C) → Moved f setup k.number call reply old new → told ≡ length ((f.show new).state.history)
+      → Allows (Rule f setup) slots id (shared_view (k ∷ []) (Some old), (0, Some new) ∷ []) 1 (λ _. told) (λ _. tells_length f call reply (step slots 1 told 0 none) (shared_view (k ∷ []) (Some old), (0, Some new) ∷ []) told)
+  tells_keeps slots id told k call reply old new m is s rule wide at _ =
       let v : V = shared_view (k ∷ []) (Some old) in
       let h : IsKept f setup s = is_open s id v rule at refl in
       let x = holder_is s h id v old at refl in (
-        shared_view (shown f new k ∷ []) (Some new),
+        shared_view (shown f call reply new k ∷ []) (Some new),
         keeps,
         tt,
-        inr (inr (told_by s id told k old new h (subst (λ c. Moved f setup k.number c new) (sym x.3) m) is at x.0 x.1 x.2)),
-        λ core e. let now : C → Sat = λ c. (shared_view (shown f c k ∷ []) (Some c), (0, Some new) ∷ []) in ap now (carried_same new core e),
+        inr (inr (told_by s id told k call reply old new h (subst (λ c. Moved f setup k.number call reply c new) (sym x.3) m) is at x.0 x.1 x.2)),
+        λ core e. let now : C → Sat = λ c. (shared_view (shown f call reply c k ∷ []) (Some c), (0, Some new) ∷ []) in ap now (carried_same new core e),
       )
 
   given_by : (s : St) (id : ℕ) (k : Known C) (core : C) (h : IsKept f setup s) → h.core ≡ core → get_elem? s.views id ≡ some (shared_view (k ∷ []) (Some core))
@@ -281,6 +304,7 @@ module _ {C : Type 0} (f : Face C) (setup : Setup C) where
       let w : V = shared_view (k ∷ []) None in
       let long : 0 < length s.words = (let t = h.two in omega arith) in record {
         core = h.core;
+        notes = h.notes;
         two = length-set s.words 0 0 ∙ h.two;
         one = length-set s.homes 0 (some (Some core)) ∙ h.one;
         told = get_or-set_other s.words 0 1 0 0 (λ e. omega arith) ∙ h.told;
@@ -290,13 +314,14 @@ module _ {C : Type 0} (f : Face C) (setup : Setup C) where
           nobody = each_set (λ i u. u.held ≡ None) s.views id w refl (λ j u ne e. x.others j u (λ z. ne (z ∙ seat)) e);
         });
         staged = each_set (λ i u. u.stage ≡ Shared) s.views id w refl (λ j u _ e. h.staged j u e);
-        fit = each_set (λ i u. AllFit setup (f.show h.core).state u.passes) s.views id w (h.fit id v at) (λ j u _ e. h.fit j u e);
+        fit = each_set (λ i u. AllFit setup (f.show h.core).state h.notes u.passes) s.views id w (h.fit id v at) (λ j u _ e. h.fit j u e);
         once = λ n. (let t = same_count n s.views id v w at refl in let o = h.once n in omega arith);
         below = λ n b. same_count n s.views id v w at refl ∙ h.below n b;
         few = h.few;
         enough = h.enough;
         since = h.since;
         strangers = h.strangers;
+        noted = h.noted;
       }
 
   pub gives_keeps : (slots id : ℕ) (k : Known C) (core : C)
@@ -313,9 +338,10 @@ module _ {C : Type 0} (f : Face C) (setup : Setup C) where
       let n : ℕ = get_or s.words 1 0 in
       let v : V = shared_view (k ∷ []) None in
       let w : V = shared_view (hears n k ∷ []) None in
-      let mine : Fits setup (f.show h.core).state k = (h.fit id v at).0 in
+      let mine : Fits setup (f.show h.core).state h.notes k = (h.fit id v at).0 in
       let long : 1 < length s.words = (let t = h.two in omega arith) in record {
         core = h.core;
+        notes = h.notes;
         two = length-set s.words 1 n ∙ h.two;
         one = h.one;
         told = get_or-set_same s.words 1 n 0 long ∙ h.told;
@@ -337,8 +363,8 @@ module _ {C : Type 0} (f : Face C) (setup : Setup C) where
             }))
             h.place;
         staged = each_set (λ i u. u.stage ≡ Shared) s.views id w refl (λ j u _ e. h.staged j u e);
-        fit = each_set (λ i u. AllFit setup (f.show h.core).state u.passes) s.views id w
-            (record { setup_is = mine.setup_is; seen = mine.seen; mine = mine.mine; live = mine.live; heard = (let e = h.told in omega arith) }, tt)
+        fit = each_set (λ i u. AllFit setup (f.show h.core).state h.notes u.passes) s.views id w
+            (record { setup_is = mine.setup_is; seen = mine.seen; mine = mine.mine; live = mine.live; heard = (let e = h.told in omega arith); asked = mine.asked; hit = mine.hit }, tt)
             (λ j u _ e. h.fit j u e);
         once = λ n. (let t = same_count n s.views id v w at refl in let o = h.once n in omega arith);
         below = λ n b. same_count n s.views id v w at refl ∙ h.below n b;
@@ -346,6 +372,7 @@ module _ {C : Type 0} (f : Face C) (setup : Setup C) where
         enough = h.enough;
         since = h.since;
         strangers = h.strangers;
+        noted = h.noted;
       }
 
   pub looks_keeps : (slots id : ℕ) (k : Known C)
@@ -353,7 +380,7 @@ module _ {C : Type 0} (f : Face C) (setup : Setup C) where
   looks_keeps slots id k s rule wide at _ =
       let v : V = shared_view (k ∷ []) None in
       let h : IsKept f setup s = is_open s id v rule at refl in
-      let mine : Fits setup (f.show h.core).state k = (h.fit id v at).0 in (
+      let mine : Fits setup (f.show h.core).state h.notes k = (h.fit id v at).0 in (
         shared_view (hears (get_or s.words 1 0) k ∷ []) None,
         keeps,
         tt,
@@ -367,9 +394,9 @@ module _ {C : Type 0} (f : Face C) (setup : Setup C) where
       → Allows (Rule f setup) slots id m 0 (λ n. either (eqb n 0) turn n) (takes_turn f (step slots 0 0 turn none) m)
   takes_turn_as slots id turn k m e is = subst (λ (m : Sat). Allows (Rule f setup) slots id m 0 (λ n. either (eqb n 0) turn n) (takes_turn f (step slots 0 0 turn none) m)) (sym e) (takes_turn_keeps slots id turn k is)
 
-  pub tells_as : (slots id told : ℕ) (k : Known C) (old new : C) (m : Sat) → m ≡ (shared_view (k ∷ []) (Some old), (0, Some new) ∷ []) → Moved f setup k.number old new → told ≡ length ((f.show new).state.history)
-      → Allows (Rule f setup) slots id m 1 (λ _. told) (λ _. tells_length f (step slots 1 told 0 none) m told)
-  tells_as slots id told k old new m e moved is = subst (λ (m : Sat). Allows (Rule f setup) slots id m 1 (λ _. told) (λ _. tells_length f (step slots 1 told 0 none) m told)) (sym e) (tells_keeps slots id told k old new moved is)
+  pub tells_as : (slots id told : ℕ) (k : Known C) (call : Call) (reply : Reply) (old new : C) (m : Sat) → m ≡ (shared_view (k ∷ []) (Some old), (0, Some new) ∷ []) → Moved f setup k.number call reply old new → told ≡ length ((f.show new).state.history)
+      → Allows (Rule f setup) slots id m 1 (λ _. told) (λ _. tells_length f call reply (step slots 1 told 0 none) m told)
+  tells_as slots id told k call reply old new m e moved is = subst (λ (m : Sat). Allows (Rule f setup) slots id m 1 (λ _. told) (λ _. tells_length f call reply (step slots 1 told 0 none) m told)) (sym e) (tells_keeps slots id told k call reply old new moved is)
 
   pub gives_as : (slots id : ℕ) (k : Known C) (core : C) (m : Sat) → m ≡ (shared_view (k ∷ []) (Some core), (0, Some core) ∷ [])
       → Allows (Rule f setup) slots id m 0 (λ _. 0) (λ _. gives_turn (step slots 0 0 0 none) m 0)

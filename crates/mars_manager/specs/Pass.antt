@@ -6,6 +6,7 @@ use Rattle.core_face.specs.State.{State}
 use Rattle.core_face.specs.Prefix.{Grows}
 use Rattle.mars_manager.specs.declared.setup.Setup.{Setup}
 use Rattle.mars_manager.specs.declared.view.Known.{Known}
+use Rattle.mars_manager.specs.Notes.{Notes}
 
 -- the transactions of a caller in a history, in order
 abbrev pub commits_of : ℕ → List Done → List Done
@@ -17,18 +18,21 @@ HasNoOthers callers state = (caller : ℕ) → callers ≤ caller → (commits_o
 
 module _ {C : Type 0} where
   -- What a pass knows is so of a state of a core that was shared so: what it has seen begins the history, whose transactions of its caller
-  -- are its own; its live calls are those of its caller; and no length that it heard is above the history's.
-  pub record Fits (setup : Setup C) (state : State) (known : Known C) : Type 0 where
+  -- are its own; its live calls are those of its caller; no length that it heard is above the history's; and what its caller has asked for
+  -- and met is noted.
+  pub record Fits (setup : Setup C) (state : State) (notes : ℕ → Notes) (known : Known C) : Type 0 where
     pub setup_is : known.setup ≡ Some setup
     pub seen : Grows known.seen state.history
     pub mine : known.mine ≡ commits_of known.number state.history
     pub live : known.live ≡ state.live known.number
     pub heard : known.heard ≤ length state.history
+    pub asked : known.asked ≡ (notes known.number).asked
+    pub hit : known.hit ≡ (notes known.number).hit
 
   -- that is so of each
-  abbrev pub AllFit : Setup C → State → List (Known C) → Type 0
-  AllFit setup state [] = Unit {0}
-  AllFit setup state (known ∷ others) = Fits setup state known × AllFit setup state others
+  abbrev pub AllFit : Setup C → State → (ℕ → Notes) → List (Known C) → Type 0
+  AllFit setup state notes [] = Unit {0}
+  AllFit setup state notes (known ∷ others) = Fits setup state notes known × AllFit setup state notes others
 
   -- the number of another pass of the same sharing
   abbrev pub IsOther : Known C → ℕ → Type 0
@@ -36,7 +40,7 @@ module _ {C : Type 0} where
 
   -- a pass of a caller that has seen nothing
   abbrev pub newcomer : Setup C → ℕ → Known C
-  newcomer setup caller = record { number = caller; setup = Some setup; seen = []; mine = []; live = None; heard = 0 }
+  newcomer setup caller = record { number = caller; setup = Some setup; seen = []; mine = []; live = None; heard = 0; asked = []; hit = [] }
 
   -- how many of the passes are of the caller
   abbrev pub times : ℕ → List (Known C) → ℕ
@@ -73,6 +77,6 @@ module _ {C : Type 0} where
   HasEach callers passes = (caller : ℕ) → caller < callers → 0 < times caller (map known_of passes)
 
   -- what each of the passes knows is so of a state
-  abbrev pub AreSo : Setup C → State → List (PassView C) → Type 0
-  AreSo setup state [] = Unit {0}
-  AreSo setup state (pass ∷ passes) = Fits setup state pass.known × AreSo setup state passes
+  abbrev pub AreSo : Setup C → State → (ℕ → Notes) → List (PassView C) → Type 0
+  AreSo setup state notes [] = Unit {0}
+  AreSo setup state notes (pass ∷ passes) = Fits setup state notes pass.known × AreSo setup state notes passes

@@ -1,17 +1,20 @@
 -- The rule of the table, and what each step tells. Word 0 is the turn: 0, or one more than the number of the pass that has it. Word 1 is
 -- the length of the history that was told last. The slot has the core while the turn is free.
-use Rattle.std.specs.Prelude.{ℕ, ◌≡◌, ◌≢◌, ◌⊎◌, ◌+◌, ◌<◌, ◌≤◌, Bool, List, [], ◌∷◌, map, length, slice_index, Option, Some, None}
+use Rattle.std.specs.Prelude.{ℕ, ◌≡◌, ◌≢◌, ◌⊎◌, ◌+◌, ◌<◌, ◌≤◌, Bool, IsTrue, List, [], ◌∷◌, ◌++◌, map, length, slice_index, Option, Some, None}
 use mathlib.Core.Option.{some}
 use lib.ListN.{get_elem?}
+use Rattle.history.specs.declared.call.Call.{Call}
+use Rattle.history.specs.declared.call.Reply.{Reply}
 use Rattle.core_face.specs.Core.{CoreView}
 use Rattle.atomic_table.specs.Table.{State, Me, Step}
 use Rattle.mars_manager.specs.declared.view.Known.{Known}
 use Rattle.mars_manager.specs.declared.view.Stage.TheVariants.{Vacant, Opening, Shared}
 use Rattle.mars_manager.specs.declared.view.View.{View}
 use Rattle.mars_manager.specs.declared.setup.Setup.{Setup}
-use Rattle.mars_manager.specs.Pass.{Fits, AllFit, commits_of, times, HasNoOthers}
+use Rattle.mars_manager.specs.Notes.{Notes, hits_of, AreNoted}
+use Rattle.mars_manager.specs.Pass.{AllFit, commits_of, times, HasNoOthers}
 use Rattle.mars_manager.specs.Sharing.{Since}
-use Rattle.mars_manager.specs.Seat.{view, shared_view, newcomers, opener}
+use Rattle.mars_manager.specs.Seat.{view, shared_view, opener}
 
 -- how a kind of core is seen
 pub record Face (C : Type 0) : Type 1 where
@@ -73,32 +76,36 @@ module _ {C : Type 0} where
     -- that the shared core has come to. Each caller has its pass once.
     pub record IsKept (setup : Setup C) (s : State (Option C) (View C)) : Type 0 where
       pub core : C
+      pub notes : ℕ → Notes
       pub two : length s.words ≡ 2
       pub one : length s.homes ≡ 1
       pub told : slice_index s.words 1 ≡ length (f.show core).state.history
       pub place : IsFree core s ⊎ IsHeld core s
       pub staged : (i : ℕ) (v : View C) → get_elem? s.views i ≡ some v → v.stage ≡ Shared
-      pub fit : (i : ℕ) (v : View C) → get_elem? s.views i ≡ some v → AllFit setup (f.show core).state v.passes
+      pub fit : (i : ℕ) (v : View C) → get_elem? s.views i ≡ some v → AllFit setup (f.show core).state notes v.passes
       pub once : (n : ℕ) → total (λ v. times n v.passes) s.views ≤ 1
       pub below : (n : ℕ) → setup.callers ≤ n → total (λ v. times n v.passes) s.views ≡ 0
       pub few : setup.callers < 256
       pub enough : setup.callers ≤ (f.show setup.first).limits.callers
       pub since : Since f.tells setup.from (f.show setup.first) (f.show core)
       pub strangers : HasNoOthers setup.callers (f.show core).state
+      pub noted : IsTrue f.tells → AreNoted (f.show setup.first).limits setup.callers (f.show setup.first).state.index (f.show core).state notes
 
     abbrev pub Rule : Setup C → State (Option C) (View C) → Type 0
     Rule setup s = IsFresh setup s ⊎ (IsOpening setup s ⊎ IsKept setup s)
 
     -- what a pass knows behind a step that it made
-    abbrev pub shown : C → Known C → Known C
-    shown core known = record known { seen = (f.show core).state.history; mine = commits_of known.number (f.show core).state.history; live = (f.show core).state.live known.number }
+    abbrev pub shown : Call → Reply → C → Known C → Known C
+    shown call reply core known =
+        record known { seen = (f.show core).state.history; mine = commits_of known.number (f.show core).state.history; live = (f.show core).state.live known.number; asked = known.asked ++ call ∷ []; hit = known.hit ++ hits_of call reply }
 
     -- the turn was taken, with this core
     pub record Took (m n : Me (Option C) (View C)) : Type 0 where
       pub core : C
       pub setup : Setup C
+      pub notes : ℕ → Notes
       pub now : n ≡ (shared_view m.0.passes (Some core), (0, Some core) ∷ [])
-      pub fit : AllFit setup (f.show core).state m.0.passes
+      pub fit : AllFit setup (f.show core).state notes m.0.passes
       pub since : Since f.tells setup.from (f.show setup.first) (f.show core)
       pub few : (k : ℕ) → 0 < times k m.0.passes → k < (f.show core).limits.callers
 
@@ -107,8 +114,8 @@ module _ {C : Type 0} where
     abbrev pub takes_turn : Step (Option C) → Me (Option C) (View C) → ℕ → Me (Option C) (View C) → Type 0
     takes_turn st m r n = (r ≡ 0 → Took m n) × (r ≢ 0 → (n ≡ m) × (r < 256) × ((k : ℕ) → r ≡ k + 1 → times k m.0.passes ≡ 0) × AreAbove r m.0.passes)
 
-    abbrev pub tells_length : Step (Option C) → Me (Option C) (View C) → ℕ → Me (Option C) (View C) → Type 0
-    tells_length st m r n = (core : C) → m.1 ≡ (0, Some core) ∷ [] → n ≡ (shared_view (map (shown core) m.0.passes) (Some core), m.1)
+    abbrev pub tells_length : Call → Reply → Step (Option C) → Me (Option C) (View C) → ℕ → Me (Option C) (View C) → Type 0
+    tells_length call reply st m r n = (core : C) → m.1 ≡ (0, Some core) ∷ [] → n ≡ (shared_view (map (shown call reply core) m.0.passes) (Some core), m.1)
 
   abbrev pub began : Step (Option C) → Me (Option C) (View C) → ℕ → Me (Option C) (View C) → Type 0
   began st m r n = n ≡ (view Opening m.0.passes None, (0, None) ∷ [])

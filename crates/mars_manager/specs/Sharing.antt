@@ -1,5 +1,5 @@
 -- What holds of a core while it is shared, and what a call does.
-use Rattle.std.specs.Prelude.{ℕ, ◌≡◌, ◌+◌, ◌<◌, ◌≤◌, Bool, false, IsTrue, IsFalse, MatchBool, List, [], ◌∷◌, ◌++◌, length, Option, Some, None, unwrap_or}
+use Rattle.std.specs.Prelude.{ℕ, ◌≡◌, ◌≤◌, Bool, false, IsTrue, MatchBool, List, [], ◌∷◌, ◌++◌, length, Some, None, unwrap_or}
 use Rattle.counted.specs.Causes.{Rose}
 use Rattle.atomic_table.specs.Seated.{TableId}
 use Rattle.history.specs.Writes.{Table}
@@ -14,7 +14,8 @@ use Rattle.core_face.specs.Sound.{IsSound}
 use Rattle.core_face.specs.Core.{CoreView, IsSafe, Steps, Continues}
 use Rattle.mars_manager.specs.declared.setup.Setup.{Setup}
 use Rattle.mars_manager.specs.declared.view.Known.{Known}
-use Rattle.mars_manager.specs.Pass.{commits_of}
+use Rattle.mars_manager.specs.Notes.{Notes, hits_of, AreNoted}
+use Rattle.mars_manager.specs.Pass.{PassView, AreSo, commits_of}
 
 -- what contracts see of a shared core: its table, and how it was shared
 pub record MarsView (C : Type 0) : Type 0 where
@@ -58,7 +59,13 @@ module _ {C : Type 0} where
     pub live : (show old).state.live was.number ≡ was.live
     pub steps : Steps tells was.number call (show old) (show new) reply
     pub dead : IsTrue (show old).state.is_dead → (reply ≡ Dead) × (new ≡ old)
-    pub after : now ≡ record was { seen = (show new).state.history; mine = commits_of was.number (show new).state.history; live = (show new).state.live was.number }
+    pub after : now ≡ record was { seen = (show new).state.history; mine = commits_of was.number (show new).state.history; live = (show new).state.live was.number; asked = was.asked ++ call ∷ []; hit = was.hit ++ hits_of call reply }
+
+  -- What these passes know is so of the core that comes back, and what their callers have asked for and met is noted.
+  pub record AreGathered (tells : Bool) (show : C → CoreView) (setup : Setup C) (core : C) (passes : List (PassView C)) : Type 0 where
+    pub notes : ℕ → Notes
+    pub each : AreSo setup (show core).state notes passes
+    pub noted : IsTrue tells → AreNoted (show setup.first).limits setup.callers (show setup.first).state.index (show core).state notes
 
   -- what a pass has seen is a legal history on the records at the opening
   abbrev pub IsLegalIn : (C → CoreView) → Known C → Type 0

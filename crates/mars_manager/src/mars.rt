@@ -1,15 +1,17 @@
 // The shared core.
 ghost use Rattle.std.specs.Prelude.{◌≡◌, ◌≤◌, IsTrue, [], length, IfOk, IfErr};
 ghost use Rattle.std.specs.Vec.{vec_len, vec_capacity};
+ghost use mathlib.Core.Option.{none};
+ghost use Rattle.atomic_table.specs.Table.{Allows, step};
 ghost use Rattle.core_face.specs.Prefix.{Grows};
 ghost use Rattle.mars_manager.specs.declared.view.Stage.TheVariants.{Vacant};
-ghost use Rattle.mars_manager.specs.Pass.{dealt, HasEach, AreSo, HasNoOthers, IsOther};
-ghost use Rattle.mars_manager.specs.Sharing.{CanShare, Since, Called, Commits, IsLegalIn};
+ghost use Rattle.mars_manager.specs.Pass.{dealt, HasEach, HasNoOthers, IsOther};
+ghost use Rattle.mars_manager.specs.Sharing.{CanShare, Since, Called, Commits, AreGathered, IsLegalIn};
 ghost use Rattle.mars_manager.specs.Seat.{opener};
-ghost use Rattle.mars_manager.specs.Rule.{hears};
+ghost use Rattle.mars_manager.specs.Rule.{face, Rule, hears, tells_length};
 
 use crate::pass::{Pass, Passes};
-use crate::rule::{Begin, Deal, Gather, Give, Look, Open, Take, Tell, Turns};
+use crate::rule::{Begin, Deal, Gather, Give, Look, Open, Take, Tell, Telling, Turns};
 use crate::setup::Setup;
 use crate::view::View;
 use atomic_table::{Seat, Table};
@@ -18,7 +20,7 @@ use counted::NoMemory;
 use crossbeam_utils::Backoff;
 use history::{Call, Reply};
 use std::alloc::Global;
-use std::marker::Model;
+use std::marker::{Brand, Model};
 use std::sync::Wait;
 
 /// Another pass has the turn. Nothing has changed.
@@ -141,9 +143,26 @@ impl<C: Core + Drop> Mars<C> {
         let reply = core.step(pass.number, call);
         let told = core.told();
         drop(shared.exchange(&mut pass.seat, CORE, Some(core)));
-        shared.store::<Tell>(&mut pass.seat, TOLD, told);
+        self.tell::<Brand>(&mut pass.seat, told, call, &reply);
         shared.store::<Give>(&mut pass.seat, TURN, 0);
         Ok(reply)
+    }
+
+    // Tells the length of the history, and which call was made and how it was answered.
+    fn tell<B: Telling>(
+        &self,
+        seat: &mut Seat<Option<C>, View<C>>,
+        told: u64,
+        call: &Call,
+        reply: &Reply,
+    )
+        requires table { seat.old.table_id ≡ self.now.table }
+        requires picked { (B.call ≡ call.now) × (B.reply ≡ reply.now) }
+        requires rule { Allows (Rule (face C.tells C.view) self.now.setup) self.now.table.slots seat.old.id seat.old.me 1 (λ _. told) (λ _. tells_length (face C.tells C.view) call.now reply.now (step self.now.table.slots 1 told 0 none) seat.old.me told) }
+        ensures same { (seat.new.table_id ≡ seat.old.table_id) × (seat.new.id ≡ seat.old.id) }
+        ensures told { tells_length (face C.tells C.view) call.now reply.now (step self.now.table.slots 1 told 0 none) seat.old.me told seat.new.me }
+    {
+        self.table.shared.store::<Tell<B>>(seat, TOLD, told);
     }
 
     /// The length of the history that was told last.
@@ -162,7 +181,7 @@ impl<C: Core + Drop> Mars<C> {
         requires own { passes.table ≡ self.table }
         requires all { HasEach self.setup.callers passes.list }
         ensures since { Since C.tells self.setup.from (C.view self.setup.first) (C.view result) }
-        ensures passes { AreSo self.setup (C.view result).state passes.list }
+        ensures passes { AreGathered C.tells C.view self.setup result passes.list }
         ensures others { HasNoOthers self.setup.callers (C.view result).state }
     {
         let (list, mut opener) = passes.into_parts();

@@ -7,7 +7,7 @@ use crate::setup::Setup;
 use crate::view::View;
 use atomic_table::{Join, Play, Split, TableRule};
 use core_face::Core;
-use std::marker::PhantomData;
+use std::marker::{Brand, PhantomData};
 
 pub struct Turns<C> {
     marker: PhantomData<C>,
@@ -41,10 +41,31 @@ impl<C: Core> Play<Option<C>, View<C>> for Take {
     ghost then = { takes_turn (face C.tells C.view) };
 }
 
-pub struct Tell;
+/// The call of a turn, and its reply. Each turn picks them.
+pub trait Telling {
+    ghost use Rattle.history.specs.declared.call.Call.{Call};
+    ghost use Rattle.history.specs.declared.call.Reply.{Reply};
 
-impl<C: Core> Play<Option<C>, View<C>> for Tell {
-    ghost then = { tells_length (face C.tells C.view) };
+    ghost call: { Call };
+
+    ghost reply: { Reply };
+}
+
+impl Telling for Brand {
+    ghost use Rattle.history.specs.declared.call.Call.TheVariants.{Begin};
+    ghost use Rattle.history.specs.declared.call.Reply.TheVariants.{Fine};
+
+    ghost call = { Begin };
+
+    ghost reply = { Fine };
+}
+
+pub struct Tell<B: Telling> {
+    marker: PhantomData<B>,
+}
+
+impl<C: Core, B: Telling> Play<Option<C>, View<C>> for Tell<B> {
+    ghost then = { tells_length (face C.tells C.view) B.call B.reply };
 }
 
 pub struct Give;

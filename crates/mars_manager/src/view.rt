@@ -1,10 +1,11 @@
 // What the rule keeps of a seat. No value of it is made.
 use crate::setup::Setup;
-use history::{Calls, History};
+use history::{Call, Calls, History};
 use std::collections::LinkedList;
 
 /// What a pass knows: its caller's number, how the core was shared, the history that was told at its last turn, the transactions of its
-/// caller in that history, the granted calls of its caller's live transaction, and the length of the history when it last looked.
+/// caller in that history, the granted calls of its caller's live transaction, the length of the history when it last looked, the calls
+/// that its caller has made, and those of them that began a transaction or were refused.
 pub struct Known<C> {
     pub number: u8,
     pub setup: Option<Setup<C>>,
@@ -12,6 +13,8 @@ pub struct Known<C> {
     pub mine: History,
     pub live: Option<Calls>,
     pub heard: u64,
+    pub asked: LinkedList<Call>,
+    pub hit: Calls,
 }
 
 /// How far the sharing has come.

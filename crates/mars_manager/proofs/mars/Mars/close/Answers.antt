@@ -1,12 +1,11 @@
-use Rattle.std.proofs.Common.{rules, ◌≡◌, ◌≢◌, ℕ, ◌+◌, ◌<◌, List, [], ◌∷◌, ◌++◌, length, Option, Some, None, refl, sym, ap, ◌∙◌, subst, arith, map}
+use Rattle.std.proofs.Common.{ℕ, ◌<◌, List, [], ◌∷◌, ◌++◌, Option, refl, sym, ap, ◌∙◌, subst, arith, map}
 use Rattle.std.specs.Option.{IsSome}
-use Rattle.atomic_table.specs.Table.{Me, Final, Seen}
+use Rattle.atomic_table.specs.Table.{Me}
 use Rattle.mars_manager.specs.declared.view.View.{View}
-use Rattle.mars_manager.specs.declared.view.Known.{Known}
-use Rattle.mars_manager.specs.Pass.{PassView, AllOf, AreSo, HasEach, HasNoOthers, times, known_of}
-use Rattle.mars_manager.specs.Sharing.{MarsView, Since}
-use Rattle.mars_manager.specs.Seat.{view, shared_view}
-use Rattle.mars_manager.specs.Rule.{Face, face}
+use Rattle.mars_manager.specs.Pass.{PassView, AllOf, HasEach, HasNoOthers, times, known_of}
+use Rattle.mars_manager.specs.Sharing.{MarsView, Since, AreGathered}
+use Rattle.mars_manager.specs.Seat.{view}
+use Rattle.mars_manager.specs.Rule.{face}
 use Rattle.mars_manager.proofs.Ends.{gathers_as, one_more, all_known, taken_all, last_core, ended_as}
 use Rattle.mars_manager.proofs.mars.Mars.close.Goals as goal
 
@@ -90,4 +89,5 @@ returns-clause-passes g c =
     let each : (n : ℕ) → n < key.callers → 0 < times n (map known_of c.args.passes.list) = subst (λ (m : MarsView g.row.C.Denot). HasEach m.setup.callers c.args.passes.list) (sym c.self.view_is) c.requires.all in
     let last = last_core f key _ (map known_of c.args.passes.list) _ _ _ c.take.result all each c.close_with-closed.ensures.values.2 c.take.ensures.value in
     let end = ended_as f key _ last.0 c.unwrap-core.result c.take.result last.1 c.unwrap-core.ensures last.2 in
-    subst (λ (m : MarsView g.row.C.Denot). AreSo m.setup (g.C.Core.view c.unwrap-core.result).state c.args.passes.list) c.self.view_is (all_known f key c.unwrap-core.result c.args.passes.list end.fit)
+    subst (λ (m : MarsView g.row.C.Denot). AreGathered g.C.Core.tells g.C.Core.view m.setup c.unwrap-core.result c.args.passes.list) c.self.view_is
+    (record { notes = end.notes; each = all_known f key c.unwrap-core.result end.notes c.args.passes.list end.fit; noted = end.noted })

@@ -1,13 +1,13 @@
-use Rattle.std.proofs.Common.{rules, ◌≡◌, ◌≢◌, ℕ, ◌+◌, ◌-◌, ◌<◌, List, [], ◌∷◌, ◌++◌, Option, Some, None, refl, sym, ap, ◌∙◌, subst, arith}
-use Rattle.atomic_table.specs.Table.{Me, rest}
+use Rattle.std.proofs.Common.{◌≡◌, ℕ, ◌+◌, ◌-◌, ◌<◌, List, [], ◌∷◌, ◌++◌, Option, None, refl, sym, ap, ◌∙◌, subst, arith}
+use Rattle.atomic_table.specs.Table.{Me}
 use Rattle.atomic_table.specs.Seated.{TableId}
 use Rattle.mars_manager.specs.declared.view.View.{View}
 use Rattle.mars_manager.specs.declared.view.Known.{Known}
-use Rattle.mars_manager.specs.declared.view.Stage.TheVariants.{Vacant, Shared}
-use Rattle.mars_manager.specs.Pass.{PassView, AllOf, dealt, newcomer}
+use Rattle.mars_manager.specs.declared.view.Stage.TheVariants.{Vacant}
+use Rattle.mars_manager.specs.Pass.{PassView, AllOf, newcomer}
 use Rattle.mars_manager.specs.Sharing.{MarsView, CanShare}
 use Rattle.mars_manager.specs.Seat.{view, shared_view, opener, newcomers, behind, front, first_of}
-use Rattle.mars_manager.specs.Rule.{Face, face}
+use Rattle.mars_manager.specs.Rule.{face}
 use Rattle.mars_manager.proofs.Ends.{begins_as, opens_as, deals_as, opening_seat, next_pass, dealt_more, all_of_dealt}
 use Rattle.mars_manager.proofs.mars.Mars.deal.Goals as goal
 
