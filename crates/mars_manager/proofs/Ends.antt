@@ -1,0 +1,384 @@
+-- Opening the table, dealing out the passes, taking them in, and the end.
+use Rattle.std.proofs.Common.{◌≡◌, ◌≢◌, ◌⊎◌, ℕ, zero, suc, ◌+◌, ◌-◌, ◌<◌, ◌≤◌, eqb, List, [], ◌∷◌, ◌++◌, length, set, get_or, false, Option, Some, None, refl, sym, ap, ◌∙◌, subst, inl, inr, ⊎_elim, arith, length-set, map, eq-eqb, ne_eqb, append_assoc}
+use Rattle.std.specs.Prelude.{if◌then◌else◌, IfSome, IsTrue}
+use Rattle.std.specs.Option.{option_to_list}
+use mathlib.Core.Logic.{dite}
+use mathlib.Core.List.{append-nil}
+use mathlib.Core.Option.{some, none, some-injective, some-ne-none}
+use native.Mathlib.Decide.{dec_le, ℕ_discrete}
+use lib.ListN.{get_elem?}
+use Rattle.std.proofs.lemmas.Bool.Decides.{nat_tests}
+use Rattle.core_face.specs.State.{State as CoreState}
+use Rattle.atomic_table.specs.Table.{State, Me, step, takes, gives, Allows, Splits, Joins, Final, Seen, opening, rest}
+use Rattle.atomic_table.specs.Seated.{TableId}
+use Rattle.atomic_table.proofs.Lists.{set_here, set_else, at_snoc, at_longer}
+use Rattle.mars_manager.specs.declared.view.Known.{Known}
+use Rattle.mars_manager.specs.declared.view.Stage.{Stage}
+use Rattle.mars_manager.specs.declared.view.Stage.TheVariants.{Vacant, Opening, Shared}
+use Rattle.mars_manager.specs.declared.view.View.{View}
+use Rattle.mars_manager.specs.declared.setup.Setup.{Setup}
+use Rattle.mars_manager.specs.Notes.{Notes, AreNoted}
+use Rattle.mars_manager.specs.Pass.{AllFit, AreSo, commits_of, times, newcomer, PassView, PassesView, AllOf, dealt, known_of, HasNoOthers}
+use Rattle.mars_manager.specs.Sharing.{CanShare, Since}
+use Rattle.mars_manager.specs.Seat.{view, shared_view, opener, newcomers, behind, front, joined, spent}
+use Rattle.mars_manager.specs.Rule.{Face, total, IsFree, IsHeld, IsKept, IsFresh, IsOpening, Rule, began, gives_turn}
+use Rattle.mars_manager.proofs.Past.{since_shared}
+use Rattle.mars_manager.proofs.Notes.{none_noted}
+use Rattle.mars_manager.proofs.Seats.{times_append, at_only, each_set, total_set, total_two, total_snoc, total_has}
+use Rattle.mars_manager.proofs.Turns.{out, some_same, some≢none, is_open, vacant≢shared, opening≢shared, vacant≢opening}
+
+only_zero : {A : Type 0} (x : A) (i : ℕ) (a : A) → get_elem? (x ∷ []) i ≡ some a → i ≡ 0
+only_zero x zero a e = refl
+only_zero x (suc i) a e = absurd (some-ne-none a (sym e))
+
+module _ {C : Type 0} where
+  -- each of the new passes is there once
+  few_before : (setup : Setup C) (n m count : ℕ) → n < m → times n (newcomers setup m count) ≡ 0
+  few_before setup n m zero l = refl
+  few_before setup n m (suc count) l =
+      let i = few_before setup n (suc m) count (omega arith) in
+      let e : eqb m n ≡ false = grind (arith, nat_tests) in
+      ap (λ b. (if b then 1 else 0) + times n (newcomers setup (suc m) count)) e ∙ (let z : 0 + times n (newcomers setup (suc m) count) ≡ 0 = omega arith in z)
+
+  pub once_each : (setup : Setup C) (n m count : ℕ) → times n (newcomers setup m count) ≤ 1
+  once_each setup n m zero = omega arith
+  once_each setup n m (suc count) =
+      dite (ℕ_discrete m n)
+      (λ (e : m ≡ n). let i = few_before setup n (suc m) count (omega arith) in let t : times n (newcomers setup m (suc count)) ≡ 1 + times n (newcomers setup (suc m) count) = ap (λ b. (if b then 1 else 0) + times n (newcomers setup (suc m) count)) (eq-eqb m n e) in omega arith)
+      (λ (ne : m ≢ n). let i = once_each setup n (suc m) count in let t : times n (newcomers setup m (suc count)) ≡ 0 + times n (newcomers setup (suc m) count) = ap (λ b. (if b then 1 else 0) + times n (newcomers setup (suc m) count)) (ne_eqb m n ne) in omega arith)
+
+  pub none_above : (setup : Setup C) (n m count : ℕ) → m + count ≤ n → times n (newcomers setup m count) ≡ 0
+  none_above setup n m zero l = refl
+  none_above setup n m (suc count) l =
+      let i = none_above setup n (suc m) count (omega arith) in
+      let t : times n (newcomers setup m (suc count)) ≡ 0 + times n (newcomers setup (suc m) count) = ap (λ b. (if b then 1 else 0) + times n (newcomers setup (suc m) count)) (ne_eqb m n (λ e. omega arith)) in omega arith
+
+abbrev nothing : Notes
+nothing = record { asked = []; hit = [] }
+
+module _ {C : Type 0} (f : Face C) (setup : Setup C) where
+  abbrev V : Type 0
+  V = View C
+
+  abbrev S : Type 0
+  S = Option C
+
+  abbrev St : Type 0
+  St = State (Option C) (View C)
+
+  abbrev Sat : Type 0
+  Sat = Me (Option C) (View C)
+
+  abbrev count : ℕ → List (View C) → ℕ
+  count n vs = total (λ (v : View C). times n v.passes) vs
+
+  -- the rule at the start
+  pub begins : Rule f setup (opening (0 ∷ 0 ∷ []) (None ∷ []) (opener Vacant setup))
+  begins = inl (record { words = refl; homes = refl; views = refl })
+
+  stage_of : (s : St) (id : ℕ) (v : V) (stage : Stage) → s.views ≡ opener stage setup ∷ [] → get_elem? s.views id ≡ some v → (v.stage ≡ stage) × (id ≡ 0)
+  stage_of s id v stage e at = let at' = subst (λ l. get_elem? l id ≡ some v) e at in (ap (λ (u : V). u.stage) (sym (at_only (opener stage setup) id v at')), only_zero (opener stage setup) id v at')
+
+  is_fresh : (s : St) (id : ℕ) (v : V) → Rule f setup s → get_elem? s.views id ≡ some v → v.stage ≡ Vacant → IsFresh setup s × (id ≡ 0)
+  is_fresh s id v rule at z =
+      ⊎_elim
+      (λ (x : IsFresh setup s). (x, (stage_of s id v Vacant x.views at).1))
+      (λ (y : IsOpening setup s ⊎ IsKept f setup s). ⊎_elim (λ (x : IsOpening setup s). vacant≢opening (sym z ∙ (stage_of s id v Opening x.views at).0)) (λ (k : IsKept f setup s). vacant≢shared (sym z ∙ k.staged id v at)) y)
+      rule
+
+  is_opening : (s : St) (id : ℕ) (v : V) → Rule f setup s → get_elem? s.views id ≡ some v → v.stage ≡ Opening → IsOpening setup s × (id ≡ 0)
+  is_opening s id v rule at z =
+      ⊎_elim
+      (λ (x : IsFresh setup s). vacant≢opening (sym (stage_of s id v Vacant x.views at).0 ∙ z))
+      (λ (y : IsOpening setup s ⊎ IsKept f setup s). ⊎_elim (λ (x : IsOpening setup s). (x, (stage_of s id v Opening x.views at).1)) (λ (k : IsKept f setup s). opening≢shared (sym z ∙ k.staged id v at)) y)
+      rule
+
+  pub begins_keeps : (slots id : ℕ) → Allows (Rule f setup) slots id (opener Vacant setup, []) 0 (λ _. 1) (λ _. began (step slots 0 1 0 none) (opener Vacant setup, []) 1)
+  begins_keeps slots id s rule wide at _ =
+      let x = is_fresh s id (opener Vacant setup) rule at refl in
+      let w : V = opener Opening setup in (
+        w,
+        takes 0 None,
+        subst (λ l. get_elem? l 0 ≡ some (some None)) (sym x.0.homes) refl,
+        inr (inl (record {
+          words = ap (λ l. set l 0 1) x.0.words;
+          one = length-set s.homes 0 none ∙ ap length x.0.homes;
+          views = ap (λ l. set l id w) x.0.views ∙ ap (λ i. set (opener Vacant setup ∷ []) i w) x.1;
+        })),
+        refl,
+      )
+
+  fresh_fit : (state : CoreState) (m n : ℕ) → state.history ≡ [] → ((k : ℕ) → state.live k ≡ None) → AllFit setup state (λ caller. nothing) (newcomers setup m n)
+  fresh_fit state m zero none_done none_live = tt
+  fresh_fit state m (suc n) none_done none_live = (
+    record {
+      setup_is = refl;
+      seen = record { more = []; is = none_done };
+      mine = sym (ap (commits_of m) none_done);
+      live = sym (none_live m);
+      heard = omega arith;
+      asked = refl;
+      hit = refl;
+    },
+    fresh_fit state (suc m) n none_done none_live,
+  )
+
+  pub opens_keeps : (slots id : ℕ) → CanShare f.tells setup.callers setup.from (f.show setup.first) → setup.callers < 256
+      → Allows (Rule f setup) slots id (opener Opening setup, (0, Some setup.first) ∷ []) 0 (λ _. 0) (λ _. gives_turn (step slots 0 0 0 none) (opener Opening setup, (0, Some setup.first) ∷ []) 0)
+  opens_keeps slots id can few s rule wide at _ =
+      let core = setup.first in
+      let x = is_opening s id (opener Opening setup) rule at refl in
+      let w : V = opener Shared setup in
+      let views : set s.views id w ≡ w ∷ [] = ap (λ l. set l id w) x.0.views ∙ ap (λ i. set (opener Opening setup ∷ []) i w) x.1 in
+      let words : set s.words 0 0 ≡ 0 ∷ 0 ∷ [] = ap (λ l. set l 0 0) x.0.words in
+      let only : (P : V → Type 0) → P w → (i : ℕ) (v : V) → get_elem? (set s.views id w) i ≡ some v → P v = λ P p i v e. subst P (at_only w i v (subst (λ l. get_elem? l i ≡ some v) views e)) p in (
+        w,
+        gives,
+        tt,
+        inr (inr (record {
+          core = core;
+          notes = λ caller. nothing;
+          two = ap length words;
+          one = length-set s.homes 0 (some (Some core)) ∙ x.0.one;
+          told = ap (λ l. get_or l 1 0) words ∙ sym (ap length can.history);
+          place = inl (record {
+            turn = ap (λ l. get_or l 0 0) words;
+            home = set_here s.homes 0 (some (Some core)) (let o = x.0.one in omega arith);
+            nobody = only (λ v. v.held ≡ None) refl;
+          });
+          staged = only (λ v. v.stage ≡ Shared) refl;
+          fit = only (λ v. AllFit setup (f.show core).state (λ caller. nothing) v.passes) (fresh_fit (f.show core).state 0 setup.callers can.history can.live);
+          once = λ n. (let t : count n (set s.views id w) ≡ times n w.passes + 0 = ap (count n) views in let o = once_each setup n 0 setup.callers in omega arith);
+          below = λ n b. (let t : count n (set s.views id w) ≡ times n w.passes + 0 = ap (count n) views in let o = none_above setup n 0 setup.callers (omega arith) in omega arith);
+          few = few;
+          enough = can.enough;
+          since = since_shared f.tells setup.callers setup.from (f.show core) can;
+          strangers = λ n b. (ap (commits_of n) can.history, can.live n);
+          noted = λ told. none_noted (f.show core).limits setup.callers (f.show core).state can.live can.alive;
+        })),
+        refl,
+      )
+
+  same_at : (vs : List V) (i : ℕ) (v w : V) → get_elem? vs i ≡ some v → get_elem? vs i ≡ some w → v ≡ w
+  same_at vs i v w a b = some-injective v w (sym a ∙ b)
+
+  not_holder : (s : St) (core : C) (x : IsHeld core s) (id : ℕ) (v : V) → get_elem? s.views id ≡ some v → v.held ≡ None → x.seat ≢ id
+  not_holder s core x id v at idle e = some≢none core (sym x.holds ∙ ap (λ (u : V). u.held) (same_at s.views id x.holder v (subst (λ i. get_elem? s.views i ≡ some x.holder) e x.there) at) ∙ idle)
+
+  -- the views after a pass was dealt out, one by one
+  after_deal : (P : ℕ → V → Type 0) (vs : List V) (id : ℕ) (left right : V) → P id left → ((j : ℕ) → P j right) → ((j : ℕ) (v : V) → get_elem? vs j ≡ some v → P j v) → (j : ℕ) (v : V) → get_elem? (set vs id left ++ right ∷ []) j ≡ some v → P j v
+  after_deal P vs id left right a b each j v e =
+      ⊎_elim
+      (λ (there : get_elem? (set vs id left) j ≡ some v). each_set P vs id left a (λ j v _ e. each j v e) j v there)
+      (λ (same : right ≡ v). subst (P j) same (b j))
+      (at_snoc (set vs id left) right v j e)
+
+  dealt_by : (s : St) (id : ℕ) (k : Known C) (ks : List (Known C)) (h : IsKept f setup s) → get_elem? s.views id ≡ some (shared_view (k ∷ ks) None)
+      → IsKept f setup (record { words = s.words; homes = s.homes; views = set s.views id (shared_view ks None) ++ shared_view (k ∷ []) None ∷ [] })
+  dealt_by s id k ks h at =
+      let v : V = shared_view (k ∷ ks) None in
+      let left : V = shared_view ks None in
+      let right : V = shared_view (k ∷ []) None in
+      let fit = h.fit id v at in
+      let vs : List V = set s.views id left ++ right ∷ [] in
+      let counts : (n : ℕ) → count n vs ≡ count n s.views = (λ n.
+      let a = total_set (λ (v : View C). times n v.passes) s.views id v left at in
+      let b = total_snoc (λ (v : View C). times n v.passes) (set s.views id left) right in
+      let c = times_append n (k ∷ []) ks in
+      omega arith) in record {
+        core = h.core;
+        notes = h.notes;
+        two = h.two;
+        one = h.one;
+        told = h.told;
+        place = ⊎_elim
+            (λ (x : IsFree h.core s). inl (record { turn = x.turn; home = x.home; nobody = after_deal (λ _ u. u.held ≡ None) s.views id left right refl (λ _. refl) x.nobody }))
+            (λ (x : IsHeld h.core s). let ne = not_holder s h.core x id v at refl in inr (record {
+              number = x.number;
+              seat = x.seat;
+              holder = x.holder;
+              turn = x.turn;
+              there = at_longer (set s.views id left) (right ∷ []) x.seat x.holder (set_else s.views id x.seat left ne ∙ x.there);
+              holds = x.holds;
+              has = x.has;
+              others = λ i u apart e. after_deal (λ i u. i ≢ x.seat → u.held ≡ None) s.views id left right (λ _. refl) (λ _ _. refl) (λ i u e apart. x.others i u apart e) i u e apart;
+            }))
+            h.place;
+        staged = after_deal (λ _ u. u.stage ≡ Shared) s.views id left right refl (λ _. refl) h.staged;
+        fit = after_deal (λ _ u. AllFit setup (f.show h.core).state h.notes u.passes) s.views id left right fit.1 (λ _. (fit.0, tt)) h.fit;
+        once = λ n. (let t = counts n in let o = h.once n in omega arith);
+        below = λ n b. counts n ∙ h.below n b;
+        few = h.few;
+        enough = h.enough;
+        since = h.since;
+        strangers = h.strangers;
+        noted = h.noted;
+      }
+
+  pub deals_keeps : (id : ℕ) (k : Known C) (ks : List (Known C)) → Splits (Rule f setup) id (shared_view (k ∷ ks) None) (shared_view ks None) (shared_view (k ∷ []) None)
+  deals_keeps id k ks s rule at = inr (inr (dealt_by s id k ks (is_open f setup s id (shared_view (k ∷ ks) None) rule at refl) at))
+
+  all_append : (setup : Setup C) (state : CoreState) (notes : ℕ → Notes) (ks ls : List (Known C)) → AllFit setup state notes ks → AllFit setup state notes ls → AllFit setup state notes (ks ++ ls)
+  all_append setup state notes [] ls a b = b
+  all_append setup state notes (k ∷ ks) ls a b = (a.0, all_append setup state notes ks ls a.1 b)
+
+  after_join : (P : ℕ → V → Type 0) (vs : List V) (id other : ℕ) (both gone : V) → P id both → P other gone → ((j : ℕ) (v : V) → get_elem? vs j ≡ some v → P j v) → (j : ℕ) (v : V) → get_elem? (set (set vs id both) other gone) j ≡ some v → P j v
+  after_join P vs id other both gone a b each = each_set P (set vs id both) other gone b (λ j v _ e. each_set P vs id both a (λ j v _ e. each j v e) j v e)
+
+  gathered_by : (s : St) (id other : ℕ) (ks ls : List (Known C)) (h : IsKept f setup s) → get_elem? s.views id ≡ some (shared_view ks None) → other ≢ id → get_elem? s.views other ≡ some (shared_view ls None)
+      → IsKept f setup (record { words = s.words; homes = s.homes; views = set (set s.views id (shared_view (ks ++ ls) None)) other (shared_view [] None) })
+  gathered_by s id other ks ls h at apart there =
+      let v : V = shared_view ks None in
+      let w : V = shared_view ls None in
+      let both : V = shared_view (ks ++ ls) None in
+      let rest : V = shared_view [] None in
+      let vs : List V = set (set s.views id both) other rest in
+      let still = set_else s.views id other both apart ∙ there in
+      let counts : (n : ℕ) → count n vs ≡ count n s.views = (λ n.
+      let a = total_set (λ (v : View C). times n v.passes) s.views id v both at in
+      let b = total_set (λ (v : View C). times n v.passes) (set s.views id both) other w rest still in
+      let c = times_append n ks ls in
+      omega arith) in record {
+        core = h.core;
+        notes = h.notes;
+        two = h.two;
+        one = h.one;
+        told = h.told;
+        place = ⊎_elim
+            (λ (x : IsFree h.core s). inl (record { turn = x.turn; home = x.home; nobody = after_join (λ _ u. u.held ≡ None) s.views id other both rest refl refl x.nobody }))
+            (λ (x : IsHeld h.core s). inr (record {
+              number = x.number;
+              seat = x.seat;
+              holder = x.holder;
+              turn = x.turn;
+              there = set_else (set s.views id both) other x.seat rest (not_holder s h.core x other w there refl) ∙ (set_else s.views id x.seat both (not_holder s h.core x id v at refl) ∙ x.there);
+              holds = x.holds;
+              has = x.has;
+              others = λ i u ne e. after_join (λ i u. i ≢ x.seat → u.held ≡ None) s.views id other both rest (λ _. refl) (λ _. refl) (λ i u e ne. x.others i u ne e) i u e ne;
+            }))
+            h.place;
+        staged = after_join (λ _ u. u.stage ≡ Shared) s.views id other both rest refl refl h.staged;
+        fit = after_join (λ _ u. AllFit setup (f.show h.core).state h.notes u.passes) s.views id other both rest (all_append setup (f.show h.core).state h.notes ks ls (h.fit id v at) (h.fit other w there)) tt h.fit;
+        once = λ n. (let t = counts n in let o = h.once n in omega arith);
+        below = λ n b. counts n ∙ h.below n b;
+        few = h.few;
+        enough = h.enough;
+        since = h.since;
+        strangers = h.strangers;
+        noted = h.noted;
+      }
+
+  pub gathers_keeps : (id other : ℕ) (ks ls : List (Known C)) → Joins (Rule f setup) id (shared_view ks None) other (shared_view ls None) (shared_view (ks ++ ls) None) (shared_view [] None)
+  gathers_keeps id other ks ls s rule at apart there =
+      inr (inr (gathered_by s id other ks ls (is_open f setup s id (shared_view ks None) rule at refl) at apart (sym (set_else s.views id other (shared_view (ks ++ ls) None) apart) ∙ there)))
+
+  -- what the end tells of the core in the slot
+  pub record Ended (ks : List (Known C)) (core : C) : Type 0 where
+    pub notes : ℕ → Notes
+    pub fit : AllFit setup (f.show core).state notes ks
+    pub since : Since f.tells setup.from (f.show setup.first) (f.show core)
+    pub strangers : HasNoOthers setup.callers (f.show core).state
+    pub noted : IsTrue f.tells → AreNoted (f.show setup.first).limits setup.callers (f.show setup.first).state.index (f.show core).state notes
+
+  pub ends : (id : ℕ) (ks : List (Known C)) (ws : List ℕ) (xs : List (Option C)) → ((n : ℕ) → n < setup.callers → 0 < times n ks) → Final (Seen (Rule f setup) id (shared_view ks None)) ws xs
+      → (core : C) × (get_elem? xs 0 ≡ some (Some core)) × Ended ks core
+  ends id ks ws xs all final =
+      let s = final.0 in
+      let at = final.1.1 in
+      let v : V = shared_view ks None in
+      let h : IsKept f setup s = is_open f setup s id v final.1.0 at refl in
+      ⊎_elim
+      (λ (x : IsFree h.core s). (h.core, final.4 0 (Some h.core) x.home, record { notes = h.notes; fit = h.fit id v at; since = h.since; strangers = h.strangers; noted = h.noted }))
+      (λ (x : IsHeld h.core s).
+      let t = total_two (λ (v : View C). times x.number v.passes) s.views x.seat id x.holder v (not_holder s h.core x id v at refl) x.there at in
+      let o = h.once x.number in
+      let has = x.has in
+      let below : x.number < setup.callers = dite (dec_le setup.callers x.number) (λ (le : setup.callers ≤ x.number). let b = h.below x.number le in let t = total_has (λ (v : View C). times x.number v.passes) s.views x.seat x.holder x.there in absurd (omega arith)) (λ (ge : ¬ (setup.callers ≤ x.number)). omega arith) in
+      let mine = all x.number below in
+      absurd (omega arith))
+      h.place
+
+  -- the moves, at a seat that is known
+  pub begins_as : (slots id : ℕ) (m : Sat) → m ≡ (opener Vacant setup, []) → Allows (Rule f setup) slots id m 0 (λ _. 1) (λ _. began (step slots 0 1 0 none) m 1)
+  begins_as slots id m e = subst (λ (m : Sat). Allows (Rule f setup) slots id m 0 (λ _. 1) (λ _. began (step slots 0 1 0 none) m 1)) (sym e) (begins_keeps slots id)
+
+  pub opens_as : (slots id : ℕ) (core : C) (m : Sat) → m ≡ (opener Opening setup, out core) → core ≡ setup.first → CanShare f.tells setup.callers setup.from (f.show core) → setup.callers < 256
+      → Allows (Rule f setup) slots id m 0 (λ _. 0) (λ _. gives_turn (step slots 0 0 0 none) m 0)
+  opens_as slots id core m e same can few =
+      let now : C → Sat = λ c. (opener Opening setup, out c) in
+      subst (λ (m : Sat). Allows (Rule f setup) slots id m 0 (λ _. 0) (λ _. gives_turn (step slots 0 0 0 none) m 0)) (sym (e ∙ ap now same))
+      (opens_keeps slots id (subst (λ c. CanShare f.tells setup.callers setup.from (f.show c)) same can) few)
+
+  pub deals_as : (id : ℕ) (k : Known C) (ks : List (Known C)) (v : V) → v ≡ shared_view (k ∷ ks) None → Splits (Rule f setup) id v (view v.stage (behind v.passes) v.held) (view v.stage (front v.passes) None)
+  deals_as id k ks v e = subst (λ (v : V). Splits (Rule f setup) id v (view v.stage (behind v.passes) v.held) (view v.stage (front v.passes) None)) (sym e) (deals_keeps id k ks)
+
+  pub gathers_as : (id other : ℕ) (ks ls : List (Known C)) (v w : V) → v ≡ shared_view ks None → w ≡ shared_view ls None → Joins (Rule f setup) id v other w (joined v w) spent
+  gathers_as id other ks ls v w e o = subst (λ (x : V × V). Joins (Rule f setup) id x.0 other x.1 (joined x.0 x.1) spent) (λ i. (sym e i, sym o i)) (gathers_keeps id other ks ls)
+
+module _ {C : Type 0} where
+  -- the next pass to be dealt out
+  pub next_pass : (setup : Setup C) (n callers : ℕ) → n < callers
+      → newcomers setup n (callers - n) ≡ newcomer setup n ∷ newcomers setup (n + 1) (callers - (n + 1))
+  next_pass setup n callers l =
+      let more : callers - n ≡ suc (callers - (n + 1)) = omega arith in
+      let one : suc n ≡ n + 1 = omega arith in
+      ap (λ c. newcomers setup n c) more ∙ ap (λ m. newcomer setup n ∷ newcomers setup m (callers - (n + 1))) one
+
+  pub dealt_more : (table : TableId) (setup : Setup C) (n : ℕ) → dealt table setup (n + 1) ≡ dealt table setup n ++ record { table = table; known = newcomer setup n } ∷ []
+  dealt_more table setup n = let one : n + 1 ≡ suc n = omega arith in ap (dealt table setup) one
+
+  pub all_of_snoc : (table : TableId) (ps : List (PassView C)) (p : PassView C) → AllOf table ps → p.table ≡ table → AllOf table (ps ++ p ∷ [])
+  all_of_snoc table [] p a e = (e, tt)
+  all_of_snoc table (q ∷ ps) p a e = (a.0, all_of_snoc table ps p a.1 e)
+
+  pub all_of_dealt : (table : TableId) (setup : Setup C) (n : ℕ) → AllOf table (dealt table setup n)
+  all_of_dealt table setup zero = tt
+  all_of_dealt table setup (suc n) = all_of_snoc table (dealt table setup n) (record { table = table; known = newcomer setup n }) (all_of_dealt table setup n) refl
+
+  pub all_of_init : (table : TableId) (ps qs : List (PassView C)) → AllOf table (ps ++ qs) → AllOf table ps × AllOf table qs
+  all_of_init table [] qs a = (tt, a)
+  all_of_init table (p ∷ ps) qs a = let i = all_of_init table ps qs a.1 in ((a.0, i.0), i.1)
+
+module _ {C : Type 0} (f : Face C) (setup : Setup C) where
+  -- the opener's seat with the core, once it holds the turn
+  pub opening_seat : (m0 m1 m2 : Me (Option C) (View C)) (core : C) → m0 ≡ (opener Vacant setup, []) → m1 ≡ (view Opening m0.0.passes None, (0, None) ∷ []) → m2 ≡ (m1.0, (0, Some core) ∷ rest m1.1) → m2 ≡ (opener Opening setup, out core)
+  opening_seat m0 m1 m2 core e0 e1 e2 =
+      let F : Me (Option C) (View C) → Me (Option C) (View C) = λ m. (m.0, (0, Some core) ∷ rest m.1) in
+      let G : Me (Option C) (View C) → Me (Option C) (View C) = λ m. (view Opening m.0.passes None, (0, None) ∷ []) in
+      e2 ∙ ap F e1 ∙ ap (λ (m : Me (Option C) (View C)). F (G m)) e0
+
+  pub all_known : (core : C) (notes : ℕ → Notes) (ps : List (PassView C)) → AllFit setup (f.show core).state notes (map known_of ps) → AreSo setup (f.show core).state notes ps
+  all_known core notes [] a = tt
+  all_known core notes (p ∷ ps) a = (a.0, all_known core notes ps a.1)
+
+module _ {C : Type 0} where
+  pub popped : (table : TableId) (old new : List (PassView C)) (given : PassesView C) (result : Option (PassView C)) → old ≡ new ++ option_to_list result → AllOf table old → table ≡ given.table → old ≡ given.list
+      → IfSome result (λ p. (given.list ≡ new ++ p ∷ []) × (p.table ≡ given.table))
+  popped table old new given None e a t l = tt
+  popped table old new given (Some p) e a t l = (sym l ∙ e, (all_of_init table new (p ∷ []) (subst (AllOf table) e a)).1.0 ∙ t)
+
+pub nothing_left : {A : Type 0} (xs : List A) → length xs ≡ 0 → xs ≡ []
+nothing_left [] e = refl
+nothing_left (x ∷ xs) e = absurd (omega arith)
+
+module _ {C : Type 0} where
+  pub one_more : (ks : List (Known C)) (p : PassView C) (ps rest all : List (PassView C)) → rest ≡ p ∷ ps → ks ++ map known_of rest ≡ map known_of all → (ks ++ p.known ∷ []) ++ map known_of ps ≡ map known_of all
+  one_more ks p ps rest all e is = append_assoc ks (p.known ∷ []) (map known_of ps) ∙ ap (λ (l : List (PassView C)). ks ++ map known_of l) (sym e) ∙ is
+
+module _ {C : Type 0} (f : Face C) (setup : Setup C) where
+  pub taken_all : (m : Me (Option C) (View C)) (ks : List (Known C)) (rest all : List (PassView C)) → m ≡ (shared_view ks None, []) → ks ++ map known_of rest ≡ map known_of all → length rest ≡ 0 → m ≡ (shared_view (map known_of all) None, [])
+  taken_all m ks rest all e is gone =
+      let is_all : ks ≡ map known_of all = sym (append-nil ks) ∙ ap (λ (l : List (PassView C)). ks ++ map known_of l) (sym (nothing_left rest gone)) ∙ is in
+      let now : List (Known C) → Me (Option C) (View C) = λ ks. (shared_view ks None, []) in
+      e ∙ ap now is_all
+
+  -- the core that is taken out of the slot at the end
+  pub last_core : (id : ℕ) (ks : List (Known C)) (m : Me (Option C) (View C)) (ws : List ℕ) (xs : List (Option C)) (o : Option C) → m ≡ (shared_view ks None, []) → ((n : ℕ) → n < setup.callers → 0 < times n ks)
+      → Final (Seen (Rule f setup) id m.0) ws xs → get_elem? xs 0 ≡ some o → (core : C) × (o ≡ Some core) × Ended f setup ks core
+  last_core id ks m ws xs o e all final at =
+      let final' = subst (λ (m : Me (Option C) (View C)). Final (Seen (Rule f setup) id m.0) ws xs) e final in
+      let end = ends f setup id ks ws xs all final' in
+      (end.0, some-injective o (Some end.0) (sym at ∙ end.1), end.2)
+
+  pub ended_as : (ks : List (Known C)) (core given : C) (o : Option C) → o ≡ Some core → o ≡ Some given → Ended f setup ks core → Ended f setup ks given
+  ended_as ks core given o a b e = subst (Ended f setup ks) (some_same core given (sym a ∙ b)) e

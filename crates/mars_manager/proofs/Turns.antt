@@ -1,0 +1,407 @@
+-- Each step keeps the rule.
+use Rattle.std.proofs.Common.{◌≡◌, ◌≢◌, ◌⊎◌, ℕ, ◌+◌, ◌<◌, ◌≤◌, eqb, List, [], ◌∷◌, ◌++◌, length, set, get_or, Option, Some, None, refl, sym, ap, ◌∙◌, subst, inl, inr, ⊎_elim, arith, length-set, get_or-set_same, get_or-set_other}
+use mathlib.Core.Logic.{dite}
+use mathlib.Core.Option.{some, none, some-injective}
+use native.Mathlib.Decide.{dec_le, ℕ_discrete}
+use lib.ListN.{get_elem?}
+use lib.Seq.{set-get_or}
+use prog.Atomic.{either}
+use Rattle.std.specs.Prelude.{IsTrue}
+use Rattle.history.specs.declared.call.Call.{Call}
+use Rattle.history.specs.declared.call.Reply.{Reply}
+use Rattle.core_face.specs.Room.{Limits}
+use Rattle.core_face.specs.Prefix.{Grows}
+use Rattle.core_face.proofs.Continuing.{grows_none, grows_on, grows_longer}
+use Rattle.atomic_table.specs.Table.{State, Me, step, Act, keeps, takes, gives, stepped, Valid, carried_after, Allows}
+use Rattle.atomic_table.proofs.Lists.{set_here, set_else, set_again, exchanged}
+use Rattle.mars_manager.specs.declared.view.Known.{Known}
+use Rattle.mars_manager.specs.declared.view.Stage.TheVariants.{Vacant, Opening, Shared}
+use Rattle.mars_manager.specs.declared.view.View.{View}
+use Rattle.mars_manager.specs.declared.setup.Setup.{Setup}
+use Rattle.mars_manager.specs.Notes.{Notes, hits_of, AreNoted}
+use Rattle.mars_manager.specs.Pass.{Fits, AllFit, HasNoOthers, commits_of, times}
+use Rattle.mars_manager.specs.Sharing.{Since}
+use Rattle.mars_manager.specs.Seat.{shared_view, opener}
+use Rattle.mars_manager.specs.Rule.{Face, total, IsFree, IsHeld, IsKept, IsFresh, IsOpening, Rule, takes_turn, shown, tells_length, gives_turn, looks, hears}
+use Rattle.mars_manager.proofs.Notes.{put_note, added, note_here, note_apart}
+use Rattle.mars_manager.proofs.Seats.{times_first, inside, at_only, each_set, total_set, total_has, total_two}
+
+pub vacant≢shared : {X : Type 0} → Vacant ≡ Shared → X
+vacant≢shared e = absurd (cc)
+
+pub opening≢shared : {X : Type 0} → Opening ≡ Shared → X
+opening≢shared e = absurd (cc)
+
+pub vacant≢opening : {X : Type 0} → Vacant ≡ Opening → X
+vacant≢opening e = absurd (cc)
+
+pub some≢none : {A : Type 0} {X : Type 0} (x : A) → Some x ≡ None → X
+some≢none x e = absurd (cc)
+
+pub some_same : {A : Type 0} (x y : A) → Some x ≡ Some y → x ≡ y
+some_same x y e = cc
+
+abbrev pub top_of : {A : Type 0} → List (ℕ × Option A) → Option A
+top_of [] = None
+top_of (x ∷ xs) = x.1
+
+-- what a seat carries
+abbrev pub out : {A : Type 0} → A → List (ℕ × Option A)
+out x = (0, Some x) ∷ []
+
+pub carried_same : {A : Type 0} (a b : A) → out a ≡ out b → a ≡ b
+carried_same {A} a b e = let top : Some a ≡ Some b = ap (λ (l : List (ℕ × Option A)). top_of l) e in some_same a b top
+
+-- what a step by the pass n does to a core
+pub record Moved {C : Type 0} (f : Face C) (setup : Setup C) (n : ℕ) (call : Call) (reply : Reply) (core new : C) : Type 0 where
+  pub grows : Grows (f.show core).state.history (f.show new).state.history
+  pub others : (m : ℕ) → m ≢ n → (commits_of m (f.show new).state.history ≡ commits_of m (f.show core).state.history) × ((f.show new).state.live m ≡ (f.show core).state.live m)
+  pub since : Since f.tells setup.from (f.show setup.first) (f.show core) → Since f.tells setup.from (f.show setup.first) (f.show new)
+  pub noted : (notes : ℕ → Notes) → n < setup.callers → HasNoOthers setup.callers (f.show core).state → Since f.tells setup.from (f.show setup.first) (f.show core)
+      → (IsTrue f.tells → AreNoted (f.show setup.first).limits setup.callers (f.show setup.first).state.index (f.show core).state notes)
+      → IsTrue f.tells → AreNoted (f.show setup.first).limits setup.callers (f.show setup.first).state.index (f.show new).state (put_note notes n (added (notes n) call reply))
+
+module _ {C : Type 0} (f : Face C) (setup : Setup C) where
+  abbrev V : Type 0
+  V = View C
+
+  abbrev S : Type 0
+  S = Option C
+
+  abbrev St : Type 0
+  St = State (Option C) (View C)
+
+  abbrev Sat : Type 0
+  Sat = Me (Option C) (View C)
+
+  abbrev count : ℕ → List (View C) → ℕ
+  count n vs = total (λ (v : View C). times n v.passes) vs
+
+  pub is_open : (s : St) (id : ℕ) (v : V) → Rule f setup s → get_elem? s.views id ≡ some v → v.stage ≡ Shared → IsKept f setup s
+  is_open s id v rule at two =
+      ⊎_elim
+      (λ (x : IsFresh setup s). let e = at_only (opener Vacant setup) id v (subst (λ l. get_elem? l id ≡ some v) x.views at) in vacant≢shared (ap (λ (u : V). u.stage) e ∙ two))
+      (λ (y : IsOpening setup s ⊎ IsKept f setup s).
+      ⊎_elim (λ (x : IsOpening setup s). let e = at_only (opener Opening setup) id v (subst (λ l. get_elem? l id ≡ some v) x.views at) in opening≢shared (ap (λ (u : V). u.stage) e ∙ two)) (λ (k : IsKept f setup s). k) y)
+      rule
+
+  -- two seats that stand for one pass are one seat
+  pub one_seat : (s : St) → IsKept f setup s → (n i j : ℕ) (v w : V) → get_elem? s.views i ≡ some v → get_elem? s.views j ≡ some w → 0 < times n v.passes → 0 < times n w.passes → i ≡ j
+  one_seat s h n i j v w e o a b = dite (ℕ_discrete i j) (λ (same : i ≡ j). same) (λ (ne : i ≢ j). let t = total_two (λ (v : View C). times n v.passes) s.views i j v w ne e o in let u = h.once n in absurd (omega arith))
+
+  same_at : (vs : List V) (i : ℕ) (v w : V) → get_elem? vs i ≡ some v → get_elem? vs i ≡ some w → v ≡ w
+  same_at vs i v w a b = some-injective v w (sym a ∙ b)
+
+  -- the counts, where a seat stands for the same passes after a step
+  same_count : (n : ℕ) (vs : List V) (id : ℕ) (v w : V) → get_elem? vs id ≡ some v → times n w.passes ≡ times n v.passes → count n (set vs id w) ≡ count n vs
+  same_count n vs id v w at e = let t = total_set (λ (v : View C). times n v.passes) vs id v w at in omega arith
+
+  number_below : (s : St) → IsKept f setup s → (n i : ℕ) (v : V) → get_elem? s.views i ≡ some v → 0 < times n v.passes → n < setup.callers
+  number_below s h n i v at has =
+      let t = total_has (λ (v : View C). times n v.passes) s.views i v at in
+      dite (dec_le setup.callers n) (λ (le : setup.callers ≤ n). let b = h.below n le in absurd (omega arith)) (λ (ge : ¬ (setup.callers ≤ n)). omega arith)
+
+  moves_one : (n : ℕ) (call : Call) (reply : Reply) (core new : C) (notes : ℕ → Notes) (note : Notes) (k : Known C) → Moved f setup n call reply core new → k.number ≢ n
+      → Fits setup (f.show core).state notes k → Fits setup (f.show new).state (put_note notes n note) k
+  moves_one n call reply core new notes note k m ne h = record {
+    setup_is = h.setup_is;
+    seen = grows_on k.seen (f.show core).state.history (f.show new).state.history h.seen m.grows;
+    mine = h.mine ∙ sym (m.others k.number ne).0;
+    live = h.live ∙ sym (m.others k.number ne).1;
+    heard = (let l = grows_longer (f.show core).state.history (f.show new).state.history m.grows in let o = h.heard in omega arith);
+    asked = h.asked ∙ sym (ap (λ (x : Notes). x.asked) (note_apart notes n note k.number ne));
+    hit = h.hit ∙ sym (ap (λ (x : Notes). x.hit) (note_apart notes n note k.number ne));
+  }
+
+  pub moves_all : (n : ℕ) (call : Call) (reply : Reply) (core new : C) (notes : ℕ → Notes) (note : Notes) (ks : List (Known C)) → Moved f setup n call reply core new → times n ks ≡ 0
+      → AllFit setup (f.show core).state notes ks → AllFit setup (f.show new).state (put_note notes n note) ks
+  moves_all n call reply core new notes note [] m zero_times h = tt
+  moves_all n call reply core new notes note (k ∷ ks) m zero_times h = (
+    moves_one n call reply core new notes note k m (λ (e : k.number ≡ n). let t = times_first k ks in let u : times k.number (k ∷ ks) ≡ 0 = ap (λ (x : ℕ). times x (k ∷ ks)) e ∙ zero_times in absurd (omega arith)) h.0,
+    moves_all n call reply core new notes note ks m (omega arith) h.1,
+  )
+
+  turn_taken : (s : St) (id turn : ℕ) (k : Known C) (h : IsKept f setup s) → turn ≡ k.number + 1 → get_elem? s.views id ≡ some (shared_view (k ∷ []) None)
+      → (x : IsFree h.core s) → IsKept f setup (stepped s 0 turn id [] (shared_view (k ∷ []) (Some h.core)) (takes 0 (Some h.core)))
+  turn_taken s id turn k h is at x =
+      let v : V = shared_view (k ∷ []) None in
+      let w : V = shared_view (k ∷ []) (Some h.core) in
+      let long : 0 < length s.words = (let t = h.two in omega arith) in record {
+        core = h.core;
+        notes = h.notes;
+        two = length-set s.words 0 turn ∙ h.two;
+        one = length-set s.homes 0 none ∙ h.one;
+        told = get_or-set_other s.words 0 1 turn 0 (λ e. omega arith) ∙ h.told;
+        place = inr (record {
+          number = k.number;
+          seat = id;
+          holder = w;
+          turn = get_or-set_same s.words 0 turn 0 long ∙ is;
+          there = set_here s.views id w (inside s.views id v at);
+          holds = refl;
+          has = times_first k [];
+          others = λ i u ne e. x.nobody i u (sym (set_else s.views id i w ne) ∙ e);
+        });
+        staged = each_set (λ i u. u.stage ≡ Shared) s.views id w refl (λ j u _ e. h.staged j u e);
+        fit = each_set (λ i u. AllFit setup (f.show h.core).state h.notes u.passes) s.views id w (h.fit id v at) (λ j u _ e. h.fit j u e);
+        once = λ n. (let t = same_count n s.views id v w at refl in let o = h.once n in omega arith);
+        below = λ n b. same_count n s.views id v w at refl ∙ h.below n b;
+        few = h.few;
+        enough = h.enough;
+        since = h.since;
+        strangers = h.strangers;
+        noted = h.noted;
+      }
+
+  Taking : (s : St) (slots id turn : ℕ) (k : Known C) → ℕ → Type 0
+  Taking s slots id turn k x = (w : V) × (a : Act S) × Valid s.homes [] a × Rule f setup (stepped s 0 x id [] w a) × takes_turn f (step slots 0 0 turn none) (shared_view (k ∷ []) None, []) (get_or s.words 0 0) (w, carried_after [] a)
+
+  hit : (s : St) (slots id turn : ℕ) (k : Known C) (h : IsKept f setup s) → turn ≡ k.number + 1 → get_elem? s.views id ≡ some (shared_view (k ∷ []) None) → get_or s.words 0 0 ≡ 0 → Taking s slots id turn k turn
+  unfolding Taking
+  hit s slots id turn k h is at free =
+      ⊎_elim
+      (λ (x : IsFree h.core s). (
+        shared_view (k ∷ []) (Some h.core),
+        takes 0 (Some h.core),
+        x.home,
+        inr (inr (turn_taken s id turn k h is at x)),
+        (
+          λ _. record {
+            core = h.core;
+            setup = setup;
+            notes = h.notes;
+            now = refl;
+            fit = h.fit id (shared_view (k ∷ []) None) at;
+            since = h.since;
+            few = λ n has. (let m = h.enough in let same = ap (λ (l : Limits). l.callers) h.since.limits in let l = number_below s h n id (shared_view (k ∷ []) None) at has in omega arith);
+          },
+          λ ne. absurd (ne free),
+        ),
+      ))
+      (λ (x : IsHeld h.core s). let t = x.turn in absurd (omega arith))
+      h.place
+
+  miss : (s : St) (slots id turn : ℕ) (k : Known C) (h : IsKept f setup s) → Rule f setup s → get_elem? s.views id ≡ some (shared_view (k ∷ []) None) → get_or s.words 0 0 ≢ 0 → Taking s slots id turn k (get_or s.words 0 0)
+  unfolding Taking
+  miss s slots id turn k h rule at taken =
+      ⊎_elim
+      (λ (x : IsFree h.core s). absurd (taken x.turn))
+      (λ (x : IsHeld h.core s). (
+        shared_view (k ∷ []) None,
+        keeps,
+        tt,
+        (let e : s ≡ stepped s 0 (get_or s.words 0 0) id [] (shared_view (k ∷ []) None) keeps = (λ i. record { words = sym (set-get_or s.words 0 0) i; homes = s.homes; views = sym (set_again s.views id (shared_view (k ∷ []) None) at) i }) in subst (Rule f setup) e rule),
+        (
+          λ z. absurd (taken z),
+          λ _. (
+            refl,
+            (let t = x.turn in let few = h.few in let l = number_below s h x.number x.seat x.holder x.there x.has in omega arith),
+            λ m e. dite (ℕ_discrete (times m (k ∷ [])) 0) (λ (z : times m (k ∷ []) ≡ 0). z) (λ (nz : times m (k ∷ []) ≢ 0).
+                let t = x.turn in
+                let same : x.number ≡ m = omega arith in
+                let seat = one_seat s h m x.seat id x.holder (shared_view (k ∷ []) None) x.there at (subst (λ n. 0 < times n x.holder.passes) same x.has) (omega arith) in
+                let held = same_at s.views id x.holder (shared_view (k ∷ []) None) (subst (λ i. get_elem? s.views i ≡ some x.holder) seat x.there) at in
+                some≢none h.core (sym x.holds ∙ ap (λ (v : V). v.held) held)),
+            (
+              λ given is.
+                  let t = x.turn in
+                  let same = ap (λ (g : Setup C). g.callers) (some_same given setup (sym is ∙ (h.fit id (shared_view (k ∷ []) None) at).0.setup_is)) in
+                  let l = number_below s h x.number x.seat x.holder x.there x.has in
+                  omega arith,
+              tt,
+            ),
+          ),
+        ),
+      ))
+      h.place
+
+  pub takes_turn_keeps : (slots id turn : ℕ) (k : Known C) → turn ≡ k.number + 1
+      → Allows (Rule f setup) slots id (shared_view (k ∷ []) None, []) 0 (λ n. either (eqb n 0) turn n) (takes_turn f (step slots 0 0 turn none) (shared_view (k ∷ []) None, []))
+  unfolding Taking
+  takes_turn_keeps slots id turn k is s rule wide at _ =
+      let h : IsKept f setup s = is_open s id (shared_view (k ∷ []) None) rule at refl in
+      exchanged (get_or s.words 0 0) 0 turn (Taking s slots id turn k) (hit s slots id turn k h is at) (miss s slots id turn k h rule at)
+
+  holder_is : (s : St) (h : IsKept f setup s) (id : ℕ) (v : V) (core : C) → get_elem? s.views id ≡ some v → v.held ≡ Some core → (x : IsHeld h.core s) × (x.seat ≡ id) × (x.holder ≡ v) × (h.core ≡ core)
+  holder_is s h id v core at held =
+      ⊎_elim
+      (λ (x : IsFree h.core s). some≢none core (sym held ∙ x.nobody id v at))
+      (λ (x : IsHeld h.core s). dite (ℕ_discrete id x.seat)
+      (λ (same : id ≡ x.seat). let is = same_at s.views id x.holder v (subst (λ i. get_elem? s.views i ≡ some x.holder) (sym same) x.there) at in
+      (x, sym same, is, some_same h.core core (sym x.holds ∙ ap (λ (u : V). u.held) is ∙ held)))
+      (λ (ne : id ≢ x.seat). some≢none core (sym held ∙ x.others id v ne at)))
+      h.place
+
+  told_by : (s : St) (id told : ℕ) (k : Known C) (call : Call) (reply : Reply) (old new : C) (h : IsKept f setup s) → Moved f setup k.number call reply h.core new → told ≡ length ((f.show new).state.history) → get_elem? s.views id ≡ some (shared_view (k ∷ []) (Some old))
+      → (x : IsHeld h.core s) → x.seat ≡ id → x.holder ≡ shared_view (k ∷ []) (Some old)
+      → IsKept f setup (stepped s 1 told id ((0, Some new) ∷ []) (shared_view (shown f call reply new k ∷ []) (Some new)) keeps)
+  told_by s id told k call reply old new h m is at x seat holder =
+      let v : V = shared_view (k ∷ []) (Some old) in
+      let w : V = shared_view (shown f call reply new k ∷ []) (Some new) in
+      let long : 1 < length s.words = (let t = h.two in omega arith) in
+      let mine : Fits setup (f.show h.core).state h.notes k = (h.fit id v at).0 in
+      let note : Notes = added (h.notes k.number) call reply in
+      let notes : ℕ → Notes = put_note h.notes k.number note in
+      let few : k.number < setup.callers = number_below s h k.number id v at (times_first k []) in record {
+        core = new;
+        notes = notes;
+        two = length-set s.words 1 told ∙ h.two;
+        one = h.one;
+        told = get_or-set_same s.words 1 told 0 long ∙ is;
+        place = inr (record {
+          number = x.number;
+          seat = id;
+          holder = w;
+          turn = get_or-set_other s.words 1 0 told 0 (λ e. omega arith) ∙ x.turn;
+          there = set_here s.views id w (inside s.views id v at);
+          holds = refl;
+          has = subst (λ (u : V). 0 < times x.number u.passes) holder x.has;
+          others = λ i u ne e. x.others i u (λ z. ne (z ∙ seat)) (sym (set_else s.views id i w ne) ∙ e);
+        });
+        staged = each_set (λ i u. u.stage ≡ Shared) s.views id w refl (λ j u _ e. h.staged j u e);
+        fit = each_set (λ i u. AllFit setup (f.show new).state notes u.passes) s.views id w (
+          record {
+            setup_is = mine.setup_is;
+            seen = grows_none (f.show new).state.history;
+            mine = refl;
+            live = refl;
+            heard = (let l = grows_longer (f.show h.core).state.history (f.show new).state.history m.grows in let o = mine.heard in omega arith);
+            asked = ap (λ l. l ++ call ∷ []) mine.asked ∙ sym (ap (λ (x : Notes). x.asked) (note_here h.notes k.number note));
+            hit = ap (λ l. l ++ hits_of call reply) mine.hit ∙ sym (ap (λ (x : Notes). x.hit) (note_here h.notes k.number note));
+          },
+          tt,
+        )
+            (λ j u ne e. moves_all k.number call reply h.core new h.notes note u.passes m
+            (dite (ℕ_discrete (times k.number u.passes) 0) (λ (z : times k.number u.passes ≡ 0). z) (λ (nz : times k.number u.passes ≢ 0). absurd (ne (one_seat s h k.number j id u v e at (omega arith) (times_first k [])))))
+            (h.fit j u e));
+        once = λ n. (let t = same_count n s.views id v w at refl in let o = h.once n in omega arith);
+        below = λ n b. same_count n s.views id v w at refl ∙ h.below n b;
+        few = h.few;
+        enough = h.enough;
+        since = m.since h.since;
+        strangers = λ n b. (let ne : n ≢ k.number = (λ e. omega arith) in let o = m.others n ne in (o.0 ∙ (h.strangers n b).0, o.1 ∙ (h.strangers n b).1));
+        noted = m.noted h.notes few h.strangers h.since h.noted;
+      }
+
+  pub tells_keeps : (slots id told : ℕ) (k : Known C) (call : Call) (reply : Reply) (old new : C) → Moved f setup k.number call reply old new → told ≡ length ((f.show new).state.history)
+      → Allows (Rule f setup) slots id (shared_view (k ∷ []) (Some old), (0, Some new) ∷ []) 1 (λ _. told) (λ _. tells_length f call reply (step slots 1 told 0 none) (shared_view (k ∷ []) (Some old), (0, Some new) ∷ []) told)
+  tells_keeps slots id told k call reply old new m is s rule wide at _ =
+      let v : V = shared_view (k ∷ []) (Some old) in
+      let h : IsKept f setup s = is_open s id v rule at refl in
+      let x = holder_is s h id v old at refl in (
+        shared_view (shown f call reply new k ∷ []) (Some new),
+        keeps,
+        tt,
+        inr (inr (told_by s id told k call reply old new h (subst (λ c. Moved f setup k.number call reply c new) (sym x.3) m) is at x.0 x.1 x.2)),
+        λ core e. let now : C → Sat = λ c. (shared_view (shown f call reply c k ∷ []) (Some c), (0, Some new) ∷ []) in ap now (carried_same new core e),
+      )
+
+  given_by : (s : St) (id : ℕ) (k : Known C) (core : C) (h : IsKept f setup s) → h.core ≡ core → get_elem? s.views id ≡ some (shared_view (k ∷ []) (Some core))
+      → (x : IsHeld h.core s) → x.seat ≡ id
+      → IsKept f setup (stepped s 0 0 id ((0, Some core) ∷ []) (shared_view (k ∷ []) None) gives)
+  given_by s id k core h same at x seat =
+      let v : V = shared_view (k ∷ []) (Some core) in
+      let w : V = shared_view (k ∷ []) None in
+      let long : 0 < length s.words = (let t = h.two in omega arith) in record {
+        core = h.core;
+        notes = h.notes;
+        two = length-set s.words 0 0 ∙ h.two;
+        one = length-set s.homes 0 (some (Some core)) ∙ h.one;
+        told = get_or-set_other s.words 0 1 0 0 (λ e. omega arith) ∙ h.told;
+        place = inl (record {
+          turn = get_or-set_same s.words 0 0 0 long;
+          home = set_here s.homes 0 (some (Some core)) (let o = h.one in omega arith) ∙ ap (λ (c : C). some (some (Some c))) (sym same);
+          nobody = each_set (λ i u. u.held ≡ None) s.views id w refl (λ j u ne e. x.others j u (λ z. ne (z ∙ seat)) e);
+        });
+        staged = each_set (λ i u. u.stage ≡ Shared) s.views id w refl (λ j u _ e. h.staged j u e);
+        fit = each_set (λ i u. AllFit setup (f.show h.core).state h.notes u.passes) s.views id w (h.fit id v at) (λ j u _ e. h.fit j u e);
+        once = λ n. (let t = same_count n s.views id v w at refl in let o = h.once n in omega arith);
+        below = λ n b. same_count n s.views id v w at refl ∙ h.below n b;
+        few = h.few;
+        enough = h.enough;
+        since = h.since;
+        strangers = h.strangers;
+        noted = h.noted;
+      }
+
+  pub gives_keeps : (slots id : ℕ) (k : Known C) (core : C)
+      → Allows (Rule f setup) slots id (shared_view (k ∷ []) (Some core), (0, Some core) ∷ []) 0 (λ _. 0) (λ _. gives_turn (step slots 0 0 0 none) (shared_view (k ∷ []) (Some core), (0, Some core) ∷ []) 0)
+  gives_keeps slots id k core s rule wide at _ =
+      let v : V = shared_view (k ∷ []) (Some core) in
+      let h : IsKept f setup s = is_open s id v rule at refl in
+      let x = holder_is s h id v core at refl in
+      (shared_view (k ∷ []) None, gives, tt, inr (inr (given_by s id k core h x.3 at x.0 x.1)), refl)
+
+  looked_by : (s : St) (id : ℕ) (k : Known C) (h : IsKept f setup s) → get_elem? s.views id ≡ some (shared_view (k ∷ []) None)
+      → IsKept f setup (stepped s 1 (get_or s.words 1 0) id [] (shared_view (hears (get_or s.words 1 0) k ∷ []) None) keeps)
+  looked_by s id k h at =
+      let n : ℕ = get_or s.words 1 0 in
+      let v : V = shared_view (k ∷ []) None in
+      let w : V = shared_view (hears n k ∷ []) None in
+      let mine : Fits setup (f.show h.core).state h.notes k = (h.fit id v at).0 in
+      let long : 1 < length s.words = (let t = h.two in omega arith) in record {
+        core = h.core;
+        notes = h.notes;
+        two = length-set s.words 1 n ∙ h.two;
+        one = h.one;
+        told = get_or-set_same s.words 1 n 0 long ∙ h.told;
+        place = ⊎_elim
+            (λ (x : IsFree h.core s). inl (record {
+              turn = get_or-set_other s.words 1 0 n 0 (λ e. omega arith) ∙ x.turn;
+              home = x.home;
+              nobody = each_set (λ i u. u.held ≡ None) s.views id w refl (λ j u _ e. x.nobody j u e);
+            }))
+            (λ (x : IsHeld h.core s). let ne : x.seat ≢ id = (λ e. some≢none h.core (sym x.holds ∙ ap (λ (u : V). u.held) (same_at s.views id x.holder v (subst (λ i. get_elem? s.views i ≡ some x.holder) e x.there) at))) in inr (record {
+              number = x.number;
+              seat = x.seat;
+              holder = x.holder;
+              turn = get_or-set_other s.words 1 0 n 0 (λ e. omega arith) ∙ x.turn;
+              there = set_else s.views id x.seat w ne ∙ x.there;
+              holds = x.holds;
+              has = x.has;
+              others = λ i u apart e. each_set (λ i u. i ≢ x.seat → u.held ≡ None) s.views id w (λ _. refl) (λ j u _ e apart. x.others j u apart e) i u e apart;
+            }))
+            h.place;
+        staged = each_set (λ i u. u.stage ≡ Shared) s.views id w refl (λ j u _ e. h.staged j u e);
+        fit = each_set (λ i u. AllFit setup (f.show h.core).state h.notes u.passes) s.views id w
+            (record { setup_is = mine.setup_is; seen = mine.seen; mine = mine.mine; live = mine.live; heard = (let e = h.told in omega arith); asked = mine.asked; hit = mine.hit }, tt)
+            (λ j u _ e. h.fit j u e);
+        once = λ n. (let t = same_count n s.views id v w at refl in let o = h.once n in omega arith);
+        below = λ n b. same_count n s.views id v w at refl ∙ h.below n b;
+        few = h.few;
+        enough = h.enough;
+        since = h.since;
+        strangers = h.strangers;
+        noted = h.noted;
+      }
+
+  pub looks_keeps : (slots id : ℕ) (k : Known C)
+      → Allows (Rule f setup) slots id (shared_view (k ∷ []) None, []) 1 (λ n. n) (looks (step slots 1 0 0 none) (shared_view (k ∷ []) None, []))
+  looks_keeps slots id k s rule wide at _ =
+      let v : V = shared_view (k ∷ []) None in
+      let h : IsKept f setup s = is_open s id v rule at refl in
+      let mine : Fits setup (f.show h.core).state h.notes k = (h.fit id v at).0 in (
+        shared_view (hears (get_or s.words 1 0) k ∷ []) None,
+        keeps,
+        tt,
+        inr (inr (looked_by s id k h at)),
+        (refl, ((let l = grows_longer k.seen (f.show h.core).state.history mine.seen in let e = h.told in omega arith), (let o = mine.heard in let e = h.told in omega arith), tt)),
+      )
+
+  -- the moves, at a seat that is known
+
+  pub takes_turn_as : (slots id turn : ℕ) (k : Known C) (m : Sat) → m ≡ (shared_view (k ∷ []) None, []) → turn ≡ k.number + 1
+      → Allows (Rule f setup) slots id m 0 (λ n. either (eqb n 0) turn n) (takes_turn f (step slots 0 0 turn none) m)
+  takes_turn_as slots id turn k m e is = subst (λ (m : Sat). Allows (Rule f setup) slots id m 0 (λ n. either (eqb n 0) turn n) (takes_turn f (step slots 0 0 turn none) m)) (sym e) (takes_turn_keeps slots id turn k is)
+
+  pub tells_as : (slots id told : ℕ) (k : Known C) (call : Call) (reply : Reply) (old new : C) (m : Sat) → m ≡ (shared_view (k ∷ []) (Some old), (0, Some new) ∷ []) → Moved f setup k.number call reply old new → told ≡ length ((f.show new).state.history)
+      → Allows (Rule f setup) slots id m 1 (λ _. told) (λ _. tells_length f call reply (step slots 1 told 0 none) m told)
+  tells_as slots id told k call reply old new m e moved is = subst (λ (m : Sat). Allows (Rule f setup) slots id m 1 (λ _. told) (λ _. tells_length f call reply (step slots 1 told 0 none) m told)) (sym e) (tells_keeps slots id told k call reply old new moved is)
+
+  pub gives_as : (slots id : ℕ) (k : Known C) (core : C) (m : Sat) → m ≡ (shared_view (k ∷ []) (Some core), (0, Some core) ∷ [])
+      → Allows (Rule f setup) slots id m 0 (λ _. 0) (λ _. gives_turn (step slots 0 0 0 none) m 0)
+  gives_as slots id k core m e = subst (λ (m : Sat). Allows (Rule f setup) slots id m 0 (λ _. 0) (λ _. gives_turn (step slots 0 0 0 none) m 0)) (sym e) (gives_keeps slots id k core)
+
+  pub looks_as : (slots id : ℕ) (k : Known C) (m : Sat) → m ≡ (shared_view (k ∷ []) None, [])
+      → Allows (Rule f setup) slots id m 1 (λ n. n) (looks (step slots 1 0 0 none) m)
+  looks_as slots id k m e = subst (λ (m : Sat). Allows (Rule f setup) slots id m 1 (λ n. n) (looks (step slots 1 0 0 none) m)) (sym e) (looks_keeps slots id k)

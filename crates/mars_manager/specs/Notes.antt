@@ -1,0 +1,86 @@
+-- What callers have asked for, and which refusals they have met.
+use Rattle.std.specs.Prelude.{ℕ, suc, ◌≡◌, ◌≢◌, ◌-◌, ◌<◌, ◌≤◌, ◌⊎◌, Bool, true, false, ◌&&◌, ◌||◌, not, if◌then◌else◌, nat_eq, IsTrue, IsFalse, List, [], ◌∷◌, Some, None}
+use Rattle.std.specs.List.{list_any}
+use Rattle.std.specs.Map.{update}
+use Rattle.history.specs.Table.{Granted}
+use Rattle.history.specs.Locks.{touches, touched}
+use Rattle.history.specs.declared.call.Call.{Call}
+use Rattle.history.specs.declared.call.Call.TheVariants.{Begin, Put}
+use Rattle.history.specs.declared.call.Reply.{Reply}
+use Rattle.history.specs.declared.call.Reply.TheVariants.{Busy, SlotsFull, PagesFull, Media, Dead, NoMemory}
+use Rattle.core_face.specs.State.{State, Index, calls_of}
+use Rattle.core_face.specs.Room.{Limits}
+use Rattle.core_face.specs.Fate.{is_refusal, is_media}
+
+-- the calls that a caller has made, and those of them that began a transaction or were refused, each with its reply
+pub record Notes : Type 0 where
+  pub asked : List Call
+  pub hit : Granted
+
+abbrev pub is_begin : Call → Bool
+is_begin Begin = true
+is_begin _ = false
+
+-- a refusal, but for want of memory
+abbrev pub is_noted : Reply → Bool
+is_noted NoMemory = false
+is_noted reply = is_refusal reply
+
+-- what a reply adds to what is hit
+abbrev pub hits_of : Call → Reply → Granted
+hits_of call reply = if is_noted reply || (is_begin call && not (is_refusal reply)) then (call, reply) ∷ [] else []
+
+-- one of the calls names a stripe
+abbrev pub names : List Call → ℕ → Bool
+names calls stripe = list_any (λ call. touches call stripe) calls
+
+-- a call is to put a value for a key
+abbrev pub is_put : ℕ → Call → Bool
+is_put key (Put other value) = nat_eq other key
+is_put key _ = false
+
+-- some caller has asked to put a value for a key
+abbrev pub IsAsked : ℕ → (ℕ → Notes) → ℕ → Type 0
+IsAsked callers notes key = (caller : ℕ) × (caller < callers) × IsTrue (list_any (is_put key) (notes caller).asked)
+
+-- an index has gained these keys, the last one first: each was new, and got the next slot
+abbrev pub Gained : Index → List ℕ → Index → Type 0
+Gained first [] now = (now.slot_of ≡ first.slot_of) × (now.next_slot ≡ first.next_slot)
+Gained first (key ∷ keys) now = (before : Index) × Gained first keys before × (before.slot_of key ≡ None) × (now.slot_of ≡ update nat_eq before.slot_of key (Some before.next_slot)) × (now.next_slot ≡ suc before.next_slot)
+
+-- each of these keys was asked for
+abbrev pub AreAsked : ℕ → (ℕ → Notes) → List ℕ → Type 0
+AreAsked callers notes [] = Unit {0}
+AreAsked callers notes (key ∷ keys) = IsAsked callers notes key × AreAsked callers notes keys
+
+-- a put finds no page for a split, or no level
+abbrev pub LacksPages : Call → ℕ → Index → Type 0
+LacksPages (Put key value) n index = (n ≤ index.next_page) ⊎ (7 ≤ index.level)
+LacksPages _ n index = Unit {0}
+
+-- What stands of a refusal that a caller has met. The holder of a stripe is another caller that has asked for it; slots and pages have
+-- run out, and while the media has not failed, they still have; and it has failed.
+abbrev pub Stands : Limits → ℕ → State → (ℕ → Notes) → ℕ → Call → Reply → Type 0
+Stands limits callers state notes caller call (Busy holder) = (holder ≢ caller) × (holder < callers) × (stripe : ℕ) × IsTrue (touches call stripe) × IsTrue (names (notes holder).asked stripe)
+Stands limits callers state notes caller call (SlotsFull n) = (n ≡ limits.slots) × (IsFalse state.is_dead → state.index.next_slot ≡ limits.slots)
+Stands limits callers state notes caller call (PagesFull n) = (n ≡ limits.index_pages - 1) × (IsFalse state.is_dead → LacksPages call n state.index)
+Stands limits callers state notes caller call Media = IsTrue state.is_dead
+Stands limits callers state notes caller call Dead = IsTrue state.is_dead
+Stands limits callers state notes caller call _ = Unit {0}
+
+abbrev pub AllStand : Limits → ℕ → State → (ℕ → Notes) → ℕ → Granted → Type 0
+AllStand limits callers state notes caller [] = Unit {0}
+AllStand limits callers state notes caller (entry ∷ entries) = Stands limits callers state notes caller entry.0 entry.1 × AllStand limits callers state notes caller entries
+
+-- one of these replies told a fault of the media
+abbrev pub has_media : Granted → Bool
+has_media hit = list_any (λ entry. is_media entry.1) hit
+
+-- What callers have asked for and met, in a state of a core with this index at the opening: what a live transaction touched, its caller
+-- has asked for; while the media has not failed, the index has just the keys of the opening and keys that were asked for; each refusal
+-- stands; and where the media has failed, a caller was told so.
+pub record AreNoted (limits : Limits) (callers : ℕ) (first : Index) (state : State) (notes : ℕ → Notes) : Type 0 where
+  pub live : (caller stripe : ℕ) → IsTrue (touched (calls_of state caller) stripe) → IsTrue (names (notes caller).asked stripe)
+  pub keys : IsFalse state.is_dead → (keys : List ℕ) × Gained first keys state.index × AreAsked callers notes keys
+  pub stand : (caller : ℕ) → AllStand limits callers state notes caller (notes caller).hit
+  pub cause : IsTrue state.is_dead → (caller : ℕ) × (caller < callers) × IsTrue (has_media (notes caller).hit)

@@ -1,0 +1,128 @@
+-- The rule of the table, and what each step tells. Word 0 is the turn: 0, or one more than the number of the pass that has it. Word 1 is
+-- the length of the history that was told last. The slot has the core while the turn is free.
+use Rattle.std.specs.Prelude.{ℕ, ◌≡◌, ◌≢◌, ◌⊎◌, ◌+◌, ◌<◌, ◌≤◌, Bool, IsTrue, List, [], ◌∷◌, ◌++◌, map, length, slice_index, Option, Some, None}
+use mathlib.Core.Option.{some}
+use lib.ListN.{get_elem?}
+use Rattle.history.specs.declared.call.Call.{Call}
+use Rattle.history.specs.declared.call.Reply.{Reply}
+use Rattle.core_face.specs.Core.{CoreView}
+use Rattle.atomic_table.specs.Table.{State, Me, Step}
+use Rattle.mars_manager.specs.declared.view.Known.{Known}
+use Rattle.mars_manager.specs.declared.view.Stage.TheVariants.{Vacant, Opening, Shared}
+use Rattle.mars_manager.specs.declared.view.View.{View}
+use Rattle.mars_manager.specs.declared.setup.Setup.{Setup}
+use Rattle.mars_manager.specs.Notes.{Notes, hits_of, AreNoted}
+use Rattle.mars_manager.specs.Pass.{AllFit, commits_of, times, HasNoOthers}
+use Rattle.mars_manager.specs.Sharing.{Since}
+use Rattle.mars_manager.specs.Seat.{view, shared_view, opener}
+
+-- how a kind of core is seen
+pub record Face (C : Type 0) : Type 1 where
+  pub tells : Bool
+  pub show : C → CoreView
+
+module _ {C : Type 0} where
+  -- what a pass knows once it has looked
+  abbrev pub hears : ℕ → Known C → Known C
+  hears n known = record known { heard = n }
+
+  -- no pass has seen or heard more
+  abbrev pub AllHeard : ℕ → List (Known C) → Type 0
+  AllHeard n [] = Unit {0}
+  AllHeard n (known ∷ others) = (length known.seen ≤ n) × (known.heard ≤ n) × AllHeard n others
+
+  -- each pass is of a sharing of at least so many callers
+  abbrev pub AreAbove : ℕ → List (Known C) → Type 0
+  AreAbove n [] = Unit {0}
+  AreAbove n (known ∷ others) = ((setup : Setup C) → known.setup ≡ Some setup → n ≤ setup.callers) × AreAbove n others
+
+  abbrev pub face : Bool → (C → CoreView) → Face C
+  face tells show = record { tells = tells; show = show }
+
+  abbrev pub total : (View C → ℕ) → List (View C) → ℕ
+  total count [] = 0
+  total count (one ∷ others) = count one + total count others
+
+  -- the turn is free, and the core is at home
+  pub record IsFree (core : C) (s : State (Option C) (View C)) : Type 0 where
+    pub turn : slice_index s.words 0 ≡ 0
+    pub home : get_elem? s.homes 0 ≡ some (some (Some core))
+    pub nobody : (i : ℕ) (v : View C) → get_elem? s.views i ≡ some v → v.held ≡ None
+
+  -- one seat alone has the turn: that of the pass with the number. It has told of this core.
+  pub record IsHeld (core : C) (s : State (Option C) (View C)) : Type 0 where
+    pub number : ℕ
+    pub seat : ℕ
+    pub holder : View C
+    pub turn : slice_index s.words 0 ≡ number + 1
+    pub there : get_elem? s.views seat ≡ some holder
+    pub holds : holder.held ≡ Some core
+    pub has : 0 < times number holder.passes
+    pub others : (i : ℕ) (v : View C) → i ≢ seat → get_elem? s.views i ≡ some v → v.held ≡ None
+
+  -- before the opener has given the turn for the first time, there is no other seat
+  pub record IsFresh (setup : Setup C) (s : State (Option C) (View C)) : Type 0 where
+    pub words : s.words ≡ 0 ∷ 0 ∷ []
+    pub homes : s.homes ≡ some None ∷ []
+    pub views : s.views ≡ opener Vacant setup ∷ []
+
+  pub record IsOpening (setup : Setup C) (s : State (Option C) (View C)) : Type 0 where
+    pub words : s.words ≡ 1 ∷ 0 ∷ []
+    pub one : length s.homes ≡ 1
+    pub views : s.views ≡ opener Opening setup ∷ []
+
+  module _ (f : Face C) where
+    -- From then on: of the core that was told of last, told is the length of its history, what each pass knows is so of it, and it is one
+    -- that the shared core has come to. Each caller has its pass once.
+    pub record IsKept (setup : Setup C) (s : State (Option C) (View C)) : Type 0 where
+      pub core : C
+      pub notes : ℕ → Notes
+      pub two : length s.words ≡ 2
+      pub one : length s.homes ≡ 1
+      pub told : slice_index s.words 1 ≡ length (f.show core).state.history
+      pub place : IsFree core s ⊎ IsHeld core s
+      pub staged : (i : ℕ) (v : View C) → get_elem? s.views i ≡ some v → v.stage ≡ Shared
+      pub fit : (i : ℕ) (v : View C) → get_elem? s.views i ≡ some v → AllFit setup (f.show core).state notes v.passes
+      pub once : (n : ℕ) → total (λ v. times n v.passes) s.views ≤ 1
+      pub below : (n : ℕ) → setup.callers ≤ n → total (λ v. times n v.passes) s.views ≡ 0
+      pub few : setup.callers < 256
+      pub enough : setup.callers ≤ (f.show setup.first).limits.callers
+      pub since : Since f.tells setup.from (f.show setup.first) (f.show core)
+      pub strangers : HasNoOthers setup.callers (f.show core).state
+      pub noted : IsTrue f.tells → AreNoted (f.show setup.first).limits setup.callers (f.show setup.first).state.index (f.show core).state notes
+
+    abbrev pub Rule : Setup C → State (Option C) (View C) → Type 0
+    Rule setup s = IsFresh setup s ⊎ (IsOpening setup s ⊎ IsKept setup s)
+
+    -- what a pass knows behind a step that it made
+    abbrev pub shown : Call → Reply → C → Known C → Known C
+    shown call reply core known =
+        record known { seen = (f.show core).state.history; mine = commits_of known.number (f.show core).state.history; live = (f.show core).state.live known.number; asked = known.asked ++ call ∷ []; hit = known.hit ++ hits_of call reply }
+
+    -- the turn was taken, with this core
+    pub record Took (m n : Me (Option C) (View C)) : Type 0 where
+      pub core : C
+      pub setup : Setup C
+      pub notes : ℕ → Notes
+      pub now : n ≡ (shared_view m.0.passes (Some core), (0, Some core) ∷ [])
+      pub fit : AllFit setup (f.show core).state notes m.0.passes
+      pub since : Since f.tells setup.from (f.show setup.first) (f.show core)
+      pub few : (k : ℕ) → 0 < times k m.0.passes → k < (f.show core).limits.callers
+
+    -- What a step tells, by the step, the seat before, the number found and the seat after. Where the turn was not free, another pass had
+    -- it, and the seat stays as it was.
+    abbrev pub takes_turn : Step (Option C) → Me (Option C) (View C) → ℕ → Me (Option C) (View C) → Type 0
+    takes_turn st m r n = (r ≡ 0 → Took m n) × (r ≢ 0 → (n ≡ m) × (r < 256) × ((k : ℕ) → r ≡ k + 1 → times k m.0.passes ≡ 0) × AreAbove r m.0.passes)
+
+    abbrev pub tells_length : Call → Reply → Step (Option C) → Me (Option C) (View C) → ℕ → Me (Option C) (View C) → Type 0
+    tells_length call reply st m r n = (core : C) → m.1 ≡ (0, Some core) ∷ [] → n ≡ (shared_view (map (shown call reply core) m.0.passes) (Some core), m.1)
+
+  abbrev pub began : Step (Option C) → Me (Option C) (View C) → ℕ → Me (Option C) (View C) → Type 0
+  began st m r n = n ≡ (view Opening m.0.passes None, (0, None) ∷ [])
+
+  -- the opener and each later holder give the turn alike
+  abbrev pub gives_turn : Step (Option C) → Me (Option C) (View C) → ℕ → Me (Option C) (View C) → Type 0
+  gives_turn st m r n = n ≡ (shared_view m.0.passes None, [])
+
+  abbrev pub looks : Step (Option C) → Me (Option C) (View C) → ℕ → Me (Option C) (View C) → Type 0
+  looks st m r n = (n ≡ (shared_view (map (hears r) m.0.passes) m.0.held, m.1)) × AllHeard r m.0.passes

@@ -1,0 +1,88 @@
+-- What holds of a core while it is shared, and what a call does.
+use Rattle.std.specs.Prelude.{ℕ, ◌≡◌, ◌≤◌, Bool, false, IsTrue, MatchBool, List, [], ◌∷◌, ◌++◌, length, Some, None, unwrap_or}
+use Rattle.counted.specs.Causes.{Rose}
+use Rattle.atomic_table.specs.Seated.{TableId}
+use Rattle.history.specs.Writes.{Table}
+use Rattle.history.specs.Legal.{IsLegal}
+use Rattle.history.specs.declared.transaction.Done.{Done}
+use Rattle.history.specs.declared.call.Call.{Call}
+use Rattle.history.specs.declared.call.Reply.{Reply}
+use Rattle.history.specs.declared.call.Reply.TheVariants.{Committed, Dead}
+use Rattle.core_face.specs.Fate.{is_committed}
+use Rattle.core_face.specs.Prefix.{Grows}
+use Rattle.core_face.specs.Sound.{IsSound}
+use Rattle.core_face.specs.Core.{CoreView, IsSafe, Steps, Continues}
+use Rattle.mars_manager.specs.declared.setup.Setup.{Setup}
+use Rattle.mars_manager.specs.declared.view.Known.{Known}
+use Rattle.mars_manager.specs.Notes.{Notes, hits_of, AreNoted}
+use Rattle.mars_manager.specs.Pass.{PassView, AreSo, commits_of}
+
+-- what contracts see of a shared core: its table, and how it was shared
+pub record MarsView (C : Type 0) : Type 0 where
+  pub table : TableId
+  pub setup : Setup C
+
+-- A core that can be shared among so many callers: it has not failed, nothing was done on it, and where it tells its records, the prefix
+-- law holds from a moment on and from now on.
+pub record CanShare (tells : Bool) (callers from : ℕ) (core : CoreView) : Type 0 where
+  pub alive : core.state.is_dead ≡ false
+  pub history : core.state.history ≡ []
+  pub live : (caller : ℕ) → core.state.live caller ≡ None
+  pub enough : callers ≤ core.limits.callers
+  pub sound : IsTrue tells → IsSound core.state
+  pub past : IsTrue tells → from ≤ core.moment
+  pub safe : IsTrue tells → IsSafe core from 0
+  pub now : IsTrue tells → IsSafe core core.moment 0
+
+-- From the core that was shared to a later one: it has the same limits and the same records at the opening, its media has failed just
+-- where it is dead, and where it tells its records, it continues that one, and the prefix law still holds from that moment on.
+pub record Since (tells : Bool) (from : ℕ) (first core : CoreView) : Type 0 where
+  pub limits : core.limits ≡ first.limits
+  pub base : core.state.base ≡ first.state.base
+  pub opens : (image : List ℕ) (table : Table) → first.opens image table → core.opens image table
+  pub faults : MatchBool core.state.is_dead (Rose first.faults core.faults) (core.faults ≡ first.faults)
+  pub continues : IsTrue tells → Continues first core
+  pub past : IsTrue tells → from ≤ core.moment
+  pub safe : IsTrue tells → IsSafe core from 0
+
+module _ {C : Type 0} where
+  -- A call that got the turn is one step of a core that the shared one has come to. What the pass had seen begins that core's history, and
+  -- its caller's live calls were the pass's; and what the pass knows then is what is so behind the step.
+  pub record Called (tells : Bool) (show : C → CoreView) (was : Known C) (call : Call) (reply : Reply) (now : Known C) : Type 0 where
+    pub setup : Setup C
+    pub old : C
+    pub new : C
+    pub setup_is : was.setup ≡ Some setup
+    pub since : Since tells setup.from (show setup.first) (show old)
+    pub comes : Since tells setup.from (show setup.first) (show new)
+    pub seen : Grows was.seen (show old).state.history
+    pub live : (show old).state.live was.number ≡ was.live
+    pub steps : Steps tells was.number call (show old) (show new) reply
+    pub dead : IsTrue (show old).state.is_dead → (reply ≡ Dead) × (new ≡ old)
+    pub after : now ≡ record was { seen = (show new).state.history; mine = commits_of was.number (show new).state.history; live = (show new).state.live was.number; asked = was.asked ++ call ∷ []; hit = was.hit ++ hits_of call reply }
+
+  -- What these passes know is so of the core that comes back, and what their callers have asked for and met is noted.
+  pub record AreGathered (tells : Bool) (show : C → CoreView) (setup : Setup C) (core : C) (passes : List (PassView C)) : Type 0 where
+    pub notes : ℕ → Notes
+    pub each : AreSo setup (show core).state notes passes
+    pub noted : IsTrue tells → AreNoted (show setup.first).limits setup.callers (show setup.first).state.index (show core).state notes
+
+  -- what a pass has seen is a legal history on the records at the opening
+  abbrev pub IsLegalIn : (C → CoreView) → Known C → Type 0
+  IsLegalIn show known = (setup : Setup C) → known.setup ≡ Some setup → IsLegal (show setup.first).state.base known.seen
+
+  -- the transaction that a pass commits
+  abbrev pub done_of : Known C → ℕ → Done
+  done_of was at = record { caller = was.number; calls = unwrap_or was.live []; at = at }
+
+  -- A commit: the last transaction that the pass has seen then is its caller's, with just its live calls; just that one is new among its
+  -- own; and where the core tells its records, its number was told.
+  pub record HasCommitted (tells : Bool) (was : Known C) (reply : Reply) (now : Known C) : Type 0 where
+    pub before : List Done
+    pub seen : now.seen ≡ before ++ done_of was (length now.seen) ∷ []
+    pub mine : now.mine ≡ was.mine ++ done_of was (length now.seen) ∷ []
+    pub told : IsTrue tells → reply ≡ Committed (length now.seen)
+
+  -- at a commit that is so, and at each other reply the pass's own transactions are the same
+  abbrev pub Commits : Bool → Known C → Reply → Known C → Type 0
+  Commits tells was reply now = MatchBool (is_committed reply) (HasCommitted tells was reply now) (now.mine ≡ was.mine)

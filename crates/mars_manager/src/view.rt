@@ -1,0 +1,34 @@
+// What the rule keeps of a seat. No value of it is made.
+use crate::setup::Setup;
+use history::{Call, Calls, History};
+use std::collections::LinkedList;
+
+/// What a pass knows: its caller's number, how the core was shared, the history that was told at its last turn, the transactions of its
+/// caller in that history, the granted calls of its caller's live transaction, the length of the history when it last looked, the calls
+/// that its caller has made, and those of them that began a transaction or were refused.
+pub struct Known<C> {
+    pub number: u8,
+    pub setup: Option<Setup<C>>,
+    pub seen: History,
+    pub mine: History,
+    pub live: Option<Calls>,
+    pub heard: u64,
+    pub asked: LinkedList<Call>,
+    pub hit: Calls,
+}
+
+/// How far the sharing has come.
+pub enum Stage {
+    /// The slot of the core is empty.
+    Vacant,
+    /// The opener has the first turn, and brings the core.
+    Opening,
+    Shared,
+}
+
+/// The passes that a seat stands for, and the core as it last told of it while it has the turn.
+pub struct View<C> {
+    pub stage: Stage,
+    pub passes: LinkedList<Known<C>>,
+    pub held: Option<C>,
+}
