@@ -3,3 +3,4 @@ pub mod Table
 pub mod Legal
 pub mod Log
 pub mod Locks
+pub mod Rows

@@ -1,5 +1,5 @@
 -- What a transaction has written so far, as a list that a way back cuts.
-use Rattle.std.specs.Prelude.{ℕ, ◌-◌, Bool, if◌then◌else◌, List, [], ◌∷◌, ◌++◌, length, take, drop, slice_index_or, Option, Some, None}
+use Rattle.std.specs.Prelude.{ℕ, ◌-◌, Bool, if◌then◌else◌, List, [], ◌∷◌, ◌++◌, length, take, drop, slice_index_or, Some, None}
 use Rattle.std.specs.List.{fold, list_any}
 use Rattle.history.specs.Writes.{Write, is_of, with_write}
 use Rattle.history.specs.Table.{Granted, has_save}

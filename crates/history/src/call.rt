@@ -5,32 +5,20 @@ use record_slots::Value;
 #[derive(Clone, Copy, Debug, PartialEq, Eq)]
 pub enum Call {
     Begin,
-    Get {
-        key: u64,
-    },
-    Put {
-        key: u64,
-        value: Value,
-    },
-    Del {
-        key: u64,
-    },
+    Get { key: u64 },
+    Put { key: u64, value: Value },
+    Del { key: u64 },
     /// The records from one key to another, both included.
-    Scan {
-        low: u64,
-        high: u64,
-    },
+    Scan { low: u64, high: u64 },
     Save,
     /// Back to a save, which are counted from 1.
-    Back {
-        save: u32,
-    },
+    Back { save: u32 },
     Commit,
     Abort,
 }
 
 /// What a call is answered.
-#[derive(Debug, Drop)]
+#[derive(Debug, PartialEq, Eq, Drop)]
 pub enum Reply {
     /// A begin, a put, the removal of a record that was there, a way back, or an abort was done.
     Fine,

@@ -1,4 +1,5 @@
-ghost use Rattle.std.specs.Prelude.{◌≡◌, [], ◌∷◌, ◌++◌, OnOk, OnErr};
+ghost use Rattle.std.specs.Prelude.{◌≡◌, [], ◌∷◌, ◌++◌, IfOk, OnOk, OnErr};
+ghost use Rattle.history.specs.Rows.{is_same_row, are_same_rows};
 
 use counted::NoMemory;
 use record_slots::Value;
@@ -36,9 +37,60 @@ impl Rows {
         Ok(())
     }
 
+    /// The same records once more.
+    pub fn copy(&self) -> Result<Rows, NoMemory>
+        ensures { IfOk result (λ copy. copy ≡ self.now) }
+    {
+        Ok(Rows {
+            rows: self.rows.clone()?,
+        })
+    }
+
     pub fn as_slice(&self) -> &[(u64, Value)]
         ensures { result.now ≡ self.now }
     {
         &self.rows
     }
+}
+
+impl PartialEq for Rows {
+    ghost use Rattle.std.specs.Prelude.{ℕ, List};
+    ghost use Rattle.std.specs.Cmp.{partial_equiv_from_equiv};
+    ghost use Rattle.std.proofs.lemmas.Cmp.{lists_equiv, and_equiv, on_equiv, nat_eq_equiv, nat_list_eq_equiv};
+    ghost use Rattle.history.specs.Rows.{are_same_rows};
+
+    ghost eq = { are_same_rows };
+
+    ghost laws = { partial_equiv_from_equiv (lists_equiv (and_equiv (on_equiv (λ (row : ℕ × List ℕ). row.0) nat_eq_equiv) (on_equiv (λ (row : ℕ × List ℕ). row.1) nat_list_eq_equiv))) };
+
+    fn eq(&self, other: &Rows) -> bool {
+        are_same(&self.rows, &other.rows)
+    }
+}
+
+impl Eq for Rows {
+    ghost use Rattle.std.specs.Prelude.{ℕ, List};
+    ghost use Rattle.std.proofs.lemmas.Cmp.{lists_equiv, and_equiv, on_equiv, nat_eq_equiv, nat_list_eq_equiv};
+
+    ghost laws = { lists_equiv (and_equiv (on_equiv (λ (row : ℕ × List ℕ). row.0) nat_eq_equiv) (on_equiv (λ (row : ℕ × List ℕ). row.1) nat_list_eq_equiv)) };
+}
+
+fn is_same(one: &(u64, Value), other: &(u64, Value)) -> bool
+    ensures { result ≡ is_same_row one.now other.now }
+{
+    one.0 == other.0 && one.1.as_bytes() == other.1.as_bytes()
+}
+
+fn are_same(one: &[(u64, Value)], other: &[(u64, Value)]) -> bool
+    ensures { result ≡ are_same_rows one.now other.now }
+{
+    if one.len() != other.len() {
+        return false;
+    }
+    for i in 0..one.len() {
+        if !is_same(&one[i], &other[i]) {
+            return false;
+        }
+    }
+    true
 }

@@ -1,5 +1,7 @@
-ghost use Rattle.std.specs.Prelude.{◌≡◌, ◌↔◌, [], ◌∷◌, ◌++◌, length, IsNone, OnOk, OnErr, IfErr};
+ghost use Rattle.std.specs.Prelude.{◌≡◌, ◌↔◌, List, [], ◌∷◌, ◌++◌, length, IsNone, OnOk, OnErr, IfErr};
 ghost use Rattle.std.specs.Option.{option_to_list};
+ghost use Rattle.history.specs.declared.call.Call.{Call};
+ghost use Rattle.history.specs.declared.call.Reply.{Reply};
 
 use crate::{Call, Reply};
 use counted::NoMemory;
@@ -41,6 +43,17 @@ impl Calls {
         }
         self.entries.push((call, reply))?;
         Ok(())
+    }
+
+    /// Gives the last call another reply. Without a call it does nothing.
+    pub fn set_last_reply(&mut self, reply: Reply)
+        ensures last { (front : List (Call × Reply)) (call : Call) (was : Reply) → self.old ≡ front ++ (call, was) ∷ []
+            → self.new ≡ front ++ (call, reply) ∷ [] }
+        ensures empty { self.old ≡ [] → self.new ≡ [] }
+    {
+        if let Some(entry) = self.entries.last_mut() {
+            entry.1 = reply;
+        }
     }
 
     /// Takes the last call off.
