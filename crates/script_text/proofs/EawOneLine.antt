@@ -12,7 +12,7 @@ use Rattle.script_text.proofs.Words.{first_space}
 use Rattle.script_text.proofs.Numbers.{decimal_is_word}
 use Rattle.script_text.proofs.OneLine.{not_passed}
 use Rattle.script_text.proofs.HexTexts.{hex_of_injective}
-use Rattle.script_text.proofs.EawReads.{same_fields}
+use Rattle.script_text.proofs.Fields.{same_fields}
 
 -- the first letter of a text, and twice the fifth
 mark : List ℕ → ℕ

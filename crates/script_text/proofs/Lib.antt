@@ -4,7 +4,7 @@ pub mod Numbers
 pub mod Lines
 pub mod OneLine
 pub mod HexTexts
-pub mod EawReads
+pub mod Fields
 pub mod EawCommands
 pub mod AnswerLemmas
 pub mod EawOneLine

@@ -1,54 +1,82 @@
 -- The text of a caller's call is that of no other, and a line says one thing.
-use Rattle.std.proofs.Common.{◌≡◌, ℕ, zero, suc, length, ◌++◌, ◌<◌, ◌≤◌, ◌^◌, List, [], ◌∷◌, get_or, refl, ap, ◌∙◌, sym, subst, arith}
+use Rattle.std.proofs.Common.{◌≡◌, ℕ, zero, suc, length, ◌+◌, ◌*◌, ◌++◌, ◌<◌, ◌≤◌, ◌^◌, List, [], ◌∷◌, get_or, refl, ap, ◌∙◌, sym, subst, arith}
 use Rattle.std.specs.Prelude.{codes}
 use Rattle.std.specs.Fmt.{decimal}
 use Rattle.std.proofs.lemmas.Fmt.{decimal_injective, decimal_digit, decimal_nonempty, first_decimal}
 use Rattle.std.proofs.lemmas.List.{append_cancel_left, get_or_append_left, length-append}
 use Rattle.history.specs.declared.call.Call.{Call}
-use Rattle.history.specs.declared.call.Call.TheVariants.{Begin, Get, Put, Commit}
+use Rattle.history.specs.declared.call.Call.TheVariants.{Begin, Get, Put, Del, Scan, Save, Back, Commit, Abort}
 use Rattle.script_text.specs.Line.{IsCallText, IsCallLine, IsPassedOver, Says}
 use Rattle.script_text.specs.declared.line.Line.{Line}
 use Rattle.script_text.specs.declared.line.Line.TheVariants.{Nothing, Told, Bad}
 use Rattle.script_text.proofs.Words.{first_space}
 use Rattle.script_text.proofs.Numbers.{decimal_is_word}
+use Rattle.script_text.proofs.Fields.{same_long_fields}
 
--- the first letter tells the verb
-letter : Call → ℕ
-letter Begin = 98
-letter (Get key) = 103
-letter (Put key value) = 112
-letter Commit = 99
+-- twice the first letter of a text, and the second
+mark : List ℕ → ℕ
+mark text = 2 * get_or text 0 0 + get_or text 1 0
 
-first_letter : (keys : ℕ) (call : Call) (text : List ℕ) → IsCallText keys call text → get_or text 0 0 ≡ letter call
-unfolding letter
-first_letter keys Begin text is = ap (λ (t : List ℕ). get_or t 0 0) is
-first_letter keys (Get key) text is = ap (λ (t : List ℕ). get_or t 0 0) is.1
-first_letter keys (Put key value) text is = ap (λ (t : List ℕ). get_or t 0 0) is.2
-first_letter keys Commit text is = ap (λ (t : List ℕ). get_or t 0 0) is
+-- they tell the verb
+letters : Call → ℕ
+letters Begin = 297
+letters (Get key) = 307
+letters (Put key value) = 341
+letters (Del key) = 301
+letters (Scan low high) = 329
+letters Save = 327
+letters (Back save) = 293
+letters Commit = 309
+letters Abort = 292
 
-same_letter : (keys : ℕ) (call other : Call) (text : List ℕ) → IsCallText keys call text → IsCallText keys other text → letter call ≡ letter other
-same_letter keys call other text is js = sym (first_letter keys call text is) ∙ first_letter keys other text js
+mark_of : (call : Call) (text : List ℕ) → IsCallText call text → mark text ≡ letters call
+unfolding mark letters
+mark_of Begin text is = ap mark is
+mark_of (Get key) text is = ap mark is.1
+mark_of (Put key value) text is = ap mark is.2
+mark_of (Del key) text is = ap mark is.1
+mark_of (Scan low high) text is = ap mark is.2
+mark_of Save text is = ap mark is
+mark_of (Back save) text is = ap mark is.1
+mark_of Commit text is = ap mark is
+mark_of Abort text is = ap mark is
 
-same_call : (keys : ℕ) (call other : Call) (text : List ℕ) → keys ≤ 2 ^ 64 → IsCallText keys call text → IsCallText keys other text → call ≡ other
-unfolding letter
-same_call keys Begin Begin text most is js = refl
-same_call keys (Get k) (Get l) text most is js = ap Get (decimal_injective k l (omega (arith, is.0)) (omega (arith, js.0)) (append_cancel_left (codes "get ") _ _ (sym is.1 ∙ js.1)))
-same_call keys (Put k v) (Put l w) text most is js =
-    let kf : k < 2 ^ 64 = omega (arith, is.0) in
-    let lf : l < 2 ^ 64 = omega (arith, js.0) in
-    let both = first_space (decimal k) (decimal l) v w (decimal_is_word k kf) (decimal_is_word l lf) (append_cancel_left (codes "put ") _ _ (sym is.2 ∙ js.2)) in
-    let key : k ≡ l = decimal_injective k l kf lf both.0 in
-    ap (λ (p : ℕ × List ℕ). Put p.0 p.1) (λ i. (key i, both.1 i))
-same_call keys Commit Commit text most is js = refl
-same_call keys call other text most is js = absurd (let h : letter call ≡ letter other = same_letter keys call other text is js in omega (arith, h))
+same_letters : (call other : Call) (text : List ℕ) → IsCallText call text → IsCallText other text → letters call ≡ letters other
+same_letters call other text is js = sym (mark_of call text is) ∙ mark_of other text js
 
-pub same_line : (callers keys c d : ℕ) (call other : Call) (line : List ℕ) → callers ≤ 2 ^ 64 → keys ≤ 2 ^ 64 → IsCallLine callers keys c call line → IsCallLine callers keys d other line
+-- a front and a number
+same_key : (front text : List ℕ) (k l : ℕ) → k < 2 ^ 64 → l < 2 ^ 64 → text ≡ front ++ decimal k → text ≡ front ++ decimal l → k ≡ l
+same_key front text k l kf lf is js = decimal_injective k l kf lf (append_cancel_left front _ _ (sym is ∙ js))
+
+-- a front, a number, a space and a rest
+same_pair : (front text v w : List ℕ) (k l : ℕ) → k < 2 ^ 64 → l < 2 ^ 64 → text ≡ front ++ (decimal k ++ 32 ∷ v) → text ≡ front ++ (decimal l ++ 32 ∷ w) → (k ≡ l) × (v ≡ w)
+same_pair front text v w k l kf lf is js = same_long_fields _ v w k l kf lf refl (append_cancel_left front _ _ (sym is ∙ js))
+
+same_call : (call other : Call) (text : List ℕ) → IsCallText call text → IsCallText other text → call ≡ other
+unfolding letters
+same_call Begin Begin text is js = refl
+same_call (Get k) (Get l) text is js = ap Get (same_key (codes "get ") text k l is.0 js.0 is.1 js.1)
+same_call (Put k v) (Put l w) text is js =
+    let both = same_pair (codes "put ") text v w k l is.0 js.0 is.2 js.2 in
+    ap (λ (p : ℕ × List ℕ). Put p.0 p.1) (λ i. (both.0 i, both.1 i))
+same_call (Del k) (Del l) text is js = ap Del (same_key (codes "del ") text k l is.0 js.0 is.1 js.1)
+same_call (Scan k m) (Scan l n) text is js =
+    let both = same_pair (codes "scan ") text (decimal m) (decimal n) k l is.0 js.0 is.2 js.2 in
+    let high = decimal_injective m n is.1 js.1 both.1 in
+    ap (λ (p : ℕ × ℕ). Scan p.0 p.1) (λ i. (both.0 i, high i))
+same_call Save Save text is js = refl
+same_call (Back m) (Back n) text is js = ap Back (same_key (codes "back ") text m n (omega (arith, is.0)) (omega (arith, js.0)) is.1 js.1)
+same_call Commit Commit text is js = refl
+same_call Abort Abort text is js = refl
+same_call call other text is js = absurd (let h : letters call ≡ letters other = same_letters call other text is js in omega (arith, h))
+
+pub same_line : (callers c d : ℕ) (call other : Call) (line : List ℕ) → callers ≤ 2 ^ 64 → IsCallLine callers c call line → IsCallLine callers d other line
     → (c ≡ d) × (call ≡ other)
-same_line callers keys c d call other line few most is js =
+same_line callers c d call other line few is js =
     let cf : c < 2 ^ 64 = omega (arith, few, is.0) in
     let df : d < 2 ^ 64 = omega (arith, few, js.0) in
     let both = first_space (decimal c) (decimal d) is.1 js.1 (decimal_is_word c cf) (decimal_is_word d df) (sym is.3 ∙ js.3) in
-    (decimal_injective c d cf df both.0, same_call keys call other is.1 most is.2 (subst (IsCallText keys other) (sym both.1) js.2))
+    (decimal_injective c d cf df both.0, same_call call other is.1 is.2 (subst (IsCallText other) (sym both.1) js.2))
 
 pub first_digit : (n : ℕ) → n < 2 ^ 64 → 48 ≤ get_or (decimal n) 0 0
 first_digit zero fits = omega (arith, ap (λ (l : List ℕ). get_or l 0 0) (decimal_digit 0 (omega arith)))
@@ -63,15 +91,15 @@ not_passed c text (byte ∷ bytes) cf e over =
     omega (arith, over, head, digit, first_digit c cf)
 
 -- no two of the three cases hold of one line
-pub same_told : (callers keys : ℕ) (bytes : List ℕ) (line other : Line) → callers ≤ 2 ^ 64 → keys ≤ 2 ^ 64 → Says callers keys bytes line → Says callers keys bytes other → line ≡ other
-same_told callers keys bytes Nothing Nothing few most is js = refl
-same_told callers keys bytes Nothing (Told c call) few most is js = absurd (not_passed c js.1 bytes (omega (arith, js.0)) js.3 is)
-same_told callers keys bytes Nothing Bad few most is js = absurd (js.0 is)
-same_told callers keys bytes (Told c call) Nothing few most is js = absurd (not_passed c is.1 bytes (omega (arith, is.0)) is.3 js)
-same_told callers keys bytes (Told c call) (Told d other) few most is js =
-    let both = same_line callers keys c d call other bytes few most is js in
+pub same_told : (callers : ℕ) (bytes : List ℕ) (line other : Line) → callers ≤ 2 ^ 64 → Says callers bytes line → Says callers bytes other → line ≡ other
+same_told callers bytes Nothing Nothing few is js = refl
+same_told callers bytes Nothing (Told c call) few is js = absurd (not_passed c js.1 bytes (omega (arith, js.0)) js.3 is)
+same_told callers bytes Nothing Bad few is js = absurd (js.0 is)
+same_told callers bytes (Told c call) Nothing few is js = absurd (not_passed c is.1 bytes (omega (arith, is.0)) is.3 js)
+same_told callers bytes (Told c call) (Told d other) few is js =
+    let both = same_line callers c d call other bytes few is js in
     ap (λ (t : ℕ × Call). Told t.0 t.1) (λ i. (both.0 i, both.1 i))
-same_told callers keys bytes (Told c call) Bad few most is js = absurd (js.1 c call is)
-same_told callers keys bytes Bad Nothing few most is js = absurd (is.0 js)
-same_told callers keys bytes Bad (Told c call) few most is js = absurd (is.1 c call js)
-same_told callers keys bytes Bad Bad few most is js = refl
+same_told callers bytes (Told c call) Bad few is js = absurd (js.1 c call is)
+same_told callers bytes Bad Nothing few is js = absurd (is.0 js)
+same_told callers bytes Bad (Told c call) few is js = absurd (is.1 c call js)
+same_told callers bytes Bad Bad few is js = refl

@@ -30,6 +30,7 @@ reply_text (Damaged page) = codes "damaged " ++ decimal page
 abbrev pub told_line : ℕ → List ℕ → List ℕ
 told_line caller words = decimal caller ++ 32 ∷ words ++ 10 ∷ []
 
+-- a line of a row: its key and its value
 abbrev pub row_line : ℕ → ℕ × List ℕ → List ℕ
 row_line caller row = told_line caller (codes "row " ++ decimal row.0 ++ 32 ∷ row.1)
 

@@ -8,8 +8,8 @@ ghost use Rattle.script_text.specs.EawLines.{ShowsCall};
 
 use crate::hex_text::is_hex;
 use crate::lent::BLOCK;
-use crate::number::read_below;
-use crate::word::{after, is_text, split_word};
+use crate::number::{read_below, read_u32_after, split_u32};
+use crate::word::{after, is_text};
 
 /// A raw command. What is to be written stands as hexadecimal text, as in the line.
 #[derive(Clone, Copy, Debug, PartialEq, Eq)]
@@ -54,13 +54,13 @@ pub fn read_eaw_call(bytes: &[u8]) -> Option<EawCall<'_>>
     if let Some((pos, at, hex)) = read_edit(bytes) {
         return Some(EawCall::EditLog { pos, at, hex });
     }
-    if let Some(offset) = read_number_after(bytes, b"nested ") {
+    if let Some(offset) = read_u32_after(bytes, b"nested ") {
         return Some(EawCall::Nested { offset });
     }
-    if let Some(offset) = read_number_after(bytes, b"partial ") {
+    if let Some(offset) = read_u32_after(bytes, b"partial ") {
         return Some(EawCall::Partial { offset });
     }
-    if let Some(pos) = read_number_after(bytes, b"readlog ") {
+    if let Some(pos) = read_u32_after(bytes, b"readlog ") {
         return Some(EawCall::ReadLog { pos });
     }
     if let Some((addr, len)) = read_range(bytes) {
@@ -70,35 +70,11 @@ pub fn read_eaw_call(bytes: &[u8]) -> Option<EawCall<'_>>
     Some(EawCall::Held { logger })
 }
 
-fn read_number(bytes: &[u8]) -> Option<u32>
-    ensures { Reads (λ n. n < 2 ^ 32) decimal bytes.now result }
-{
-    let n = read_below(bytes, 1 << 32)?;
-    Some(n as u32)
-}
-
-// A front, a number.
-fn read_number_after(bytes: &[u8], front: &[u8]) -> Option<u32>
-    ensures { Reads (λ n. n < 2 ^ 32) (λ n. front.now ++ decimal n) bytes.now result }
-{
-    let rest = after(bytes, front)?;
-    read_number(rest)
-}
-
-// A number, a space, and what stands behind it.
-fn split_number(bytes: &[u8]) -> Option<(u32, &[u8])>
-    ensures { Reads (λ p. p.0 < 2 ^ 32) (λ p. decimal p.0 ++ 32 ∷ p.1) bytes.now (option_map place_and_bytes result) }
-{
-    let (word, rest) = split_word(bytes)?;
-    let n = read_number(word)?;
-    Some((n, rest))
-}
-
 // A number, a space, a text in hexadecimal.
 fn read_place_and_hex(bytes: &[u8]) -> Option<(u32, &[u8])>
     ensures { Reads (λ p. (p.0 < 2 ^ 32) × IsHex p.1) (λ p. decimal p.0 ++ 32 ∷ p.1) bytes.now (option_map place_and_bytes result) }
 {
-    let (n, hex) = split_number(bytes)?;
+    let (n, hex) = split_u32(bytes)?;
     if is_hex(hex) { Some((n, hex)) } else { None }
 }
 
@@ -117,7 +93,7 @@ fn read_edit(bytes: &[u8]) -> Option<(u32, u32, &[u8])>
         bytes.now (option_map edit_and_bytes result) }
 {
     let rest = after(bytes, b"editlog ")?;
-    let (pos, rest) = split_number(rest)?;
+    let (pos, rest) = split_u32(rest)?;
     let (at, hex) = read_place_and_hex(rest)?;
     Some((pos, at, hex))
 }
@@ -127,7 +103,7 @@ fn read_range(bytes: &[u8]) -> Option<(u32, u32)>
     ensures { Reads (λ p. (p.0 < 2 ^ 32) × (1 ≤ p.1) × (p.1 ≤ 1024)) (λ p. codes "read " ++ (decimal p.0 ++ 32 ∷ decimal p.1)) bytes.now result }
 {
     let rest = after(bytes, b"read ")?;
-    let (addr, rest) = split_number(rest)?;
+    let (addr, rest) = split_u32(rest)?;
     let len = read_below(rest, BLOCK as u64 + 1)?;
     if len == 0 {
         return None;

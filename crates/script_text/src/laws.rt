@@ -8,10 +8,10 @@ ghost use Rattle.script_text.specs.EawLines.{Meaning, Means};
 
 /// No line is the text of two callers' calls, so a line says one thing.
 pub fn one_line()
-    ensures text { (callers keys c d : ℕ) (call other : Call) (line : List ℕ) → callers ≤ 2 ^ 64 → keys ≤ 2 ^ 64
-        → IsCallLine callers keys c call line → IsCallLine callers keys d other line → (c ≡ d) × (call ≡ other) }
-    ensures says { (callers keys : ℕ) (bytes : List ℕ) (line other : Line) → callers ≤ 2 ^ 64 → keys ≤ 2 ^ 64
-        → Says callers keys bytes line → Says callers keys bytes other → line ≡ other }
+    ensures text { (callers c d : ℕ) (call other : Call) (line : List ℕ) → callers ≤ 2 ^ 64
+        → IsCallLine callers c call line → IsCallLine callers d other line → (c ≡ d) × (call ≡ other) }
+    ensures says { (callers : ℕ) (bytes : List ℕ) (line other : Line) → callers ≤ 2 ^ 64
+        → Says callers bytes line → Says callers bytes other → line ≡ other }
 {}
 
 /// No line is the text of two numbers' raw commands, so such a line means one thing.

@@ -15,9 +15,9 @@ pub enum Line {
     Bad,
 }
 
-/// Reads a line, without its newline, where there are `callers` callers and the keys lie below `keys`.
-pub fn read_line(bytes: &[u8], callers: u8, keys: u64) -> Line
-    ensures { Says callers keys bytes.now result }
+/// Reads a line, without its newline, where there are `callers` callers.
+pub fn read_line(bytes: &[u8], callers: u8) -> Line
+    ensures { Says callers bytes.now result }
 {
     if bytes.is_empty() {
         return Line::Nothing;
@@ -25,17 +25,17 @@ pub fn read_line(bytes: &[u8], callers: u8, keys: u64) -> Line
     if bytes[0] == b'#' {
         return Line::Nothing;
     }
-    match read_told(bytes, callers, keys) {
+    match read_told(bytes, callers) {
         Some((caller, call)) => Line::Told { caller, call },
         None => Line::Bad,
     }
 }
 
-fn read_told(bytes: &[u8], callers: u8, keys: u64) -> Option<(u8, Call)>
-    ensures { ReadsText (λ t. IsCallLine callers keys t.0 t.1) bytes.now result }
+fn read_told(bytes: &[u8], callers: u8) -> Option<(u8, Call)>
+    ensures { ReadsText (λ t. IsCallLine callers t.0 t.1) bytes.now result }
 {
     let (word, rest) = split_word(bytes)?;
     let caller = read_below(word, u64::from(callers))?;
-    let call = read_call(rest, keys)?;
+    let call = read_call(rest)?;
     Some((caller as u8, call))
 }

@@ -1,18 +1,13 @@
-ghost use Rattle.std.specs.Prelude.{◌≡◌, ◌^◌, ◌<◌};
+ghost use Rattle.std.specs.Prelude.{◌≡◌, ◌^◌, ◌<◌, ◌∷◌, ◌++◌};
 ghost use Rattle.std.specs.Fmt.{decimal};
-ghost use Rattle.std.specs.Option.{SomeIff};
 ghost use Rattle.std.specs.Str.Parse.{AllDigits, digits_value};
-ghost use Rattle.script_text.specs.Reads.{Reads};
+ghost use Rattle.std.specs.Option.{SomeIff, option_map};
+ghost use Rattle.script_text.specs.Reads.{Reads, place_and_bytes};
 
-/// A number below `limit`, in decimal, without a sign and without a leading zero.
-pub fn read_below(bytes: &[u8], limit: u64) -> Option<u64>
-    ensures { Reads (λ n. n < limit) decimal bytes.now result }
-{
-    let n = read_number(bytes)?;
-    if n < limit { Some(n) } else { None }
-}
+use crate::word::{after, split_word};
 
-fn read_number(bytes: &[u8]) -> Option<u64>
+/// A number of 64 bits, in decimal, without a sign and without a leading zero.
+pub fn read_u64(bytes: &[u8]) -> Option<u64>
     ensures { Reads (λ n. n < 2 ^ 64) decimal bytes.now result }
 {
     if bytes.is_empty() {
@@ -22,6 +17,56 @@ fn read_number(bytes: &[u8]) -> Option<u64>
         return None;
     }
     read_digits(bytes)
+}
+
+/// The same, below `limit`.
+pub fn read_below(bytes: &[u8], limit: u64) -> Option<u64>
+    ensures { Reads (λ n. n < limit) decimal bytes.now result }
+{
+    let n = read_u64(bytes)?;
+    if n < limit { Some(n) } else { None }
+}
+
+/// The same, of 32 bits.
+pub fn read_u32(bytes: &[u8]) -> Option<u32>
+    ensures { Reads (λ n. n < 2 ^ 32) decimal bytes.now result }
+{
+    let n = read_below(bytes, 1 << 32)?;
+    Some(n as u32)
+}
+
+/// A front, a number of 64 bits.
+pub fn read_u64_after(bytes: &[u8], front: &[u8]) -> Option<u64>
+    ensures { Reads (λ n. n < 2 ^ 64) (λ n. front.now ++ decimal n) bytes.now result }
+{
+    let rest = after(bytes, front)?;
+    read_u64(rest)
+}
+
+/// A front, a number of 32 bits.
+pub fn read_u32_after(bytes: &[u8], front: &[u8]) -> Option<u32>
+    ensures { Reads (λ n. n < 2 ^ 32) (λ n. front.now ++ decimal n) bytes.now result }
+{
+    let rest = after(bytes, front)?;
+    read_u32(rest)
+}
+
+/// A number of 64 bits, a space, and what stands behind it.
+pub fn split_u64(bytes: &[u8]) -> Option<(u64, &[u8])>
+    ensures { Reads (λ p. p.0 < 2 ^ 64) (λ p. decimal p.0 ++ 32 ∷ p.1) bytes.now (option_map place_and_bytes result) }
+{
+    let (word, rest) = split_word(bytes)?;
+    let n = read_u64(word)?;
+    Some((n, rest))
+}
+
+/// A number of 32 bits, a space, and what stands behind it.
+pub fn split_u32(bytes: &[u8]) -> Option<(u32, &[u8])>
+    ensures { Reads (λ p. p.0 < 2 ^ 32) (λ p. decimal p.0 ++ 32 ∷ p.1) bytes.now (option_map place_and_bytes result) }
+{
+    let (word, rest) = split_word(bytes)?;
+    let n = read_u32(word)?;
+    Some((n, rest))
 }
 
 // The number of a list of digits.

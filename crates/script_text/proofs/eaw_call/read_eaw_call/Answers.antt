@@ -32,9 +32,9 @@ returns-in_err-logger c = rw c.from_residual.ensures (no_command c.args.bytes.no
   log_write = c.in_default.ensures;
   atomic = c.in_default-read_write.ensures;
   edit_log = c.in_default-read_edit.ensures;
-  nested = c.in_default-read_number_after.ensures;
-  partial = c.in_default-read_number_after-2.ensures;
-  read_log = c.in_default-read_number_after-3.ensures;
+  nested = c.in_default-read_u32_after.ensures;
+  partial = c.in_default-read_u32_after-2.ensures;
+  read_log = c.in_default-read_u32_after-3.ensures;
   read = c.in_default-read_range.ensures;
   held = c.in_err-logger.ensures;
 }))

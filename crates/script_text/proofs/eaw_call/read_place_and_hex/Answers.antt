@@ -1,6 +1,6 @@
 use Rattle.std.proofs.Common.{sym, subst}
 use Rattle.script_text.specs.HexText.{IsHex}
-use Rattle.script_text.proofs.EawReads.{same_fields}
+use Rattle.script_text.proofs.Fields.{same_fields}
 use Rattle.script_text.proofs.eaw_call.read_place_and_hex.Goals as goal
 
 pub returns-else-is_hex : goal.returns-else-is_hex

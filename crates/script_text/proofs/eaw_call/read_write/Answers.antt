@@ -1,7 +1,7 @@
 use Rattle.std.proofs.Common.{ℕ, List, ◌<◌, ◌^◌, ◌++◌, ◌∷◌}
 use Rattle.std.specs.Fmt.{decimal}
 use Rattle.script_text.specs.HexText.{IsHex}
-use Rattle.script_text.proofs.EawReads.{reads_behind}
+use Rattle.script_text.proofs.Fields.{reads_behind}
 use Rattle.script_text.proofs.eaw_call.read_write.Goals as goal
 
 pub returns : goal.returns

@@ -17,7 +17,7 @@ returns-in_err-caller c = rw c.from_residual-in_err-caller.ensures (λ t is.
 pub returns-in_err-call : goal.returns-in_err-call
 returns-in_err-call c = rw c.from_residual-in_err-call.ensures (λ t is.
     let both = fields c.args.bytes.now _ _ t.0 c.args.callers is.1 (omega arith) c.in_ok-word.ensures.0 c.in_ok-word.ensures.1 is.0 is.3 in
-    c.in_err-call.ensures t.1 (text_behind c.args.keys t.1 _ _ both.1 is.2))
+    c.in_err-call.ensures t.1 (text_behind t.1 _ _ both.1 is.2))
 
 pub returns : goal.returns
 returns c =

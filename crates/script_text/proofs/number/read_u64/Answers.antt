@@ -1,8 +1,8 @@
 use Rattle.std.proofs.Common.{arith, sym, eqb-true}
 use Rattle.std.proofs.lemmas.Bool.{eqb-false}
 use Rattle.script_text.proofs.Numbers.{empty_is_none, leading_zero_is_none, number_or_none}
-use Rattle.script_text.proofs.number.read_number.Goals as goal
-use Rattle.script_text.proofs.number.read_number.Goals.{else-bytes-gt1-via-then-bytes-gt1+else-bytes-eq48, else-bytes-gt1-via-else-bytes-gt1}
+use Rattle.script_text.proofs.number.read_u64.Goals as goal
+use Rattle.script_text.proofs.number.read_u64.Goals.{else-bytes-gt1-via-then-bytes-gt1+else-bytes-eq48, else-bytes-gt1-via-else-bytes-gt1}
 
 pub returns-then-is_empty : goal.returns-then-is_empty
 returns-then-is_empty c = λ n fits is. empty_is_none c.args.bytes.now n (eqb-true _ _ (sym c.if-is_empty.ensures)) fits is

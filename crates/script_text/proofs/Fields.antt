@@ -1,4 +1,4 @@
--- Readers of the parts of raw commands.
+-- Readers of the parts of calls and raw commands.
 use Rattle.std.proofs.Common.{◌≡◌, ℕ, ◌^◌, ◌<◌, List, ◌∷◌, ◌++◌, Option, Some, None, sym, ap, ◌∙◌, arith}
 use Rattle.std.specs.Fmt.{decimal}
 use Rattle.std.proofs.lemmas.Fmt.{decimal_injective}
@@ -18,7 +18,11 @@ reads_behind IsOne text front bytes rest None split says = λ x is e. says x is 
 reads_behind IsOne text front bytes rest (Some x) split says = (says.0, split ∙ ap (λ r. front ++ r) says.1)
 
 -- a number, a space and a rest are those of one text
+pub same_long_fields : (bytes rest tail : List ℕ) (m n : ℕ) → m < 2 ^ 64 → n < 2 ^ 64 → bytes ≡ decimal m ++ 32 ∷ rest → bytes ≡ decimal n ++ 32 ∷ tail → (m ≡ n) × (rest ≡ tail)
+same_long_fields bytes rest tail m n mf nf is other =
+    let both = first_space (decimal m) (decimal n) rest tail (decimal_is_word m mf) (decimal_is_word n nf) (sym is ∙ other) in
+    (decimal_injective m n mf nf both.0, both.1)
+
+-- the same of numbers of 32 bits
 pub same_fields : (bytes rest tail : List ℕ) (m n : ℕ) → m < 2 ^ 32 → n < 2 ^ 32 → bytes ≡ decimal m ++ 32 ∷ rest → bytes ≡ decimal n ++ 32 ∷ tail → (m ≡ n) × (rest ≡ tail)
-same_fields bytes rest tail m n mf nf is other =
-    let both = first_space (decimal m) (decimal n) rest tail (decimal_is_word m (omega arith)) (decimal_is_word n (omega arith)) (sym is ∙ other) in
-    (decimal_injective m n (omega arith) (omega arith) both.0, both.1)
+same_fields bytes rest tail m n mf nf is other = same_long_fields bytes rest tail m n (omega arith) (omega arith) is other

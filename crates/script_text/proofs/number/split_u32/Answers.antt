@@ -2,7 +2,7 @@ use Rattle.std.proofs.Common.{arith}
 use Rattle.std.specs.Fmt.{decimal}
 use Rattle.script_text.proofs.Words.{no_space}
 use Rattle.script_text.proofs.Numbers.{fields}
-use Rattle.script_text.proofs.eaw_call.split_number.Goals as goal
+use Rattle.script_text.proofs.number.split_u32.Goals as goal
 
 pub returns-in_err-word : goal.returns-in_err-word
 returns-in_err-word c = rw c.from_residual.ensures (λ p is e. no_space c.args.bytes.now (decimal p.0) p.1 c.in_err-word.ensures e)
