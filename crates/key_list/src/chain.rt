@@ -45,7 +45,7 @@ impl KeyIndex for KeyList {
 
     ghost counts = { sound_chain_counts };
 
-    ghost rests = { sound_chain_rests };
+    ghost rests = { λ old new sound keeps. ((sound_chain_rests old new sound keeps).0, (sound_chain_rests old new sound keeps).1, λ i. 0) };
 
     ghost excluded = { damaged_chain_is_not_sound };
 

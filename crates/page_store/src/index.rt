@@ -76,7 +76,7 @@ pub trait KeyIndex {
     ghost counts: { (bytes : List ℕ) → index.sound bytes → HasCounts bytes };
 
     /// What is written into slots, with their keys, leaves the index as it is.
-    ghost rests: { (old new : List ℕ) → index.sound old → KeepsIndex old new → index.sound new × (index.pairs new ≡ index.pairs old) };
+    ghost rests: { (old new : List ℕ) → index.sound old → KeepsIndex old new → index.sound new × (index.pairs new ≡ index.pairs old) × (index.level new ≡ index.level old) };
 
     /// No page of sound data fails.
     ghost excluded: { (bytes : List ℕ) (page : ℕ) → index.fails bytes page → index.sound bytes → ⊥ };

@@ -143,24 +143,30 @@ module _ (tells : Bool) (Opens : List ℕ → List ℕ → Type 0) (index : Inde
       full = subst (λ (s : Shape). s.entries < h + n) moved.shape short.full;
     }
 
+-- it is not that of too few pages
+abbrev pub HasPages : TableFault → Type 0
+HasPages (PagesFull n) = ⊥
+HasPages _ = Unit {0}
+
 -- a refusal that leaves the index as it was
-inserted_same : (T : Type 0) (key : ℕ) (old new : Keys) (f : TableFault) → new ≡ old → (let r : Result T TableFault = Err f in table.Inserted key old new r)
-inserted_same T key old new f same = subst (λ (k : Keys). (let r : Result T TableFault = Err f in table.Inserted key old k r)) (sym same) (go f)
+inserted_same : (T : Type 0) (key : ℕ) (old new : Keys) (f : TableFault) → HasPages f → new ≡ old → (let r : Result T TableFault = Err f in table.Inserted key old new r)
+inserted_same T key old new f has same = subst (λ (k : Keys). (let r : Result T TableFault = Err f in table.Inserted key old k r)) (sym same) (go f has)
   where
     takes : TakesPages old old
-    takes = record { later = omega arith; few = omega arith }
+    takes = record { later = omega arith; few = omega arith; levels = omega arith }
 
-    go : (f : TableFault) → (let r : Result T TableFault = Err f in table.Inserted key old old r)
-    go (LogFull g h n) = (takes, inl (record { pairs = refl; slots = refl }))
-    go _ = (takes, record { pairs = refl; slots = refl })
+    go : (f : TableFault) → HasPages f → (let r : Result T TableFault = Err f in table.Inserted key old old r)
+    go (LogFull g h n) has = (takes, inl (record { pairs = refl; slots = refl }))
+    go (PagesFull n) has = absurd has
+    go _ has = (takes, record { pairs = refl; slots = refl })
 
-indexed_at : (T : Type 0) (key : ℕ) (o : Option ℕ) (old new : Keys) (f : TableFault) → new ≡ old → (let r : Result T TableFault = Err f in table.IndexedAt key o old new r)
-indexed_at T key None old new f same = inserted_same T key old new f same
-indexed_at T key (Some slot) old new f same = same
+indexed_at : (T : Type 0) (key : ℕ) (o : Option ℕ) (old new : Keys) (f : TableFault) → HasPages f → new ≡ old → (let r : Result T TableFault = Err f in table.IndexedAt key o old new r)
+indexed_at T key None old new f has same = inserted_same T key old new f has same
+indexed_at T key (Some slot) old new f has same = same
 
-pub indexed_same : (T : Type 0) (c : TableCommand) (old new : Keys) (f : TableFault) → new ≡ old → (let r : Result T TableFault = Err f in Indexed c old new r)
-indexed_same T (put t key value) old new f same = indexed_at T key (found old.pairs key) old new f same
-indexed_same T _ old new f same = same
+pub indexed_same : (T : Type 0) (c : TableCommand) (old new : Keys) (f : TableFault) → HasPages f → new ≡ old → (let r : Result T TableFault = Err f in Indexed c old new r)
+indexed_same T (put t key value) old new f has same = indexed_at T key (found old.pairs key) old new f has same
+indexed_same T _ old new f has same = same
 
 module _ (tells : Bool) (Opens : List ℕ → List ℕ → Type 0) (index : Index) (c : TableCommand) (old new : PagesView) (holds : Holds tells index old) where
   -- a look leaves the index as it was
@@ -181,7 +187,7 @@ module _ (tells : Bool) (Opens : List ℕ → List ℕ → Type 0) (index : Inde
   look_refused T U (page.Damaged bad) sought cause looks dead =
       let moved = moved_by_look tells Opens index (number_of c) old new cause.0 (holds cause.0) looks in
       let r : Result T TableFault = Err (Damaged bad) in (
-        does_moved tells Opens index c old new r cause.0 refl moved (cause.0, sought, cause.1) (λ told. tt) (λ told. indexed_same T c _ _ (Damaged bad) (look_keys cause.0 looks told)) tt,
+        does_moved tells Opens index c old new r cause.0 refl moved (cause.0, sought, cause.1) (λ told. tt) (λ told. indexed_same T c _ _ (Damaged bad) tt (look_keys cause.0 looks told)) tt,
         holds_moved cause.0 moved,
       )
   look_refused T U (page.LogFull g h n) sought cause looks dead = absurd cause

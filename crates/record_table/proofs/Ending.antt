@@ -119,7 +119,7 @@ module _ (tells : Bool) (Opens : List ℕ → List ℕ → Type 0) (index : Inde
           dies = λ failed. absurd (false≢true failed);
           done = λ told. tt;
           refused = λ told _. refl;
-          indexed = λ told _ _. indexed_same T c _ _ SavesFull refl;
+          indexed = λ told _ _. indexed_same T c _ _ SavesFull tt refl;
           saves = tt;
           same_saves = refl;
           others = λ u ne. (refl, refl);
@@ -195,7 +195,7 @@ module _ (tells : Bool) (index : Index) (laws : Laws index) (old : PagesView) (r
         sound = λ told. (w told).sound;
         parts = λ told. parts_commit index laws (pages.state_of old) t (rests.tied told).sound (rests.tied told).parts;
         shown = λ told. shown_commit index laws (pages.state_of old) t (rests.tied told).sound ((rests.tied told).parts t);
-        keys = λ told i. record { pairs = (w told).pairs i; next_slot = (w told).slots i; next_page = (w told).pages i };
+        keys = λ told i. record { pairs = (w told).pairs i; next_slot = (w told).slots i; next_page = (w told).pages i; level = (w told).level i };
         indexed = λ a b r same. same;
         saves = ap length (with_here old.counts t []);
         other_saves = λ u ne. with_there old.counts t [] u ne;

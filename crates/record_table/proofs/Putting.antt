@@ -164,7 +164,7 @@ filter_short f (x ∷ xs) = go (f x) (filter_short f xs)
 
 -- what an insertion makes of the keys, from before a look that went ahead
 takes_of : (index : Index) (d e : List ℕ) (k : Keys) → keys_of index d ≡ k → Grows index d e → TakesPages k (keys_of index e)
-takes_of index d e k same grows = subst (λ (a : Keys). TakesPages a (keys_of index e)) same (record { later = grows.later; few = grows.few })
+takes_of index d e k same grows = subst (λ (a : Keys). TakesPages a (keys_of index e)) same (record { later = grows.later; few = grows.few; levels = grows.levels })
 
 gains_of : (index : Index) (key : ℕ) (d e : List ℕ) (k : Keys) → keys_of index d ≡ k → Gains index key d e → GainsKey key k (keys_of index e)
 gains_of index key d e k same gains = subst (λ (a : Keys). GainsKey key a (keys_of index e)) same (record { pairs = gains.pairs; slots = gains.slots })
@@ -274,7 +274,7 @@ module _ (tells : Bool) (Opens : List ℕ → List ℕ → Type 0) (index : Inde
         let r : Result (Unit {0}) TableFault = Err (PagesFull n) in (
           does_moved tells Opens index (put t key value) old far r alive refl moved
               (alive, tt, inserts.cause.1 ∙ ap (λ (s : Shape). index_pages_of s - 1) first.shape, λ told. (absent told, comes_pages old.store mid.store t first.shape same_ranges index key (same_bytes told) (inserts.cause.2 told)))
-              (λ told. tt) (λ told. let made = inserts.made told mid_lives in at_none (PagesFull n) told (kept_keys told made.0 made.1)) tt,
+              (λ told. tt) (λ told. let made = inserts.made told mid_lives in let k = kept_keys told made.0 made.1 in at_none (PagesFull n) told (k.0, k.1, made.2)) tt,
           holds_moved tells Opens index (put t key value) old far holds alive moved,
         )
     put_refused (insert.LogFull g h n) inserts =

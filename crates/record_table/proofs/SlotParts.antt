@@ -28,7 +28,7 @@ pub record Laws (index : Index) : Type 0 where
   pub rises : (bytes : List ℕ) → index.sound bytes → Rise 0 (2 ^ 64) (index.pairs bytes)
   pub given : (bytes : List ℕ) → index.sound bytes → AreGiven bytes (index.pairs bytes)
   pub counts : (bytes : List ℕ) → index.sound bytes → HasCounts bytes
-  pub rests : (old new : List ℕ) → index.sound old → KeepsIndex old new → index.sound new × (index.pairs new ≡ index.pairs old)
+  pub rests : (old new : List ℕ) → index.sound old → KeepsIndex old new → index.sound new × (index.pairs new ≡ index.pairs old) × (index.level new ≡ index.level old)
 
 -- a slot carries one key
 one_key : (said : Option Slot) (a b : ℕ) → IsOfKey a said → IsOfKey b said → a ≡ b
@@ -128,7 +128,7 @@ module _ (index : Index) (laws : Laws index) where
       ];
     }
 
-    pub part_sound : index.sound (put d part.0 part.1) × (index.pairs (put d part.0 part.1) ≡ index.pairs d)
+    pub part_sound : index.sound (put d part.0 part.1) × (index.pairs (put d part.0 part.1) ≡ index.pairs d) × (index.level (put d part.0 part.1) ≡ index.level d)
     part_sound = laws.rests d (put d part.0 part.1) sound part_keeps
 
     record_there : (o : Option ℕ) (q : ℕ) → q ≢ (write_of part).0 → found (index.pairs d) q ≡ o → record_at (put d part.0 part.1) o ≡ record_at d o
@@ -168,10 +168,11 @@ module _ (index : Index) (laws : Laws index) where
     pub size : length e ≡ length d
     pub slots : next_slot e ≡ next_slot d
     pub pages : next_page e ≡ next_page d
+    pub level : index.level e ≡ index.level d
     pub table : table_of index e ≡ all_written (table_of index d) (writes_of log)
 
   pub applied_parts : (log : List Part) (d : List ℕ) → index.sound d → AreSlotParts index d log → IsWritten d log (applied log d)
-  applied_parts [] d sound parts = record { sound = sound; pairs = refl; size = refl; slots = refl; pages = refl; table = refl }
+  applied_parts [] d sound parts = record { sound = sound; pairs = refl; size = refl; slots = refl; pages = refl; level = refl; table = refl }
   applied_parts (p ∷ ps) d sound parts =
       let one = part_sound d sound p parts.0 in
       let long = part_long d sound p parts.0 in
@@ -183,6 +184,7 @@ module _ (index : Index) (laws : Laws index) where
         size = rest.size ∙ long;
         slots = rest.slots ∙ count.0;
         pages = rest.pages ∙ count.1;
+        level = rest.level ∙ one.2;
         table = rest.table ∙ ap (λ (t : Table). all_written t (writes_of ps)) (part_table d sound p parts.0);
       }
 

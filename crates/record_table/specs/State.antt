@@ -1,5 +1,5 @@
 -- The model of records: a table, what numbers have written over it, and what they have saved.
-use Rattle.std.specs.Prelude.{ℕ, suc, ◌≡◌, ◌-◌, ◌≤◌, ◌+◌, Bool, ◌&&◌, not, if◌then◌else◌, List, [], ◌∷◌, ◌++◌, length, take, drop, slice_index_or}
+use Rattle.std.specs.Prelude.{ℕ, suc, ◌≡◌, ◌≤◌, ◌+◌, Bool, List, length, drop}
 use Rattle.std.specs.List.{list_any}
 use Rattle.history.specs.Writes.{Table, Write, all_written, is_of}
 use Rattle.history.specs.Log.{save_at}

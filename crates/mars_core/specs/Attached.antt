@@ -1,0 +1,24 @@
+-- Why a core does not begin, and what it then leaves of the store.
+use Rattle.std.specs.Prelude.{ℕ, ◌≡◌, Bool, true, false, IsTrue, IsFalse, List}
+use Rattle.counted.specs.Causes.{Rose}
+use Rattle.eaw_face.specs.StoreView.{StoreView, LeavesOnly}
+use Rattle.page_store.specs.Index.{Index}
+use Rattle.mars_core.specs.declared.fault.CoreFault.{CoreFault}
+use Rattle.mars_core.specs.declared.fault.CoreFault.TheVariants.{Damaged, Media, NoMemory}
+
+abbrev pub is_media_fault : CoreFault → Bool
+is_media_fault Media = true
+is_media_fault _ = false
+
+-- of data that is told the page is the first that fails
+abbrev pub CoreCause : Bool → Index → StoreView → CoreFault → Type 0
+CoreCause tells index old (Damaged page) = IsTrue tells → index.fails old.state.bytes page
+CoreCause tells index old _ = Unit {0}
+
+-- The store that is given back, where the media failed or did not. Whatever a loss of power might have left meanwhile opens with the data
+-- that it had.
+pub record GivesBack (tells : Bool) (Opens : List ℕ → List ℕ → Type 0) (failed : Bool) (old new : StoreView) : Type 0 where
+  pub shape : new.shape ≡ old.shape
+  pub kept : IsFalse failed → (new.is_dead ≡ old.is_dead) × (new.faults ≡ old.faults)
+  pub dies : IsTrue failed → (new.is_dead ≡ true) × Rose old.faults new.faults
+  pub time : IsTrue tells → LeavesOnly (λ image. Opens image old.state.bytes) old new

@@ -1,0 +1,42 @@
+-- What a core keeps true.
+use Rattle.std.specs.Prelude.{ℕ, ◌≡◌, ◌≤◌, Bool, IsTrue, List, length}
+use Rattle.std.specs.FinMap.{entries}
+use Rattle.array_shape.specs.declared.shape.Shape.{Shape}
+use Rattle.eaw_face.specs.StoreView.{StoreView}
+use Rattle.eaw_face.specs.Causes.{IsAlive}
+use Rattle.page_store.specs.Index.{Index}
+use Rattle.page_store.specs.Shown.{PagesView}
+use Rattle.history.specs.Log.{log_of}
+use Rattle.record_table.specs.State.{TableState}
+use Rattle.record_table.specs.Shown.{state_of}
+use Rattle.core_face.specs.State.{State, calls_of, records_of}
+use Rattle.core_face.specs.Room.{Limits, held_on}
+use Rattle.core_face.specs.Sound.{IsSound}
+use Rattle.core_face.specs.Core.{IsSafe}
+use Rattle.mars_core.specs.Over.{limits_of}
+use Rattle.mars_core.specs.Held.{table_of_rows, core_over}
+
+-- The records below have the table of the history, and of each number the writes and the saves of its caller's granted calls.
+pub record Mirrors (below : TableState) (state : State) : Type 0 where
+  pub table : below.table ≡ records_of state
+  pub writes : (caller : ℕ) → below.writes caller ≡ (log_of (calls_of state caller)).writes
+  pub saved : (caller : ℕ) → below.saved caller ≡ (log_of (calls_of state caller)).saved
+
+-- no logger holds more of a caller than it has entries
+abbrev pub HasHeld : Limits → State → Type 0
+HasHeld limits state = (caller g : ℕ) → held_on limits state caller g ≤ limits.entries
+
+-- while the store is not dead
+pub record IsTied (index : Index) (pages : PagesView) (state : State) : Type 0 where
+  pub index_sound : index.sound pages.store.state.bytes
+  pub mirrors : Mirrors (state_of index pages) state
+  pub sound : IsSound state
+  pub room : HasHeld (limits_of pages.store.shape) state
+
+-- There is a seat for each number; the rows at the opening are those of a table; what the records show is tied to the state; and
+-- whatever may be left now opens with the whole history.
+pub record IsKept (tells : Bool) (Opens : Shape → List ℕ → List ℕ → Type 0) (index : Index) (pages : PagesView) (count : ℕ) (rows : List (ℕ × List ℕ)) (state : State) : Type 0 where
+  pub seats : count ≡ pages.store.shape.numbers
+  pub rows : IsTrue tells → entries (table_of_rows rows) ≡ rows
+  pub tied : IsTrue tells → IsAlive pages.store → IsTied index pages state
+  pub safe : IsTrue tells → IsSafe (core_over Opens index pages.store state) pages.store.moment (length state.history)

@@ -1,0 +1,79 @@
+-- A call of a transaction, as records make it.
+use Rattle.std.specs.Prelude.{ℕ, suc, ◌≡◌, ◌≤◌, ◌<◌, ◌+◌, ◌⊎◌, Bool, IsTrue, IsFalse, length, Result, Ok, Err, OnOk, OnErr, IfOk}
+use Rattle.std.specs.FinMap.{get}
+use Rattle.counted.specs.Causes.{Rose}
+use Rattle.eaw_face.specs.StoreView.{LeavesOnly}
+use Rattle.eaw_face.specs.Causes.{IsAlive}
+use Rattle.history.specs.Table.{found, removed}
+use Rattle.history.specs.Writes.{rows_within}
+use Rattle.history.specs.declared.call.Call.{Call}
+use Rattle.history.specs.declared.call.Call.TheVariants.{Get, Put, Del, Scan, Save, Back, Begin, Commit, Abort}
+use Rattle.history.specs.declared.call.Reply.{Reply}
+use Rattle.history.specs.declared.call.Reply.TheVariants as reply
+use Rattle.history.specs.declared.call.Reply.TheVariants.{Fine, Listed, Saved}
+use Rattle.page_store.specs.Index.{Index}
+use Rattle.page_store.specs.Shown.{PagesView}
+use Rattle.record_table.specs.State.{TableState, seen_by}
+use Rattle.record_table.specs.Command.{TableCommand, look, put, del, scan, save, back, commit, abort, after}
+use Rattle.record_table.specs.Causes.{Cause}
+use Rattle.record_table.specs.Does.{OpensWith, Indexed, is_failed}
+use Rattle.record_table.specs.Shown.{state_of, keys_of}
+use Rattle.record_table.specs.declared.fault.TableFault.{TableFault}
+use Rattle.record_table.specs.declared.fault.TableFault.TheVariants.{SlotsFull, PagesFull, SavesFull, LogFull, Media, Dead, Damaged, NoMemory}
+use Rattle.core_face.specs.Fate.{is_refusal}
+use Rattle.mars_core.specs.declared.asking.Answer.{Answer}
+
+-- the call of records that a caller's call makes; a begin is none, and looks at nothing
+abbrev pub command_of : ℕ → Call → TableCommand
+command_of t (Get key) = look t key
+command_of t (Put key value) = put t key value
+command_of t (Del key) = del t key
+command_of t (Scan low high) = scan t low high
+command_of t Save = save t
+command_of t (Back n) = back t n
+command_of t Commit = commit t
+command_of t Abort = abort t
+command_of t Begin = look t 0
+
+-- a call that records answer
+abbrev pub IsOfTable : Call → Type 0
+IsOfTable Begin = ⊥
+IsOfTable Commit = ⊥
+IsOfTable Abort = ⊥
+IsOfTable _ = Unit {0}
+
+-- the reply on what the number sees
+abbrev pub Replies : TableState → ℕ → Call → Reply → Type 0
+Replies s t (Get key) answer = answer ≡ found (get (seen_by s t) key)
+Replies s t (Put key value) answer = answer ≡ Fine
+Replies s t (Del key) answer = answer ≡ removed (get (seen_by s t) key)
+Replies s t (Scan low high) answer = answer ≡ Listed (rows_within low high (seen_by s t))
+Replies s t Save answer = answer ≡ Saved (length (s.saved t) + 1)
+Replies s t (Back n) answer = answer ≡ Fine
+Replies s t _ answer = ⊥
+
+-- the refusal of a call of records, as a reply
+abbrev pub reply_to : TableFault → Reply
+reply_to (SlotsFull n) = reply.SlotsFull n
+reply_to (PagesFull n) = reply.PagesFull n
+reply_to SavesFull = reply.SavesFull
+reply_to (LogFull g h n) = reply.LogFull g h n
+reply_to Media = reply.Media
+reply_to Dead = reply.Dead
+reply_to (Damaged page) = reply.Damaged page
+reply_to NoMemory = reply.NoMemory
+
+-- The records made the call as number t. Its answer has two equal replies, and no refusal.
+pub record Works (tells : Bool) (Opens : List ℕ → List ℕ → Type 0) (index : Index) (t : ℕ) (call : Call) (old new : PagesView) (result : Result Answer TableFault) : Type 0 where
+  pub shape : new.store.shape ≡ old.store.shape
+  pub cause : Cause tells index (command_of t call) old result
+  pub faults : IsFalse (is_failed result) → (new.store.is_dead ≡ old.store.is_dead) × (new.store.faults ≡ old.store.faults)
+  pub dies : IsTrue (is_failed result) → (new.store.is_dead ≡ true) × Rose old.store.faults new.store.faults
+  pub done : IsTrue tells → OnOk result (state_of index new ≡ after (command_of t call) (state_of index old))
+  pub refused : IsTrue tells → IsFalse (is_failed result) → OnErr result (state_of index new ≡ state_of index old)
+  pub indexed : IsTrue tells → IsAlive old.store → IsFalse (is_failed result) → Indexed (command_of t call) (keys_of index old.store.state.bytes) (keys_of index new.store.state.bytes) result
+  pub time : IsTrue tells → IsAlive old.store
+      → LeavesOnly (λ image. OpensWith Opens index image (state_of index old).table ⊎ OpensWith Opens index image (after (command_of t call) (state_of index old)).table) old.store new.store
+  pub same : IfOk result (λ answer. answer.kept ≡ answer.told)
+  pub granted : IfOk result (λ answer. IsFalse (is_refusal answer.told))
+  pub replies : IsTrue tells → IfOk result (λ answer. Replies (state_of index old) t call answer.told)
