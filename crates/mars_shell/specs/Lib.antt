@@ -1,13 +1,5 @@
-pub mod Records
-pub mod SlotTable
-pub mod Session
-pub mod Live
 pub mod Lines
-pub mod Kept
-pub mod Prefix
-pub mod Called
 pub mod Standing
-pub mod PrefixLaws
 pub mod Laws
 pub mod Served
 pub mod Statuses
@@ -16,6 +8,7 @@ pub mod Outcome
 pub mod Opening
 pub mod PrefixLaw
 pub mod Run
+pub mod Dump
 pub mod Commands
 pub mod Formats
 pub mod Asked

@@ -1,5 +1,5 @@
 -- What callers' turns over a core stand for, and what they come to.
-use Rattle.std.specs.Prelude.{ℕ, ◌≡◌, List, ◌++◌, length}
+use Rattle.std.specs.Prelude.{ℕ, ◌≡◌, false, List, ◌++◌, length}
 use Rattle.counted.specs.Moments.{Elapses}
 use Rattle.history.specs.Writes.{Table}
 use Rattle.history.specs.declared.transaction.Done.{Done}
@@ -11,6 +11,11 @@ use Rattle.mars_shell.specs.Lines.{Turns, turns_at}
 -- what the core shows of its callers
 abbrev pub turns_of : CoreView → Turns
 turns_of core = turns_at core.limits core.state
+
+-- it can answer a further line
+pub record IsReady (callers : ℕ) (core : CoreView) : Type 0 where
+  pub callers_are : callers ≡ core.limits.callers
+  pub alive : core.state.is_dead ≡ false
 
 -- The core is in this state, which is sound; and each image that a loss of power may leave now has all of its history.
 pub record Stands (core : CoreView) (turns : Turns) : Type 0 where

@@ -1,44 +1,32 @@
-// The work over an array whose records are sound.
-ghost use Rattle.std.specs.Prelude.{◌≡◌, None, IsTrue};
-ghost use Rattle.eaw_face.specs.Causes.{IsAlive};
+// The work over a core that was attached.
+ghost use Rattle.std.specs.Prelude.{◌≡◌, false, IsTrue};
 ghost use Rattle.script_io.specs.Written.{Wrote};
 ghost use Rattle.script_run.specs.Counts.{Counts};
-ghost use Rattle.mars_shell.specs.SlotTable.{IsSoundData};
-ghost use Rattle.mars_shell.specs.Records.{slots_of};
 ghost use Rattle.mars_shell.specs.Served.{Served};
+ghost use Rattle.mars_shell.specs.Standing.{IsReady, Stands, turns_of};
 
-use crate::session::Session;
-use eaw_face::EawStore;
-use history::History;
+use crate::responder::LineCore;
+use core_face::Core;
 use outside::Sink;
-use page_store::{Pages, SaveRoom};
 use script_run::{Ended, answer_lines};
 use std::alloc::Global;
 
-/// Answers the lines of the input over the records of a store that are sound, and gives the store back. The pages over it lie in
-/// room that was taken before the store was opened.
-pub fn serve<K: Sink, S: EawStore>(
+/// Answers the lines of the input, of so many callers, and gives the core back.
+pub fn serve<K: Sink, C: Core>(
     alloc: Global,
     input: &[u8],
     sink: &mut K,
-    room: SaveRoom,
-    store: S,
-) -> (Ended, S)
-    requires alive { IsAlive (S.view store) }
-    requires free { (S.view store).ranges 0 ≡ None }
+    callers: u8,
+    core: C,
+) -> (Ended, C)
+    requires ready { IsReady callers (C.view core) }
     ensures served { Wrote K.tells (K.written sink.old) (K.written sink.new) (K.faults sink.old) (K.faults sink.new)
-        (λ cut text. IsTrue S.tells → IsSoundData (slots_of (S.view store).shape) (S.view store).state.bytes → Served S.opens (S.view store) input.now result.0 cut text (S.view result.1)) }
-    ensures alive { result.0 ≡ Ended.All → IsAlive (S.view result.1) }
-    ensures counts { Counts result.0 (K.faults sink.old) (K.faults sink.new) (S.view store).faults (S.view result.1).faults }
+        (λ cut text. IsTrue C.tells → Stands (C.view core) (turns_of (C.view core)) → Served (C.view core) input.now result.0 cut text (C.view result.1)) }
+    ensures alive { result.0 ≡ Ended.All → (C.view result.1).state.is_dead ≡ false }
+    ensures counts { Counts result.0 (K.faults sink.old) (K.faults sink.new) (C.view core).faults (C.view result.1).faults }
 {
-    let mut session = Session {
-        alloc,
-        pages: Pages::attach_in(room, store),
-        history: History::new(alloc),
-        live: None,
-        doubt: None,
-    };
-    let ended = answer_lines(alloc, input, sink, &mut session);
-    let Session { pages, .. } = session;
-    (ended, pages.into_store())
+    let mut lines = LineCore { core, callers };
+    let ended = answer_lines(alloc, input, sink, &mut lines);
+    let LineCore { core, callers: _ } = lines;
+    (ended, core)
 }
