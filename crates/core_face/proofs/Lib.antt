@@ -1,0 +1,5 @@
+pub mod Fates
+pub mod Sound
+pub mod First
+pub mod Exact
+pub mod Continuing

@@ -3,13 +3,15 @@ use Rattle.std.specs.Prelude.{ℕ, ◌≡◌, Bool, IsTrue, IsFalse, List, lengt
 use Rattle.counted.specs.Causes.{Rose}
 use Rattle.counted.specs.Moments.{Elapses}
 use Rattle.history.specs.Writes.{Table}
+use Rattle.history.specs.Legal.{with_doubt}
 use Rattle.history.specs.declared.call.Call.{Call}
 use Rattle.history.specs.declared.call.Reply.{Reply}
 use Rattle.core_face.specs.State.{State}
 use Rattle.core_face.specs.Room.{Limits}
 use Rattle.core_face.specs.Step.{Step}
 use Rattle.core_face.specs.Fate.{Moves, is_media}
-use Rattle.core_face.specs.Prefix.{HasPrefixOf}
+use Rattle.core_face.specs.Prefix.{HasPrefixOf, Grows}
+use Rattle.core_face.specs.Sound.{IsSound}
 
 -- Its limits; its state; how often its media has failed; the moment; whether a loss of power at some moment from this one on might have
 -- left this image; and whether an image opens with these records.
@@ -37,3 +39,16 @@ pub record Steps (tells : Bool) (caller : ℕ) (call : Call) (old new : CoreView
   pub step : IsTrue tells → Step old.limits old.state caller call reply new.state
   pub time : IsTrue tells → Elapses old.moment new.moment old.left_since new.left_since (HasPrefixOf new.opens new.state (length old.state.history))
   pub now : IsTrue tells → IsSafe new new.moment (length new.state.history)
+
+-- From a core to a later one: the limits and the records at the opening are the same, and the history goes on, also with the transaction
+-- in doubt; each image that a loss of power might have left meanwhile opens with a prefix of it, with all that was committed before; and
+-- one that may be left now has all.
+pub record Continues (old new : CoreView) : Type 0 where
+  pub limits : new.limits ≡ old.limits
+  pub base : new.state.base ≡ old.state.base
+  pub opens : (image : List ℕ) (table : Table) → old.opens image table → new.opens image table
+  pub grows : Grows old.state.history new.state.history
+  pub doubtful : Grows (with_doubt old.state.history old.state.doubt) (with_doubt new.state.history new.state.doubt)
+  pub sound : IsSound new.state
+  pub time : Elapses old.moment new.moment old.left_since new.left_since (HasPrefixOf new.opens new.state (length old.state.history))
+  pub now : IsSafe new new.moment (length new.state.history)

@@ -4,7 +4,7 @@ use Rattle.history.specs.Table.{Granted}
 use Rattle.history.specs.declared.call.Call.{Call}
 use Rattle.history.specs.declared.call.Call.TheVariants.{Begin, Commit, Abort}
 use Rattle.history.specs.declared.call.Reply.{Reply}
-use Rattle.history.specs.declared.call.Reply.TheVariants.{Fine, Found, Absent, Listed, Saved, Committed, Media}
+use Rattle.history.specs.declared.call.Reply.TheVariants.{Fine, Found, Absent, Listed, Saved, Committed, Busy, LogFull, SlotsFull, PagesFull, Media, Dead, NoMemory}
 use Rattle.history.specs.declared.transaction.Done.{Done}
 use Rattle.core_face.specs.State.{State, calls_of, done_by}
 
@@ -21,6 +21,22 @@ is_refusal _ = true
 abbrev pub is_media : Reply → Bool
 is_media Media = true
 is_media _ = false
+
+-- a reply of an array that is full or fails, or of want of memory
+abbrev pub is_of_array : Reply → Bool
+is_of_array (LogFull logger held needed) = true
+is_of_array (SlotsFull slots) = true
+is_of_array (PagesFull pages) = true
+is_of_array Media = true
+is_of_array NoMemory = true
+is_of_array _ = false
+
+-- a reply that may come while another caller holds a stripe of the call
+abbrev pub may_come_held : Reply → Bool
+may_come_held (Busy holder) = true
+may_come_held Dead = true
+may_come_held NoMemory = true
+may_come_held _ = false
 
 abbrev pub is_committed : Reply → Bool
 is_committed (Committed n) = true

@@ -1,5 +1,5 @@
 -- What a loss of power leaves of a history.
-use Rattle.std.specs.Prelude.{ℕ, ◌≤◌, List, length, take}
+use Rattle.std.specs.Prelude.{ℕ, ◌≡◌, ◌≤◌, List, ◌++◌, length, take}
 use Rattle.history.specs.Writes.{Table}
 use Rattle.history.specs.Legal.{records, with_doubt}
 use Rattle.history.specs.declared.transaction.Done.{Done}
@@ -15,3 +15,8 @@ pub record HasPrefix (Opens : List ℕ → Table → Type 0) (base : Table) (his
 -- the same of a state, where the transaction in doubt may be there or not
 abbrev pub HasPrefixOf : (List ℕ → Table → Type 0) → State → ℕ → List ℕ → Type 0
 HasPrefixOf Opens state least image = HasPrefix Opens state.base (with_doubt state.history state.doubt) least image
+
+-- a history that goes on as another did
+pub record Grows (old new : List Done) : Type 0 where
+  pub more : List Done
+  pub is : new ≡ old ++ more

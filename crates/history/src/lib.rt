@@ -2,9 +2,11 @@
 #![tactic(auto)]
 
 mod call;
+mod laws;
 mod rows;
 mod transaction;
 
 pub use call::{Call, Reply};
+pub use laws::{logs_show_what_is_seen, others_stay_right, strict_locking};
 pub use rows::Rows;
 pub use transaction::{Calls, Done, History};
