@@ -3,6 +3,10 @@ use Rattle.std.specs.Prelude.{ℕ, ◌≡◌, Bool, true, false, IsTrue, IsFalse
 use Rattle.counted.specs.Causes.{Rose}
 use Rattle.eaw_face.specs.StoreView.{StoreView, LeavesOnly}
 use Rattle.page_store.specs.Index.{Index}
+use Rattle.record_table.specs.declared.fault.AttachRecords.{AttachRecords}
+use Rattle.record_table.specs.declared.fault.AttachRecords.TheVariants as table
+use Rattle.record_table.specs.declared.fault.TableFault.{TableFault}
+use Rattle.record_table.specs.declared.fault.TableFault.TheVariants as fault
 use Rattle.mars_core.specs.declared.fault.CoreFault.{CoreFault}
 use Rattle.mars_core.specs.declared.fault.CoreFault.TheVariants.{Damaged, Media, NoMemory}
 
@@ -14,6 +18,16 @@ is_media_fault _ = false
 abbrev pub CoreCause : Bool → Index → StoreView → CoreFault → Type 0
 CoreCause tells index old (Damaged page) = IsTrue tells → index.fails old.state.bytes page
 CoreCause tells index old _ = Unit {0}
+
+-- why records were not taken, or not read
+abbrev pub attach_fault : AttachRecords → CoreFault
+attach_fault (table.Damaged page) = Damaged page
+attach_fault _ = Media
+
+abbrev pub scan_fault : TableFault → CoreFault
+scan_fault (fault.Damaged page) = Damaged page
+scan_fault fault.NoMemory = NoMemory
+scan_fault _ = Media
 
 -- The store that is given back, where the media failed or did not. Whatever a loss of power might have left meanwhile opens with the data
 -- that it had.

@@ -13,7 +13,7 @@ use Rattle.history.specs.declared.transaction.Done.{Done}
 use Rattle.core_face.specs.State.{State}
 use Rattle.core_face.specs.Core.{CoreView}
 use Rattle.mars_core.specs.Over.{limits_of, index_of}
-use Rattle.mars_core.specs.Seats.{Seats}
+use Rattle.mars_core.specs.Seats.{Seats, live_in}
 
 -- The records below, over a store; the rows of the records at the opening; the callers' live transactions; the transactions committed
 -- since; and the one in doubt.
@@ -33,7 +33,7 @@ abbrev pub state_over : {S : Type 0} → Index → StoreView → Held S → Stat
 state_over index store held = record {
   base = table_of_rows held.base;
   history = held.history;
-  live = held.seats.live;
+  live = live_in held.seats;
   doubt = held.doubt;
   is_dead = store.is_dead;
   index = index_of (keys_of index store.state.bytes);

@@ -37,6 +37,6 @@ pub record IsTied (index : Index) (pages : PagesView) (state : State) : Type 0 w
 -- whatever may be left now opens with the whole history.
 pub record IsKept (tells : Bool) (Opens : Shape → List ℕ → List ℕ → Type 0) (index : Index) (pages : PagesView) (count : ℕ) (rows : List (ℕ × List ℕ)) (state : State) : Type 0 where
   pub seats : count ≡ pages.store.shape.numbers
-  pub rows : IsTrue tells → entries (table_of_rows rows) ≡ rows
+  pub in_order : IsTrue tells → entries (table_of_rows rows) ≡ rows
   pub tied : IsTrue tells → IsAlive pages.store → IsTied index pages state
   pub safe : IsTrue tells → IsSafe (core_over Opens index pages.store state) pages.store.moment (length state.history)

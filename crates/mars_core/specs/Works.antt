@@ -1,5 +1,5 @@
 -- A call of a transaction, as records make it.
-use Rattle.std.specs.Prelude.{ℕ, suc, ◌≡◌, ◌≤◌, ◌<◌, ◌+◌, ◌⊎◌, Bool, IsTrue, IsFalse, length, Result, Ok, Err, OnOk, OnErr, IfOk}
+use Rattle.std.specs.Prelude.{ℕ, suc, ◌≡◌, ◌≤◌, ◌<◌, ◌+◌, ◌⊎◌, Bool, true, IsTrue, IsFalse, List, length, filter, Result, Ok, Err, OnOk, OnErr, IfOk}
 use Rattle.std.specs.FinMap.{get}
 use Rattle.counted.specs.Causes.{Rose}
 use Rattle.eaw_face.specs.StoreView.{LeavesOnly}
@@ -17,7 +17,7 @@ use Rattle.record_table.specs.State.{TableState, seen_by}
 use Rattle.record_table.specs.Command.{TableCommand, look, put, del, scan, save, back, commit, abort, after}
 use Rattle.record_table.specs.Causes.{Cause}
 use Rattle.record_table.specs.Does.{OpensWith, Indexed, is_failed}
-use Rattle.record_table.specs.Shown.{state_of, keys_of}
+use Rattle.record_table.specs.Shown.{state_of, keys_of, held_on, is_write_on, AreNamed}
 use Rattle.record_table.specs.declared.fault.TableFault.{TableFault}
 use Rattle.record_table.specs.declared.fault.TableFault.TheVariants.{SlotsFull, PagesFull, SavesFull, LogFull, Media, Dead, Damaged, NoMemory}
 use Rattle.core_face.specs.Fate.{is_refusal}
@@ -77,3 +77,21 @@ pub record Works (tells : Bool) (Opens : List ℕ → List ℕ → Type 0) (inde
   pub same : IfOk result (λ answer. answer.kept ≡ answer.told)
   pub granted : IfOk result (λ answer. IsFalse (is_refusal answer.told))
   pub replies : IsTrue tells → IfOk result (λ answer. Replies (state_of index old) t call answer.told)
+
+-- a save or a way back finds these saves of its transaction: fewer than 32, or the one that it names
+abbrev pub HasSaves : ℕ → Call → Type 0
+HasSaves saves Save = saves < 32
+HasSaves saves (Back n) = (0 < n) × (n ≤ saves)
+HasSaves saves _ = Unit {0}
+
+-- it does not, and is refused so
+abbrev pub IsSaveRefusal : ℕ → Call → Reply → Type 0
+IsSaveRefusal saves Save answer = (32 ≤ saves) × (answer ≡ reply.SavesFull)
+IsSaveRefusal saves (Back n) answer = ((0 < n) × (n ≤ saves) → ⊥) × (answer ≡ reply.NoSave n)
+IsSaveRefusal saves _ answer = ⊥
+
+-- what records show of the writes that numbers have not committed, while their store is not dead: how many a logger holds, and that the
+-- index has their keys
+pub record IsShown (tells : Bool) (index : Index) (old : PagesView) : Type 0 where
+  pub held : IsTrue tells → IsAlive old.store → (t g : ℕ) → held_on old t g ≡ length (filter (is_write_on old.store.shape (index.pairs old.store.state.bytes) g) ((state_of index old).writes t))
+  pub named : IsTrue tells → IsAlive old.store → (t : ℕ) → AreNamed (index.pairs old.store.state.bytes) ((state_of index old).writes t)

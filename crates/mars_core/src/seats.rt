@@ -1,12 +1,12 @@
 // The callers: for each its live transaction, if it has one.
-ghost use Rattle.std.specs.Prelude.{◌≡◌, ◌<◌, [], ◌∷◌, ◌++◌, List, ℕ, Some, None, IfOk, IfSome, IfNone, OnOk, OnErr, is_some};
+ghost use Rattle.std.specs.Prelude.{◌≡◌, ◌<◌, ◌≤◌, [], ◌∷◌, ◌++◌, List, ℕ, Some, None, IfOk, IfSome, IfNone, OnOk, OnErr, is_some, length};
 ghost use Rattle.history.specs.Table.{Granted};
 ghost use Rattle.history.specs.declared.call.Call.{Call};
 ghost use Rattle.history.specs.declared.call.Reply.{Reply};
 ghost use Rattle.history.specs.declared.call.Reply.TheVariants.{Fine};
 ghost use Rattle.core_face.specs.Locked.{IsFree, IsBusyWith};
 ghost use Rattle.mars_core.specs.Masks.{IsMaskOf};
-ghost use Rattle.mars_core.specs.Seats.{Seats, seats_in, seated, calls_at, bare};
+ghost use Rattle.mars_core.specs.Seats.{live_in, calls_at, Seated, bare};
 
 use crate::live::Live;
 use crate::masks::mask_of;
@@ -21,17 +21,18 @@ pub struct Seats {
 }
 
 impl Model for Seats {
-    ghost use Rattle.mars_core.specs.Seats.{Seats, seats_in};
+    ghost use Rattle.std.specs.Prelude.{List, Option};
+    ghost use Rattle.history.specs.Table.{Granted};
 
-    ghost Value = { Seats };
+    ghost Value = { List (Option Granted) };
 
-    ghost view = { λ s. seats_in s.live.items };
+    ghost view = { λ s. s.live.items };
 }
 
 impl Seats {
     /// So many callers, without a live transaction.
     pub fn new(alloc: Global, count: u8) -> Result<Seats, NoMemory>
-        ensures { IfOk result (λ seats. seats ≡ record { count = count; live = λ caller. None }) }
+        ensures { IfOk result (λ seats. (length seats ≡ count) × ((caller : ℕ) → live_in seats caller ≡ None)) }
     {
         let mut live = Vec::with_capacity(alloc, usize::from(count))?;
         for _caller in 0..count {
@@ -41,15 +42,15 @@ impl Seats {
     }
 
     pub fn is_live(&self, caller: u8) -> bool
-        requires { caller < self.now.count }
-        ensures { result ≡ is_some (self.now.live caller) }
+        requires { caller < length self.now }
+        ensures { result ≡ is_some (live_in self.now caller) }
     {
         self.live[usize::from(caller)].is_some()
     }
 
     /// A bit for each stripe that the caller's live transaction touched.
     pub fn touched(&self, caller: u8) -> u64
-        requires { caller < self.now.count }
+        requires { caller < length self.now }
         ensures { IsMaskOf (calls_at self.now caller) result }
     {
         match &self.live[usize::from(caller)] {
@@ -60,17 +61,17 @@ impl Seats {
 
     /// Begins a transaction. It takes no memory.
     pub fn begin(&mut self, alloc: Global, caller: u8)
-        requires { caller < self.old.count }
-        ensures { self.new ≡ seated self.old caller (Some []) }
+        requires { caller < length self.old }
+        ensures { Seated self.old caller (Some []) self.new }
     {
         self.live[usize::from(caller)] = Some(Live::new(alloc));
     }
 
     /// Adds a call to the caller's live transaction.
     pub fn push(&mut self, caller: u8, call: &Call) -> Result<(), NoMemory>
-        requires inside { caller < self.old.count }
-        requires live { (calls : Granted) × (self.old.live caller ≡ Some calls) }
-        ensures ok { OnOk result (self.new ≡ seated self.old caller (Some (calls_at self.old caller ++ (call.now, Fine) ∷ []))) }
+        requires inside { caller < length self.old }
+        requires live { (calls : Granted) × (live_in self.old caller ≡ Some calls) }
+        ensures ok { OnOk result (Seated self.old caller (Some (calls_at self.old caller ++ (call.now, Fine) ∷ [])) self.new) }
         ensures err { OnErr result (self.new ≡ self.old) }
     {
         match &mut self.live[usize::from(caller)] {
@@ -81,9 +82,9 @@ impl Seats {
 
     /// Takes the last call of the caller's live transaction off again; the others touched these stripes.
     pub fn pop(&mut self, caller: u8, mask: u64)
-        requires inside { caller < self.old.count }
-        requires { (calls : Granted) × (call : Call) × (reply : Reply) × (self.old.live caller ≡ Some (calls ++ (call, reply) ∷ [])) × IsMaskOf calls mask }
-        ensures { (calls : Granted) (entry : Call × Reply) → self.old.live caller ≡ Some (calls ++ entry ∷ []) → self.new ≡ seated self.old caller (Some calls) }
+        requires inside { caller < length self.old }
+        requires last { (calls : Granted) × (call : Call) × (reply : Reply) × (live_in self.old caller ≡ Some (calls ++ (call, reply) ∷ [])) × IsMaskOf calls mask }
+        ensures { (calls : Granted) (entry : Call × Reply) → live_in self.old caller ≡ Some (calls ++ entry ∷ []) → Seated self.old caller (Some calls) self.new }
     {
         match &mut self.live[usize::from(caller)] {
             Some(live) => live.pop(mask),
@@ -93,9 +94,9 @@ impl Seats {
 
     /// Gives the last call of the caller's live transaction another reply.
     pub fn set_last_reply(&mut self, caller: u8, reply: Reply)
-        requires inside { caller < self.old.count }
-        ensures { (calls : Granted) (call : Call) (was : Reply) → self.old.live caller ≡ Some (calls ++ (call, was) ∷ [])
-            → self.new ≡ seated self.old caller (Some (calls ++ (call, reply) ∷ [])) }
+        requires inside { caller < length self.old }
+        ensures { (calls : Granted) (call : Call) (was : Reply) → live_in self.old caller ≡ Some (calls ++ (call, was) ∷ [])
+            → Seated self.old caller (Some (calls ++ (call, reply) ∷ [])) self.new }
     {
         if let Some(live) = &mut self.live[usize::from(caller)] {
             live.set_last_reply(reply);
@@ -104,30 +105,39 @@ impl Seats {
 
     /// Takes the caller's live transaction out.
     pub fn take(&mut self, caller: u8) -> Option<Live>
-        requires { caller < self.old.count }
-        ensures live { result ≡ self.old.live caller }
-        ensures { self.new ≡ seated self.old caller None }
+        requires { caller < length self.old }
+        ensures live { result ≡ live_in self.old caller }
+        ensures out { Seated self.old caller None self.new }
     {
         self.live[usize::from(caller)].take()
     }
 
+    /// Ends the caller's live transaction.
+    pub fn end(&mut self, caller: u8)
+        requires { caller < length self.old }
+        ensures { Seated self.old caller None self.new }
+    {
+        self.live[usize::from(caller)] = None;
+    }
+
     /// Gives the caller this live transaction.
     pub fn put(&mut self, caller: u8, live: Live)
-        requires { caller < self.old.count }
-        ensures { self.new ≡ seated self.old caller (Some live) }
+        requires { caller < length self.old }
+        ensures { Seated self.old caller (Some live) self.new }
     {
         self.live[usize::from(caller)] = Some(live);
     }
 
     /// The lowest of the other callers whose live transaction touched a stripe of the call.
     pub fn holder(&self, caller: u8, call: &Call) -> Option<u8>
+        requires { length self.now ≤ 64 }
         ensures busy { IfSome result (IsBusyWith (bare self.now) caller call.now) }
         ensures free { IfNone result (IsFree (bare self.now) caller call.now) }
     {
         let mask = mask_of(call);
-        for other in 0..self.live.len() {
-            if other != usize::from(caller) && self.mask_at(other) & mask != 0 {
-                return Some(other as u8);
+        for other in 0..self.live.len() as u8 {
+            if other != caller && self.touched(other) & mask != 0 {
+                return Some(other);
             }
         }
         None

@@ -1,6 +1,6 @@
 -- What loggers hold of a number are the writes into their slots.
-use Rattle.std.proofs.Common.{◌≡◌, ℕ, suc, ◌+◌, ◌*◌, Bool, true, false, cond, List, [], ◌∷◌, length, refl, sym, ◌∙◌, ap, arith}
-use Rattle.std.specs.Prelude.{nat_eq, filter, Option}
+use Rattle.std.proofs.Common.{◌≡◌, ℕ, suc, ◌+◌, ◌*◌, Bool, true, false, cond, List, [], ◌∷◌, length, refl, sym, ◌∙◌, ap, subst, arith}
+use Rattle.std.specs.Prelude.{nat_eq, filter, Option, IsSome}
 use Rattle.array_shape.specs.declared.shape.Shape.{Shape}
 use Rattle.array_shape.specs.Places.{data_len, logger_of}
 use Rattle.array_shape.specs.Logged.{Part, ranges_of}
@@ -10,7 +10,7 @@ use Rattle.page_store.specs.Shown.{PagesView}
 use Rattle.page_store.proofs.Outline.{listed-ranges}
 use Rattle.page_store.proofs.Shown.{IsTold}
 use Rattle.record_table.specs.Invariant.{IsSlotPart, AreSlotParts, IsTied}
-use Rattle.record_table.specs.Shown.{write_of, writes_of, state_of, held_on, is_write_on, is_slot_on}
+use Rattle.record_table.specs.Shown.{write_of, writes_of, state_of, held_on, is_write_on, is_slot_on, AreNamed}
 
 module _ (index : Index) (shape : Shape) (d : List ℕ) (long : length d ≡ data_len shape) (g : ℕ) where
   one : (p : Part) → IsSlotPart index d p → is_range_on shape g (p.0, length p.1) ≡ is_write_on shape (index.pairs d) g (write_of p)
@@ -35,3 +35,10 @@ pub held_is : (index : Index) (pages : PagesView) → IsTold pages.store → IsT
 held_is index pages told tied t g =
     ap (λ (o : Option (List (ℕ × ℕ))). count_on pages.store.shape g (listed o)) (told.outlines t) ∙ ap (count_on pages.store.shape g) (listed-ranges (pages.store.state.logs t))
     ∙ counts index pages.store.shape pages.store.state.bytes told.long g (listed (pages.store.state.logs t)) (tied.parts t)
+
+named : (index : Index) (d : List ℕ) (log : List Part) → AreSlotParts index d log → AreNamed (index.pairs d) (writes_of log)
+named index d [] parts = tt
+named index d (p ∷ ps) parts = (subst (λ (o : Option ℕ). IsSome o) (sym parts.0.named) refl, named index d ps parts.1)
+
+pub named_are : (index : Index) (pages : PagesView) → IsTied index pages → (t : ℕ) → AreNamed (index.pairs pages.store.state.bytes) ((state_of index pages).writes t)
+named_are index pages tied t = named index pages.store.state.bytes (listed (pages.store.state.logs t)) (tied.parts t)

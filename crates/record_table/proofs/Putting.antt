@@ -1,6 +1,6 @@
 -- A value for a key: the index is looked up, the key inserted where it is new, and its slot written.
 use Rattle.std.proofs.Common.{◌≡◌, ◌≢◌, ℕ, suc, ◌+◌, ◌-◌, ◌*◌, ◌<◌, ◌≤◌, Bool, true, false, cond, inl, inr, IsTrue, List, [], ◌∷◌, length, Result, Ok, Err, refl, sym, ◌∙◌, ap, subst, arith}
-use Rattle.std.specs.Prelude.{filter, Option, Some, None, IsFalse, IfSome}
+use Rattle.std.specs.Prelude.{filter, Option, Some, None, IsFalse}
 use Rattle.std.proofs.lemmas.Bool.{false≢true}
 use Rattle.array_shape.specs.declared.shape.Shape.{Shape}
 use Rattle.eaw_face.specs.State.{State, listed, count_on}
@@ -151,7 +151,7 @@ module _ (tells : Bool) (Opens : List ℕ → List ℕ → Type 0) (index : Inde
       let keys = look_keys tells Opens index (del t key) old mid holds alive looks in
       slot_written tells Opens index laws (del t key) (Absent key) old alive holds mid (moved_by_look tells Opens index t old mid alive (holds alive) looks) new slot
       (λ told. ap (λ (k : Keys). found k.pairs key) (keys told) ∙ named told) told_by ordered reads whole Bool true tt (λ g h n short. short)
-      (λ told room was. subst (λ (o : Option ℕ). IfSome o (HasRoom index t old key)) (sym (named told)) room) (λ told g h n full. (seen told, slot, named told, full))
+      (λ told room was. (slot, named told, room)) (λ told g h n full. (seen told, slot, named told, full))
       (λ told. ap (λ (b : Bool). cond b (written (state_of index old) t key None) (state_of index old)) (seen told)) keys (λ told g h n. keys told) refl
 
 filter_short : (f : ℕ → Bool) (xs : List ℕ) → length (filter f xs) ≤ length xs

@@ -1,5 +1,5 @@
 -- When each answer comes. The refusals stand in their order behind `Dead`.
-use Rattle.std.specs.Prelude.{ℕ, ◌≡◌, ◌+◌, ◌-◌, ◌<◌, ◌≤◌, ◌⊎◌, Bool, true, false, IsTrue, length, Option, Some, None, Result, Ok, Err, IfSome}
+use Rattle.std.specs.Prelude.{ℕ, ◌≡◌, ◌+◌, ◌-◌, ◌<◌, ◌≤◌, ◌⊎◌, Bool, true, false, IsTrue, length, Option, Some, None, Result, Ok, Err}
 use Rattle.eaw_face.specs.Causes.{IsAlive}
 use Rattle.record_slots.specs.Places.{next_slot}
 use Rattle.page_store.specs.Index.{Index, slots_of, index_pages_of}
@@ -43,7 +43,7 @@ PutLacks index t key old g h n (Some slot) = IsFull index t old key slot g h n
 -- what writes finds room
 abbrev pub Fits : Index → PagesView → TableCommand → Type 0
 Fits index old (put t key value) = PutFits index t key old (slot_in index old key)
-Fits index old (del t key) = is_seen (state_of index old) t key ≡ true → IfSome (slot_in index old key) (HasRoom index t old key)
+Fits index old (del t key) = is_seen (state_of index old) t key ≡ true → (slot : ℕ) × (slot_in index old key ≡ Some slot) × HasRoom index t old key slot
 Fits index old _ = Unit {0}
 
 -- or it finds none at logger g

@@ -1,5 +1,5 @@
 -- What records show of the pages that they stand on.
-use Rattle.std.specs.Prelude.{Bool, false, ℕ, ◌+◌, ◌*◌, nat_eq, if◌then◌else◌, List, [], ◌∷◌, map, Option, Some, None}
+use Rattle.std.specs.Prelude.{Bool, false, ℕ, ◌+◌, ◌*◌, nat_eq, if◌then◌else◌, List, [], ◌∷◌, map, Option, Some, None, IsSome}
 use Rattle.std.specs.FinMap.{empty}
 use Rattle.array_shape.specs.declared.shape.Shape.{Shape}
 use Rattle.array_shape.specs.Places.{logger_of}
@@ -73,3 +73,8 @@ is_slot_on shape g (Some slot) = nat_eq (logger_of_slot shape slot) g
 
 abbrev pub is_write_on : Shape → List Pair → ℕ → Write → Bool
 is_write_on shape pairs g write = is_slot_on shape g (found pairs write.0)
+
+-- the index has the key of each of these writes
+abbrev pub AreNamed : List Pair → List Write → Type 0
+AreNamed pairs [] = Unit {0}
+AreNamed pairs (write ∷ writes) = IsSome (found pairs write.0) × AreNamed pairs writes

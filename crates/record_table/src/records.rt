@@ -9,7 +9,7 @@ ghost use Rattle.history.specs.Writes.{rows_within};
 ghost use Rattle.record_table.specs.Attached.{Attached, AttachCause, is_refused_by_media};
 ghost use Rattle.record_table.specs.Command.{look, put, del, scan, save, back, commit, abort, is_seen};
 ghost use Rattle.record_table.specs.Does.{Does};
-ghost use Rattle.record_table.specs.Shown.{state_of, held_on, is_write_on};
+ghost use Rattle.record_table.specs.Shown.{state_of, held_on, is_write_on, AreNamed};
 ghost use Rattle.record_table.specs.State.{seen_by};
 
 use crate::fault::{AttachRecords, TableFault};
@@ -85,12 +85,15 @@ impl<S: EawStore, K: KeyIndex> Records<S, K> {
         self.pages.shape()
     }
 
-    /// Whether an earlier call has met a fault of the media. While none has, what a logger holds of a number is the writes into its slots.
+    /// Whether an earlier call has met a fault of the media. While none has, what a logger holds of a number is the writes into its slots,
+    /// and the index has their keys.
     pub fn is_dead(&self) -> bool
         ensures dead { result ≡ (S.view self.now.store).is_dead }
         ensures held { IsTrue S.tells → IsAlive (S.view self.now.store) → (t g : ℕ) → held_on (pages_of (S.view self.now.store) self.now) t g ≡
             length (filter (is_write_on (S.view self.now.store).shape (K.index.pairs (S.view self.now.store).state.bytes) g)
             ((state_of K.index (pages_of (S.view self.now.store) self.now)).writes t)) }
+        ensures named { IsTrue S.tells → IsAlive (S.view self.now.store) → (t : ℕ) → AreNamed (K.index.pairs (S.view self.now.store).state.bytes)
+            ((state_of K.index (pages_of (S.view self.now.store) self.now)).writes t) }
     {
         self.pages.is_dead()
     }

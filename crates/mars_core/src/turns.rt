@@ -1,0 +1,325 @@
+// Callers by turns, over records.
+ghost use Rattle.std.specs.Prelude.{◌≡◌, ◌<◌, [], ℕ, Some, None, IfOk, IfErr, MatchOption, IsTrue, is_some, length};
+ghost use Rattle.std.specs.FinMap.{entries};
+ghost use Rattle.eaw_face.specs.Causes.{IsAlive};
+ghost use Rattle.eaw_face.specs.State.{listed};
+ghost use Rattle.page_store.specs.Shown.{pages_of};
+ghost use Rattle.history.specs.declared.call.Call.TheVariants.{Begin, Commit, Abort};
+ghost use Rattle.core_face.specs.Core.{Steps};
+ghost use Rattle.core_face.specs.State.{calls_of};
+ghost use Rattle.record_table.specs.Shown.{state_of};
+ghost use Rattle.mars_core.specs.Attached.{CoreCause, GivesBack, is_media_fault, attach_fault, scan_fault};
+ghost use Rattle.mars_core.specs.Held.{core_of};
+ghost use Rattle.mars_core.specs.Masks.{IsMaskOf};
+ghost use Rattle.mars_core.specs.Over.{Begins, IsOver};
+ghost use Rattle.mars_core.specs.Seats.{live_in};
+ghost use Rattle.mars_core.specs.Works.{IsOfTable, IsShown};
+
+use crate::asking::{Answer, refused_save, work};
+use crate::fault::CoreFault;
+use crate::live::Live;
+use crate::replies::reply_to;
+use crate::seats::Seats;
+use core_face::Core as Steps;
+use eaw_face::EawStore;
+use history::{Call, Done, History, Reply, Rows};
+use page_store::{KeyIndex, Pages, SaveRoom};
+use record_table::{AttachRecords, Records, TableFault};
+use std::alloc::Global;
+use std::marker::Model;
+
+/// Callers that take turns on records over a store, under an index. Each call locks the stripe of its key (of 64), and a scan all
+/// stripes, until its transaction ends.
+pub struct Core<S: EawStore, K: KeyIndex> {
+    alloc: Global,
+    records: Records<S, K>,
+    base: Rows,
+    seats: Seats,
+    history: History,
+    /// The transaction whose commit met a fault of the media: it may be there or not.
+    doubt: Option<Done>,
+}
+
+impl<S: EawStore, K: KeyIndex> Model for Core<S, K> {
+    ghost use Rattle.std.specs.Prelude.{length};
+    ghost use Rattle.page_store.specs.Shown.{pages_of};
+    ghost use Rattle.mars_core.specs.Held.{Held, state_over};
+    ghost use Rattle.mars_core.specs.Kept.{IsKept};
+
+    ghost Value = { Held S };
+
+    ghost view = { λ c. record { records = c.records; base = c.base; seats = c.seats; history = c.history; doubt = c.doubt } };
+
+    ghost invariant = { λ c. IsKept S.tells S.opens K.index (pages_of (S.view c.records.store) c.records) (length c.seats) c.base
+        (state_over K.index (S.view c.records.store) (record { records = c.records; base = c.base; seats = c.seats; history = c.history; doubt = c.doubt })) };
+}
+
+impl<S: EawStore, K: KeyIndex> Core<S, K> {
+    /// A core over a store that is not dead and has logged nothing: it begins with the records of the store's data. The store is given
+    /// back where they are no sound index, where the media failed, and for want of memory.
+    pub fn attach(alloc: Global, room: SaveRoom, store: S) -> Result<Core<S, K>, (CoreFault, S)>
+        requires alive { IsAlive (S.view store) }
+        requires idle { (t : ℕ) → listed ((S.view store).ranges t) ≡ [] }
+        ensures begins { IfOk result (λ core. Begins S.tells (S.opens (S.view store).shape) K.index (S.view store) (S.view core.records.store)
+            (core_of S.opens K.index (S.view core.records.store) core)) }
+        ensures cause { IfErr result (λ failed. CoreCause S.tells K.index (S.view store) failed.0) }
+        ensures gives_back { IfErr result (λ failed. GivesBack S.tells (S.opens (S.view store).shape) (is_media_fault failed.0) (S.view store) (S.view failed.1)) }
+    {
+        let records = match Records::attach(Pages::attach_in(room, store)) {
+            Ok(records) => records,
+            Err((fault, pages)) => return Err((attach_fault(&fault), pages.into_store())),
+        };
+        begin_over(alloc, records)
+    }
+
+    /// The transactions committed since the opening, in the order of their commits.
+    pub fn history(&self) -> &History
+        ensures { result.now ≡ self.now.history }
+    {
+        &self.history
+    }
+
+    /// The records at the opening, in the order of their keys.
+    pub fn base(&self) -> &Rows
+        ensures base { result.now ≡ self.now.base }
+        ensures entries { IsTrue S.tells → result.now ≡ entries (core_of S.opens K.index (S.view self.now.records.store) self.now).state.base }
+    {
+        &self.base
+    }
+
+    /// The transaction whose commit met a fault of the media.
+    pub fn doubt(&self) -> Option<&Done>
+        ensures { MatchOption result (self.now.doubt ≡ None) (λ done. self.now.doubt ≡ Some done.now) }
+    {
+        match &self.doubt {
+            Some(done) => Some(done),
+            None => None,
+        }
+    }
+
+    /// Whether the caller has a live transaction.
+    pub fn live(&self, caller: u8) -> bool
+        requires { caller < (S.view self.now.records.store).shape.numbers }
+        ensures { result ≡ is_some (live_in self.now.seats caller) }
+    {
+        self.seats.is_live(caller)
+    }
+
+    /// A bit for each stripe that the caller's live transaction touched.
+    pub fn touched(&self, caller: u8) -> u64
+        requires { caller < (S.view self.now.records.store).shape.numbers }
+        ensures { IsMaskOf (calls_of (core_of S.opens K.index (S.view self.now.records.store) self.now).state caller) result }
+    {
+        self.seats.touched(caller)
+    }
+
+    /// The store below. What live transactions have written is still logged in it.
+    pub fn into_store(self) -> S
+        ensures store { result ≡ self.records.store }
+        ensures over { IsOver S.tells (S.opens (S.view result).shape) K.index (S.view result) (core_of S.opens K.index (S.view result) self) }
+    {
+        let Core {
+            alloc: _,
+            records,
+            base: _,
+            seats: _,
+            history: _,
+            doubt: _,
+        } = self;
+        records.into_pages().into_store()
+    }
+
+    fn begin(&mut self, caller: u8) -> Reply
+        requires inside { caller < (S.view self.old.records.store).shape.numbers }
+        requires alive { IsAlive (S.view self.old.records.store) }
+        ensures steps { Steps S.tells caller Begin (core_of S.opens K.index (S.view self.old.records.store) self.old)
+            (core_of S.opens K.index (S.view self.new.records.store) self.new) result }
+    {
+        if self.seats.is_live(caller) {
+            return Reply::Already;
+        }
+        self.seats.begin(self.alloc, caller);
+        Reply::Fine
+    }
+
+    // A call of a transaction on the records.
+    fn ask(&mut self, caller: u8, call: &Call) -> Reply
+        requires inside { caller < (S.view self.old.records.store).shape.numbers }
+        requires alive { IsAlive (S.view self.old.records.store) }
+        requires of_table { IsOfTable call.now }
+        requires shown { IsShown S.tells K.index (pages_of (S.view self.old.records.store) self.old.records) }
+        ensures steps { Steps S.tells caller call.now (core_of S.opens K.index (S.view self.old.records.store) self.old)
+            (core_of S.opens K.index (S.view self.new.records.store) self.new) result }
+    {
+        if !self.seats.is_live(caller) {
+            return Reply::NoTransaction;
+        }
+        if let Some(refusal) = refused_save(self.records.saves(caller), call) {
+            return refusal;
+        }
+        // The call is kept before it is made, so that nothing is written for which there is no memory.
+        let before = self.seats.touched(caller);
+        match self.seats.push(caller, call) {
+            Ok(()) => {}
+            Err(_) => return Reply::NoMemory,
+        }
+        if let Some(holder) = self.seats.holder(caller, call) {
+            self.seats.pop(caller, before);
+            return Reply::Busy { holder };
+        }
+        match work(self.alloc, &mut self.records, caller, call) {
+            Ok(answer) => {
+                let Answer { told, kept } = answer;
+                self.seats.set_last_reply(caller, kept);
+                told
+            }
+            Err(fault) => {
+                self.seats.pop(caller, before);
+                reply_to(&fault)
+            }
+        }
+    }
+
+    fn commit(&mut self, caller: u8) -> Reply
+        requires inside { caller < (S.view self.old.records.store).shape.numbers }
+        requires alive { IsAlive (S.view self.old.records.store) }
+        ensures steps { Steps S.tells caller Commit (core_of S.opens K.index (S.view self.old.records.store) self.old)
+            (core_of S.opens K.index (S.view self.new.records.store) self.new) result }
+    {
+        let at = self.history.len() as u64 + 1;
+        let Some(live) = self.seats.take(caller) else {
+            return Reply::NoTransaction;
+        };
+        let mask = live.touched();
+        // The history takes the transaction first, so that nothing is committed for which it has no memory.
+        match self.history.push(Done {
+            caller,
+            calls: live.into_calls(),
+            at,
+        }) {
+            Ok(()) => {}
+            Err(done) => {
+                self.seats.put(caller, Live::of(done.calls, mask));
+                return Reply::NoMemory;
+            }
+        }
+        match self.records.commit(caller) {
+            Ok(()) => Reply::Committed(at),
+            Err(fault) => {
+                self.doubt = self.history.pop();
+                reply_to(&fault)
+            }
+        }
+    }
+
+    fn abort(&mut self, caller: u8) -> Reply
+        requires inside { caller < (S.view self.old.records.store).shape.numbers }
+        requires alive { IsAlive (S.view self.old.records.store) }
+        ensures steps { Steps S.tells caller Abort (core_of S.opens K.index (S.view self.old.records.store) self.old)
+            (core_of S.opens K.index (S.view self.new.records.store) self.new) result }
+    {
+        if !self.seats.is_live(caller) {
+            return Reply::NoTransaction;
+        }
+        match self.records.abort(caller) {
+            Ok(()) => {
+                self.seats.end(caller);
+                Reply::Fine
+            }
+            Err(fault) => reply_to(&fault),
+        }
+    }
+}
+
+impl<S: EawStore, K: KeyIndex> Steps for Core<S, K> {
+    ghost use Rattle.mars_core.specs.Held.{core_of};
+
+    ghost tells = { S.tells };
+
+    ghost view = { λ core. core_of S.opens K.index (S.view core.records.store) core };
+
+    fn step(&mut self, caller: u8, call: &Call) -> Reply {
+        if self.records.is_dead() {
+            return Reply::Dead;
+        }
+        match call {
+            Call::Begin => self.begin(caller),
+            Call::Commit => self.commit(caller),
+            Call::Abort => self.abort(caller),
+            Call::Get { key: _ } => self.ask(caller, call),
+            Call::Put { key: _, value: _ } => self.ask(caller, call),
+            Call::Del { key: _ } => self.ask(caller, call),
+            Call::Scan { low: _, high: _ } => self.ask(caller, call),
+            Call::Save => self.ask(caller, call),
+            Call::Back { save: _ } => self.ask(caller, call),
+        }
+    }
+
+    fn told(&self) -> u64 {
+        self.history.len() as u64
+    }
+}
+
+// Takes the records at the opening, and makes room for the callers.
+fn begin_over<S: EawStore, K: KeyIndex>(
+    alloc: Global,
+    records: Records<S, K>,
+) -> Result<Core<S, K>, (CoreFault, S)>
+    requires alive { IsAlive (S.view records.store) }
+    requires sound { IsTrue S.tells → K.index.sound (S.view records.store).state.bytes }
+    requires idle { IsTrue S.tells → (t : ℕ) → (state_of K.index (pages_of (S.view records.store) records)).writes t ≡ [] }
+    requires unsaved { IsTrue S.tells → (t : ℕ) → (state_of K.index (pages_of (S.view records.store) records)).saved t ≡ [] }
+    ensures begins { IfOk result (λ core. Begins S.tells (S.opens (S.view records.store).shape) K.index (S.view records.store) (S.view core.records.store)
+        (core_of S.opens K.index (S.view core.records.store) core)) }
+    ensures cause { IfErr result (λ failed. CoreCause S.tells K.index (S.view records.store) failed.0) }
+    ensures gives_back { IfErr result (λ failed. GivesBack S.tells (S.opens (S.view records.store).shape) (is_media_fault failed.0) (S.view records.store) (S.view failed.1)) }
+{
+    let mut records = records;
+    let seats = match Seats::new(alloc, records.shape().numbers) {
+        Ok(seats) => seats,
+        Err(_) => return Err((CoreFault::NoMemory, records.into_pages().into_store())),
+    };
+    let base = match records.scan(alloc, 0, 0, u64::MAX) {
+        Ok(base) => base,
+        Err(fault) => return Err((scan_fault(&fault), records.into_pages().into_store())),
+    };
+    Ok(Core {
+        alloc,
+        records,
+        base,
+        seats,
+        history: History::new(alloc),
+        doubt: None,
+    })
+}
+
+// Why records were not taken.
+fn attach_fault(fault: &AttachRecords) -> CoreFault
+    ensures { result ≡ attach_fault fault.now }
+{
+    match fault {
+        AttachRecords::Damaged { page } => CoreFault::Damaged { page: *page },
+        AttachRecords::Media => CoreFault::Media,
+        AttachRecords::Dead => CoreFault::Media,
+    }
+}
+
+// Why they were not read.
+fn scan_fault(fault: &TableFault) -> CoreFault
+    ensures { result ≡ scan_fault fault.now }
+{
+    match fault {
+        TableFault::Damaged { page } => CoreFault::Damaged { page: *page },
+        TableFault::NoMemory => CoreFault::NoMemory,
+        TableFault::Media => CoreFault::Media,
+        TableFault::Dead => CoreFault::Media,
+        TableFault::SavesFull => CoreFault::Media,
+        TableFault::SlotsFull { slots: _ } => CoreFault::Media,
+        TableFault::PagesFull { pages: _ } => CoreFault::Media,
+        TableFault::LogFull {
+            logger: _,
+            held: _,
+            needed: _,
+        } => CoreFault::Media,
+    }
+}
