@@ -11,7 +11,7 @@ use Rattle.command_words.specs.Reads.{Reads}
 use Rattle.command_words.specs.Asked.{Says, GivesNumbers, IsNumber}
 use Rattle.command_words.specs.declared.words.FormatNumbers.{FormatNumbers}
 use Rattle.command_words.specs.declared.words.Words.{Words}
-use Rattle.command_words.specs.declared.words.Words.TheVariants.{Run, Eaw, Format}
+use Rattle.command_words.specs.declared.words.Words.TheVariants.{Run, Eaw, Dump, Format}
 
 some_is_none : {X : Type 0} {x : X} → Some x ≡ None → ⊥
 some_is_none is = cc is
@@ -58,6 +58,7 @@ one_met met name other options others is also =
 pub no_format : (options : List Row) → ((numbers : FormatNumbers) → GivesNumbers options numbers → ⊥) → (asked : Words) → Says (codes "format") options asked → ⊥
 no_format options none Run says = apart (codes "format") (codes "run") refl says
 no_format options none Eaw says = apart (codes "format") (codes "eaw") refl says
+no_format options none Dump says = apart (codes "format") (codes "dump") refl says
 no_format options none (Format numbers) says = none numbers says.1
 
 -- numbers of the same options are the same
@@ -68,10 +69,17 @@ one_format options numbers other are also = search (rules, one_number)
 pub one_asked : (name : Text) (options : List Row) (asked other : Words) → Says name options asked → Says name options other → asked ≡ other
 one_asked name options Run Run says also = refl
 one_asked name options Run Eaw says also = apart (codes "run") (codes "eaw") refl (sym says ∙ also)
+one_asked name options Run Dump says also = apart (codes "run") (codes "dump") refl (sym says ∙ also)
 one_asked name options Run (Format numbers) says also = apart (codes "run") (codes "format") refl (sym says ∙ also.0)
 one_asked name options Eaw Run says also = apart (codes "eaw") (codes "run") refl (sym says ∙ also)
 one_asked name options Eaw Eaw says also = refl
+one_asked name options Eaw Dump says also = apart (codes "eaw") (codes "dump") refl (sym says ∙ also)
 one_asked name options Eaw (Format numbers) says also = apart (codes "eaw") (codes "format") refl (sym says ∙ also.0)
+one_asked name options Dump Run says also = apart (codes "dump") (codes "run") refl (sym says ∙ also)
+one_asked name options Dump Eaw says also = apart (codes "dump") (codes "eaw") refl (sym says ∙ also)
+one_asked name options Dump Dump says also = refl
+one_asked name options Dump (Format numbers) says also = apart (codes "dump") (codes "format") refl (sym says ∙ also.0)
 one_asked name options (Format numbers) Run says also = apart (codes "format") (codes "run") refl (sym says.0 ∙ also)
 one_asked name options (Format numbers) Eaw says also = apart (codes "format") (codes "eaw") refl (sym says.0 ∙ also)
+one_asked name options (Format numbers) Dump says also = apart (codes "format") (codes "dump") refl (sym says.0 ∙ also)
 one_asked name options (Format numbers) (Format other) says also = ap Format (one_format options numbers other says.1 also.1)

@@ -18,7 +18,7 @@ use Rattle.command_words.specs.declared.words.FormatNumbers.{FormatNumbers}
 use Rattle.clap.proofs.OnLiterals.{clap_on_literals}
 use Rattle.command_words.specs.CommandLine.{command_line, format_shape, option_of}
 use Rattle.command_words.specs.Asked.{AsksFor, AskForNothing, IsNumber}
-use Rattle.command_words.specs.declared.words.Words.TheVariants.{Run, Eaw, Format}
+use Rattle.command_words.specs.declared.words.Words.TheVariants.{Run, Eaw, Dump, Format}
 
 -- no flag
 record IsPlain (word : Text) : Type 0 where
@@ -95,6 +95,17 @@ eaw_met = refl
 pub eaw_asks : AsksFor (codes "eaw" ∷ []) Eaw
 eaw_asks = (eaw_taken, codes "eaw", [], eaw_met, refl)
 
+dump_taken : fault_of command_line (codes "dump" ∷ []) ≡ []
+unfolding clap_on_literals
+dump_taken = refl
+
+dump_met : subcommand_of command_line (codes "dump" ∷ []) ≡ Some (codes "dump", [])
+unfolding clap_on_literals
+dump_met = refl
+
+pub dump_asks : AsksFor (codes "dump" ∷ []) Dump
+dump_asks = (dump_taken, codes "dump", [], dump_met, refl)
+
 -- there is a fault
 some_fault : {kind : ErrorKind} {kinds : Kinds} → kind ∷ kinds ≡ [] → ⊥
 some_fault is = cc is
@@ -129,7 +140,7 @@ version_option_asks asked asks = some_fault (sym version_option_refused ∙ asks
 
 -- `format` as it is built, and its options
 abbrev format_built : Shape
-format_built = unwrap_or (slice_get (built command_line).subs 2) format_shape
+format_built = unwrap_or (slice_get (built command_line).subs 3) format_shape
 
 abbrev rule_of : Text → Rule
 rule_of id = unwrap_or (arg_by_id format_built.rules id) (option_of id)

@@ -5,7 +5,7 @@ use Rattle.clap.specs.Words.{Text, Row, fault_of, subcommand_of, first_of}
 use Rattle.command_words.specs.CommandLine.{command_line}
 use Rattle.command_words.specs.declared.words.FormatNumbers.{FormatNumbers}
 use Rattle.command_words.specs.declared.words.Words.{Words}
-use Rattle.command_words.specs.declared.words.Words.TheVariants.{Run, Eaw, Format}
+use Rattle.command_words.specs.declared.words.Words.TheVariants.{Run, Eaw, Dump, Format}
 
 -- the number that an option's value is written as, in decimal; without the option it is the default
 abbrev pub IsNumber : ℕ → Option Text → ℕ → Type 0
@@ -23,6 +23,7 @@ pub record GivesNumbers (options : List Row) (given : FormatNumbers) : Type 0 wh
 abbrev pub Says : Text → List Row → Words → Type 0
 Says name options Run = name ≡ codes "run"
 Says name options Eaw = name ≡ codes "eaw"
+Says name options Dump = name ≡ codes "dump"
 Says name options (Format numbers) = (name ≡ codes "format") × GivesNumbers options numbers
 
 -- clap takes the words, and the subcommand that it meets in them asks for that

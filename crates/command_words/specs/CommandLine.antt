@@ -16,9 +16,9 @@ format_shape =
 abbrev pub mars_shape : Shape
 mars_shape = record (new_shape (codes "mars")) { is_leaf = false; no_binary_name = true; subcommand_required = true }
 
--- it is one of three, and there is no help
+-- it is one of four, and there is no help
 abbrev pub command_line : App
 command_line = record {
   top = record mars_shape { disable_help_flag = true; disable_help_subcommand = true };
-  subs = new_shape (codes "run") ∷ new_shape (codes "eaw") ∷ format_shape ∷ [];
+  subs = new_shape (codes "run") ∷ new_shape (codes "eaw") ∷ new_shape (codes "dump") ∷ format_shape ∷ [];
 }

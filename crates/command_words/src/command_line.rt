@@ -18,6 +18,7 @@ pub fn command_line<'a>(alloc: Global) -> Result<Command<'a>, AllocError>
         .subcommand_required(true)
         .subcommand(Command::new(alloc, "run"))?
         .subcommand(Command::new(alloc, "eaw"))?
+        .subcommand(Command::new(alloc, "dump"))?
         .subcommand(format_command(alloc)?)
 }
 

@@ -15,6 +15,7 @@ pub fn one_command()
 pub fn usual_words()
     ensures run { AsksFor (codes "run" ∷ []) Words.Run }
     ensures eaw { AsksFor (codes "eaw" ∷ []) Words.Eaw }
+    ensures dump { AsksFor (codes "dump" ∷ []) Words.Dump }
     ensures format { (numbers : FormatNumbers) → AreSmall numbers → AsksFor (format_words numbers) (Words.Format numbers) }
     ensures joined { (numbers : FormatNumbers) → AreSmall numbers → AsksFor (joined_words numbers) (Words.Format numbers) }
     ensures no_word { AskForNothing [] }

@@ -18,6 +18,8 @@ pub enum Words {
     Run,
     /// To answer raw commands.
     Eaw,
+    /// To write the records.
+    Dump,
     /// To make an array of these numbers, whatever was there.
     Format(FormatNumbers),
 }
@@ -45,7 +47,7 @@ pub enum WordsFault {
     NoMemory,
 }
 
-/// Reads the words behind the image's: `run`, `eaw`, or `format` with its options in any order, each given once at most.
+/// Reads the words behind the image's: `run`, `eaw`, `dump`, or `format` with its options in any order, each given once at most.
 pub fn read_words(alloc: Global, words: &[String]) -> Result<Words, WordsFault>
     ensures asked { IfOk result (AsksFor (map string_bytes words.now)) }
     ensures refused { IfErr result (λ fault. fault ≡ WordsFault.NoCommand → AskForNothing (map string_bytes words.now)) }
@@ -74,6 +76,7 @@ fn asked(matches: &ArgMatches<'_>) -> Option<Words>
     match name {
         "run" => Some(Words::Run),
         "eaw" => Some(Words::Eaw),
+        "dump" => Some(Words::Dump),
         "format" => {
             let numbers = read_numbers(options)?;
             Some(Words::Format(numbers))

@@ -13,4 +13,6 @@ returns c =
     c.in_ok-subcommand.ensures.shape (search rules) ∙ ap₂ with_subcommand alone (ap (λ (a : App). a.top) c.new-2.ensures.app) in
     let eaw : app_of c.in_ok-subcommand-2.field-0 ≡ with_subcommand (with_subcommand (set (new_app (codes "mars"))) (new_app (codes "run")).top) (new_app (codes "eaw")).top =
     c.in_ok-subcommand-2.ensures.shape (search rules) ∙ ap₂ with_subcommand run (ap (λ (a : App). a.top) c.new-3.ensures.app) in
-    IfOk-weaker c.subcommand-3.result _ _ (λ command adds. adds.shape c.in_ok-format_command.ensures.local ∙ ap₂ with_subcommand eaw c.in_ok-format_command.ensures.shape) c.subcommand-3.ensures
+    let dump : app_of c.in_ok-subcommand-3.field-0 ≡ with_subcommand (with_subcommand (with_subcommand (set (new_app (codes "mars"))) (new_app (codes "run")).top) (new_app (codes "eaw")).top) (new_app (codes "dump")).top =
+    c.in_ok-subcommand-3.ensures.shape (search rules) ∙ ap₂ with_subcommand eaw (ap (λ (a : App). a.top) c.new-4.ensures.app) in
+    IfOk-weaker c.subcommand-4.result _ _ (λ command adds. adds.shape c.in_ok-format_command.ensures.local ∙ ap₂ with_subcommand dump c.in_ok-format_command.ensures.shape) c.subcommand-4.ensures
