@@ -1,5 +1,5 @@
 -- What was told as committed stands in the history.
-use Rattle.std.proofs.Common.{Bool, ◌≡◌, ℕ, ◌+◌, ◌<◌, ◌≤◌, ◌^◌, List, [], ◌∷◌, ◌++◌, length, get_or, inl, inr, refl, sym, ap, subst, ◌∙◌, arith}
+use Rattle.std.proofs.Common.{Bool, ◌≡◌, ℕ, ◌+◌, ◌<◌, ◌≤◌, ◌^◌, List, [], ◌∷◌, ◌++◌, length, get_or, Option, Some, None, inl, inr, refl, sym, ap, subst, ◌∙◌, arith}
 use Rattle.std.specs.Prelude.{Contains, codes}
 use Rattle.std.specs.Fmt.{decimal}
 use Rattle.std.specs.Str.Parse.{AllDigits}
@@ -9,8 +9,14 @@ use Rattle.std.proofs.lemmas.List.{append_cancel_left, append_cancel_right, appe
 use Rattle.std.proofs.lemmas.List.Elements.{Contains-append_cases, Contains-push_cases}
 use Rattle.std.proofs.lemmas.Str.Parse.{numerals_by_value, tells_digits, digit_at}
 use Rattle.history.specs.declared.call.Call.{Call}
+use Rattle.history.specs.declared.call.Call.TheVariants.{Begin, Get, Put, Del, Scan, Save, Back, Commit, Abort}
 use Rattle.history.specs.declared.call.Reply.{Reply}
 use Rattle.history.specs.declared.call.Reply.TheVariants.{Fine, Found, Absent, Listed, Saved, Committed, NoTransaction, Already, NoSave, SavesFull, Busy, LogFull, SlotsFull, PagesFull, Media, Dead, NoMemory, Damaged}
+use Rattle.history.specs.Table.{Work, found, removed, Answers}
+use Rattle.core_face.specs.State.{State, done_by}
+use Rattle.core_face.specs.Fate.{is_refusal}
+use Rattle.core_face.proofs.Continuing.{grows_longer}
+use Rattle.core_face.proofs.Fates.{Fate, refused, failed, began, granted, committed, doubted, aborted, step_fate}
 use Rattle.script_text.specs.Line.{Says}
 use Rattle.script_text.specs.Replies.{reply_text, row_lines, reply_line, bad_line}
 use Rattle.script_text.specs.declared.line.Line.{Line}
@@ -21,9 +27,7 @@ use Rattle.script_run.specs.Transcript.{Ends, Answered}
 use Rattle.script_run.specs.declared.ended.Ended.{Ended}
 use Rattle.script_run.specs.declared.ended.Ended.TheVariants.{All, WriteFault, MediaFault, NoMemory as Short}
 use Rattle.mars_shell.specs.Lines.{Turns, Takes, Gives, LineStops, call_script}
-use Rattle.mars_shell.specs.Laws.{grows_longer}
 use Rattle.mars_shell.proofs.Answering.{takes_grows}
-use Rattle.mars_shell.proofs.Temp.{committed_long}
 
 first : List ℕ → ℕ
 first text = get_or text 0 0
@@ -93,6 +97,38 @@ not_bad caller n m few is =
     let digit = digit_at (decimal caller) 0 all (decimal_nonempty caller few) in
     omega (arith, digit.1, ap first both.0)
 
+-- a table answers none of its calls as a commit
+found_is_no_commit : (o : Option (List ℕ)) (k : ℕ) → Committed k ≡ found o → ⊥
+found_is_no_commit None k is = cc
+found_is_no_commit (Some value) k is = cc
+
+removed_is_no_commit : (o : Option (List ℕ)) (k : ℕ) → Committed k ≡ removed o → ⊥
+removed_is_no_commit None k is = cc
+removed_is_no_commit (Some value) k is = cc
+
+table_commits_nothing : (work : Work) (call : Call) (k : ℕ) → Answers work call (Committed k) → ⊥
+table_commits_nothing work (Get key) k is = found_is_no_commit _ k is
+table_commits_nothing work (Put key value) k is = cc
+table_commits_nothing work (Del key) k is = removed_is_no_commit _ k is
+table_commits_nothing work (Scan low high) k is = cc
+table_commits_nothing work Save k is = cc
+table_commits_nothing work (Back n) k is = let e = is.1 in cc
+table_commits_nothing work Begin k is = is
+table_commits_nothing work Commit k is = is
+table_commits_nothing work Abort k is = is
+
+-- a commit is told with the length of the history behind it
+committed_long : (old : State) (caller : ℕ) (call : Call) (k : ℕ) (new : State) → Fate old caller call (Committed k) new → k ≡ length new.history
+committed_long old caller call k new (refused is sure index e) = absurd (cc)
+committed_long old caller call k new (failed is index e) = absurd (cc)
+committed_long old caller call k new (began is re e) = absurd (cc)
+committed_long old caller call k new (granted calls live free answers index e) = absurd (table_commits_nothing _ call k answers)
+committed_long old caller call k new (committed calls is re live e) =
+    let count : k ≡ length old.history + 1 = cc in
+    omega (arith, count, ap (λ (s : State). length s.history) e, length-append old.history (done_by old caller calls ∷ []))
+committed_long old caller call k new (doubted calls is re live index e) = absurd (cc)
+committed_long old caller call k new (aborted is re e) = absurd (cc)
+
 gives_longer : (old : Turns) (n : ℕ) (line : Line) (text : List ℕ) (new : Turns) → Gives old n line text new → length old.state.history ≤ length new.state.history
 gives_longer old n Nothing text new gives = omega (arith, ap (λ (s : Turns). length s.state.history) gives.1)
 gives_longer old n Bad text new gives = omega (arith, ap (λ (s : Turns). length s.state.history) gives.1)
@@ -128,7 +164,7 @@ gives_committed old n bytes Bad caller m new most few fits says gives = absurd (
 gives_committed old n bytes (Told other call) caller m new most few fits says gives =
     let same = same_line caller other gives.0 m few (omega (arith, most, says.0)) fits gives.3 in
     let takes : Takes old other call (Committed same.0) new = subst (λ (r : Reply). Takes old other call r new) same.1 gives.2 in
-    omega (arith, same.2, committed_long old.limits old.state other call same.0 new.state takes.1)
+    omega (arith, same.2, committed_long old.state other call same.0 new.state (step_fate old.limits old.state other new.state call (Committed same.0) takes.1))
 
 pub committed_kept : (old : Turns) (n : ℕ) (lines : List (List ℕ)) (ended : Ended) (cut : Bool) (answers : List (List ℕ)) (rest : List ℕ) (new : Turns) → old.limits.callers ≤ 2 ^ 64
     → Answered call_script old n lines ended cut answers rest new → (caller m : ℕ) → caller < 2 ^ 64 → m < 2 ^ 64 → Contains answers (reply_line caller (Committed m)) → m ≤ length new.state.history

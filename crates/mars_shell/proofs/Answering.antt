@@ -8,7 +8,10 @@ use Rattle.history.specs.declared.call.Reply.TheVariants as said
 use Rattle.history.specs.declared.transaction.Done.{Done}
 use Rattle.core_face.specs.State.{calls_of, done_by}
 use Rattle.core_face.specs.Fate.{is_committed}
-use Rattle.core_face.specs.Core.{CoreView, Steps}
+use Rattle.core_face.specs.Prefix.{Grows}
+use Rattle.core_face.specs.Core.{CoreView, Steps, Continues}
+use Rattle.core_face.proofs.Fates.{step_moves}
+use Rattle.core_face.proofs.Continuing.{continues_none, continues_step}
 use Rattle.script_text.specs.Line.{Says}
 use Rattle.script_text.specs.Replies.{reply_line, bad_line}
 use Rattle.script_text.specs.declared.line.Line.{Line}
@@ -16,10 +19,8 @@ use Rattle.script_text.specs.declared.line.Line.TheVariants.{Nothing, Told, Bad}
 use Rattle.script_run.specs.Answers.{Answers}
 use Rattle.script_run.specs.declared.responder.Stop.{Stop}
 use Rattle.script_run.specs.declared.responder.Stop.TheVariants.{Media, NoMemory}
-use Rattle.mars_shell.specs.Laws.{comes_none}
 use Rattle.mars_shell.specs.Lines.{Turns, Takes, Replied, call_script}
-use Rattle.mars_shell.specs.Standing.{turns_of, IsReady, Stands, Comes, Grows}
-use Rattle.mars_shell.proofs.Temp.{step_sound, step_moves}
+use Rattle.mars_shell.specs.Standing.{turns_of, IsReady, Stands, Comes}
 
 -- what a responder answers
 abbrev pub Answer : Type 0
@@ -38,15 +39,18 @@ module _ (core : CoreView) (callers n : ℕ) (line : List ℕ) (turns : Turns) (
   says_here : (what : Line) → Says callers line what → Says turns.limits.callers line what
   says_here what says = subst (λ (k : ℕ). Says k line what) (ready.callers_are ∙ sym (ap (λ (t : Turns). t.limits.callers) stands.is)) says
 
+  nothing : Comes core core turns
+  nothing = (stands.is, continues_none core stands.sound stands.safe)
+
   -- a line that is passed over, and one that is none
   pub passed_over : (text : List ℕ) → text ≡ [] → Says callers line Nothing → Answers call_script (Stands core) (Comes core core) turns n line text (let r : Answer = Ok tt in r)
-  passed_over text is says = (turns, (Nothing, says_here Nothing says, (is, refl)), stands, comes_none core turns stands)
+  passed_over text is says = (turns, (Nothing, says_here Nothing says, (is, refl)), stands, nothing)
 
   pub refused : (text : List ℕ) → text ≡ bad_line n → Says callers line Bad → Answers call_script (Stands core) (Comes core core) turns n line text (let r : Answer = Ok tt in r)
-  refused text is says = (turns, (Bad, says_here Bad says, (is, refl)), stands, comes_none core turns stands)
+  refused text is says = (turns, (Bad, says_here Bad says, (is, refl)), stands, nothing)
 
   pub refused_short : (text : List ℕ) → Says callers line Bad → Answers call_script (Stands core) (Comes core core) turns n line text (let r : Answer = Err NoMemory in r)
-  refused_short text says = (turns, inr (bad_line n, (Bad, says_here Bad says, (refl, refl))), comes_none core turns stands)
+  refused_short text says = (turns, inr (bad_line n, (Bad, says_here Bad says, (refl, refl))), nothing)
 
   module _ (tells : Bool) (told : IsTrue tells) (later : CoreView) (caller : ℕ) (call : Call) (reply : Reply) (says : Says callers line (Told caller call)) (steps : Steps tells caller call core later reply) where
     abbrev after : Turns
@@ -55,20 +59,14 @@ module _ (core : CoreView) (callers n : ℕ) (line : List ℕ) (turns : Turns) (
     takes : Takes turns caller call reply after
     takes = subst (λ (t : Turns). Takes t caller call reply after) (sym stands.is) (steps.limits, steps.step told)
 
+    on : Continues core later
+    on = continues_step tells told caller call core later reply stands.sound steps
+
     come : Comes core later after
-    come = record {
-      is = refl;
-      limits = steps.limits;
-      base = steps.moves.base;
-      opens = steps.opens;
-      grows = grows_if core.state.history later.state.history (done_by core.state caller (calls_of core.state caller)) (is_committed reply) steps.moves.history;
-      sound = step_sound core.limits core.state caller call reply later.state (steps.step told) stands.sound;
-      time = steps.time told;
-      now = steps.now told;
-    }
+    come = (refl, on)
 
     stand : Stands later after
-    stand = record { is = refl; sound = come.sound; safe = come.now }
+    stand = record { is = refl; sound = on.sound; safe = on.now }
 
     -- a call of a caller, whose reply was told or not
     pub called : (before text : List ℕ) (result : Answer) → before ≡ [] → Replied caller reply before text result → Answers call_script (Stands later) (Comes core later) turns n line text result

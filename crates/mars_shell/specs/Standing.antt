@@ -1,10 +1,6 @@
 -- What callers' turns over a core stand for, and what they come to.
-use Rattle.std.specs.Prelude.{ℕ, ◌≡◌, false, List, ◌++◌, length}
-use Rattle.counted.specs.Moments.{Elapses}
-use Rattle.history.specs.Writes.{Table}
-use Rattle.history.specs.declared.transaction.Done.{Done}
-use Rattle.core_face.specs.Core.{CoreView, IsSafe}
-use Rattle.core_face.specs.Prefix.{HasPrefixOf}
+use Rattle.std.specs.Prelude.{ℕ, ◌≡◌, false, length}
+use Rattle.core_face.specs.Core.{CoreView, IsSafe, Continues}
 use Rattle.core_face.specs.Sound.{IsSound}
 use Rattle.mars_shell.specs.Lines.{Turns, turns_at}
 
@@ -23,20 +19,6 @@ pub record Stands (core : CoreView) (turns : Turns) : Type 0 where
   pub sound : IsSound core.state
   pub safe : IsSafe core core.moment (length core.state.history)
 
--- a history that goes on as another did
-pub record Grows (old new : List Done) : Type 0 where
-  pub more : List Done
-  pub is : new ≡ old ++ more
-
--- From a core in a state to a later one in a state: the limits and the records at the opening are the same, the history goes on, and
--- each image that a loss of power might have left meanwhile has a prefix of it, with all that was committed before; one that it may
--- leave now has all.
-pub record Comes (old new : CoreView) (turns : Turns) : Type 0 where
-  pub is : turns ≡ turns_of new
-  pub limits : new.limits ≡ old.limits
-  pub base : new.state.base ≡ old.state.base
-  pub opens : (image : List ℕ) (table : Table) → old.opens image table → new.opens image table
-  pub grows : Grows old.state.history new.state.history
-  pub sound : IsSound new.state
-  pub time : Elapses old.moment new.moment old.left_since new.left_since (HasPrefixOf new.opens new.state (length old.state.history))
-  pub now : IsSafe new new.moment (length new.state.history)
+-- From a core to a later one, in this state: the history goes on, and what a loss of power may have left has a prefix of it.
+abbrev pub Comes : CoreView → CoreView → Turns → Type 0
+Comes old new turns = (turns ≡ turns_of new) × Continues old new

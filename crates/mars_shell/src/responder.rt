@@ -14,7 +14,7 @@ pub struct LineCore<C: Core> {
 }
 
 impl<C: Core> Responder for LineCore<C> {
-    ghost use Rattle.mars_shell.specs.Laws.{comes_none, comes_on};
+    ghost use Rattle.core_face.proofs.Continuing.{continues_none, continues_on};
     ghost use Rattle.mars_shell.specs.Lines.{Turns, call_script};
     ghost use Rattle.mars_shell.specs.Standing.{IsReady, Stands, Comes};
 
@@ -32,9 +32,9 @@ impl<C: Core> Responder for LineCore<C> {
 
     ghost faults = { λ lines. (C.view lines.core).faults };
 
-    ghost comes_none = { λ lines turns told ready. comes_none (C.view lines.core) turns };
+    ghost comes_none = { λ lines turns told ready stands. (stands.is, continues_none (C.view lines.core) stands.sound stands.safe) };
 
-    ghost comes_on = { λ first mid last s t u told ready stands. comes_on (C.view first.core) (C.view mid.core) (C.view last.core) t u (stands.sound.certain ready.alive) };
+    ghost comes_on = { λ first mid last s t u told ready stands before behind. (behind.0, continues_on (C.view first.core) (C.view mid.core) (C.view last.core) before.1 behind.1) };
 
     fn answer(&mut self, line: &[u8], n: u64, out: &mut Vec<u8>) -> Result<(), Stop> {
         out.clear();
