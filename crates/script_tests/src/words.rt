@@ -22,11 +22,13 @@ fn format(loggers: u16, numbers: u16, entries: u16, pages: u16) -> Words {
 
 #[test]
 fn words_are_read(rt: HostRuntime) -> Result<(), Fail> {
-    let rows: [(&[&str], Words); 11] = [
+    let rows: [(&[&str], Words); 13] = [
         (&["run"], Words::Run),
         (&["run", "--"], Words::Run),
         (&["format", "--pages=8", "--"], format(4, 8, 16, 8)),
         (&["eaw"], Words::Eaw),
+        (&["dump"], Words::Dump),
+        (&["dump", "--"], Words::Dump),
         (&["format"], format(4, 8, 16, 64)),
         (&["format", "--loggers", "2"], format(2, 8, 16, 64)),
         (&["format", "--numbers=0"], format(4, 0, 16, 64)),
@@ -65,7 +67,7 @@ fn words_are_read(rt: HostRuntime) -> Result<(), Fail> {
 
 #[test]
 fn other_words_are_none(rt: HostRuntime) -> Result<(), Fail> {
-    let rows: [&[&str]; 27] = [
+    let rows: [&[&str]; 32] = [
         &[],
         &[""],
         &["walk"],
@@ -78,6 +80,11 @@ fn other_words_are_none(rt: HostRuntime) -> Result<(), Fail> {
         &["-h"],
         &["run", "--", "run"],
         &["eaw", "--pages=4"],
+        &["Dump"],
+        &["dumps"],
+        &["dump", "x"],
+        &["dump", "--pages=4"],
+        &["dump", "--help"],
         &["format", "--help"],
         &["format", "-h"],
         &["format", "--", "--pages=4"],
