@@ -60,7 +60,7 @@ module _ (core : CoreView) (callers n : ℕ) (line : List ℕ) (turns : Turns) (
     takes = subst (λ (t : Turns). Takes t caller call reply after) (sym stands.is) (steps.limits, steps.step told)
 
     on : Continues core later
-    on = continues_step tells told caller call core later reply stands.sound steps
+    on = continues_step tells caller call core later reply stands.sound steps told
 
     come : Comes core later after
     come = (refl, on)

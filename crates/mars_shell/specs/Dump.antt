@@ -6,7 +6,6 @@ use Rattle.std.specs.List.{flat_map}
 use Rattle.pcm_media.specs.Images.{MayLeave}
 use Rattle.pcm_media.specs.View.{View}
 use Rattle.array_shape.specs.declared.shape.Shape.{Shape}
-use Rattle.array_image.specs.Image.{data_of}
 use Rattle.array_image.specs.Decided.{settled_data}
 use Rattle.device_recovery.specs.Recovered.{HasNoVote}
 use Rattle.eaw_device.specs.Opens.{Opens, AllOpen, OpensLike}
@@ -38,15 +37,14 @@ IsCutAt All cut = cut ≡ false
 IsCutAt WriteFault cut = cut ≡ true
 IsCutAt _ cut = ⊥
 
--- The records of the array are told, or a front of that text where it was cut short. The media is as an opening leaves it: its data
--- is that which was opened, which each image opens with that a loss of power may leave; and what might have been left since the
--- entry opens with the data of an image that could be left at first, where all of these open.
+-- The records of the array are told, or a front of that text where it was cut short. The media is as an opening leaves it: each image
+-- that a loss of power may leave opens with the data that was opened; and one that might have been left since the entry with the data of
+-- an image that could be left at first, where all of these open.
 pub record Dumps (old : View) (ended : Ended) (new : View) (cut : Bool) (text : List ℕ) : Type 0 where
   pub shape : Shape
   pub holds : HoldsRecords shape old
   pub end : IsCutAt ended cut
   pub wrote : IsWritten cut text (dump_text (table_of chain (settled_data shape old.content.bytes)))
-  pub bytes : data_of shape new.content.bytes ≡ settled_data shape old.content.bytes
   pub quiet : HasNoVote shape new.content.bytes
   pub now : (image : List ℕ) → MayLeave new.content image → Opens shape image (settled_data shape old.content.bytes)
   pub since : AllOpen shape old.content → (image : List ℕ) → new.left_since old.moment image → OpensLike shape old.content image

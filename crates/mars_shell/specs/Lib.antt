@@ -1,7 +1,5 @@
 pub mod Lines
 pub mod Standing
-pub mod Laws
-pub mod Served
 pub mod Statuses
 pub mod Input
 pub mod Outcome
@@ -9,6 +7,7 @@ pub mod Opening
 pub mod PrefixLaw
 pub mod Run
 pub mod Dump
+pub mod Served
 pub mod Commands
 pub mod Formats
 pub mod Asked

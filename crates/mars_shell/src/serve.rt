@@ -1,32 +1,41 @@
-// The work over a core that was attached.
-ghost use Rattle.std.specs.Prelude.{◌≡◌, false, IsTrue};
+// The work over the records of an array.
+ghost use Rattle.std.specs.Prelude.{◌≡◌, ℕ, None, false, IsTrue, IfErr};
+ghost use Rattle.eaw_face.specs.Causes.{IsAlive};
 ghost use Rattle.script_io.specs.Written.{Wrote};
-ghost use Rattle.script_run.specs.Counts.{Counts};
-ghost use Rattle.mars_shell.specs.Served.{Served};
-ghost use Rattle.mars_shell.specs.Standing.{IsReady, Stands, turns_of};
+ghost use Rattle.mars_shell.specs.Served.{Serves, ServedCounts};
 
 use crate::responder::LineCore;
-use core_face::Core;
+use eaw_face::EawStore;
+use key_list::KeyList;
+use mars_core::{Core, CoreFault};
 use outside::Sink;
+use page_store::SaveRoom;
 use script_run::{Ended, answer_lines};
 use std::alloc::Global;
 
-/// Answers the lines of the input, of so many callers, and gives the core back.
-pub fn serve<K: Sink, C: Core>(
+/// Answers the lines of the input over the records of a store, and gives the store back. Where they were not taken, nothing was told.
+/// The pages over the store lie in room that was taken before it was opened.
+pub fn serve<K: Sink, S: EawStore>(
     alloc: Global,
     input: &[u8],
     sink: &mut K,
-    callers: u8,
-    core: C,
-) -> (Ended, C)
-    requires ready { IsReady callers (C.view core) }
+    room: SaveRoom,
+    store: S,
+) -> (Result<Ended, CoreFault>, S)
+    requires alive { IsAlive (S.view store) }
+    requires free { (t : ℕ) → (S.view store).ranges t ≡ None }
     ensures served { Wrote K.tells (K.written sink.old) (K.written sink.new) (K.faults sink.old) (K.faults sink.new)
-        (λ cut text. IsTrue C.tells → Stands (C.view core) (turns_of (C.view core)) → Served (C.view core) input.now result.0 cut text (C.view result.1)) }
-    ensures alive { result.0 ≡ Ended.All → (C.view result.1).state.is_dead ≡ false }
-    ensures counts { Counts result.0 (K.faults sink.old) (K.faults sink.new) (C.view core).faults (C.view result.1).faults }
+        (λ cut text. IsTrue S.tells → Serves S.opens (S.view store) input.now result.0 cut text (S.view result.1)) }
+    ensures untold { IfErr result.0 (λ fault. sink.new ≡ sink.old) }
+    ensures counts { ServedCounts result.0 (K.faults sink.old) (K.faults sink.new) (S.view store).faults (S.view result.1).faults }
 {
+    let callers = store.shape().numbers;
+    let core = match Core::<S, KeyList>::attach(alloc, room, store) {
+        Ok(core) => core,
+        Err((fault, store)) => return (Err(fault), store),
+    };
     let mut lines = LineCore { core, callers };
     let ended = answer_lines(alloc, input, sink, &mut lines);
     let LineCore { core, callers: _ } = lines;
-    (ended, core)
+    (Ok(ended), core.into_store())
 }
