@@ -4,6 +4,7 @@ pub mod Answering
 pub mod Acknowledged
 pub mod Shapes
 pub mod Serving
+pub mod Telling
 pub mod Unopened
 pub mod Running
 pub mod Completing

@@ -21,6 +21,9 @@ returns-in-Err-NoCommand-clause-formats g c = c.in-Err-NoCommand.ensures.refused
 pub returns-in-Err-NoCommand-clause-ran : goal.returns-in-Err-NoCommand-clause-ran
 returns-in-Err-NoCommand-clause-ran g c = c.in-Err-NoCommand.ensures.refused c.in-Err-NoCommand.field-0-is
 
+pub returns-in-Err-NoCommand-clause-dumps : goal.returns-in-Err-NoCommand-clause-dumps
+returns-in-Err-NoCommand-clause-dumps g c = c.in-Err-NoCommand.ensures.refused c.in-Err-NoCommand.field-0-is
+
 pub returns-in-Err-NoCommand-clause-complete : goal.returns-in-Err-NoCommand-clause-complete
 returns-in-Err-NoCommand-clause-complete g c = c.in-Err-NoCommand.ensures.refused c.in-Err-NoCommand.field-0-is
 

@@ -1,0 +1,26 @@
+use Rattle.std.proofs.Common.{sym, subst}
+use Rattle.key_list.specs.Index.{chain}
+use Rattle.mars_core.specs.Held.{core_of}
+use Rattle.mars_core.specs.Over.{IsOver}
+use Rattle.mars_shell.specs.Served.{Served}
+use Rattle.mars_shell.proofs.Serving.{stands, served}
+use Rattle.mars_shell.proofs.serve.serve.Goals as goal
+
+pub returns-clause-served : goal.returns-clause-served
+returns-clause-served g c =
+    let s = g.S.EawStore in
+    let store = c.in-Ok.core.records.store in
+    let begins = c.in-Ok.ensures.begins in
+    let ran = c.answer_lines-ended.ensures.ran in
+    let core = c.answer_lines-ended.new.responder.core in
+    let over = subst (λ st. IsOver s.tells (s.opens (s.view st).shape) chain (s.view st) (core_of s.opens chain (s.view st) core)) c.into_store.ensures.store c.into_store.ensures.over in
+    record {
+      cut = ran.cut;
+      text = ran.text;
+      wrote = ran.wrote;
+      counts = ran.counts;
+      holds = λ told. subst (λ st. Served s.opens (s.view c.args.store) c.args.input.now c.answer_lines-ended.result ran.cut ran.text (s.view st)) (sym c.into_store.ensures.store)
+          (served s.tells s.opens (s.view c.args.store) (s.view store) _ begins told (s.view core.records.store) _ over c.args.input.now c.answer_lines-ended.result ran.cut ran.text
+          (ran.holds told _ (stands s.tells s.opens (s.view c.args.store) (s.view store) _ begins told (λ image left. g.met.S.EawStore.only_now store image told begins.alive left)))
+          (λ all. (c.answer_lines-ended.ensures.ready all).alive));
+    }
