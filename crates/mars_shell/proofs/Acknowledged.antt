@@ -14,7 +14,6 @@ use Rattle.history.specs.declared.call.Reply.{Reply}
 use Rattle.history.specs.declared.call.Reply.TheVariants.{Fine, Found, Absent, Listed, Saved, Committed, NoTransaction, Already, NoSave, SavesFull, Busy, LogFull, SlotsFull, PagesFull, Media, Dead, NoMemory, Damaged}
 use Rattle.history.specs.Table.{Work, found, removed, Answers}
 use Rattle.core_face.specs.State.{State, done_by}
-use Rattle.core_face.specs.Fate.{is_refusal}
 use Rattle.core_face.proofs.Continuing.{grows_longer}
 use Rattle.core_face.proofs.Fates.{Fate, refused, failed, began, granted, committed, doubted, aborted, step_fate}
 use Rattle.script_text.specs.Line.{Says}

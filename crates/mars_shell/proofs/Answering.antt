@@ -74,8 +74,12 @@ module _ (core : CoreView) (callers n : ℕ) (line : List ℕ) (turns : Turns) (
         (after, (Told caller call, says_here (Told caller call) says, (reply, replied.0, takes, replied.1 ∙ ap (λ (front : List ℕ). front ++ reply_line caller reply) none)), stand, come)
     called before text (Err (Media number)) none replied = (
       after,
-      (call, subst (λ (c : ℕ). Says turns.limits.callers line (Told c call)) (sym replied.0) (says_here (Told caller call) says), subst (λ (c : ℕ). Takes turns c call said.Media after) (sym replied.0)
-      (subst (λ (r : Reply). Takes turns caller call r after) replied.1 takes)),
+      (
+        call,
+        subst (λ (c : ℕ). Says turns.limits.callers line (Told c call)) (sym replied.0) (says_here (Told caller call) says),
+        subst (λ (c : ℕ). Takes turns c call said.Media after) (sym replied.0)
+            (subst (λ (r : Reply). Takes turns caller call r after) replied.1 takes),
+      ),
       come,
     )
     called before text (Err NoMemory) none (inl short) =

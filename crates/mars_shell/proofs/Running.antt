@@ -1,11 +1,10 @@
 -- A run over an array that was opened: its records were read, and its lines answered.
-use Rattle.std.proofs.Common.{◌≡◌, ℕ, ◌≤◌, inl, inr, ⊎_elim, List, [], length, Bool, false, refl, sym, ap, subst, ◌∙◌, arith}
+use Rattle.std.proofs.Common.{◌≡◌, ℕ, ◌≤◌, inl, inr, ⊎_elim, List, [], length, Bool, refl, sym, ap, subst, ◌∙◌, arith}
 use Rattle.std.specs.Prelude.{IsTrue, Err}
 use Rattle.pcm_media.specs.Images.{MayLeave}
 use Rattle.pcm_media.specs.View.{View}
 use Rattle.pcm_media.proofs.Left.{left_as_read}
 use Rattle.array_shape.specs.declared.shape.Shape.{Shape}
-use Rattle.array_image.specs.Decided.{settled_data}
 use Rattle.array_image.specs.Image.{data_of}
 use Rattle.array_image.specs.Standing.{IsLawful}
 use Rattle.row_bytes.proofs.OneShape.{one_shape}
@@ -22,7 +21,6 @@ use Rattle.script_io.specs.Lines.{lines_of}
 use Rattle.script_io.specs.Written.{IsWritten}
 use Rattle.script_run.specs.Transcript.{Answered}
 use Rattle.script_run.specs.declared.ended.Ended.{Ended}
-use Rattle.script_run.specs.declared.ended.Ended.TheVariants.{All}
 use Rattle.mars_shell.specs.Dump.{Dumps, dump_text}
 use Rattle.mars_shell.specs.Lines.{turns_at, call_script}
 use Rattle.mars_shell.specs.Outcome.{Idle, OutcomeOf}

@@ -1,5 +1,5 @@
 -- The records of a store are told.
-use Rattle.std.proofs.Common.{◌≡◌, ℕ, ⊎_elim, List, [], Bool, true, false, refl, sym, ap, subst, ◌∙◌, arith}
+use Rattle.std.proofs.Common.{◌≡◌, ℕ, ⊎_elim, List, [], Bool, false, refl, ap, subst, ◌∙◌, arith}
 use Rattle.std.specs.Prelude.{IsTrue}
 use Rattle.std.specs.FinMap.{entries}
 use Rattle.array_shape.specs.declared.shape.Shape.{Shape}

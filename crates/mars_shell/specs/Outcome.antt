@@ -1,5 +1,5 @@
 -- What a run leaves on a media that tells its bytes, and what it has written, by its status.
-use Rattle.std.specs.Prelude.{ℕ, ◌≡◌, ◌+◌, ◌≤◌, ◌⊎◌, List, [], Bool, false, ⊤}
+use Rattle.std.specs.Prelude.{ℕ, ◌≡◌, ◌+◌, ◌≤◌, ◌⊎◌, List, [], Bool, ⊤}
 use Rattle.pcm_media.specs.Images.{Touched}
 use Rattle.pcm_media.specs.View.{View}
 use Rattle.array_shape.specs.declared.shape.Shape.{Shape}

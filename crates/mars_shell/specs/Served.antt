@@ -1,6 +1,5 @@
 -- What is done over a store whose records are read first.
 use Rattle.std.specs.Prelude.{ℕ, ◌≡◌, List, [], ◌++◌, length, Bool, true, false, Result, Ok, Err}
-use Rattle.std.specs.FinMap.{entries}
 use Rattle.std.specs.List.{concat}
 use Rattle.counted.specs.Causes.{Rose}
 use Rattle.array_shape.specs.declared.shape.Shape.{Shape}
