@@ -124,3 +124,8 @@ safe_on old new since least on le few safe image left = ⊎_elim
 -- So all that was committed at some moment is there whenever power is lost from then on.
 pub kept_since : (entry new : CoreView) → Continues entry new → IsSafe entry entry.moment (length entry.state.history) → IsSafe new entry.moment (length entry.state.history)
 kept_since entry new on safe = safe_on entry new entry.moment (length entry.state.history) on (omega arith) (omega arith) safe
+
+-- A step keeps safe what was safe since a moment.
+pub step_safe : (tells : Bool) (caller : ℕ) (call : Call) (old new : CoreView) (reply : Reply) (since least : ℕ) → IsSound old.state → Steps tells caller call old new reply → IsTrue tells
+    → since ≤ old.moment → least ≤ length old.state.history → IsSafe old since least → IsSafe new since least
+step_safe tells caller call old new reply since least sound steps told le few safe = safe_on old new since least (continues_step tells caller call old new reply sound steps told) le few safe

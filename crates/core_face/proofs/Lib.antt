@@ -3,3 +3,4 @@ pub mod Sound
 pub mod First
 pub mod Exact
 pub mod Continuing
+pub mod Holding

@@ -3,3 +3,7 @@ pub mod Tables
 pub mod Pending
 pub mod Saves
 pub mod Locking
+pub mod Counting
+pub mod Replaying
+pub mod Comparing
+pub mod Judging

@@ -4,3 +4,4 @@ pub mod Legal
 pub mod Log
 pub mod Locks
 pub mod Rows
+pub mod Replay

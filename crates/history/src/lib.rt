@@ -3,10 +3,12 @@
 
 mod call;
 mod laws;
+mod replay;
 mod rows;
 mod transaction;
 
 pub use call::{Call, Reply};
 pub use laws::{logs_show_what_is_seen, others_stay_right, strict_locking};
+pub use replay::{is_legal, play};
 pub use rows::Rows;
 pub use transaction::{Calls, Done, History};

@@ -1,0 +1,82 @@
+-- Calls and transactions that are right one after another.
+use Rattle.std.proofs.Common.{◌≡◌, ℕ, zero, suc, ◌+◌, ◌<◌, List, [], ◌∷◌, ◌++◌, length, take, get_or, sym, ap, subst, ◌∙◌, arith}
+use Rattle.std.proofs.lemmas.List.{take_more, length-take-le}
+use Rattle.history.specs.Writes.{Table}
+use Rattle.history.specs.Table.{Granted, Work, Answers, after, worked, IsRightFrom, IsRight, left_by}
+use Rattle.history.specs.Legal.{records, IsLegalFrom, IsLegal}
+use Rattle.history.specs.declared.call.Call.{Call}
+use Rattle.history.specs.declared.call.Reply.{Reply}
+use Rattle.history.specs.declared.transaction.Done.{Done}
+use Rattle.history.proofs.OneMore.{IsRightFrom-push, worked-push, IsLegal-push, records-push}
+
+-- one call more that is answered right
+pub right-next : (work : Work) (calls : Granted) (i : ℕ) (entry : Call × Reply) → i < length calls → entry ≡ get_or calls i entry
+    → IsRightFrom work (take i calls) → Answers (worked work (take i calls)) entry.0 entry.1 → IsRightFrom work (take (i + 1) calls)
+right-next work calls i entry within at right answers =
+    subst (λ cs. IsRightFrom work cs) (ap (λ (e : Call × Reply). take i calls ++ e ∷ []) at ∙ sym (take_more calls i entry within)) (IsRightFrom-push work (take i calls) entry.0 entry.1 right answers)
+
+pub worked-next : (work : Work) (calls : Granted) (i : ℕ) (entry : Call × Reply) → i < length calls → entry ≡ get_or calls i entry
+    → worked work (take (i + 1) calls) ≡ after (worked work (take i calls)) entry.0
+worked-next work calls i entry within at =
+    ap (worked work) (take_more calls i entry within ∙ ap (λ (e : Call × Reply). take i calls ++ e ∷ []) (sym at)) ∙ worked-push work (take i calls) entry.0 entry.1
+
+-- each of the calls that are right is answered right
+pub right_at : (work : Work) (calls : Granted) (i : ℕ) (entry : Call × Reply) → i < length calls → IsRightFrom work calls → Answers (worked work (take i calls)) (get_or calls i entry).0 (get_or calls i entry).1
+right_at work [] i entry within right = absurd (omega (arith, within))
+right_at work (first ∷ calls) zero entry within right = right.0
+right_at work (first ∷ calls) (suc i) entry within right = right_at (after work first.0) calls i entry (omega (arith, within)) right.1
+
+-- one transaction more that has the next number and is right
+pub legal-next : (base : Table) (history : List Done) (i : ℕ) (done : Done) → i < length history → done ≡ get_or history i done
+    → IsLegal base (take i history) → done.at ≡ i + 1 → IsRight (records base (take i history)) done.calls → IsLegal base (take (i + 1) history)
+legal-next base history i done within at legal number right =
+    let long : length (take i history) ≡ i = length-take-le i history (omega (arith, within)) in
+    subst (λ h. IsLegal base h) (ap (λ (d : Done). take i history ++ d ∷ []) at ∙ sym (take_more history i done within))
+    (IsLegal-push base (take i history) done legal (number ∙ ap (λ (k : ℕ). k + 1) (sym long)) right)
+
+pub records-next : (base : Table) (history : List Done) (i : ℕ) (done : Done) → i < length history → done ≡ get_or history i done
+    → records base (take (i + 1) history) ≡ left_by (records base (take i history)) done.calls
+records-next base history i done within at =
+    ap (records base) (take_more history i done within ∙ ap (λ (d : Done). take i history ++ d ∷ []) (sym at)) ∙ records-push base (take i history) done
+
+-- each transaction of a legal history has its number and is right
+legal_from_at : (n : ℕ) (base : Table) (history : List Done) (i : ℕ) (done : Done) → i < length history → IsLegalFrom n base history
+    → ((get_or history i done).at ≡ n + i) × IsRight (records base (take i history)) (get_or history i done).calls
+legal_from_at n base [] i done within legal = absurd (omega (arith, within))
+legal_from_at n base (first ∷ history) zero done within legal = (omega (arith, legal.0), legal.1)
+legal_from_at n base (first ∷ history) (suc i) done within legal =
+    let rest = legal_from_at (n + 1) (left_by base first.calls) history i done (omega (arith, within)) legal.2 in
+    (omega (arith, rest.0), rest.1)
+
+pub legal_at : (base : Table) (history : List Done) (i : ℕ) (done : Done) → i < length history → IsLegal base history
+    → ((get_or history i done).at ≡ i + 1) × IsRight (records base (take i history)) (get_or history i done).calls
+legal_at base history i done within legal = let both = legal_from_at 1 base history i done within legal in (omega (arith, both.0), both.1)
+
+module _ (start : Work) (calls : Granted) (i : ℕ) (entry : Call × Reply) (within : i < length calls) (at : entry ≡ get_or calls i entry) (work : Work) (made : work ≡ worked start (take i calls)) where
+  -- as a loop over the calls has it: one call more is made,
+  pub made-next : (later : Work) → later ≡ after work entry.0 → later ≡ worked start (take (i + 1) calls)
+  made-next later is = is ∙ ap (λ (w : Work). after w entry.0) made ∙ sym (worked-next start calls i entry within at)
+
+  -- and was answered right;
+  pub stays_right : IsRightFrom start (take i calls) → Answers work entry.0 entry.1 → IsRightFrom start (take (i + 1) calls)
+  stays_right right answers = right-next start calls i entry within at right (subst (λ w. Answers w entry.0 entry.1) made answers)
+
+  -- or it was not, and the calls are not right.
+  pub is_wrong : (Answers work entry.0 entry.1 → ⊥) → IsRightFrom start calls → ⊥
+  is_wrong wrong right = wrong (subst (λ w. Answers w entry.0 entry.1) (sym made)
+      (subst (λ (e : Call × Reply). Answers (worked start (take i calls)) e.0 e.1) (sym at) (right_at start calls i entry within right)))
+
+module _ (base : Table) (history : List Done) (i : ℕ) (done : Done) (within : i < length history) (at : done ≡ get_or history i done) (table : Table) (made : table ≡ records base (take i history)) where
+  pub left-next : (later : Table) → later ≡ left_by table done.calls → later ≡ records base (take (i + 1) history)
+  left-next later is = is ∙ ap (λ (t : Table). left_by t done.calls) made ∙ sym (records-next base history i done within at)
+
+  pub stays_legal : IsLegal base (take i history) → done.at ≡ i + 1 → IsRight table done.calls → IsLegal base (take (i + 1) history)
+  stays_legal legal number right = legal-next base history i done within at legal number (subst (λ t. IsRight t done.calls) made right)
+
+  -- another number, or calls that are not right, are not of a legal history
+  pub is_misnumbered : (done.at ≡ i + 1 → ⊥) → IsLegal base history → ⊥
+  is_misnumbered other legal = other (subst (λ (d : Done). d.at ≡ i + 1) (sym at) (legal_at base history i done within legal).0)
+
+  pub is_illegal : (IsRight table done.calls → ⊥) → IsLegal base history → ⊥
+  is_illegal wrong legal = wrong (subst (λ t. IsRight t done.calls) (sym made)
+      (subst (λ (d : Done). IsRight (records base (take i history)) d.calls) (sym at) (legal_at base history i done within legal).1))

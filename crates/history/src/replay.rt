@@ -1,0 +1,264 @@
+// Histories made once more, on a table in memory.
+ghost use Rattle.std.specs.Prelude.{◌≡◌, ◌↔◌, ◌+◌, length, IsTrue, IfOk, OnOk};
+ghost use Rattle.std.specs.FinMap.{get, entries, insert, remove};
+ghost use Rattle.history.specs.Writes.{rows_within};
+ghost use Rattle.history.specs.Table.{Answers, after, begun, worked, IsRight, left_by, found, removed, has_save};
+ghost use Rattle.history.specs.Legal.{records, IsLegal};
+ghost use Rattle.history.specs.declared.call.Call.TheVariants.{Save, Back};
+ghost use Rattle.history.specs.declared.call.Reply.TheVariants.{Fine, Found, Absent, Listed, Saved};
+ghost use Rattle.history.specs.Rows.{table_of};
+ghost use Rattle.history.specs.Replay.{table_in, work_in};
+
+use crate::{Call, Calls, Done, History, Reply, Rows};
+use counted::NoMemory;
+use record_slots::Value;
+use std::alloc::Global;
+use std::collections::BTreeMap;
+
+/// A table, and its copies at the saves of a transaction, the first save first.
+#[derive(Drop)]
+struct Replay {
+    table: BTreeMap<u64, Value>,
+    saves: Vec<BTreeMap<u64, Value>>,
+}
+
+/// The records after a history, by rising keys. Where a key stands twice among the first records, the former counts.
+pub fn play(history: &History, base: &Rows, alloc: Global) -> Result<Rows, NoMemory>
+    ensures { IfOk result (λ rows. rows ≡ entries (records (table_of base.now) history.now)) }
+{
+    let mut replay = Replay::new(base, alloc)?;
+    for done in history.items() {
+        replay.make_all(&done.calls)?;
+    }
+    replay.rows(alloc)
+}
+
+/// Whether the history is legal on these first records: each transaction has the next number, and its replies are those of a table
+/// that has been through the transactions before it.
+pub fn is_legal(history: &History, base: &Rows, alloc: Global) -> Result<bool, NoMemory>
+    ensures { IfOk result (λ legal. IsTrue legal ↔ IsLegal (table_of base.now) history.now) }
+{
+    let mut replay = Replay::new(base, alloc)?;
+    let items = history.items();
+    for i in 0..items.len() {
+        let done = &items[i];
+        if done.at != i as u64 + 1 {
+            return Ok(false);
+        }
+        if !replay.is_right(&done.calls, alloc)? {
+            return Ok(false);
+        }
+    }
+    Ok(true)
+}
+
+impl Replay {
+    fn new(base: &Rows, alloc: Global) -> Result<Replay, NoMemory>
+        ensures { IfOk result (λ replay. work_in replay ≡ begun (table_of base.now)) }
+    {
+        Ok(Replay {
+            table: table_from(base.as_slice(), alloc)?,
+            saves: Vec::new(alloc),
+        })
+    }
+
+    // Makes the calls of a transaction.
+    fn make_all(&mut self, calls: &Calls) -> Result<(), NoMemory>
+        ensures { OnOk result (work_in self.new ≡ worked (begun (work_in self.old).table) calls.now) }
+    {
+        self.begin();
+        for (call, _) in calls.entries() {
+            self.make(call)?;
+        }
+        Ok(())
+    }
+
+    // Makes the calls of a transaction while their replies are those of the table. Whether all are.
+    fn is_right(&mut self, calls: &Calls, alloc: Global) -> Result<bool, NoMemory>
+        ensures right { IfOk result (λ right. IsTrue right ↔ IsRight (work_in self.old).table calls.now) }
+        ensures made { IfOk result (λ right. IsTrue right → (work_in self.new).table ≡ left_by (work_in self.old).table calls.now) }
+    {
+        self.begin();
+        for (call, reply) in calls.entries() {
+            if !self.answers(call, reply, alloc)? {
+                return Ok(false);
+            }
+            self.make(call)?;
+        }
+        Ok(true)
+    }
+
+    // Whether the table answers the call so.
+    fn answers(&self, call: &Call, reply: &Reply, alloc: Global) -> Result<bool, NoMemory>
+        ensures { IfOk result (λ right. IsTrue right ↔ Answers (work_in self.now) call.now reply.now) }
+    {
+        match call {
+            Call::Get { key } => Ok(self.finds(*key, reply)),
+            Call::Put { .. } => Ok(is_fine(reply)),
+            Call::Del { key } => Ok(self.removes(*key, reply)),
+            Call::Scan { low, high } => self.lists(*low, *high, reply, alloc),
+            Call::Save => Ok(self.saves_as(reply)),
+            Call::Back { save } => Ok(self.has_save(*save) && is_fine(reply)),
+            Call::Begin | Call::Commit | Call::Abort => Ok(false),
+        }
+    }
+
+    fn finds(&self, key: u64, reply: &Reply) -> bool
+        ensures { IsTrue result ↔ (reply.now ≡ found (get (work_in self.now).table key)) }
+    {
+        match self.table.get(&key) {
+            None => is_absent(reply),
+            Some(value) => is_found(reply, value),
+        }
+    }
+
+    fn removes(&self, key: u64, reply: &Reply) -> bool
+        ensures { IsTrue result ↔ (reply.now ≡ removed (get (work_in self.now).table key)) }
+    {
+        match self.table.get(&key) {
+            None => is_absent(reply),
+            Some(_) => is_fine(reply),
+        }
+    }
+
+    fn lists(&self, low: u64, high: u64, reply: &Reply, alloc: Global) -> Result<bool, NoMemory>
+        ensures { IfOk result (λ right. IsTrue right ↔ (reply.now ≡ Listed (rows_within low high (work_in self.now).table))) }
+    {
+        let Reply::Listed(told) = reply else {
+            return Ok(false);
+        };
+        let rows = self.rows_within(low, high, alloc)?;
+        Ok(rows == *told)
+    }
+
+    fn rows_within(&self, low: u64, high: u64, alloc: Global) -> Result<Rows, NoMemory>
+        ensures { IfOk result (λ rows. rows ≡ rows_within low high (work_in self.now).table) }
+    {
+        let mut rows = Rows::new(alloc);
+        for (key, value) in self.table.iter() {
+            if low <= *key && *key <= high {
+                rows.push(*key, *value)?;
+            }
+        }
+        Ok(rows)
+    }
+
+    fn saves_as(&self, reply: &Reply) -> bool
+        ensures { IsTrue result ↔ (reply.now ≡ Saved (length (work_in self.now).saves + 1)) }
+    {
+        match reply {
+            Reply::Saved(count) => *count != 0 && *count as usize - 1 == self.saves.len(),
+            _ => false,
+        }
+    }
+
+    fn has_save(&self, save: u32) -> bool
+        ensures { result ≡ has_save (work_in self.now).saves save }
+    {
+        save != 0 && save as usize <= self.saves.len()
+    }
+
+    fn begin(&mut self)
+        ensures { work_in self.new ≡ begun (work_in self.old).table }
+    {
+        self.saves.truncate(0);
+    }
+
+    fn make(&mut self, call: &Call) -> Result<(), NoMemory>
+        ensures { OnOk result (work_in self.new ≡ after (work_in self.old) call.now) }
+    {
+        match call {
+            Call::Put { key, value } => self.put(*key, *value),
+            Call::Del { key } => {
+                self.del(*key);
+                Ok(())
+            }
+            Call::Save => self.save(),
+            Call::Back { save } => self.back(*save),
+            Call::Begin | Call::Get { .. } | Call::Scan { .. } | Call::Commit | Call::Abort => Ok(
+                (),
+            ),
+        }
+    }
+
+    fn put(&mut self, key: u64, value: Value) -> Result<(), NoMemory>
+        ensures { OnOk result (work_in self.new ≡ record { table = insert (work_in self.old).table key value; saves = (work_in self.old).saves }) }
+    {
+        self.table.insert(key, value)?;
+        Ok(())
+    }
+
+    fn del(&mut self, key: u64)
+        ensures { work_in self.new ≡ record { table = remove (work_in self.old).table key; saves = (work_in self.old).saves } }
+    {
+        self.table.remove(&key);
+    }
+
+    fn save(&mut self) -> Result<(), NoMemory>
+        ensures { OnOk result (work_in self.new ≡ after (work_in self.old) Save) }
+    {
+        self.saves.push(copy_of(&self.table)?)?;
+        Ok(())
+    }
+
+    fn back(&mut self, save: u32) -> Result<(), NoMemory>
+        ensures { OnOk result (work_in self.new ≡ after (work_in self.old) (Back save)) }
+    {
+        if !self.has_save(save) {
+            return Ok(());
+        }
+        let count = save as usize;
+        self.table = copy_of(&self.saves[count - 1])?;
+        self.saves.truncate(count);
+        Ok(())
+    }
+
+    fn rows(&self, alloc: Global) -> Result<Rows, NoMemory>
+        ensures { IfOk result (λ rows. rows ≡ entries (work_in self.now).table) }
+    {
+        let mut rows = Rows::new(alloc);
+        for (key, value) in self.table.iter() {
+            rows.push(*key, *value)?;
+        }
+        Ok(rows)
+    }
+}
+
+fn is_fine(reply: &Reply) -> bool
+    ensures { IsTrue result ↔ (reply.now ≡ Fine) }
+{
+    matches!(reply, Reply::Fine)
+}
+
+fn is_absent(reply: &Reply) -> bool
+    ensures { IsTrue result ↔ (reply.now ≡ Absent) }
+{
+    matches!(reply, Reply::Absent)
+}
+
+fn is_found(reply: &Reply, value: &Value) -> bool
+    ensures { IsTrue result ↔ (reply.now ≡ Found value.now) }
+{
+    match reply {
+        Reply::Found(told) => told.as_bytes() == value.as_bytes(),
+        _ => false,
+    }
+}
+
+fn table_from(rows: &[(u64, Value)], alloc: Global) -> Result<BTreeMap<u64, Value>, NoMemory>
+    ensures { IfOk result (λ table. table_in table ≡ table_of rows.now) }
+{
+    // From the last one on, so that the first of two with one key stays.
+    let mut table = BTreeMap::new(alloc);
+    for i in 0..rows.len() {
+        let row = &rows[rows.len() - 1 - i];
+        table.insert(row.0, row.1)?;
+    }
+    Ok(table)
+}
+
+fn copy_of(table: &BTreeMap<u64, Value>) -> Result<BTreeMap<u64, Value>, NoMemory>
+    ensures { IfOk result (λ copy. copy.entries ≡ table.now.entries) }
+{
+    Ok(table.clone()?)
+}
