@@ -1,0 +1,11 @@
+pub mod Touching
+pub mod Seating
+pub mod Mirroring
+pub mod Indexing
+pub mod Rooming
+pub mod Entering
+pub mod Prefixes
+pub mod Stepping
+pub mod Answering
+pub mod Staying
+pub mod Finishing

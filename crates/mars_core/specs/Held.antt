@@ -1,12 +1,12 @@
 -- What a core holds, and what it shows of that.
 use Rattle.std.specs.Prelude.{ℕ, List, Option}
-use Rattle.std.specs.FinMap.{from_entries}
 use Rattle.array_shape.specs.declared.shape.Shape.{Shape}
 use Rattle.eaw_face.specs.StoreView.{StoreView}
 use Rattle.page_store.specs.Index.{Index}
 use Rattle.page_store.specs.Shown.{Shown}
 use Rattle.record_table.specs.Does.{OpensWith}
 use Rattle.record_table.specs.Shown.{keys_of}
+use Rattle.history.specs.Rows.{table_of}
 use Rattle.history.specs.Table.{Granted}
 use Rattle.history.specs.Writes.{Table}
 use Rattle.history.specs.declared.transaction.Done.{Done}
@@ -24,20 +24,19 @@ pub record Held (S : Type 0) : Type 0 where
   pub history : List Done
   pub doubt : Option Done
 
--- the records of rows
-abbrev pub table_of_rows : List (ℕ × List ℕ) → Table
-table_of_rows rows = from_entries rows
-
--- the state that this stands for, over what its store shows
-abbrev pub state_over : {S : Type 0} → Index → StoreView → Held S → State
-state_over index store held = record {
-  base = table_of_rows held.base;
-  history = held.history;
-  live = live_in held.seats;
-  doubt = held.doubt;
+-- the state of these records at the opening, transactions committed since, live ones, and one in doubt, over what a store shows
+abbrev pub state_at : Index → StoreView → Table → List Done → (ℕ → Option Granted) → Option Done → State
+state_at index store base history live doubt = record {
+  base = base;
+  history = history;
+  live = live;
+  doubt = doubt;
   is_dead = store.is_dead;
   index = index_of (keys_of index store.state.bytes);
 }
+
+abbrev pub state_over : {S : Type 0} → Index → StoreView → Held S → State
+state_over index store held = state_at index store (table_of held.base) held.history (live_in held.seats) held.doubt
 
 -- a core in this state over a store
 abbrev pub core_over : (Shape → List ℕ → List ℕ → Type 0) → Index → StoreView → State → CoreView

@@ -7,6 +7,7 @@ use Rattle.eaw_face.specs.Causes.{IsAlive}
 use Rattle.page_store.specs.Index.{Index}
 use Rattle.page_store.specs.Shown.{PagesView}
 use Rattle.history.specs.Log.{log_of}
+use Rattle.history.specs.Rows.{table_of}
 use Rattle.record_table.specs.State.{TableState}
 use Rattle.record_table.specs.Shown.{state_of}
 use Rattle.core_face.specs.State.{State, calls_of, records_of}
@@ -14,7 +15,7 @@ use Rattle.core_face.specs.Room.{Limits, held_on}
 use Rattle.core_face.specs.Sound.{IsSound}
 use Rattle.core_face.specs.Core.{IsSafe}
 use Rattle.mars_core.specs.Over.{limits_of}
-use Rattle.mars_core.specs.Held.{table_of_rows, core_over}
+use Rattle.mars_core.specs.Held.{core_over}
 
 -- The records below have the table of the history, and of each number the writes and the saves of its caller's granted calls.
 pub record Mirrors (below : TableState) (state : State) : Type 0 where
@@ -37,6 +38,6 @@ pub record IsTied (index : Index) (pages : PagesView) (state : State) : Type 0 w
 -- whatever may be left now opens with the whole history.
 pub record IsKept (tells : Bool) (Opens : Shape → List ℕ → List ℕ → Type 0) (index : Index) (pages : PagesView) (count : ℕ) (rows : List (ℕ × List ℕ)) (state : State) : Type 0 where
   pub seats : count ≡ pages.store.shape.numbers
-  pub in_order : IsTrue tells → entries (table_of_rows rows) ≡ rows
+  pub in_order : IsTrue tells → entries (table_of rows) ≡ rows
   pub tied : IsTrue tells → IsAlive pages.store → IsTied index pages state
   pub safe : IsTrue tells → IsSafe (core_over Opens index pages.store state) pages.store.moment (length state.history)

@@ -20,7 +20,7 @@ use Rattle.record_table.specs.Does.{OpensWith, Indexed, is_failed}
 use Rattle.record_table.specs.Shown.{state_of, keys_of, held_on, is_write_on, AreNamed}
 use Rattle.record_table.specs.declared.fault.TableFault.{TableFault}
 use Rattle.record_table.specs.declared.fault.TableFault.TheVariants.{SlotsFull, PagesFull, SavesFull, LogFull, Media, Dead, Damaged, NoMemory}
-use Rattle.core_face.specs.Fate.{is_refusal}
+use Rattle.core_face.specs.Fate.{is_refusal, is_committed}
 use Rattle.mars_core.specs.declared.asking.Answer.{Answer}
 
 -- the call of records that a caller's call makes; a begin is none, and looks at nothing
@@ -76,6 +76,7 @@ pub record Works (tells : Bool) (Opens : List ℕ → List ℕ → Type 0) (inde
       → LeavesOnly (λ image. OpensWith Opens index image (state_of index old).table ⊎ OpensWith Opens index image (after (command_of t call) (state_of index old)).table) old.store new.store
   pub same : IfOk result (λ answer. answer.kept ≡ answer.told)
   pub granted : IfOk result (λ answer. IsFalse (is_refusal answer.told))
+  pub plain : IfOk result (λ answer. IsFalse (is_committed answer.told))
   pub replies : IsTrue tells → IfOk result (λ answer. Replies (state_of index old) t call answer.told)
 
 -- a save or a way back finds these saves of its transaction: fewer than 32, or the one that it names

@@ -75,6 +75,7 @@ impl Live {
 
     /// Gives the last call another reply.
     pub fn set_last_reply(&mut self, reply: Reply)
+        requires { (calls : Granted) × (call : Call) × (was : Reply) × (self.old ≡ calls ++ (call, was) ∷ []) }
         ensures { (calls : Granted) (call : Call) (was : Reply) → self.old ≡ calls ++ (call, was) ∷ [] → self.new ≡ calls ++ (call, reply) ∷ [] }
     {
         self.calls.set_last_reply(reply);

@@ -95,11 +95,13 @@ impl Seats {
     /// Gives the last call of the caller's live transaction another reply.
     pub fn set_last_reply(&mut self, caller: u8, reply: Reply)
         requires inside { caller < length self.old }
+        requires last { (calls : Granted) × (call : Call) × (was : Reply) × (live_in self.old caller ≡ Some (calls ++ (call, was) ∷ [])) }
         ensures { (calls : Granted) (call : Call) (was : Reply) → live_in self.old caller ≡ Some (calls ++ (call, was) ∷ [])
             → Seated self.old caller (Some (calls ++ (call, reply) ∷ [])) self.new }
     {
-        if let Some(live) = &mut self.live[usize::from(caller)] {
-            live.set_last_reply(reply);
+        match &mut self.live[usize::from(caller)] {
+            Some(live) => live.set_last_reply(reply),
+            None => unreachable!(),
         }
     }
 

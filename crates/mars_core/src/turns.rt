@@ -186,9 +186,12 @@ impl<S: EawStore, K: KeyIndex> Core<S, K> {
         ensures steps { Steps S.tells caller Commit (core_of S.opens K.index (S.view self.old.records.store) self.old)
             (core_of S.opens K.index (S.view self.new.records.store) self.new) result }
     {
-        let at = self.history.len() as u64 + 1;
-        let Some(live) = self.seats.take(caller) else {
+        if !self.seats.is_live(caller) {
             return Reply::NoTransaction;
+        }
+        let at = self.history.items().len() as u64 + 1;
+        let Some(live) = self.seats.take(caller) else {
+            unreachable!();
         };
         let mask = live.touched();
         // The history takes the transaction first, so that nothing is committed for which it has no memory.

@@ -1,0 +1,320 @@
+-- A call of a transaction that the records made: granted, refused, or failed.
+use Rattle.std.proofs.Common.{◌≡◌, ◌≢◌, ◌≤◌, ◌<◌, ◌+◌, ◌-◌, ◌*◌, ◌⊎◌, ℕ, inl, inr, Bool, true, false, cond, ◌||◌, nat_eq, List, [], ◌∷◌, ◌++◌, length, IsTrue, Option, Some, None, unwrap_or, Result, Ok, Err, refl, sym, ap, subst, ◌∙◌, arith}
+use Rattle.std.specs.Prelude.{IsFalse}
+use Rattle.std.specs.Map.{update}
+use Rattle.std.proofs.lemmas.Bool.{false≢true}
+use Rattle.array_shape.specs.declared.shape.Shape.{Shape}
+use Rattle.array_shape.specs.Places.{data_len}
+use Rattle.eaw_face.specs.StoreView.{StoreView, LeavesOnly}
+use Rattle.eaw_face.specs.Causes.{IsAlive}
+use Rattle.page_store.specs.Index as below
+use Rattle.page_store.specs.Index.{slots_of}
+use Rattle.page_store.specs.Shown.{PagesView}
+use Rattle.history.specs.Writes.{Table, Write}
+use Rattle.history.specs.Table.{Granted, IsRight}
+use Rattle.history.specs.Legal.{records}
+use Rattle.history.specs.Log.{log_of}
+use Rattle.history.specs.declared.call.Call.{Call}
+use Rattle.history.specs.declared.call.Call.TheVariants.{Begin, Get, Put, Del, Scan, Save, Back, Commit, Abort}
+use Rattle.history.specs.declared.call.Reply.{Reply}
+use Rattle.history.specs.declared.call.Reply.TheVariants.{Fine}
+use Rattle.history.specs.declared.call.Reply.TheVariants as reply
+use Rattle.record_table.specs.State.{TableState}
+use Rattle.record_table.specs.Causes.{Cause, IsSavedOut, IsScan}
+use Rattle.record_table.specs.Command.{after}
+use Rattle.record_table.specs.Does.{OpensWith, is_failed}
+use Rattle.record_table.specs.Shown.{state_of, keys_of}
+use Rattle.record_table.specs.Shown as shown
+use Rattle.record_table.specs.declared.fault.TableFault.{TableFault}
+use Rattle.record_table.specs.declared.fault.TableFault.TheVariants.{SlotsFull, PagesFull, SavesFull, LogFull, Media, Dead, Damaged, NoMemory}
+use Rattle.core_face.specs.State.{State, Index, calls_of, records_of, view_of, with_live}
+use Rattle.core_face.specs.Locked.{IsFree}
+use Rattle.core_face.specs.Room.{Limits, Indexes}
+use Rattle.core_face.specs.Step.{Asks, Step}
+use Rattle.core_face.specs.Fate.{is_refusal, is_media, is_committed}
+use Rattle.core_face.specs.Sound.{IsSound}
+use Rattle.core_face.specs.Prefix.{HasPrefixOf}
+use Rattle.core_face.specs.Core.{IsSafe, Steps}
+use Rattle.core_face.proofs.Holding.{AreNamed}
+use Rattle.core_face.proofs.Sound.{step_sound}
+use Rattle.mars_core.specs.declared.asking.Answer.{Answer}
+use Rattle.mars_core.specs.Over.{limits_of, index_of}
+use Rattle.mars_core.specs.Held.{core_over}
+use Rattle.mars_core.specs.Kept.{Mirrors, HasHeld, IsTied, IsKept}
+use Rattle.mars_core.specs.Works.{command_of, IsOfTable, Replies, HasSaves, IsShown, Works, reply_to}
+use Rattle.mars_core.proofs.Indexing.{IsWithin, is_within, indexes_granted, indexes_refused, indexes_slots}
+use Rattle.mars_core.proofs.Mirroring.{mirrors_granted, same_table, answers}
+use Rattle.mars_core.proofs.Rooming.{fits_is, log_lacks, slot_lacks, page_lacks, named_is}
+use Rattle.mars_core.proofs.Entering.{index_room, room_granted}
+use Rattle.mars_core.proofs.Prefixes.{StoreLaws, sound_after, safe_dead, safe_alive}
+use Rattle.mars_core.proofs.Stepping.{ShowsPages, or_false, or_true, media_none, moves_refused, moves_granted, step_of, asks_at, steps_of, time_same, counts_is, saves_at, returns_at, enters_at}
+
+-- what is known of an index
+pub record IndexLaws (index : below.Index) : Type 0 where
+  pub counts : (bytes : List ℕ) → index.sound bytes → below.HasCounts bytes
+
+refusal_of : (f : TableFault) → is_refusal (reply_to f) ≡ true
+refusal_of (SlotsFull n) = refl
+refusal_of (PagesFull n) = refl
+refusal_of SavesFull = refl
+refusal_of (LogFull g h n) = refl
+refusal_of Media = refl
+refusal_of Dead = refl
+refusal_of (Damaged page) = refl
+refusal_of NoMemory = refl
+
+plain_of : (f : TableFault) → is_committed (reply_to f) ≡ false
+plain_of (SlotsFull n) = refl
+plain_of (PagesFull n) = refl
+plain_of SavesFull = refl
+plain_of (LogFull g h n) = refl
+plain_of Media = refl
+plain_of Dead = refl
+plain_of (Damaged page) = refl
+plain_of NoMemory = refl
+
+-- the media failed, or it did not
+abbrev Well : TableFault → Type 0
+Well f = let r : Result Answer TableFault = Err f in is_failed r ≡ false
+
+media_of : (f : TableFault) → Well f → is_media (reply_to f) ≡ false
+media_of (SlotsFull n) well = refl
+media_of (PagesFull n) well = refl
+media_of SavesFull well = refl
+media_of (LogFull g h n) well = refl
+media_of Media well = absurd (cc)
+media_of Dead well = refl
+media_of (Damaged page) well = refl
+media_of NoMemory well = refl
+
+saved_out : (p : PagesView) (t : ℕ) (call : Call) → IsOfTable call → HasSaves (length (p.counts t)) call → IsSavedOut p (command_of t call) → ⊥
+saved_out p t Save of saves out = omega (arith, saves, out)
+saved_out p t (Get key) of saves out = out
+saved_out p t (Put key value) of saves out = out
+saved_out p t (Del key) of saves out = out
+saved_out p t (Scan low high) of saves out = out
+saved_out p t (Back n) of saves out = out
+saved_out p t Commit of saves out = out
+saved_out p t Abort of saves out = out
+saved_out p t Begin of saves out = out
+
+scan_same : (limits : Limits) (t : ℕ) (call : Call) (answer : Reply) (old new : Index) → IsScan (command_of t call) → Indexes limits call answer old new → new ≡ old
+scan_same limits t (Scan low high) answer old new scan same = same
+scan_same limits t (Get key) answer old new scan same = same
+scan_same limits t (Put key value) answer old new scan same = absurd scan
+scan_same limits t (Del key) answer old new scan same = same
+scan_same limits t Save answer old new scan same = same
+scan_same limits t (Back n) answer old new scan same = same
+scan_same limits t Commit answer old new scan same = same
+scan_same limits t Abort answer old new scan same = same
+scan_same limits t Begin answer old new scan same = same
+
+mirrors_same : (b : TableState) (s new : State) → records_of new ≡ records_of s → new.live ≡ s.live → Mirrors b s → Mirrors b new
+mirrors_same b s new same live m = record {
+  table = m.table ∙ sym same;
+  writes = λ u. m.writes u ∙ ap (λ (f : ℕ → Option Granted). (log_of (unwrap_or (f u) [])).writes) (sym live);
+  saved = λ u. m.saved u ∙ ap (λ (f : ℕ → Option Granted). (log_of (unwrap_or (f u) [])).saved) (sym live);
+}
+
+module _ (tells : Bool) (Opens : Shape → List ℕ → List ℕ → Type 0) (index : below.Index) (one : (shape : Shape) (image a b : List ℕ) → Opens shape image a → Opens shape image b → a ≡ b) (laws : IndexLaws index)
+    (p q : PagesView) (old_laws : StoreLaws tells Opens p.store) (new_laws : StoreLaws tells Opens q.store) (s new : State) (shows : ShowsPages index p s) (shows_new : ShowsPages index q new)
+    (base : new.base ≡ s.base) (history : new.history ≡ s.history) (doubt : new.doubt ≡ s.doubt) (count count' : ℕ) (same_count : count' ≡ count) (rows : List (ℕ × List ℕ))
+    (kept : IsKept tells Opens index p count rows s) (alive : IsAlive p.store) (tells_writes : IsShown tells index p) (t : ℕ) (call : Call) (of : IsOfTable call)
+    (saves : HasSaves (length (p.counts t)) call) (calls : Granted) (is : s.live t ≡ Some calls) (free : IsFree s t call) where
+  same_records : records_of new ≡ records_of s
+  same_records = λ i. records (base i) (history i)
+
+  has : HasSaves (length ((state_of index p).saved t)) call
+  has = subst (λ (n : ℕ). HasSaves n call) (sym (counts_is index p t)) saves
+
+  living_state : s.is_dead ≡ false
+  living_state = shows.dead ∙ alive
+
+  module _ (told : IsTrue tells) where
+    tied : IsTied index p s
+    tied = kept.tied told alive
+
+    right : IsRight (records_of s) (calls_of s t)
+    right = tied.sound.right t
+
+    named : (u : ℕ) → AreNamed s.index (log_of (calls_of s u)).writes
+    named u = named_is s.index (index.pairs p.store.state.bytes) (log_of (calls_of s u)).writes (λ key. ap (λ (x : Index). x.slot_of key) shows.indexed)
+        (subst (λ (ws : List Write). shown.AreNamed (index.pairs p.store.state.bytes) ws) (tied.mirrors.writes u) (tells_writes.named told alive u))
+
+    -- the data behind it is within the array
+    module _ (result : Result Answer TableFault) (works : Works tells (Opens p.store.shape) index t call p q result) where
+      sound_new : IsAlive q.store → index.sound q.store.state.bytes
+      sound_new = sound_after tells Opens index one p q old_laws new_laws told works.shape alive tied.index_sound _ _ (works.time told alive)
+
+      within : IsAlive q.store → IsWithin p.store.shape (keys_of index q.store.state.bytes)
+      within living = is_within p.store.shape q.store.state.bytes (keys_of index q.store.state.bytes)
+          (subst (λ (h : Shape). length q.store.state.bytes ≡ data_len h) works.shape (new_laws.long told)) (laws.counts q.store.state.bytes (sound_new living)) refl refl
+
+      time : LeavesOnly (HasPrefixOf (OpensWith (Opens q.store.shape) index) new (length s.history)) p.store q.store
+      time = time_same tells Opens index p q s new (state_of index p).table (after (command_of t call) (state_of index p)).table works.shape tied.mirrors.table
+          (same_table (state_of index p) t call of ∙ tied.mirrors.table) base history (works.time told alive)
+
+  -- the caller's call was granted
+  module _ (answer : Answer) (works : (let r : Result Answer TableFault = Ok answer in Works tells (Opens p.store.shape) index t call p q r)) (live : new.live ≡ update nat_eq s.live t (Some (calls ++ (call, answer.told) ∷ []))) where
+    living : IsAlive q.store
+    living = (works.faults refl).0 ∙ alive
+
+    dead_same : new.is_dead ≡ s.is_dead
+    dead_same = shows_new.dead ∙ (works.faults refl).0 ∙ sym shows.dead
+
+    module _ (told : IsTrue tells) where
+      indexes : Indexes (limits_of p.store.shape) call answer.told s.index new.index
+      indexes = subst (λ (x : Index). Indexes (limits_of p.store.shape) call answer.told x new.index) (sym shows.indexed)
+          (subst (λ (x : Index). Indexes (limits_of p.store.shape) call answer.told (index_of (keys_of index p.store.state.bytes)) x) (sym shows_new.indexed)
+          (indexes_granted p.store.shape (keys_of index p.store.state.bytes) (keys_of index q.store.state.bytes) (within told (Ok answer) works living) t call answer answer.told of
+          (λ key value e. subst (λ (c : Call). Replies (state_of index p) t c answer.told) e (works.replies told)) (works.indexed told alive refl)))
+
+      asks : Asks (limits_of p.store.shape) calls s t call answer.told new
+      asks = inr (inr (free, inl (
+        answers (state_of index p) s (tied told).mirrors t (right told) call answer.told of (works.replies told) has,
+        fits_is index p s shows.indexed (tied told).mirrors (tells_writes.held told alive) t (right told) call of (works.cause.2 told),
+        new.index,
+        indexes,
+        λ i. record { base = base i; history = history i; live = live i; doubt = doubt i; is_dead = dead_same i; index = new.index },
+      )))
+
+      step : Step (limits_of p.store.shape) s t call answer.told new
+      step = step_of (limits_of p.store.shape) (Some calls) s new t call answer.told living_state is
+          (asks_at (limits_of p.store.shape) calls s new t call answer.told of (saves_at index p s shows (tied told).mirrors (tells_writes.held told alive) t (right told) call has) asks)
+
+      tied_new : IsTied index q new
+      tied_new = record {
+        index_sound = sound_new told (Ok answer) works living;
+        mirrors = subst (λ (b : TableState). Mirrors b new) (sym (works.done told)) (mirrors_granted (state_of index p) s (tied told).mirrors new t calls call answer.told is live same_records of (works.replies told) has);
+        sound = step_sound (limits_of p.store.shape) s t call answer.told new (tied told).sound step;
+        room = subst (λ (h : Shape). HasHeld (limits_of h) new) (sym works.shape)
+            (room_granted (limits_of p.store.shape) s (named told) (tied told).room new.index (indexes_slots (limits_of p.store.shape) call answer.told s.index new.index indexes) t calls is new call answer.told refl live
+            (enters_at index p s shows (tied told).mirrors (tells_writes.held told alive) t (right told) call answer.told new.index of (works.cause.2 told) (works.replies told) indexes)
+            (returns_at index p s shows (tied told).mirrors (tells_writes.held told alive) t (right told) calls (ap (λ (o : Option Granted). unwrap_or o []) is) call has));
+      }
+
+      safe_new : IsSafe (core_over Opens index q.store new) q.store.moment (length new.history)
+      safe_new = safe_alive tells Opens index q new_laws new told living tied_new
+
+    pub granted_keeps : IsKept tells Opens index q count' rows new
+    granted_keeps = record {
+      seats = same_count ∙ kept.seats ∙ sym (ap (λ (h : Shape). h.numbers) works.shape);
+      in_order = kept.in_order;
+      tied = λ told _. tied_new told;
+      safe = safe_new;
+    }
+
+    pub granted_steps : Steps tells t call (core_over Opens index p.store s) (core_over Opens index q.store new) answer.told
+    granted_steps = steps_of tells Opens index p q s new t call answer.told works.shape
+        (moves_granted s new t calls call answer.told base history dead_same is live of works.granted works.plain) (λ failed. absurd (false≢true (sym (media_none answer.told works.granted) ∙ failed)))
+        (λ _. (works.faults refl).1) step (λ told. time told (Ok answer) works) safe_new
+
+  -- it was refused
+  module _ (f : TableFault) (works : (let r : Result Answer TableFault = Err f in Works tells (Opens p.store.shape) index t call p q r)) (live : new.live ≡ s.live) where
+    module _ (well : Well f) where
+      living_still : IsAlive q.store
+      living_still = (works.faults well).0 ∙ alive
+
+      dead_still : new.is_dead ≡ s.is_dead
+      dead_still = shows_new.dead ∙ (works.faults well).0 ∙ sym shows.dead
+
+      changed : new ≡ record s { index = new.index }
+      changed = λ i. record { base = base i; history = history i; live = live i; doubt = doubt i; is_dead = dead_still i; index = new.index }
+
+      module _ (told : IsTrue tells) where
+        indexes_still : Indexes (limits_of p.store.shape) call (reply_to f) s.index new.index
+        indexes_still = subst (λ (x : Index). Indexes (limits_of p.store.shape) call (reply_to f) x new.index) (sym shows.indexed)
+            (subst (λ (x : Index). Indexes (limits_of p.store.shape) call (reply_to f) (index_of (keys_of index p.store.state.bytes)) x) (sym shows_new.indexed)
+            (indexes_refused p.store.shape (keys_of index p.store.state.bytes) (keys_of index q.store.state.bytes) (within told (Err f) works living_still) Answer t call f of well (works.indexed told alive well)))
+
+        -- by its cause
+        asks_fault : (g : TableFault) → Well g → (let r : Result Answer TableFault = Err g in Cause tells index (command_of t call) p r) → Indexes (limits_of p.store.shape) call (reply_to g) s.index new.index
+            → Asks (limits_of p.store.shape) calls s t call (reply_to g) new
+        asks_fault (SlotsFull n) well cause made = inr (inr (free, inr (inl (
+          slot_lacks index p s shows.indexed (tied told).mirrors (tells_writes.held told alive) t (right told) (tied told).room call n of (cause.3 told) cause.2, new.index, made, changed))))
+        asks_fault (PagesFull n) well cause made = inr (inr (free, inr (inl (
+          page_lacks index p s shows.indexed (tied told).mirrors (tells_writes.held told alive) t (right told) (tied told).room call n of (cause.3 told) cause.2, new.index, made, changed))))
+        asks_fault (LogFull g h n) well cause made = inr (inr (free, inr (inl (
+          log_lacks index p s shows.indexed (tied told).mirrors (tells_writes.held told alive) t (right told) (tied told).room call g h n of (cause.2 told) cause.1, new.index, made, changed))))
+        asks_fault SavesFull well cause made = absurd (saved_out p t call of saves cause.1)
+        asks_fault Dead well cause made = absurd (false≢true (sym alive ∙ cause))
+        asks_fault (Damaged page) well cause made = absurd (cause.2 told)
+        asks_fault NoMemory well cause made =
+            inl (refl, changed ∙ ap (λ (x : Index). record s { index = x }) (scan_same (limits_of p.store.shape) t call reply.NoMemory s.index new.index cause.1 made))
+        asks_fault Media well cause made = absurd (false≢true (sym well))
+
+        step_still : Step (limits_of p.store.shape) s t call (reply_to f) new
+        step_still = step_of (limits_of p.store.shape) (Some calls) s new t call (reply_to f) living_state is
+            (asks_at (limits_of p.store.shape) calls s new t call (reply_to f) of (saves_at index p s shows (tied told).mirrors (tells_writes.held told alive) t (right told) call has) (asks_fault f well works.cause indexes_still))
+
+        tied_still : IsTied index q new
+        tied_still = record {
+          index_sound = sound_new told (Err f) works living_still;
+          mirrors = subst (λ (b : TableState). Mirrors b new) (sym (works.refused told well)) (mirrors_same (state_of index p) s new same_records live (tied told).mirrors);
+          sound = step_sound (limits_of p.store.shape) s t call (reply_to f) new (tied told).sound step_still;
+          room = subst (λ (h : Shape). HasHeld (limits_of h) new) (sym works.shape) (subst (HasHeld (limits_of p.store.shape)) (sym changed)
+              (index_room (limits_of p.store.shape) s (named told) (tied told).room new.index (indexes_slots (limits_of p.store.shape) call (reply_to f) s.index new.index indexes_still)));
+        }
+
+        safe_still : IsSafe (core_over Opens index q.store new) q.store.moment (length new.history)
+        safe_still = safe_alive tells Opens index q new_laws new told living_still tied_still
+
+      well_keeps : IsKept tells Opens index q count' rows new
+      well_keeps = record {
+        seats = same_count ∙ kept.seats ∙ sym (ap (λ (h : Shape). h.numbers) works.shape);
+        in_order = kept.in_order;
+        tied = λ told _. tied_still told;
+        safe = safe_still;
+      }
+
+      well_steps : Steps tells t call (core_over Opens index p.store s) (core_over Opens index q.store new) (reply_to f)
+      well_steps = steps_of tells Opens index p q s new t call (reply_to f) works.shape
+          (moves_refused s new t call (reply_to f) base history live (dead_still ∙ sym (ap (λ (b : Bool). s.is_dead || b) (media_of f well) ∙ or_false s.is_dead)) (refusal_of f) (plain_of f))
+          (λ failed. absurd (false≢true (sym (media_of f well) ∙ failed))) (λ _. (works.faults well).1) step_still (λ told. time told (Err f) works) safe_still
+
+  -- the media failed
+  module _ (works : (let r : Result Answer TableFault = Err Media in Works tells (Opens p.store.shape) index t call p q r)) (live : new.live ≡ s.live) where
+    died : new.is_dead ≡ true
+    died = shows_new.dead ∙ (works.dies refl).0
+
+    step_failed : IsTrue tells → Step (limits_of p.store.shape) s t call reply.Media new
+    step_failed told = step_of (limits_of p.store.shape) (Some calls) s new t call reply.Media living_state is
+        (asks_at (limits_of p.store.shape) calls s new t call reply.Media of (saves_at index p s shows (tied told).mirrors (tells_writes.held told alive) t (right told) call has)
+        (inr (inr (free, inr (inr (refl, new.index, λ i. record { base = base i; history = history i; live = live i; doubt = doubt i; is_dead = died i; index = new.index }))))))
+
+    safe_failed : IsTrue tells → IsSafe (core_over Opens index q.store new) q.store.moment (length new.history)
+    safe_failed told = safe_dead tells Opens index one p q old_laws new_laws told works.shape alive (tied told).index_sound s new (tied told).mirrors.table base history (time told (Err Media) works)
+
+    media_keeps : IsKept tells Opens index q count' rows new
+    media_keeps = record {
+      seats = same_count ∙ kept.seats ∙ sym (ap (λ (h : Shape). h.numbers) works.shape);
+      in_order = kept.in_order;
+      tied = λ told living. absurd (false≢true (sym living ∙ (works.dies refl).0));
+      safe = safe_failed;
+    }
+
+    media_steps : Steps tells t call (core_over Opens index p.store s) (core_over Opens index q.store new) reply.Media
+    media_steps = steps_of tells Opens index p q s new t call reply.Media works.shape
+        (moves_refused s new t call reply.Media base history live (died ∙ sym (or_true s.is_dead)) refl refl)
+        (λ _. (works.dies refl).1) (λ kept. absurd (false≢true (sym kept))) step_failed (λ told. time told (Err Media) works) safe_failed
+
+  pub refused_keeps : (f : TableFault) → (let r : Result Answer TableFault = Err f in Works tells (Opens p.store.shape) index t call p q r) → new.live ≡ s.live → IsKept tells Opens index q count' rows new
+  refused_keeps Media works live = media_keeps works live
+  refused_keeps (SlotsFull n) works live = well_keeps (SlotsFull n) works live refl
+  refused_keeps (PagesFull n) works live = well_keeps (PagesFull n) works live refl
+  refused_keeps SavesFull works live = well_keeps SavesFull works live refl
+  refused_keeps (LogFull g h n) works live = well_keeps (LogFull g h n) works live refl
+  refused_keeps Dead works live = well_keeps Dead works live refl
+  refused_keeps (Damaged page) works live = well_keeps (Damaged page) works live refl
+  refused_keeps NoMemory works live = well_keeps NoMemory works live refl
+
+  pub refused_steps : (f : TableFault) → (let r : Result Answer TableFault = Err f in Works tells (Opens p.store.shape) index t call p q r) → new.live ≡ s.live
+      → Steps tells t call (core_over Opens index p.store s) (core_over Opens index q.store new) (reply_to f)
+  refused_steps Media works live = media_steps works live
+  refused_steps (SlotsFull n) works live = well_steps (SlotsFull n) works live refl
+  refused_steps (PagesFull n) works live = well_steps (PagesFull n) works live refl
+  refused_steps SavesFull works live = well_steps SavesFull works live refl
+  refused_steps (LogFull g h n) works live = well_steps (LogFull g h n) works live refl
+  refused_steps Dead works live = well_steps Dead works live refl
+  refused_steps (Damaged page) works live = well_steps (Damaged page) works live refl
+  refused_steps NoMemory works live = well_steps NoMemory works live refl

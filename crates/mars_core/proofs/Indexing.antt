@@ -1,0 +1,152 @@
+-- What a call makes of the index, as callers see it.
+use Rattle.std.proofs.Common.{◌≡◌, ◌≢◌, ◌≤◌, ◌<◌, ◌+◌, ◌*◌, ◌/◌, ◌^◌, ◌⊎◌, ℕ, suc, inl, inr, Bool, true, false, cond, nat_eq, nat_lt, List, [], ◌∷◌, length, Option, Some, None, unwrap_or, Result, Ok, Err, refl, sym, ap, subst, ◌∙◌, arith, eq-eqb, ne_eqb, eqb-true}
+use Rattle.std.specs.Prelude.{IsFalse}
+use Rattle.std.specs.Map.{update}
+use Rattle.std.proofs.lemmas.Map.{update_here}
+use Rattle.record_slots.specs.Places.{next_slot, next_page}
+use Rattle.std.specs.FinMap.{get}
+use Rattle.std.proofs.lemmas.Bool.{false≢true}
+use Rattle.array_shape.specs.declared.shape.Shape.{Shape}
+use Rattle.array_shape.specs.Places.{data_len}
+use Rattle.page_store.specs.Index as below
+use Rattle.page_store.specs.Pairs.{Pair, found, inserted}
+use Rattle.history.specs.declared.call.Call.{Call}
+use Rattle.history.specs.declared.call.Call.TheVariants.{Begin, Get, Put, Del, Scan, Save, Back, Commit, Abort}
+use Rattle.history.specs.declared.call.Reply.{Reply}
+use Rattle.history.specs.declared.call.Reply.TheVariants.{Fine}
+use Rattle.history.specs.declared.call.Reply.TheVariants as reply
+use Rattle.record_table.specs.State.{Keys}
+use Rattle.record_table.specs.State as table
+use Rattle.record_table.specs.Does.{Inserted, IndexedAt, Indexed, is_failed}
+use Rattle.record_table.specs.declared.fault.TableFault.{TableFault}
+use Rattle.record_table.specs.declared.fault.TableFault.TheVariants.{SlotsFull, PagesFull, SavesFull, LogFull, Media, Dead, Damaged, NoMemory}
+use Rattle.core_face.specs.State.{Index}
+use Rattle.core_face.specs.Room.{Limits, GainsKey, KeepsKeys, TakesPages, Inserts, IndexesAt, Indexes}
+use Rattle.mars_core.specs.Over.{limits_of, index_of}
+use Rattle.mars_core.specs.Works.{command_of, IsOfTable, reply_to}
+
+-- no more slots and pages are given than an array of this shape has
+pub record IsWithin (shape : Shape) (keys : Keys) : Type 0 where
+  pub slots : keys.next_slot ≤ below.slots_of shape
+  pub pages : keys.next_page ≤ below.index_pages_of shape
+
+pub is_within : (shape : Shape) (bytes : List ℕ) (keys : Keys) → length bytes ≡ data_len shape → below.HasCounts bytes
+    → keys.next_slot ≡ next_slot bytes → keys.next_page ≡ next_page bytes → IsWithin shape keys
+is_within shape bytes keys long counts s p = record { slots = omega (arith, counts.slots, long, s); pages = omega (arith, counts.pages, long, p) }
+
+-- a key that is inserted leads to what was inserted, and the others to what they did
+found-inserted : (ps : List Pair) (key to other : ℕ) → found ps key ≡ None → found (inserted ps key to) other ≡ cond (nat_eq key other) (Some to) (found ps other)
+found-inserted [] key to other none = refl
+found-inserted (p ∷ ps) key to other none = in_front (nat_lt key p.0) (nat_eq p.0 key) refl none (found-inserted ps key to other)
+  where
+    Rest : Type 0
+    Rest = found ps key ≡ None → found (inserted ps key to) other ≡ cond (nat_eq key other) (Some to) (found ps other)
+
+    behind : (b : Bool) → nat_eq p.0 other ≡ b → nat_eq p.0 key ≡ false → found ps key ≡ None → Rest
+        → cond b (Some p.1) (found (inserted ps key to) other) ≡ cond (nat_eq key other) (Some to) (cond b (Some p.1) (found ps other))
+    behind true here ne rest later = ap (λ (b : Bool). cond b (Some to) (Some p.1)) (sym (ne_eqb key other (λ e. false≢true (sym ne ∙ eq-eqb p.0 key (eqb-true p.0 other here ∙ sym e)))))
+    behind false there ne rest later = later rest
+
+    in_front : (first same : Bool) → nat_eq p.0 key ≡ same → cond same (Some p.1) (found ps key) ≡ None → Rest
+        → found (cond first (let q : Pair = (key, to) in q ∷ p ∷ ps) (p ∷ inserted ps key to)) other ≡ cond (nat_eq key other) (Some to) (cond (nat_eq p.0 other) (Some p.1) (found ps other))
+    in_front first true is none later = absurd (cc)
+    in_front true false ne none later = refl
+    in_front false false ne none later = behind (nat_eq p.0 other) refl ne none later
+
+module _ (shape : Shape) (old new : Keys) (within : IsWithin shape new) where
+  takes : table.TakesPages old new → TakesPages (limits_of shape) (index_of old) (index_of new)
+  takes t = record { later = t.later; few = t.few; most = within.pages; levels = t.levels }
+
+  keeps : table.KeepsKeys old new → KeepsKeys (index_of old) (index_of new)
+  keeps k = record { slot_of = ap found k.pairs; slots = k.slots }
+
+  gains : (key : ℕ) → found old.pairs key ≡ None → table.GainsKey key old new → GainsKey (limits_of shape) key (index_of old) (index_of new)
+  gains key none g = record {
+    left = omega (arith, g.slots, within.slots);
+    slot_of = ap found g.pairs ∙ (λ i q. found-inserted old.pairs key old.next_slot q none i);
+    slots = g.slots;
+  }
+
+  refused_at : (T : Type 0) (key : ℕ) (o : Option ℕ) → found old.pairs key ≡ o → (f : TableFault) → (let r : Result T TableFault = Err f in IsFalse (is_failed r))
+      → (let r : Result T TableFault = Err f in IndexedAt key o old new r) → IndexesAt (limits_of shape) key o (reply_to f) (index_of old) (index_of new)
+  refused_at T key (Some slot) is f well same = ap index_of same
+  refused_at T key None is (LogFull g h n) well (t, inl k) = (takes t, inl (keeps k))
+  refused_at T key None is (LogFull g h n) well (t, inr k) = (takes t, inr (gains key is k))
+  refused_at T key None is (PagesFull n) well (t, k, most) = (takes t, keeps k, most)
+  refused_at T key None is (SlotsFull n) well (t, k) = (takes t, keeps k)
+  refused_at T key None is SavesFull well (t, k) = (takes t, keeps k)
+  refused_at T key None is Media well x = absurd (cc)
+  refused_at T key None is Dead well (t, k) = (takes t, keeps k)
+  refused_at T key None is (Damaged page) well (t, k) = (takes t, keeps k)
+  refused_at T key None is NoMemory well (t, k) = (takes t, keeps k)
+
+  granted_at : {T : Type 0} (key : ℕ) (o : Option ℕ) → found old.pairs key ≡ o → (answer : T)
+      → (let r : Result T TableFault = Ok answer in IndexedAt key o old new r) → IndexesAt (limits_of shape) key o Fine (index_of old) (index_of new)
+  granted_at key (Some slot) is answer same = ap index_of same
+  granted_at key None is answer (t, k) = (takes t, gains key is k)
+
+  -- a refusal
+  pub indexes_refused : (T : Type 0) (t : ℕ) (call : Call) (f : TableFault) → IsOfTable call → (let r : Result T TableFault = Err f in IsFalse (is_failed r))
+      → (let r : Result T TableFault = Err f in Indexed (command_of t call) old new r) → Indexes (limits_of shape) call (reply_to f) (index_of old) (index_of new)
+  indexes_refused T t (Put key value) f of well indexed = refused_at T key (found old.pairs key) refl f well indexed
+  indexes_refused T t (Get key) f of well same = ap index_of same
+  indexes_refused T t (Del key) f of well same = ap index_of same
+  indexes_refused T t (Scan low high) f of well same = ap index_of same
+  indexes_refused T t Save f of well same = ap index_of same
+  indexes_refused T t (Back n) f of well same = ap index_of same
+  indexes_refused T t Commit f of well same = absurd of
+  indexes_refused T t Abort f of well same = absurd of
+  indexes_refused T t Begin f of well same = absurd of
+
+  -- a granted call
+  pub indexes_granted : {T : Type 0} (t : ℕ) (call : Call) (answer : T) (told : Reply) → IsOfTable call → ((key : ℕ) (value : List ℕ) → call ≡ Put key value → told ≡ Fine)
+      → (let r : Result T TableFault = Ok answer in Indexed (command_of t call) old new r) → Indexes (limits_of shape) call told (index_of old) (index_of new)
+  indexes_granted t (Put key value) answer told of fine indexed =
+      subst (λ (r : Reply). IndexesAt (limits_of shape) key (found old.pairs key) r (index_of old) (index_of new)) (sym (fine key value refl)) (granted_at key (found old.pairs key) refl answer indexed)
+  indexes_granted t (Get key) answer told of fine same = ap index_of same
+  indexes_granted t (Del key) answer told of fine same = ap index_of same
+  indexes_granted t (Scan low high) answer told of fine same = ap index_of same
+  indexes_granted t Save answer told of fine same = ap index_of same
+  indexes_granted t (Back n) answer told of fine same = ap index_of same
+  indexes_granted t Commit answer told of fine same = absurd of
+  indexes_granted t Abort answer told of fine same = absurd of
+  indexes_granted t Begin answer told of fine same = absurd of
+
+-- the keys stay, or one that the index lacked is gained
+abbrev pub Slots : Limits → Index → Index → Type 0
+Slots limits old new = (new.slot_of ≡ old.slot_of) ⊎ ((key : ℕ) × (old.slot_of key ≡ None) × GainsKey limits key old new)
+
+inserts_slots : (limits : Limits) (key : ℕ) (answer : Reply) (old new : Index) → old.slot_of key ≡ None → Inserts limits key answer old new → Slots limits old new
+inserts_slots limits key Fine old new none (t, k) = inr (key, none, k)
+inserts_slots limits key (reply.LogFull g h n) old new none (t, inl k) = inl k.slot_of
+inserts_slots limits key (reply.LogFull g h n) old new none (t, inr k) = inr (key, none, k)
+inserts_slots limits key (reply.PagesFull n) old new none (t, k, most) = inl k.slot_of
+inserts_slots limits key (reply.Found value) old new none (t, k) = inl k.slot_of
+inserts_slots limits key reply.Absent old new none (t, k) = inl k.slot_of
+inserts_slots limits key (reply.Listed rows) old new none (t, k) = inl k.slot_of
+inserts_slots limits key (reply.Saved n) old new none (t, k) = inl k.slot_of
+inserts_slots limits key (reply.Committed n) old new none (t, k) = inl k.slot_of
+inserts_slots limits key reply.NoTransaction old new none (t, k) = inl k.slot_of
+inserts_slots limits key reply.Already old new none (t, k) = inl k.slot_of
+inserts_slots limits key (reply.NoSave n) old new none (t, k) = inl k.slot_of
+inserts_slots limits key reply.SavesFull old new none (t, k) = inl k.slot_of
+inserts_slots limits key (reply.Busy h) old new none (t, k) = inl k.slot_of
+inserts_slots limits key (reply.SlotsFull n) old new none (t, k) = inl k.slot_of
+inserts_slots limits key reply.Media old new none (t, k) = inl k.slot_of
+inserts_slots limits key reply.Dead old new none (t, k) = inl k.slot_of
+inserts_slots limits key reply.NoMemory old new none (t, k) = inl k.slot_of
+inserts_slots limits key (reply.Damaged page) old new none (t, k) = inl k.slot_of
+
+at_slots : (limits : Limits) (key : ℕ) (o : Option ℕ) (answer : Reply) (old new : Index) → old.slot_of key ≡ o → IndexesAt limits key o answer old new → Slots limits old new
+at_slots limits key None answer old new is inserts = inserts_slots limits key answer old new is inserts
+at_slots limits key (Some slot) answer old new is same = inl (ap (λ (x : Index). x.slot_of) same)
+
+pub indexes_slots : (limits : Limits) (call : Call) (answer : Reply) (old new : Index) → Indexes limits call answer old new → Slots limits old new
+indexes_slots limits (Put key value) answer old new indexes = at_slots limits key (old.slot_of key) answer old new refl indexes
+indexes_slots limits _ answer old new same = inl (ap (λ (x : Index). x.slot_of) same)
+
+-- behind a granted call the index has the key of a put, with the slot that it had for it, or the next one
+pub slot_after : (limits : Limits) (key : ℕ) (o : Option ℕ) (old new : Index) → old.slot_of key ≡ o → IndexesAt limits key o Fine old new
+    → (slot : ℕ) × (new.slot_of key ≡ Some slot) × (slot ≡ unwrap_or o old.next_slot)
+slot_after limits key None old new is (t, k) = (old.next_slot, ap (λ (f : ℕ → Option ℕ). f key) k.slot_of ∙ update_here old.slot_of key (Some old.next_slot), refl)
+slot_after limits key (Some slot) old new is same = (slot, ap (λ (x : Index). x.slot_of key) same ∙ is, refl)

@@ -1,0 +1,207 @@
+-- The room of an array for writes, as callers see it.
+use Rattle.std.proofs.Common.{◌≡◌, ◌≢◌, ◌≤◌, ◌<◌, ◌+◌, ◌*◌, ◌⊎◌, ℕ, inl, inr, Bool, true, false, cond, nat_eq, List, [], ◌∷◌, ◌++◌, length, filter, take, drop, ◌-◌, Option, Some, None, unwrap_or, refl, sym, ap, subst, ◌∙◌, arith, eq-eqb, ne_eqb, eqb-true}
+use Rattle.std.specs.Prelude.{IsSome, is_some}
+use Rattle.std.specs.List.{list_any}
+use Rattle.std.specs.FinMap.{get}
+use Rattle.std.specs.Map.{update}
+use Rattle.std.proofs.lemmas.Bool.{false≢true, cases_eq}
+use Rattle.array_shape.specs.declared.shape.Shape.{Shape}
+use Rattle.array_shape.proofs.Apart.{logger_below}
+use Rattle.eaw_face.specs.StoreView.{StoreView}
+use Rattle.eaw_face.specs.Causes.{IsAlive}
+use Rattle.page_store.specs.Index.{slots_of}
+use Rattle.page_store.specs.Index as below
+use Rattle.page_store.specs.Pairs.{Pair, found}
+use Rattle.page_store.specs.Shown.{PagesView}
+use Rattle.record_slots.specs.Places.{next_slot}
+use Rattle.history.specs.Writes.{Table, Write, is_of, with_write}
+use Rattle.history.specs.Table.{Granted, IsRight, has_save, removed}
+use Rattle.history.specs.Log.{Log, log_of, log_after, save_at}
+use Rattle.history.specs.Log as log
+use Rattle.history.specs.declared.call.Call.{Call}
+use Rattle.history.specs.declared.call.Call.TheVariants.{Begin, Get, Put, Del, Scan, Save, Back, Commit, Abort}
+use Rattle.history.specs.declared.call.Reply.{Reply}
+use Rattle.history.specs.declared.call.Reply.TheVariants.{Fine}
+use Rattle.history.specs.declared.call.Reply.TheVariants as reply
+use Rattle.history.specs.declared.transaction.Done.{Done}
+use Rattle.history.proofs.Counting.{length-filter-rewritten, length-filter-anew, length-filter-front}
+use Rattle.history.proofs.OneMore.{log_of-push}
+use Rattle.history.proofs.Saves.{save_is_front}
+use Rattle.record_table.specs.State.{TableState, seen_by}
+use Rattle.record_table.specs.State as table
+use Rattle.record_table.specs.Command.{is_seen}
+use Rattle.record_table.specs.Causes as table_causes
+use Rattle.record_table.specs.Shown.{state_of, keys_of, logger_of_slot, needed_on}
+use Rattle.record_table.specs.Shown as shown
+use Rattle.record_table.specs.declared.fault.TableFault.{TableFault}
+use Rattle.record_table.specs.declared.fault.TableFault.TheVariants as fault
+use Rattle.core_face.specs.State.{State, Index, calls_of, records_of, view_of}
+use Rattle.core_face.specs.Room.{Limits, is_slot_on, is_write_on, held_on, HasEntry, slot_for, IsSeen, Fits, IsFull, LacksAt, Lacks, GainsKey, IndexesAt, Indexes}
+use Rattle.core_face.proofs.Holding.{held_apart, AreNamed, unnamed}
+use Rattle.mars_core.specs.Over.{limits_of, index_of}
+use Rattle.mars_core.specs.Held.{state_at}
+use Rattle.mars_core.specs.Kept.{Mirrors, HasHeld}
+use Rattle.mars_core.specs.Works.{command_of, IsOfTable, Replies, HasSaves, IsShown, reply_to}
+use Rattle.mars_core.proofs.Indexing.{Slots, indexes_slots, slot_after}
+use Rattle.mars_core.proofs.Mirroring.{seen_is, calls_here, calls_there}
+
+pub same_slot_on : (shape : Shape) (g : ℕ) (o : Option ℕ) → is_slot_on (limits_of shape) g o ≡ shown.is_slot_on shape g o
+same_slot_on shape g None = refl
+same_slot_on shape g (Some slot) = refl
+
+pub named_is : (index : Index) (pairs : List Pair) (writes : List Write) → ((key : ℕ) → index.slot_of key ≡ found pairs key) → shown.AreNamed pairs writes → AreNamed index writes
+named_is index pairs [] same named = tt
+named_is index pairs (write ∷ writes) same named = (subst (λ (o : Option ℕ). IsSome o) (sym (same write.0)) named.0, named_is index pairs writes same named.1)
+
+-- A state s over what pages show; its index is that of the data.
+module _ (index : below.Index) (p : PagesView) (s : State) (indexed : s.index ≡ index_of (keys_of index p.store.state.bytes)) (mirrors : Mirrors (state_of index p) s)
+    (held : (t g : ℕ) → shown.held_on p t g ≡ length (filter (shown.is_write_on p.store.shape (index.pairs p.store.state.bytes) g) ((state_of index p).writes t))) where
+  -- what a logger holds
+  pub held_is : (t g : ℕ) → held_on (limits_of p.store.shape) s t g ≡ shown.held_on p t g
+  held_is t g =
+      ap (λ (ix : Index). length (filter (is_write_on (limits_of p.store.shape) ix g) (log_of (calls_of s t)).writes)) indexed
+      ∙ (λ i. length (filter (λ (write : Write). same_slot_on p.store.shape g (found (index.pairs p.store.state.bytes) write.0) i) (sym (mirrors.writes t) i)))
+      ∙ sym (held t g)
+
+  anew_is : (t key : ℕ) → log.is_rewritten (log_of (calls_of s t)) key ≡ table.is_rewritten (state_of index p) t key
+  anew_is t key = λ i. list_any (is_of key) (drop (length (save_at (sym (mirrors.saved t) i) (length (sym (mirrors.saved t) i)))) (sym (mirrors.writes t) i))
+
+  one_needed : (slot : ℕ) → needed_on p.store.shape slot (logger_of_slot p.store.shape slot) ≡ 1
+  one_needed slot = ap (λ (b : Bool). cond b 1 0) (eq-eqb (logger_of_slot p.store.shape slot) (logger_of_slot p.store.shape slot) refl)
+
+  -- a write finds an entry
+  pub has_entry : (t key slot : ℕ) → table_causes.HasRoom index t p key slot → HasEntry (limits_of p.store.shape) s t key slot
+  has_entry t key slot room anew =
+      let g = logger_of_slot p.store.shape slot in
+      let fits = room (sym (anew_is t key) ∙ anew) g (logger_below p.store.shape (64 * (slots_of p.store.shape + slot))) in
+      omega (arith, fits, one_needed slot, held_is t g)
+
+  module _ (t : ℕ) (right : IsRight (records_of s) (calls_of s t)) where
+    seen : (key : ℕ) → is_seen (state_of index p) t key ≡ is_some (get (view_of s t).table key)
+    seen key = ap (λ (table : Table). is_some (get table key)) (seen_is (state_of index p) s mirrors t right)
+
+    put_fits : (key : ℕ) (o : Option ℕ) → table_causes.PutFits index t key p o → HasEntry (limits_of p.store.shape) s t key (unwrap_or o (next_slot p.store.state.bytes))
+    put_fits key None fits = has_entry t key (next_slot p.store.state.bytes) fits.1
+    put_fits key (Some slot) room = has_entry t key slot room
+
+    slot_is : (key : ℕ) → unwrap_or (found (index.pairs p.store.state.bytes) key) (next_slot p.store.state.bytes) ≡ slot_for s.index key
+    slot_is key = sym (ap (λ (ix : Index). slot_for ix key) indexed)
+
+    pub fits_is : (call : Call) → IsOfTable call → table_causes.Fits index p (command_of t call) → Fits (limits_of p.store.shape) s t call
+    fits_is (Put key value) of fits = subst (λ (slot : ℕ). HasEntry (limits_of p.store.shape) s t key slot) (slot_is key) (put_fits key (found (index.pairs p.store.state.bytes) key) fits)
+    fits_is (Del key) of fits = λ seen_there.
+        let at = fits (seen key ∙ seen_there) in
+        subst (λ (slot : ℕ). HasEntry (limits_of p.store.shape) s t key slot)
+            (sym (ap (λ (o : Option ℕ). unwrap_or o (next_slot p.store.state.bytes)) at.1) ∙ slot_is key) (has_entry t key at.0 at.2)
+    fits_is (Get key) of fits = tt
+    fits_is (Scan low high) of fits = tt
+    fits_is Save of fits = tt
+    fits_is (Back n) of fits = tt
+    fits_is Commit of fits = tt
+    fits_is Abort of fits = tt
+    fits_is Begin of fits = tt
+
+    -- Refusals of a full array. No logger holds more than it has.
+    module _ (room : HasHeld (limits_of p.store.shape) s) where
+      full_is : (g h n : ℕ) → table_causes.IsShort p t g h n → IsFull (limits_of p.store.shape) s t g h n
+      full_is g h n short = record {
+        logger = short.logger;
+        held = short.held ∙ sym (held_is t g);
+        some = omega (arith, short.full, short.held, held_is t g, room t g);
+        few = short.few;
+        full = short.full;
+      }
+
+      -- a slot's logger is full
+      slot_full : (key slot g h n : ℕ) → table_causes.IsFull index t p key slot g h n → table_causes.IsShort p t g h n → LacksAt (limits_of p.store.shape) s t key (Some slot) (reply.LogFull g h n)
+      slot_full key slot g h n full short = go (cases_eq (logger_of_slot p.store.shape slot) g)
+        where
+          module_full : IsFull (limits_of p.store.shape) s t g h n
+          module_full = full_is g h n short
+
+          go : (logger_of_slot p.store.shape slot ≡ g) ⊎ (logger_of_slot p.store.shape slot ≢ g) → LacksAt (limits_of p.store.shape) s t key (Some slot) (reply.LogFull g h n)
+          go (inr ne) = absurd (
+            let none : n ≡ 0 = full.needed ∙ ap (λ (b : Bool). cond b 1 0) (ne_eqb (logger_of_slot p.store.shape slot) g ne) in
+            omega (arith, none, module_full.some)
+          )
+          go (inl e) =
+              let one : n ≡ 1 = full.needed ∙ ap (λ (b : Bool). cond b 1 0) (eq-eqb (logger_of_slot p.store.shape slot) g e) in (
+                λ has.
+                    let few = has (anew_is t key ∙ full.anew) in
+                    let same : held_on (limits_of p.store.shape) s t (logger_of_slot p.store.shape slot) ≡ held_on (limits_of p.store.shape) s t g = ap (λ (k : ℕ). held_on (limits_of p.store.shape) s t k) e in
+                    omega (arith, few, same, module_full.held, module_full.full, one),
+                sym e,
+                one,
+                module_full,
+              )
+
+      put_lacks : (key g h n : ℕ) (o : Option ℕ) → table_causes.PutLacks index t key p g h n o → table_causes.IsShort p t g h n → LacksAt (limits_of p.store.shape) s t key o (reply.LogFull g h n)
+      put_lacks key g h n None lacks short = full_is g h n short
+      put_lacks key g h n (Some slot) full short = slot_full key slot g h n full short
+
+      found_is : (key : ℕ) → found (index.pairs p.store.state.bytes) key ≡ s.index.slot_of key
+      found_is key = sym (ap (λ (ix : Index). ix.slot_of key) indexed)
+
+      pub log_lacks : (call : Call) (g h n : ℕ) → IsOfTable call → table_causes.Lacks index p g h n (command_of t call) → table_causes.MayLack p g h n (command_of t call)
+          → Lacks (limits_of p.store.shape) s t call (reply.LogFull g h n)
+      log_lacks (Put key value) g h n of lacks short = subst (λ (o : Option ℕ). LacksAt (limits_of p.store.shape) s t key o (reply.LogFull g h n)) (found_is key)
+          (put_lacks key g h n (found (index.pairs p.store.state.bytes) key) lacks short)
+      log_lacks (Del key) g h n of (seen_there, slot, at, full) short = (
+        sym (seen key) ∙ seen_there,
+        subst (λ (o : Option ℕ). LacksAt (limits_of p.store.shape) s t key o (reply.LogFull g h n)) (sym at ∙ found_is key) (slot_full key slot g h n full short),
+      )
+      log_lacks (Get key) g h n of lacks short = absurd short
+      log_lacks (Scan low high) g h n of lacks short = absurd short
+      log_lacks Save g h n of lacks short = absurd short
+      log_lacks (Back m) g h n of lacks short = absurd short
+      log_lacks Commit g h n of lacks short = absurd short
+      log_lacks Abort g h n of lacks short = absurd short
+      log_lacks Begin g h n of lacks short = absurd of
+
+      pub slot_lacks : (call : Call) (n : ℕ) → IsOfTable call → table_causes.LacksSlot index p n (command_of t call) → n ≡ slots_of p.store.shape
+          → Lacks (limits_of p.store.shape) s t call (reply.SlotsFull n)
+      slot_lacks (Put key value) n of lacks most = subst (λ (o : Option ℕ). LacksAt (limits_of p.store.shape) s t key o (reply.SlotsFull n)) (sym lacks.0 ∙ found_is key)
+          (ap (λ (ix : Index). ix.next_slot) indexed ∙ lacks.1 ∙ most, most)
+      slot_lacks (Get key) n of lacks most = absurd lacks
+      slot_lacks (Del key) n of lacks most = absurd lacks
+      slot_lacks (Scan low high) n of lacks most = absurd lacks
+      slot_lacks Save n of lacks most = absurd lacks
+      slot_lacks (Back m) n of lacks most = absurd lacks
+      slot_lacks Commit n of lacks most = absurd lacks
+      slot_lacks Abort n of lacks most = absurd lacks
+      slot_lacks Begin n of lacks most = absurd lacks
+
+      pub page_lacks : (call : Call) (n : ℕ) → IsOfTable call → table_causes.LacksPage index p (command_of t call) → n ≡ (limits_of p.store.shape).index_pages - 1
+          → Lacks (limits_of p.store.shape) s t call (reply.PagesFull n)
+      page_lacks (Put key value) n of lacks most = subst (λ (o : Option ℕ). LacksAt (limits_of p.store.shape) s t key o (reply.PagesFull n)) (sym lacks.0 ∙ found_is key) most
+      page_lacks (Get key) n of lacks most = absurd lacks
+      page_lacks (Del key) n of lacks most = absurd lacks
+      page_lacks (Scan low high) n of lacks most = absurd lacks
+      page_lacks Save n of lacks most = absurd lacks
+      page_lacks (Back m) n of lacks most = absurd lacks
+      page_lacks Commit n of lacks most = absurd lacks
+      page_lacks Abort n of lacks most = absurd lacks
+      page_lacks Begin n of lacks most = absurd lacks
+
+-- a write that finds an entry leaves no logger with more than it has
+module _ (limits : Limits) (ix : Index) (write : Write) (slot : ℕ) (at : ix.slot_of write.0 ≡ Some slot) (l : Log)
+    (has : log.is_rewritten l write.0 ≡ false → length (filter (is_write_on limits ix (limits.logger_of slot)) l.writes) < limits.entries) where
+  pub written_room : (g : ℕ) → length (filter (is_write_on limits ix g) l.writes) ≤ limits.entries → length (filter (is_write_on limits ix g) (log.written l write).writes) ≤ limits.entries
+  written_room g room = go (log.is_rewritten l write.0) refl
+    where
+      alike : (one other : Write) → one.0 ≡ other.0 → is_write_on limits ix g one ≡ is_write_on limits ix g other
+      alike one other same = ap (λ (k : ℕ). is_slot_on limits g (ix.slot_of k)) same
+
+      on : (b : Bool) → nat_eq (limits.logger_of slot) g ≡ b → length (filter (is_write_on limits ix (limits.logger_of slot)) l.writes) < limits.entries
+          → length (filter (is_write_on limits ix g) l.writes) + cond b 1 0 ≤ limits.entries
+      on false no_slot few = omega (arith, room)
+      on true here few =
+          let same : length (filter (is_write_on limits ix (limits.logger_of slot)) l.writes) ≡ length (filter (is_write_on limits ix g) l.writes) =
+            ap (λ (k : ℕ). length (filter (is_write_on limits ix k) l.writes)) (eqb-true (limits.logger_of slot) g here) in
+          omega (arith, few, same)
+
+      go : (b : Bool) → log.is_rewritten l write.0 ≡ b → length (filter (is_write_on limits ix g) (log.written l write).writes) ≤ limits.entries
+      go true is = subst (λ (n : ℕ). n ≤ limits.entries) (sym (length-filter-rewritten (is_write_on limits ix g) alike write (log.floor_of l) l.writes is)) room
+      go false is = subst (λ (n : ℕ). n ≤ limits.entries)
+          (sym (length-filter-anew (is_write_on limits ix g) alike write (log.floor_of l) l.writes is ∙ ap (λ (o : Option ℕ). length (filter (is_write_on limits ix g) l.writes) + cond (is_slot_on limits g o) 1 0) at))
+          (on (nat_eq (limits.logger_of slot) g) refl (has is))

@@ -1,0 +1,197 @@
+-- Calls that the records are not asked for: refusals before them, and a begin.
+use Rattle.std.proofs.Common.{◌≡◌, ◌≢◌, ◌≤◌, ◌<◌, ◌+◌, ℕ, inl, inr, Bool, true, false, cond, ◌||◌, ◌&&◌, nat_eq, nat_lt, nat_le, List, [], ◌∷◌, ◌++◌, length, IsTrue, Option, Some, None, unwrap_or, refl, sym, ap, subst, ◌∙◌, arith}
+use Rattle.std.specs.Prelude.{IsFalse, is_some}
+use Rattle.std.specs.Map.{update}
+use Rattle.std.proofs.lemmas.Map.{update_here, update_apart}
+use Rattle.std.proofs.lemmas.Bool.{cases_eq, false≢true, false_from_ne_true, ltb-true, leb-true}
+use Rattle.counted.proofs.Going.{stays}
+use Rattle.array_shape.specs.declared.shape.Shape.{Shape}
+use Rattle.eaw_face.specs.StoreView.{StoreView}
+use Rattle.eaw_face.specs.Causes.{IsAlive}
+use Rattle.page_store.specs.Index as below
+use Rattle.page_store.specs.Shown.{PagesView}
+use Rattle.history.specs.Writes.{Write}
+use Rattle.history.specs.Table.{Granted, IsRight, has_save}
+use Rattle.history.specs.Locks.{touches, touched}
+use Rattle.history.specs.Legal.{records}
+use Rattle.history.specs.Log.{log_of}
+use Rattle.history.specs.declared.call.Call.{Call}
+use Rattle.history.specs.declared.call.Call.TheVariants.{Begin, Get, Put, Del, Scan, Save, Back, Commit, Abort}
+use Rattle.history.specs.declared.call.Reply.{Reply}
+use Rattle.history.specs.declared.call.Reply.TheVariants.{Fine, Busy, NoMemory, SavesFull, NoSave}
+use Rattle.record_table.specs.State.{TableState}
+use Rattle.record_table.specs.Shown.{state_of, keys_of}
+use Rattle.core_face.specs.State.{State, Index, calls_of, records_of, view_of, with_live}
+use Rattle.core_face.specs.Locked.{Blocks, IsFree, IsBusyWith}
+use Rattle.core_face.specs.Step.{Step, StepAt}
+use Rattle.core_face.specs.Fate.{is_refusal, is_media, is_committed}
+use Rattle.core_face.specs.Sound.{IsSound}
+use Rattle.core_face.specs.Core.{IsSafe, Steps}
+use Rattle.core_face.proofs.Sound.{step_sound}
+use Rattle.mars_core.specs.Over.{limits_of, index_of}
+use Rattle.mars_core.specs.Held.{core_over}
+use Rattle.mars_core.specs.Kept.{Mirrors, HasHeld, IsTied, IsKept}
+use Rattle.mars_core.specs.Works.{IsOfTable, HasSaves, IsSaveRefusal, IsShown}
+use Rattle.mars_core.proofs.Touching.{both}
+use Rattle.mars_core.proofs.Mirroring.{calls_there, mirrors_at, has_save_is, saves_are, has_saves}
+use Rattle.mars_core.proofs.Entering.{room_empty}
+use Rattle.mars_core.proofs.Prefixes.{StoreLaws, safe_alive}
+use Rattle.mars_core.proofs.Stepping.{ShowsPages, or_false, step_of, asks_at, steps_same, steps_of, counts_is, saves_at}
+
+-- an option that is some
+pub some_of : {A : Type 0} (o : Option A) → is_some o ≡ true → (x : A) × (o ≡ Some x)
+some_of None e = absurd (false≢true e)
+some_of (Some x) e = (x, refl)
+
+pub none_of : {A : Type 0} (o : Option A) → is_some o ≡ false → o ≡ None
+none_of None e = refl
+none_of (Some x) e = absurd (false≢true (sym e))
+
+module _ (live : ℕ → Option Granted) (t : ℕ) where
+  -- a change to what was there is none
+  pub update_same : (x : Option Granted) → live t ≡ x → update nat_eq live t x ≡ live
+  update_same x is = λ i q. each q i
+    where
+      each : (q : ℕ) → update nat_eq live t x q ≡ live q
+      each q = elim (cases_eq q t) [
+        | inl e ↦ ap (update nat_eq live t x) e ∙ update_here live t x ∙ sym is ∙ ap live (sym e)
+        | inr ne ↦ update_apart live t x q ne
+      ]
+
+  -- of two changes the second stays
+  pub update_twice : (x y : Option Granted) → update nat_eq (update nat_eq live t x) t y ≡ update nat_eq live t y
+  update_twice x y = λ i q. each q i
+    where
+      each : (q : ℕ) → update nat_eq (update nat_eq live t x) t y q ≡ update nat_eq live t y q
+      each q = elim (cases_eq q t) [
+        | inl e ↦ ap (update nat_eq (update nat_eq live t x) t y) e ∙ update_here (update nat_eq live t x) t y ∙ sym (update_here live t y) ∙ ap (update nat_eq live t y) (sym e)
+        | inr ne ↦ update_apart (update nat_eq live t x) t y q ne ∙ update_apart live t x q ne ∙ sym (update_apart live t y q ne)
+      ]
+
+  -- a change and a change back
+  pub changed_back : (x y : Option Granted) (mid new : ℕ → Option Granted) → mid ≡ update nat_eq live t x → new ≡ update nat_eq mid t y → live t ≡ y → new ≡ live
+  changed_back x y mid new first second is = second ∙ ap (λ (f : ℕ → Option Granted). update nat_eq f t y) first ∙ update_twice x y ∙ update_same y is
+
+  pub changed_twice : (x y : Option Granted) (mid new : ℕ → Option Granted) → mid ≡ update nat_eq live t x → new ≡ update nat_eq mid t y → new ≡ update nat_eq live t y
+  changed_twice x y mid new first second = second ∙ ap (λ (f : ℕ → Option Granted). update nat_eq f t y) first ∙ update_twice x y
+
+-- Who holds the keys of a call does not hang on what its own caller touched.
+module _ (s mid : State) (t : ℕ) (x : Option Granted) (live : mid.live ≡ update nat_eq s.live t x) (call : Call) where
+  blocks_to : (holder : ℕ) → Blocks mid t call holder → Blocks s t call holder
+  blocks_to holder (ne, stripe, own, at) = (ne, stripe, own, subst (λ (cs : Granted). touched cs stripe ≡ true) (calls_there s mid t x live holder ne) at)
+
+  blocks_from : (holder : ℕ) → Blocks s t call holder → Blocks mid t call holder
+  blocks_from holder (ne, stripe, own, at) = (ne, stripe, own, subst (λ (cs : Granted). touched cs stripe ≡ true) (sym (calls_there s mid t x live holder ne)) at)
+
+  pub free_before : IsFree mid t call → IsFree s t call
+  free_before free holder blocks = free holder (blocks_from holder blocks)
+
+  pub busy_before : (holder : ℕ) → IsBusyWith mid t call holder → IsBusyWith s t call holder
+  busy_before holder busy = (blocks_to holder busy.0, λ lower lt blocks. busy.1 lower lt (blocks_from lower blocks))
+
+no_saves : {A : Type 0} (saves : List A) (n : ℕ) → ((0 < n) × (n ≤ length saves) → ⊥) → has_save saves n ≡ false
+no_saves saves n none = false_from_ne_true (has_save saves n) (λ there.
+    let parts = both (nat_lt 0 n) (nat_le n (length saves)) there in none (ltb-true 0 n parts.0, leb-true n (length saves) parts.1))
+
+module _ (tells : Bool) (Opens : Shape → List ℕ → List ℕ → Type 0) (index : below.Index) (p : PagesView) (s : State) (shows : ShowsPages index p s) (count : ℕ) (rows : List (ℕ × List ℕ))
+    (kept : IsKept tells Opens index p count rows s) (alive : IsAlive p.store) (tells_writes : IsShown tells index p) (t : ℕ) (call : Call) (calls : Granted) (is : s.live t ≡ Some calls) where
+  module _ (told : IsTrue tells) where
+    tied : IsTied index p s
+    tied = kept.tied told alive
+
+    saved_is : length ((state_of index p).saved t) ≡ length (view_of s t).saves
+    saved_is = saves_are (state_of index p) s tied.mirrors t (tied.sound.right t)
+
+    save_step : (c : Call) (answer : Reply) → IsSaveRefusal (length (p.counts t)) c answer → Step (limits_of p.store.shape) s t c answer s
+    save_step Save answer refused = subst (λ (r : Reply). Step (limits_of p.store.shape) s t Save r s) (sym refused.1)
+        (step_of (limits_of p.store.shape) (Some calls) s s t Save SavesFull (shows.dead ∙ alive) is (inl (omega (arith, refused.0, counts_is index p t, saved_is), (refl, refl))))
+    save_step (Back n) answer refused = subst (λ (r : Reply). Step (limits_of p.store.shape) s t (Back n) r s) (sym refused.1)
+        (step_of (limits_of p.store.shape) (Some calls) s s t (Back n) (NoSave n) (shows.dead ∙ alive) is (inl (
+          has_saves (state_of index p) s tied.mirrors t (tied.sound.right t) n ∙ no_saves ((state_of index p).saved t) n (subst (λ (k : ℕ). (0 < n) × (n ≤ k) → ⊥) (sym (counts_is index p t)) refused.0),
+          (refl, refl),
+        )))
+    save_step (Get key) answer refused = absurd refused
+    save_step (Put key value) answer refused = absurd refused
+    save_step (Del key) answer refused = absurd refused
+    save_step (Scan low high) answer refused = absurd refused
+    save_step Commit answer refused = absurd refused
+    save_step Abort answer refused = absurd refused
+    save_step Begin answer refused = absurd refused
+
+  -- refused for its saves
+  pub save_refused : (answer : Reply) → IsSaveRefusal (length (p.counts t)) call answer → Steps tells t call (core_over Opens index p.store s) (core_over Opens index p.store s) answer
+  save_refused answer refused =
+      let kind = refusal call answer refused in
+      steps_same tells Opens index p s s t call answer refl kept.safe kind.0 kind.1 kind.2 (λ told. save_step told call answer refused)
+    where
+      refusal : (c : Call) (r : Reply) → IsSaveRefusal (length (p.counts t)) c r → (is_refusal r ≡ true) × (is_media r ≡ false) × (is_committed r ≡ false)
+      refusal Save r refused = subst (λ (x : Reply). (is_refusal x ≡ true) × (is_media x ≡ false) × (is_committed x ≡ false)) (sym refused.1) (refl, refl, refl)
+      refusal (Back n) r refused = subst (λ (x : Reply). (is_refusal x ≡ true) × (is_media x ≡ false) × (is_committed x ≡ false)) (sym refused.1) (refl, refl, refl)
+      refusal (Get key) r refused = absurd refused
+      refusal (Put key value) r refused = absurd refused
+      refusal (Del key) r refused = absurd refused
+      refusal (Scan low high) r refused = absurd refused
+      refusal Commit r refused = absurd refused
+      refusal Abort r refused = absurd refused
+      refusal Begin r refused = absurd refused
+
+  module _ (of : IsOfTable call) (saves : HasSaves (length (p.counts t)) call) (new : State) (same : new ≡ s) where
+    has : HasSaves (length ((state_of index p).saved t)) call
+    has = subst (λ (n : ℕ). HasSaves n call) (sym (counts_is index p t)) saves
+
+    -- for want of memory
+    pub memory_refused : Steps tells t call (core_over Opens index p.store s) (core_over Opens index p.store new) NoMemory
+    memory_refused = steps_same tells Opens index p s new t call NoMemory same kept.safe refl refl refl (λ told.
+        step_of (limits_of p.store.shape) (Some calls) s s t call NoMemory (shows.dead ∙ alive) is (asks_at (limits_of p.store.shape) calls s s t call NoMemory of
+        (saves_at index p s shows (tied told).mirrors (tells_writes.held told alive) t ((tied told).sound.right t) call has) (inl (refl, refl))))
+
+    -- while another caller holds its keys
+    pub busy_refused : (holder : ℕ) → IsBusyWith s t call holder → Steps tells t call (core_over Opens index p.store s) (core_over Opens index p.store new) (Busy holder)
+    busy_refused holder busy = steps_same tells Opens index p s new t call (Busy holder) same kept.safe refl refl refl (λ told.
+        step_of (limits_of p.store.shape) (Some calls) s s t call (Busy holder) (shows.dead ∙ alive) is (asks_at (limits_of p.store.shape) calls s s t call (Busy holder) of
+        (saves_at index p s shows (tied told).mirrors (tells_writes.held told alive) t ((tied told).sound.right t) call has) (inr (inl (holder, busy, (refl, refl))))))
+
+-- all is kept by a change that is none
+pub kept_same : (tells : Bool) (Opens : Shape → List ℕ → List ℕ → Type 0) (index : below.Index) (p : PagesView) (s new : State) (count count' : ℕ) (rows : List (ℕ × List ℕ))
+    → IsKept tells Opens index p count rows s → count' ≡ count → new ≡ s → IsKept tells Opens index p count' rows new
+kept_same tells Opens index p s new count count' rows kept counts same =
+    subst (λ (x : State). IsKept tells Opens index p count' rows x) (sym same) (subst (λ (n : ℕ). IsKept tells Opens index p n rows s) (sym counts) kept)
+
+module _ (tells : Bool) (Opens : Shape → List ℕ → List ℕ → Type 0) (index : below.Index) (p : PagesView) (laws : StoreLaws tells Opens p.store) (s new : State) (shows : ShowsPages index p s) (count count' : ℕ)
+    (same_count : count' ≡ count) (rows : List (ℕ × List ℕ)) (kept : IsKept tells Opens index p count rows s) (alive : IsAlive p.store) (t : ℕ) (none : s.live t ≡ None)
+    (begins : new ≡ with_live s t (Some [])) where
+  live_is : new.live ≡ update nat_eq s.live t (Some [])
+  live_is = ap (λ (x : State). x.live) begins
+
+  module _ (told : IsTrue tells) where
+    step : Step (limits_of p.store.shape) s t Begin Fine new
+    step = step_of (limits_of p.store.shape) None s new t Begin Fine (shows.dead ∙ alive) none (refl, begins)
+
+    tied_new : IsTied index p new
+    tied_new =
+        let was = kept.tied told alive in
+        let at : calls_of s t ≡ [] = ap (λ (o : Option Granted). unwrap_or o []) none in
+        record {
+          index_sound = was.index_sound;
+          mirrors = mirrors_at (state_of index p) s was.mirrors (state_of index p) new t (Some []) live_is (was.mirrors.table ∙ sym (ap records_of begins))
+              (was.mirrors.writes t ∙ ap (λ (cs : Granted). (log_of cs).writes) at, was.mirrors.saved t ∙ ap (λ (cs : Granted). (log_of cs).saved) at) (λ u ne. (refl, refl));
+          sound = step_sound (limits_of p.store.shape) s t Begin Fine new was.sound step;
+          room = room_empty (limits_of p.store.shape) s new t (Some []) refl was.room (ap (λ (x : State). x.index) begins) live_is;
+        }
+
+    safe_new : IsSafe (core_over Opens index p.store new) p.store.moment (length new.history)
+    safe_new = safe_alive tells Opens index p laws new told alive tied_new
+
+  -- a begin
+  pub begun_keeps : IsKept tells Opens index p count' rows new
+  begun_keeps = record { seats = same_count ∙ kept.seats; in_order = kept.in_order; tied = λ told _. tied_new told; safe = safe_new }
+
+  pub begun_steps : Steps tells t Begin (core_over Opens index p.store s) (core_over Opens index p.store new) Fine
+  begun_steps = steps_of tells Opens index p p s new t Begin Fine refl (record {
+    base = ap (λ (x : State). x.base) begins;
+    history = ap (λ (x : State). x.history) begins;
+    dead = ap (λ (x : State). x.is_dead) begins ∙ sym (or_false s.is_dead);
+    own = λ _. ap (λ (f : ℕ → Option Granted). f t) live_is ∙ update_here s.live t (Some []);
+    others = λ other ne. ap (λ (f : ℕ → Option Granted). f other) live_is ∙ update_apart s.live t (Some []) other ne;
+    refused = λ refusal _. absurd (false≢true refusal);
+  }) (λ failed. absurd (false≢true failed)) (λ _. refl) step (λ told. stays p.store.moment p.store.left_since _) safe_new

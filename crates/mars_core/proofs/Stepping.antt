@@ -1,0 +1,216 @@
+-- From what records do, a step of the core.
+use Rattle.std.proofs.Common.{◌≡◌, ◌≢◌, ◌≤◌, ◌<◌, ◌+◌, ◌*◌, ◌⊎◌, ℕ, inl, inr, Bool, true, false, cond, ◌||◌, nat_eq, List, [], ◌∷◌, ◌++◌, length, filter, IsTrue, Option, Some, None, unwrap_or, Result, Ok, Err, refl, sym, ap, subst, ◌∙◌, arith}
+use Rattle.std.specs.Prelude.{IsFalse, is_some, if◌then◌else◌}
+use Rattle.std.specs.FinMap.{get}
+use Rattle.std.specs.Map.{update}
+use Rattle.std.proofs.lemmas.Map.{update_here, update_apart}
+use Rattle.std.proofs.lemmas.Bool.{false≢true}
+use Rattle.std.proofs.lemmas.List.{length-map}
+use Rattle.counted.specs.Causes.{Rose}
+use Rattle.counted.proofs.Going.{stays, weaker}
+use Rattle.array_shape.specs.declared.shape.Shape.{Shape}
+use Rattle.eaw_face.specs.StoreView.{StoreView, LeavesOnly}
+use Rattle.eaw_face.specs.Causes.{IsAlive}
+use Rattle.page_store.specs.Index as below
+use Rattle.page_store.specs.Pairs.{found}
+use Rattle.page_store.specs.Shown.{PagesView}
+use Rattle.history.specs.Writes.{Table, Write}
+use Rattle.history.specs.Table.{Granted, IsRight, has_save, removed}
+use Rattle.history.specs.Legal.{records, with_doubt}
+use Rattle.history.specs.Log.{log_of}
+use Rattle.history.specs.declared.call.Call.{Call}
+use Rattle.history.specs.declared.call.Call.TheVariants.{Begin, Get, Put, Del, Scan, Save, Back, Commit, Abort}
+use Rattle.history.specs.declared.call.Reply.{Reply}
+use Rattle.history.specs.declared.call.Reply.TheVariants.{Fine}
+use Rattle.history.specs.declared.call.Reply.TheVariants as reply
+use Rattle.history.specs.declared.transaction.Done.{Done}
+use Rattle.record_table.specs.State.{TableState, seen_by}
+use Rattle.record_table.specs.Does.{OpensWith}
+use Rattle.record_table.specs.Shown.{state_of, keys_of, held_on, is_write_on}
+use Rattle.record_table.specs.Shown as shown
+use Rattle.core_face.specs.State.{State, Index, calls_of, records_of, view_of, with_live}
+use Rattle.core_face.specs.Room.{Limits, HasEntry, slot_for, IndexesAt, Indexes, Fits}
+use Rattle.core_face.specs.Room as room
+use Rattle.core_face.specs.Step.{Says, Asks, StepAt, StepIf, Step, most_saves}
+use Rattle.core_face.specs.Fate.{Moves, is_refusal, is_media, is_committed, history_after, live_with}
+use Rattle.core_face.specs.Prefix.{HasPrefix, HasPrefixOf}
+use Rattle.core_face.specs.Core.{IsSafe, Steps}
+use Rattle.core_face.proofs.Holding.{AreNamed}
+use Rattle.mars_core.specs.Over.{limits_of, index_of}
+use Rattle.mars_core.specs.Held.{core_over}
+use Rattle.mars_core.specs.Kept.{Mirrors, HasHeld, IsTied, IsKept}
+use Rattle.mars_core.specs.Works.{command_of, IsOfTable, Replies, HasSaves, IsShown}
+use Rattle.mars_core.proofs.Indexing.{slot_after}
+use Rattle.mars_core.proofs.Mirroring.{has_save_is, saves_are, has_saves}
+use Rattle.mars_core.proofs.Rooming.{has_entry, fits_is}
+use Rattle.mars_core.proofs.Entering.{Enters, Returns}
+use Rattle.mars_core.proofs.Prefixes.{prefix_all}
+use Rattle.record_table.specs.Causes as table_causes
+
+-- the state shows these pages
+pub record ShowsPages (index : below.Index) (p : PagesView) (s : State) : Type 0 where
+  pub indexed : s.index ≡ index_of (keys_of index p.store.state.bytes)
+  pub dead : s.is_dead ≡ p.store.is_dead
+
+pub or_false : (b : Bool) → (b || false) ≡ b
+or_false true = refl
+or_false false = refl
+
+pub or_true : (b : Bool) → (b || true) ≡ true
+or_true true = refl
+or_true false = refl
+
+-- what a refused call moves: nothing
+pub moves_refused : (s new : State) (t : ℕ) (call : Call) (answer : Reply) → new.base ≡ s.base → new.history ≡ s.history → new.live ≡ s.live → new.is_dead ≡ (s.is_dead || is_media answer)
+    → is_refusal answer ≡ true → is_committed answer ≡ false → Moves s t call answer new
+moves_refused s new t call answer base history live dead refusal plain = record {
+  base = base;
+  history = history ∙ sym (ap (λ (b : Bool). if b then history_after s t (reply.Committed 0) else s.history) plain);
+  dead = dead;
+  own = λ granted. absurd (false≢true (sym granted ∙ refusal));
+  others = λ other ne. ap (λ (f : ℕ → Option Granted). f other) live;
+  refused = λ _ _. live;
+}
+
+pub media_none : (r : Reply) → is_refusal r ≡ false → is_media r ≡ false
+media_none reply.Media e = absurd (cc)
+media_none _ e = refl
+
+live_with_is : (calls : Granted) (call : Call) (answer : Reply) → IsOfTable call → live_with calls call answer ≡ Some (calls ++ (call, answer) ∷ [])
+live_with_is calls (Get key) answer of = refl
+live_with_is calls (Put key value) answer of = refl
+live_with_is calls (Del key) answer of = refl
+live_with_is calls (Scan low high) answer of = refl
+live_with_is calls Save answer of = refl
+live_with_is calls (Back n) answer of = refl
+live_with_is calls Commit answer of = absurd of
+live_with_is calls Abort answer of = absurd of
+live_with_is calls Begin answer of = absurd of
+
+-- what a granted call moves
+pub moves_granted : (s new : State) (t : ℕ) (calls : Granted) (call : Call) (answer : Reply) → new.base ≡ s.base → new.history ≡ s.history → new.is_dead ≡ s.is_dead
+    → s.live t ≡ Some calls → new.live ≡ update nat_eq s.live t (Some (calls ++ (call, answer) ∷ [])) → IsOfTable call → is_refusal answer ≡ false → is_committed answer ≡ false → Moves s t call answer new
+moves_granted s new t calls call answer base history dead is live of granted plain = record {
+  base = base;
+  history = history ∙ sym (ap (λ (b : Bool). if b then history_after s t (reply.Committed 0) else s.history) plain);
+  dead = dead ∙ sym (ap (λ (b : Bool). s.is_dead || b) (media_none answer granted) ∙ or_false s.is_dead);
+  own = λ _. ap (λ (f : ℕ → Option Granted). f t) live ∙ update_here s.live t (Some (calls ++ (call, answer) ∷ []))
+      ∙ sym (ap (λ (o : Option Granted). live_with (unwrap_or o []) call answer) is ∙ live_with_is calls call answer of);
+  others = λ other ne. ap (λ (f : ℕ → Option Granted). f other) live ∙ update_apart s.live t (Some (calls ++ (call, answer) ∷ [])) other ne;
+  refused = λ refusal _. absurd (false≢true (sym granted ∙ refusal));
+}
+
+-- a step of a core that is not dead, of a caller with these calls
+pub step_of : (limits : Limits) (calls : Option Granted) (s new : State) (t : ℕ) (call : Call) (answer : Reply) → s.is_dead ≡ false → s.live t ≡ calls → StepAt limits calls s t call answer new → Step limits s t call answer new
+step_of limits calls s new t call answer alive is at =
+    subst (λ (b : Bool). StepIf limits b s t call answer new) (sym alive) (subst (λ (o : Option Granted). StepAt limits o s t call answer new) (sym is) at)
+
+-- the caller sees the saves that its call needs
+abbrev pub SavesAt : State → ℕ → Call → Type 0
+SavesAt s t Save = length (view_of s t).saves < most_saves
+SavesAt s t (Back n) = IsTrue (has_save (view_of s t).saves n)
+SavesAt s t _ = Unit {0}
+
+pub asks_at : (limits : Limits) (calls : Granted) (s new : State) (t : ℕ) (call : Call) (answer : Reply) → IsOfTable call → SavesAt s t call → Asks limits calls s t call answer new → StepAt limits (Some calls) s t call answer new
+asks_at limits calls s new t (Get key) answer of saves asks = asks
+asks_at limits calls s new t (Put key value) answer of saves asks = asks
+asks_at limits calls s new t (Del key) answer of saves asks = asks
+asks_at limits calls s new t (Scan low high) answer of saves asks = asks
+asks_at limits calls s new t Save answer of saves asks = inr (saves, asks)
+asks_at limits calls s new t (Back n) answer of saves asks = inr (saves, asks)
+asks_at limits calls s new t Commit answer of saves asks = absurd of
+asks_at limits calls s new t Abort answer of saves asks = absurd of
+asks_at limits calls s new t Begin answer of saves asks = absurd of
+
+module _ (tells : Bool) (Opens : Shape → List ℕ → List ℕ → Type 0) (index : below.Index) where
+  pub steps_of : (p q : PagesView) (s new : State) (t : ℕ) (call : Call) (answer : Reply) → q.store.shape ≡ p.store.shape → Moves s t call answer new
+      → (IsTrue (is_media answer) → Rose p.store.faults q.store.faults) → (IsFalse (is_media answer) → q.store.faults ≡ p.store.faults) → (IsTrue tells → Step (limits_of p.store.shape) s t call answer new)
+      → (IsTrue tells → LeavesOnly (HasPrefixOf (OpensWith (Opens q.store.shape) index) new (length s.history)) p.store q.store)
+      → (IsTrue tells → IsSafe (core_over Opens index q.store new) q.store.moment (length new.history)) → Steps tells t call (core_over Opens index p.store s) (core_over Opens index q.store new) answer
+  steps_of p q s new t call answer shape moves failed kept step time now = record {
+    limits = ap limits_of shape;
+    opens = λ image table opens. subst (λ (h : Shape). OpensWith (Opens h) index image table) (sym shape) opens;
+    moves = moves;
+    failed = failed;
+    kept = kept;
+    step = step;
+    time = time;
+    now = now;
+  }
+
+  -- a refusal that leaves all as it was
+  pub steps_same : (p : PagesView) (s new : State) (t : ℕ) (call : Call) (answer : Reply) → new ≡ s → (IsTrue tells → IsSafe (core_over Opens index p.store s) p.store.moment (length s.history))
+      → is_refusal answer ≡ true → is_media answer ≡ false → is_committed answer ≡ false → (IsTrue tells → Step (limits_of p.store.shape) s t call answer s)
+      → Steps tells t call (core_over Opens index p.store s) (core_over Opens index p.store new) answer
+  steps_same p s new t call answer same safe refusal no_media plain step =
+      subst (λ (x : State). Steps tells t call (core_over Opens index p.store s) (core_over Opens index p.store x) answer) (sym same)
+      (steps_of p p s s t call answer refl (moves_refused s s t call answer refl refl refl (sym (ap (λ (b : Bool). s.is_dead || b) no_media ∙ or_false s.is_dead)) refusal plain)
+      (λ failed. absurd (false≢true (sym no_media ∙ failed))) (λ _. refl) step (λ told. stays p.store.moment p.store.left_since _) safe)
+
+  -- what a loss of power leaves within a call that leaves the table
+  pub time_same : (p q : PagesView) (s new : State) (A B : Table) → q.store.shape ≡ p.store.shape → A ≡ records_of s → B ≡ records_of s → new.base ≡ s.base → new.history ≡ s.history
+      → LeavesOnly (λ image. OpensWith (Opens p.store.shape) index image A ⊎ OpensWith (Opens p.store.shape) index image B) p.store q.store
+      → LeavesOnly (HasPrefixOf (OpensWith (Opens q.store.shape) index) new (length s.history)) p.store q.store
+  time_same p q s new A B shape a b base history time = weaker go time
+    where
+      opened : (image : List ℕ) (C : Table) → C ≡ records_of s → OpensWith (Opens p.store.shape) index image C → HasPrefixOf (OpensWith (Opens q.store.shape) index) new (length s.history) image
+      opened image C c o =
+          let here = subst (λ (h : Shape). OpensWith (Opens h) index image C) (sym shape) o in
+          let shows = subst (λ (table : Table). OpensWith (Opens q.store.shape) index image table) (c ∙ (λ i. records (sym base i) (sym history i))) here in
+          subst (λ (hs : List Done). HasPrefix (OpensWith (Opens q.store.shape) index) new.base (with_doubt new.history new.doubt) (length hs) image) history
+          (prefix_all (OpensWith (Opens q.store.shape) index) image new.base new.history new.doubt shows)
+
+      go : (image : List ℕ) → OpensWith (Opens p.store.shape) index image A ⊎ OpensWith (Opens p.store.shape) index image B → HasPrefixOf (OpensWith (Opens q.store.shape) index) new (length s.history) image
+      go image (inl o) = opened image A a o
+      go image (inr o) = opened image B b o
+
+-- the number of saves is that of counts
+pub counts_is : (index : below.Index) (p : PagesView) (t : ℕ) → length ((state_of index p).saved t) ≡ length (p.counts t)
+counts_is index p t = length-map _ shown.writes_of ∙ length-map (p.counts t) _
+
+module _ (index : below.Index) (p : PagesView) (s : State) (shows : ShowsPages index p s) (mirrors : Mirrors (state_of index p) s)
+    (held : (t g : ℕ) → held_on p t g ≡ length (filter (is_write_on p.store.shape (index.pairs p.store.state.bytes) g) ((state_of index p).writes t))) (t : ℕ) (right : IsRight (records_of s) (calls_of s t)) where
+  -- the saves that a call finds are those of its caller
+  pub saves_at : (call : Call) → HasSaves (length ((state_of index p).saved t)) call → SavesAt s t call
+  saves_at Save saves = subst (λ (n : ℕ). n < 32) (saves_are (state_of index p) s mirrors t right) saves
+  saves_at (Back n) saves = has_saves (state_of index p) s mirrors t right n ∙ has_save_is (state_of index p) t ((state_of index p).saved t) n saves.0 saves.1
+  saves_at (Get key) saves = tt
+  saves_at (Put key value) saves = tt
+  saves_at (Del key) saves = tt
+  saves_at (Scan low high) saves = tt
+  saves_at Commit saves = tt
+  saves_at Abort saves = tt
+  saves_at Begin saves = tt
+
+  pub returns_at : (calls : Granted) → calls_of s t ≡ calls → (call : Call) → HasSaves (length ((state_of index p).saved t)) call → Returns (log_of calls).saved call
+  returns_at calls at (Back n) saves =
+      subst (λ (ls : List (List Write)). has_save ls n ≡ true) (mirrors.saved t ∙ ap (λ (cs : Granted). (log_of cs).saved) at) (has_save_is (state_of index p) t ((state_of index p).saved t) n saves.0 saves.1)
+  returns_at calls at (Get key) saves = tt
+  returns_at calls at (Put key value) saves = tt
+  returns_at calls at (Del key) saves = tt
+  returns_at calls at (Scan low high) saves = tt
+  returns_at calls at Save saves = tt
+  returns_at calls at Commit saves = tt
+  returns_at calls at Abort saves = tt
+  returns_at calls at Begin saves = tt
+
+  -- a call that writes finds an entry
+  pub enters_at : (call : Call) (answer : Reply) (ix : Index) → IsOfTable call → table_causes.Fits index p (command_of t call) → Replies (state_of index p) t call answer
+      → Indexes (limits_of p.store.shape) call answer s.index ix → Enters (limits_of p.store.shape) s t ix call answer
+  enters_at (Put key value) answer ix of fits replies indexes =
+      let after = slot_after (limits_of p.store.shape) key (s.index.slot_of key) s.index ix refl (subst (λ (r : Reply). IndexesAt (limits_of p.store.shape) key (s.index.slot_of key) r s.index ix) replies indexes) in
+      (after.0, after.1, subst (λ (slot : ℕ). HasEntry (limits_of p.store.shape) s t key slot) (sym after.2) (fits_is index p s shows.indexed mirrors held t right (Put key value) of fits))
+  enters_at (Del key) answer ix of fits replies indexes = subst (Enters (limits_of p.store.shape) s t ix (Del key)) (sym replies) (go (get (seen_by (state_of index p) t) key) refl)
+    where
+      go : (o : Option (List ℕ)) → get (seen_by (state_of index p) t) key ≡ o → Enters (limits_of p.store.shape) s t ix (Del key) (removed o)
+      go None none = tt
+      go (Some value) some =
+          let at = fits (ap is_some some) in
+          (at.0, ap (λ (x : Index). x.slot_of key) (indexes ∙ shows.indexed) ∙ at.1, has_entry index p s shows.indexed mirrors held t key at.0 at.2)
+  enters_at (Get key) answer ix of fits replies indexes = tt
+  enters_at (Scan low high) answer ix of fits replies indexes = tt
+  enters_at Save answer ix of fits replies indexes = tt
+  enters_at (Back n) answer ix of fits replies indexes = tt
+  enters_at Commit answer ix of fits replies indexes = tt
+  enters_at Abort answer ix of fits replies indexes = tt
+  enters_at Begin answer ix of fits replies indexes = tt
