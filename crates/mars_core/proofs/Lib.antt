@@ -8,3 +8,4 @@ pub mod Prefixes
 pub mod Stepping
 pub mod Answering
 pub mod Staying
+pub mod Finishing

@@ -25,7 +25,7 @@ use Rattle.core_face.specs.State.{State, calls_of, records_of, view_of}
 use Rattle.mars_core.specs.Works.{command_of, IsOfTable, Replies, HasSaves}
 use Rattle.mars_core.specs.Kept.{Mirrors}
 
-with_one_here : {A : Type 0} (f : ℕ → A) (t : ℕ) (x : A) → with_one f t x t ≡ x
+pub with_one_here : {A : Type 0} (f : ℕ → A) (t : ℕ) (x : A) → with_one f t x t ≡ x
 with_one_here f t x = ap (λ (b : Bool). cond b x (f t)) (eq-eqb t t refl)
 
 with_one_apart : {A : Type 0} (f : ℕ → A) (t : ℕ) (x : A) (u : ℕ) → u ≢ t → with_one f t x u ≡ f u

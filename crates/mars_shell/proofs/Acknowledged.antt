@@ -2,133 +2,181 @@
 use Rattle.std.proofs.Common.{Bool, ◌≡◌, ℕ, ◌+◌, ◌<◌, ◌≤◌, ◌^◌, List, [], ◌∷◌, ◌++◌, length, get_or, Option, Some, None, inl, inr, refl, sym, ap, subst, ◌∙◌, arith}
 use Rattle.std.specs.Prelude.{Contains, codes}
 use Rattle.std.specs.Fmt.{decimal}
+use Rattle.std.specs.Str.Parse.{AllDigits}
 use Rattle.std.proofs.lemmas.Bool.{cases_lt}
-use Rattle.std.proofs.lemmas.Fmt.{decimal_injective, decimal_nonempty, decimal_digit}
-use Rattle.std.proofs.lemmas.List.{append_cancel_left, append_cancel_right, append_assoc, get_or_append_left, length-append}
+use Rattle.std.proofs.lemmas.Fmt.{decimal_injective, decimal_nonempty, digits_decimal}
+use Rattle.std.proofs.lemmas.List.{append_cancel_left, append_cancel_right, append_assoc, length-append, append-nil}
 use Rattle.std.proofs.lemmas.List.Elements.{Contains-append_cases, Contains-push_cases}
-use Rattle.history.specs.Table.{found}
+use Rattle.std.proofs.lemmas.Str.Parse.{numerals_by_value, tells_digits, digit_at}
 use Rattle.history.specs.declared.call.Call.{Call}
-use Rattle.history.specs.declared.call.Call.TheVariants.{Begin, Get, Put, Commit}
+use Rattle.history.specs.declared.call.Call.TheVariants.{Begin, Get, Put, Del, Scan, Save, Back, Commit, Abort}
 use Rattle.history.specs.declared.call.Reply.{Reply}
-use Rattle.history.specs.declared.call.Reply.TheVariants.{Fine, Found, Absent, Committed, NoTransaction, Already, LogFull, Media}
+use Rattle.history.specs.declared.call.Reply.TheVariants.{Fine, Found, Absent, Listed, Saved, Committed, NoTransaction, Already, NoSave, SavesFull, Busy, LogFull, SlotsFull, PagesFull, Media, Dead, NoMemory, Damaged}
+use Rattle.history.specs.Table.{Work, found, removed, Answers}
+use Rattle.core_face.specs.State.{State, done_by}
+use Rattle.core_face.proofs.Continuing.{grows_longer}
+use Rattle.core_face.proofs.Fates.{Fate, refused, failed, began, granted, committed, doubted, aborted, step_fate}
 use Rattle.script_text.specs.Line.{Says}
-use Rattle.script_text.specs.Replies.{reply_text, reply_line, bad_line}
+use Rattle.script_text.specs.Replies.{reply_text, row_lines, reply_line, bad_line}
 use Rattle.script_text.specs.declared.line.Line.{Line}
 use Rattle.script_text.specs.declared.line.Line.TheVariants.{Nothing, Told, Bad}
+use Rattle.script_text.proofs.Words.{first_space}
+use Rattle.script_text.proofs.Numbers.{decimal_is_word}
 use Rattle.script_run.specs.Transcript.{Ends, Answered}
 use Rattle.script_run.specs.declared.ended.Ended.{Ended}
-use Rattle.script_run.specs.declared.ended.Ended.TheVariants.{All, WriteFault, MediaFault, NoMemory}
-use Rattle.mars_shell.specs.Lines.{Gives, call_script}
-use Rattle.mars_shell.specs.Records.{slots_of}
-use Rattle.mars_shell.specs.Session.{State, StepAt, done_with}
-use Rattle.mars_shell.specs.PrefixLaws.{grows_longer}
-use Rattle.mars_shell.proofs.AnsweredLemmas.{step_grows}
-use Rattle.mars_shell.proofs.Calling.{breaks_history}
+use Rattle.script_run.specs.declared.ended.Ended.TheVariants.{All, WriteFault, MediaFault, NoMemory as Short}
+use Rattle.mars_shell.specs.Lines.{Turns, Takes, Gives, LineStops, call_script}
+use Rattle.mars_shell.proofs.Answering.{takes_grows}
+
+first : List ℕ → ℕ
+first text = get_or text 0 0
 
 -- no reply but that of a commit has its text
-same_reply : (reply : Reply) (n : ℕ) → n < 2 ^ 64 → reply_text reply ++ 10 ∷ [] ≡ reply_text (Committed n) ++ 10 ∷ [] → (k : ℕ) × (reply ≡ Committed k) × (n ≤ k)
-same_reply Fine n fits is = absurd (let h = ap (λ (l : List ℕ). get_or l 0 0) is in omega (arith, h))
-same_reply (Found value) n fits is = absurd (let h = ap (λ (l : List ℕ). get_or l 0 0) is in omega (arith, h))
-same_reply Absent n fits is = absurd (let h = ap (λ (l : List ℕ). get_or l 0 0) is in omega (arith, h))
-same_reply (Committed k) n fits is = (
+same_reply : (reply : Reply) (caller n : ℕ) → n < 2 ^ 64 → (reply_text reply ++ 10 ∷ []) ++ row_lines caller reply ≡ codes "committed " ++ (decimal n ++ 10 ∷ []) → (k : ℕ) × (reply ≡ Committed k) × (n ≤ k)
+unfolding first
+same_reply (Committed k) caller n fits is = (
   k,
   refl,
   elim (cases_lt k (2 ^ 64)) [
     | inl small ↦ (
-        let texts : decimal k ≡ decimal n = append_cancel_left (codes "committed ") _ _ (append_cancel_right (codes "committed " ++ decimal k) (codes "committed " ++ decimal n) (10 ∷ []) is) in
-        let same : k ≡ n = decimal_injective k n small fits texts in omega (arith, same))
+        let texts : decimal k ++ 10 ∷ [] ≡ decimal n ++ 10 ∷ [] = append_cancel_left (codes "committed ") (decimal k ++ 10 ∷ []) (decimal n ++ 10 ∷ [])
+        (sym (append_assoc (codes "committed ") (decimal k) (10 ∷ [])) ∙ sym (append-nil ((codes "committed " ++ decimal k) ++ 10 ∷ [])) ∙ is) in
+        let same : k ≡ n = decimal_injective k n small fits (without_last (decimal k) (decimal n) texts) in omega (arith, same))
     | inr large ↦ omega (arith, large, fits)
   ],
 )
-same_reply NoTransaction n fits is = absurd (let h = ap (λ (l : List ℕ). get_or l 0 0) is in omega (arith, h))
-same_reply Already n fits is = absurd (let h = ap (λ (l : List ℕ). get_or l 0 0) is in omega (arith, h))
-same_reply (LogFull g h m) n fits is = absurd (let e = ap (λ (l : List ℕ). get_or l 0 0) is in omega (arith, e))
-same_reply Media n fits is = absurd (let h = ap (λ (l : List ℕ). get_or l 0 0) is in omega (arith, h))
+  where
+    without_last : (a b : List ℕ) → a ++ 10 ∷ [] ≡ b ++ 10 ∷ [] → a ≡ b
+    without_last a b is = append_cancel_right a b (10 ∷ []) is
+same_reply Fine caller n fits is = absurd (let h = ap first is in omega (arith, h))
+same_reply (Found value) caller n fits is = absurd (let h = ap first is in omega (arith, h))
+same_reply Absent caller n fits is = absurd (let h = ap first is in omega (arith, h))
+same_reply (Listed rows) caller n fits is = absurd (let h = ap first is in omega (arith, h))
+same_reply (Saved m) caller n fits is = absurd (let h = ap first is in omega (arith, h))
+same_reply NoTransaction caller n fits is = absurd (let h = ap first is in omega (arith, h))
+same_reply Already caller n fits is = absurd (let h = ap first is in omega (arith, h))
+same_reply (NoSave m) caller n fits is = absurd (let h = ap first is in omega (arith, h))
+same_reply SavesFull caller n fits is = absurd (let h = ap first is in omega (arith, h))
+same_reply (Busy holder) caller n fits is = absurd (let h = ap first is in omega (arith, h))
+same_reply (LogFull g h m) caller n fits is = absurd (let e = ap first is in omega (arith, e))
+same_reply (SlotsFull m) caller n fits is = absurd (let h = ap first is in omega (arith, h))
+same_reply (PagesFull m) caller n fits is = absurd (let h = ap first is in omega (arith, h))
+same_reply Media caller n fits is = absurd (let h = ap first is in omega (arith, h))
+same_reply Dead caller n fits is = absurd (let h = ap first is in omega (arith, h))
+same_reply NoMemory caller n fits is = absurd (let h = ap first is in omega (arith, h))
+same_reply (Damaged page) caller n fits is = absurd (let h = ap first is in omega (arith, h))
 
-same_line : (reply : Reply) (n : ℕ) → n < 2 ^ 64 → reply_line 0 (Committed n) ≡ reply_line 0 reply → (k : ℕ) × (reply ≡ Committed k) × (n ≤ k)
+-- a caller's line in two pieces, at its first space
+line_is : (caller : ℕ) (reply : Reply) → reply_line caller reply ≡ decimal caller ++ 32 ∷ ((reply_text reply ++ 10 ∷ []) ++ row_lines caller reply)
 unfolding reply_line
-same_line reply n fits is =
-    let behind : 32 ∷ reply_text reply ++ 10 ∷ [] ≡ 32 ∷ reply_text (Committed n) ++ 10 ∷ [] =
-    append_cancel_left (decimal 0) _ _ (sym (append_assoc (decimal 0) (32 ∷ reply_text reply) (10 ∷ [])) ∙ sym is ∙ append_assoc (decimal 0) (32 ∷ reply_text (Committed n)) (10 ∷ [])) in
-    same_reply reply n fits (append_cancel_left (32 ∷ []) _ _ behind)
+line_is caller reply =
+    ap (λ (l : List ℕ). l ++ row_lines caller reply) (append_assoc (decimal caller) (32 ∷ reply_text reply) (10 ∷ [])) ∙ append_assoc (decimal caller) (32 ∷ reply_text reply ++ 10 ∷ []) (row_lines caller reply)
+
+told_is : (caller n : ℕ) → reply_line caller (Committed n) ≡ decimal caller ++ 32 ∷ (codes "committed " ++ (decimal n ++ 10 ∷ []))
+told_is caller n =
+    line_is caller (Committed n) ∙ ap (λ (rest : List ℕ). decimal caller ++ 32 ∷ rest) (append-nil ((codes "committed " ++ decimal n) ++ 10 ∷ []) ∙ append_assoc (codes "committed ") (decimal n) (10 ∷ []))
+
+same_line : (caller other : ℕ) (reply : Reply) (n : ℕ) → caller < 2 ^ 64 → other < 2 ^ 64 → n < 2 ^ 64 → reply_line caller (Committed n) ≡ reply_line other reply → (k : ℕ) × (reply ≡ Committed k) × (n ≤ k)
+same_line caller other reply n few less fits is =
+    let both = first_space (decimal other) (decimal caller) ((reply_text reply ++ 10 ∷ []) ++ row_lines other reply) (codes "committed " ++ (decimal n ++ 10 ∷ [])) (decimal_is_word other less) (decimal_is_word caller few)
+    (sym (line_is other reply) ∙ sym is ∙ told_is caller n) in
+    same_reply reply other n fits both.1
 
 -- a reply's line has bytes, and begins with a digit
-not_empty : (n : ℕ) → reply_line 0 (Committed n) ≡ [] → ⊥
-unfolding reply_line
-not_empty n is = omega (arith, decimal_nonempty 0 (omega arith), simp length-append at (ap length is))
+not_empty : (caller n : ℕ) → caller < 2 ^ 64 → reply_line caller (Committed n) ≡ [] → ⊥
+not_empty caller n few is = let long = ap length (sym (told_is caller n) ∙ is) in omega (arith, decimal_nonempty caller few, simp length-append at long)
 
-not_bad : (n m : ℕ) → reply_line 0 (Committed n) ≡ bad_line m → ⊥
-unfolding reply_line bad_line
-not_bad n m is =
-    let some : 0 < length (decimal 0) = decimal_nonempty 0 (omega arith) in
-    let head : get_or (decimal 0 ++ (32 ∷ reply_text (Committed n) ++ 10 ∷ [])) 0 0 ≡ 98 = ap (λ (l : List ℕ). get_or l 0 0) (sym (append_assoc (decimal 0) (32 ∷ reply_text (Committed n)) (10 ∷ [])) ∙ is) in
-    let digit = get_or_append_left (decimal 0) (32 ∷ reply_text (Committed n) ++ 10 ∷ []) 0 0 some in
-    let zero = ap (λ (l : List ℕ). get_or l 0 0) (decimal_digit 0 (omega arith)) in
-    omega (arith, head, digit, zero)
+not_bad : (caller n m : ℕ) → caller < 2 ^ 64 → reply_line caller (Committed n) ≡ bad_line m → ⊥
+unfolding bad_line first
+not_bad caller n m few is =
+    let both = first_space (decimal caller) (codes "bad") (codes "committed " ++ (decimal n ++ 10 ∷ [])) (codes "line " ++ (decimal m ++ 10 ∷ [])) (decimal_is_word caller few)
+    (λ e. omega (arith, e), (λ e. omega (arith, e), (λ e. omega (arith, e), tt)))
+    (sym (told_is caller n) ∙ is ∙ append_assoc (codes "bad line ") (decimal m) (10 ∷ [])) in
+    let all : AllDigits 10 (decimal caller) = digits_decimal (numerals_by_value (AllDigits 10) tells_digits) caller few in
+    let digit = digit_at (decimal caller) 0 all (decimal_nonempty caller few) in
+    omega (arith, digit.1, ap first both.0)
 
--- what a call that is answered so has committed
+-- a table answers none of its calls as a commit
 found_is_no_commit : (o : Option (List ℕ)) (k : ℕ) → Committed k ≡ found o → ⊥
 found_is_no_commit None k is = cc
 found_is_no_commit (Some value) k is = cc
 
-step_committed : (live : Option (List (Call × Reply))) (old : State) (call : Call) (k : ℕ) (new : State) → StepAt live old call (Committed k) new → k ≤ length new.history
-step_committed None old Begin k new step = absurd (let e = step.0 in cc)
-step_committed None old (Get key) k new step = absurd (let e = step.0 in cc)
-step_committed None old (Put key value) k new step = absurd (let e = step.0 in cc)
-step_committed None old Commit k new step = absurd (let e = step.0 in cc)
-step_committed (Some calls) old Begin k new step = absurd (let e = step.0 in cc)
-step_committed (Some calls) old (Get key) k new step = absurd (found_is_no_commit _ k step.0)
-step_committed (Some calls) old (Put key value) k new (inl step) = absurd (let e = step.1.0 in cc)
-step_committed (Some calls) old (Put key value) k new (inr step) = absurd (let e = step.1 in cc)
-step_committed (Some calls) old Commit k new step =
-    let count : k ≡ length old.history + 1 = let e = step.0 in cc in
-    let history : new.history ≡ old.history ++ done_with old calls ∷ [] = ap (λ (s : State). s.history) step.1 in
-    omega (arith, count, ap length history, length-append old.history (done_with old calls ∷ []))
+removed_is_no_commit : (o : Option (List ℕ)) (k : ℕ) → Committed k ≡ removed o → ⊥
+removed_is_no_commit None k is = cc
+removed_is_no_commit (Some value) k is = cc
 
-gives_longer : (old : State) (n : ℕ) (line : Line) (text : List ℕ) (new : State) → Gives old n line text new → length old.history ≤ length new.history
-gives_longer old n Nothing text new gives = omega (arith, ap (λ (s : State). length s.history) gives.1)
-gives_longer old n Bad text new gives = omega (arith, ap (λ (s : State). length s.history) gives.1)
-gives_longer old n (Told caller call) text new gives = grows_longer old.history new.history (step_grows old.live old call gives.0 new gives.1)
+table_commits_nothing : (work : Work) (call : Call) (k : ℕ) → Answers work call (Committed k) → ⊥
+table_commits_nothing work (Get key) k is = found_is_no_commit _ k is
+table_commits_nothing work (Put key value) k is = cc
+table_commits_nothing work (Del key) k is = removed_is_no_commit _ k is
+table_commits_nothing work (Scan low high) k is = cc
+table_commits_nothing work Save k is = cc
+table_commits_nothing work (Back n) k is = let e = is.1 in cc
+table_commits_nothing work Begin k is = is
+table_commits_nothing work Commit k is = is
+table_commits_nothing work Abort k is = is
 
-ends_longer : (old : State) (n : ℕ) (bytes : List ℕ) (ended : Ended) (cut : Bool) (rest : List ℕ) (new : State) → Ends call_script old n bytes ended cut rest new → length old.history ≤ length new.history
+-- a commit is told with the length of the history behind it
+committed_long : (old : State) (caller : ℕ) (call : Call) (k : ℕ) (new : State) → Fate old caller call (Committed k) new → k ≡ length new.history
+committed_long old caller call k new (refused is sure index e) = absurd (cc)
+committed_long old caller call k new (failed is index e) = absurd (cc)
+committed_long old caller call k new (began is re e) = absurd (cc)
+committed_long old caller call k new (granted calls live free answers index e) = absurd (table_commits_nothing _ call k answers)
+committed_long old caller call k new (committed calls is re live e) =
+    let count : k ≡ length old.history + 1 = cc in
+    omega (arith, count, ap (λ (s : State). length s.history) e, length-append old.history (done_by old caller calls ∷ []))
+committed_long old caller call k new (doubted calls is re live index e) = absurd (cc)
+committed_long old caller call k new (aborted is re e) = absurd (cc)
+
+gives_longer : (old : Turns) (n : ℕ) (line : Line) (text : List ℕ) (new : Turns) → Gives old n line text new → length old.state.history ≤ length new.state.history
+gives_longer old n Nothing text new gives = omega (arith, ap (λ (s : Turns). length s.state.history) gives.1)
+gives_longer old n Bad text new gives = omega (arith, ap (λ (s : Turns). length s.state.history) gives.1)
+gives_longer old n (Told caller call) text new gives = grows_longer old.state.history new.state.history (takes_grows old caller call gives.0 new gives.2)
+
+gives_limits : (old : Turns) (n : ℕ) (line : Line) (text : List ℕ) (new : Turns) → Gives old n line text new → new.limits.callers ≡ old.limits.callers
+gives_limits old n Nothing text new gives = ap (λ (s : Turns). s.limits.callers) gives.1
+gives_limits old n Bad text new gives = ap (λ (s : Turns). s.limits.callers) gives.1
+gives_limits old n (Told caller call) text new gives = ap (λ limits. limits.callers) gives.2.0
+
+stops_longer : (old : Turns) (n : ℕ) (bytes : List ℕ) (new : Turns) → LineStops old n bytes new → length old.state.history ≤ length new.state.history
+stops_longer old n bytes new (inl short) = grows_longer old.state.history new.state.history (takes_grows old short.0 short.1.0 NoMemory new short.1.2)
+stops_longer old n bytes new (inr done) = gives_longer old n done.1.0 done.0 new done.1.2
+
+ends_longer : (old : Turns) (n : ℕ) (bytes : List ℕ) (ended : Ended) (cut : Bool) (rest : List ℕ) (new : Turns) → Ends call_script old n bytes ended cut rest new → length old.state.history ≤ length new.state.history
 ends_longer old n bytes WriteFault cut rest new ends = gives_longer old n ends.2.0 ends.1 new ends.2.2
-ends_longer old n bytes MediaFault cut rest new ends = omega (arith, ap length (breaks_history old.live old ends.1.0 new ends.1.2))
-ends_longer old n bytes NoMemory cut rest new ends = elim ends.2 [
-  | inl same ↦ omega (arith, ap (λ (s : State). length s.history) same)
-  | inr done ↦ gives_longer old n done.1.0 done.0 new done.1.2
-]
+ends_longer old n bytes MediaFault cut rest new ends = grows_longer old.state.history new.state.history (takes_grows old ends.0 ends.1.0 Media new ends.1.2)
+ends_longer old n bytes Short cut rest new ends = stops_longer old n bytes new ends.2
 ends_longer old n bytes All cut rest new ends = absurd ends
 
-answered_longer : (old : State) (n : ℕ) (lines : List (List ℕ)) (ended : Ended) (cut : Bool) (answers : List (List ℕ)) (rest : List ℕ) (new : State)
-    → Answered call_script old n lines ended cut answers rest new → length old.history ≤ length new.history
-answered_longer old n [] ended cut [] rest new is = omega (arith, ap (λ (s : State). length s.history) is.3)
+answered_longer : (old : Turns) (n : ℕ) (lines : List (List ℕ)) (ended : Ended) (cut : Bool) (answers : List (List ℕ)) (rest : List ℕ) (new : Turns)
+    → Answered call_script old n lines ended cut answers rest new → length old.state.history ≤ length new.state.history
+answered_longer old n [] ended cut [] rest new is = omega (arith, ap (λ (s : Turns). length s.state.history) is.3)
 answered_longer old n [] ended cut (answer ∷ answers) rest new is = absurd is
 answered_longer old n (bytes ∷ lines) ended cut [] rest new ends = ends_longer old n bytes ended cut rest new ends
 answered_longer old n (bytes ∷ lines) ended cut (answer ∷ answers) rest new more =
     omega (arith, gives_longer old n more.1.0 answer more.0 more.1.2, answered_longer more.0 (n + 1) lines ended cut answers rest new more.2)
 
-gives_committed : (old : State) (n : ℕ) (bytes : List ℕ) (line : Line) (m : ℕ) (new : State) → m < 2 ^ 64 → Says 1 (slots_of old.shape) bytes line
-    → Gives old n line (reply_line 0 (Committed m)) new → m ≤ length new.history
-gives_committed old n bytes Nothing m new fits says gives = absurd (not_empty m gives.0)
-gives_committed old n bytes Bad m new fits says gives = absurd (not_bad m n gives.0)
-gives_committed old n bytes (Told caller call) m new fits says gives =
-    let first : caller ≡ 0 = omega (arith, says.0) in
-    let same = same_line gives.0 m fits (gives.2 ∙ ap (λ (c : ℕ). reply_line c gives.0) first) in
-    let last = step_committed old.live old call same.0 new (subst (λ (r : Reply). StepAt old.live old call r new) same.1 gives.1) in
-    omega (arith, last, same.2)
+gives_committed : (old : Turns) (n : ℕ) (bytes : List ℕ) (line : Line) (caller m : ℕ) (new : Turns) → old.limits.callers ≤ 2 ^ 64 → caller < 2 ^ 64 → m < 2 ^ 64 → Says old.limits.callers bytes line
+    → Gives old n line (reply_line caller (Committed m)) new → m ≤ length new.state.history
+gives_committed old n bytes Nothing caller m new most few fits says gives = absurd (not_empty caller m few gives.0)
+gives_committed old n bytes Bad caller m new most few fits says gives = absurd (not_bad caller m n few gives.0)
+gives_committed old n bytes (Told other call) caller m new most few fits says gives =
+    let same = same_line caller other gives.0 m few (omega (arith, most, says.0)) fits gives.3 in
+    let takes : Takes old other call (Committed same.0) new = subst (λ (r : Reply). Takes old other call r new) same.1 gives.2 in
+    omega (arith, same.2, committed_long old.state other call same.0 new.state (step_fate old.limits old.state other new.state call (Committed same.0) takes.1))
 
-pub committed_kept : (old : State) (n : ℕ) (lines : List (List ℕ)) (ended : Ended) (cut : Bool) (answers : List (List ℕ)) (rest : List ℕ) (new : State)
-    → Answered call_script old n lines ended cut answers rest new → (m : ℕ) → m < 2 ^ 64 → Contains answers (reply_line 0 (Committed m)) → m ≤ length new.history
-committed_kept old n lines ended cut [] rest new answered m fits has = absurd (omega (arith, has.1))
-committed_kept old n [] ended cut (answer ∷ answers) rest new answered m fits has = absurd answered
-committed_kept old n (bytes ∷ lines) ended cut (answer ∷ answers) rest new more m fits has = elim (Contains-append_cases (answer ∷ []) answers (reply_line 0 (Committed m)) has) [
-  | inl first ↦ elim (Contains-push_cases [] answer (reply_line 0 (Committed m)) first) [
+pub committed_kept : (old : Turns) (n : ℕ) (lines : List (List ℕ)) (ended : Ended) (cut : Bool) (answers : List (List ℕ)) (rest : List ℕ) (new : Turns) → old.limits.callers ≤ 2 ^ 64
+    → Answered call_script old n lines ended cut answers rest new → (caller m : ℕ) → caller < 2 ^ 64 → m < 2 ^ 64 → Contains answers (reply_line caller (Committed m)) → m ≤ length new.state.history
+committed_kept old n lines ended cut [] rest new most answered caller m few fits has = absurd (omega (arith, has.1))
+committed_kept old n [] ended cut (answer ∷ answers) rest new most answered caller m few fits has = absurd answered
+committed_kept old n (bytes ∷ lines) ended cut (answer ∷ answers) rest new most more caller m few fits has = elim (Contains-append_cases (answer ∷ []) answers (reply_line caller (Committed m)) has) [
+  | inl first ↦ elim (Contains-push_cases [] answer (reply_line caller (Committed m)) first) [
     | inl none ↦ absurd (omega (arith, none.1))
     | inr same ↦ omega (
       arith,
-      gives_committed old n bytes more.1.0 m more.0 fits more.1.1 (subst (λ (text : List ℕ). Gives old n more.1.0 text more.0) same more.1.2),
+      gives_committed old n bytes more.1.0 caller m more.0 most few fits more.1.1 (subst (λ (text : List ℕ). Gives old n more.1.0 text more.0) same more.1.2),
       answered_longer more.0 (n + 1) lines ended cut answers rest new more.2,
     )
   ]
-  | inr later ↦ committed_kept more.0 (n + 1) lines ended cut answers rest new more.2 m fits later
+  | inr later ↦ committed_kept more.0 (n + 1) lines ended cut answers rest new (omega (arith, most, gives_limits old n more.1.0 answer more.0 more.1.2)) more.2 caller m few fits later
 ]

@@ -1,6 +1,6 @@
 -- What can be done is done, or memory was short.
 use Rattle.array_image.specs.Decided.{settled_data}
-use Rattle.std.proofs.Common.{◌≡◌, ℕ, ◌≤◌, ◌⊎◌, inl, inr, List, length, Bool, refl, ap, subst, ◌∙◌, arith}
+use Rattle.std.proofs.Common.{◌≡◌, ℕ, ◌≤◌, ◌⊎◌, inl, inr, List, [], length, Bool, refl, ap, subst, ◌∙◌, arith}
 use Rattle.counted.specs.Causes.{Rose}
 use Rattle.pcm_media.specs.View.{View}
 use Rattle.array_shape.specs.declared.shape.Shape.{Shape}
@@ -11,16 +11,15 @@ use Rattle.row_bytes.specs.Header.{SaysShape, IsBadIn}
 use Rattle.eaw_device.specs.Opens.{header_of, IsArray, HasBadRow}
 use Rattle.command_words.specs.Asked.{AsksFor}
 use Rattle.command_words.specs.declared.words.Words.{Words}
-use Rattle.history.specs.Table.{Table}
-use Rattle.std.specs.FinMap.{get}
+use Rattle.key_list.specs.Index.{chain}
+use Rattle.index_pages.proofs.FailingFacts.{damaged_chain_is_not_sound}
 use Rattle.script_run.specs.declared.ended.Ended.{Ended}
 use Rattle.script_io.specs.Input.{input_limit}
 use Rattle.mars_shell.specs.Asked.{WordsSay}
 use Rattle.mars_shell.specs.Input.{InputSays}
-use Rattle.mars_shell.specs.Records.{Holds, slots_of}
 use Rattle.mars_shell.specs.Outcome.{OutcomeOf}
-use Rattle.mars_shell.specs.Run.{IsDamaged}
-use Rattle.mars_shell.specs.Statuses.{Counts}
+use Rattle.mars_shell.specs.Run.{HoldsRecords, IsDamaged}
+use Rattle.mars_shell.specs.Statuses.{Counts, IsEarly}
 use Rattle.mars_shell.specs.declared.status.Status.{Status}
 use Rattle.mars_shell.specs.declared.status.Status.TheVariants.{Good, Usage, TooLong, ReadFault, WriteFault, MediaFault, NoMemory, Damaged, BadRow, NotMars, BadShape}
 use Rattle.row_bytes.proofs.OneShape.{one_shape}
@@ -54,15 +53,33 @@ no_bad_row media shape g t array row =
     let own = subst (λ (s : Shape). IsArray s media) same array in
     row.3.here.bad (own.good g t row.3.here.logger row.3.number row.3.here.is_decided)
 
-pub no_damage : (media : View) (shape : Shape) (page : ℕ) → IsArray shape media → (table : Table) → Holds (slots_of shape) table (settled_data shape media.content.bytes) → IsDamaged media page → ⊥
-no_damage media shape page array table holds is =
-    let same : shape ≡ is.0 = one_shape (header_of media.content.bytes) shape is.0 array.header is.1.header in
-    let own = subst (λ (s : Shape). Holds (slots_of s) table (settled_data s media.content.bytes)) same holds in
-    is.2.0 (λ k below here. (get table k, own.each k below))
+pub no_damage : (media : View) (shape : Shape) (page : ℕ) → HoldsRecords shape media → IsDamaged media page → ⊥
+no_damage media shape page holds is =
+    let same : shape ≡ is.0 = one_shape (header_of media.content.bytes) shape is.0 holds.array.header is.1.header in
+    let own = subst (λ (s : Shape). chain.sound (settled_data s media.content.bytes)) same holds.sound in
+    damaged_chain_is_not_sound (settled_data is.0 media.content.bytes) page is.2 own
 
-module _ (Works : Ended → Type 0) (Broken : ℕ → Type 0) (looks : Shape → ℕ) (old new : View) (cut : Bool) (text : List ℕ) (given left : List ℕ) (s s' k k' m m' : ℕ)
+-- a count that stands still has not risen
+pub no_rise : Rose 0 0 → ⊥
+no_rise rose = omega (arith, rose)
+
+-- of a command that reads no input
+pub nothing_read : (status : Status) → (IsEarly status → ⊥) → InputSays status [] []
+nothing_read Good late = (omega arith, refl)
+nothing_read Usage late = absurd (late tt)
+nothing_read TooLong late = absurd (late tt)
+nothing_read ReadFault late = tt
+nothing_read WriteFault late = (omega arith, refl)
+nothing_read MediaFault late = (omega arith, refl)
+nothing_read NoMemory late = tt
+nothing_read (Damaged page) late = (omega arith, refl)
+nothing_read (BadRow logger tid) late = (omega arith, refl)
+nothing_read NotMars late = (omega arith, refl)
+nothing_read (BadShape which given) late = (omega arith, refl)
+
+module _ (Works : Ended → Type 0) (Broken : ℕ → Type 0) (Looks : Type 0) (old new : View) (cut : Bool) (text : List ℕ) (given left : List ℕ) (s s' k k' m m' : ℕ)
     (short : length given ≤ input_limit) (shape : Shape) (array : IsArray shape old) (whole : (page : ℕ) → Broken page → ⊥) (no_source : Rose s s' → ⊥) (no_sink : Rose k k' → ⊥) (no_media : Rose m m' → ⊥) where
-  pub complete_of : (status : Status) → (status ≡ Usage → ⊥) → Counts status s s' k k' m m' → InputSays status given left → OutcomeOf Works Broken looks old status new cut text → (status ≡ Good) ⊎ (status ≡ NoMemory)
+  pub complete_of : (status : Status) → (status ≡ Usage → ⊥) → Counts status s s' k k' m m' → InputSays status given left → OutcomeOf Works Broken Looks old status new cut text → (status ≡ Good) ⊎ (status ≡ NoMemory)
   complete_of Good other counts input outcome = inl refl
   complete_of NoMemory other counts input outcome = inr refl
   complete_of Usage other counts input outcome = absurd (other refl)

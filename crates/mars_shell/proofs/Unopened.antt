@@ -41,23 +41,24 @@ module _ (tells : Bool) (told : IsTrue tells) (old : View) (only_now : (image : 
   unopened_of new opening.NotMars cause leaves keeps within early = idle_kept _ _ new keeps (inl (leaves told)) (λ long mark. cause long told mark)
   unopened_of new (opening.BadShape bad) cause leaves keeps within early = idle_kept _ _ new keeps (inl (leaves told)) (cause.0, (cause.1 told).0, (cause.1 told).1)
   unopened_of new (opening.BadRow logger tid) cause leaves keeps within early = idle_kept _ _ new keeps (inl (leaves told)) (cause told)
-  unopened_of new opening.Media cause leaves keeps within early = inl (idle_kept _ _ new keeps (leaves told) (λ shape says quiet. omega (arith, within told shape says quiet)))
+  unopened_of new opening.Media cause leaves keeps within early = inl (idle_kept _ _ new keeps (leaves told) (inl (within told)))
   unopened_of new opening.NoMemory cause leaves keeps within early =
       inl (idle_kept _ _ new keeps (inl (leaves told)) (inr (early refl, (cause told).0, (cause told).1, (cause told).2)))
 
 -- nothing was done, whatever the work is
-pub unopened_as : (Works : Ended → Type 0) (Broken : ℕ → Type 0) (looks : Shape → ℕ) (old : View) (status : Status) (new : View) → IsUnopened status → Unopened old status new → OutcomeOf Works Broken looks old status new false []
-unopened_as Works Broken looks old Good new kind outcome = absurd kind
-unopened_as Works Broken looks old Usage new kind outcome = absurd kind
-unopened_as Works Broken looks old TooLong new kind outcome = outcome
-unopened_as Works Broken looks old ReadFault new kind outcome = outcome
-unopened_as Works Broken looks old WriteFault new kind outcome = absurd kind
-unopened_as Works Broken looks old MediaFault new kind (inl fails) =
-    inl (record { silent = fails.silent; keeps = fails.keeps; spared = fails.spared; cause = λ shape says quiet. omega (arith, fails.cause shape says quiet) })
-unopened_as Works Broken looks old MediaFault new kind (inr none) = absurd none
-unopened_as Works Broken looks old NoMemory new kind (inl short) = inl short
-unopened_as Works Broken looks old NoMemory new kind (inr none) = absurd none
-unopened_as Works Broken looks old (Damaged page) new kind outcome = absurd kind
-unopened_as Works Broken looks old (BadRow logger tid) new kind outcome = outcome
-unopened_as Works Broken looks old NotMars new kind outcome = outcome
-unopened_as Works Broken looks old (BadShape which given) new kind outcome = outcome
+pub unopened_as : (Works : Ended → Type 0) (Broken : ℕ → Type 0) (Looks : Type 0) (old : View) (status : Status) (new : View) → IsUnopened status → Unopened old status new → OutcomeOf Works Broken Looks old status new false []
+unopened_as Works Broken Looks old Good new kind outcome = absurd kind
+unopened_as Works Broken Looks old Usage new kind outcome = absurd kind
+unopened_as Works Broken Looks old TooLong new kind outcome = outcome
+unopened_as Works Broken Looks old ReadFault new kind outcome = outcome
+unopened_as Works Broken Looks old WriteFault new kind outcome = absurd kind
+unopened_as Works Broken Looks old MediaFault new kind (inl fails) =
+    inl (record { silent = fails.silent; keeps = fails.keeps; spared = fails.spared; cause = ⊎_elim (λ within. inl within) (λ none. absurd none) fails.cause })
+unopened_as Works Broken Looks old MediaFault new kind (inr none) = absurd none
+unopened_as Works Broken Looks old NoMemory new kind (inl short) = inl short
+unopened_as Works Broken Looks old NoMemory new kind (inr (inl none)) = absurd none.cause
+unopened_as Works Broken Looks old NoMemory new kind (inr (inr none)) = absurd none
+unopened_as Works Broken Looks old (Damaged page) new kind outcome = absurd kind
+unopened_as Works Broken Looks old (BadRow logger tid) new kind outcome = outcome
+unopened_as Works Broken Looks old NotMars new kind outcome = outcome
+unopened_as Works Broken Looks old (BadShape which given) new kind outcome = outcome

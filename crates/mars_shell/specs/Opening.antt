@@ -20,4 +20,4 @@ opening_status (Err ended) = ended.0
 
 -- the outcome where nothing was done
 abbrev pub Unopened : View → Status → View → Type 0
-Unopened old status new = OutcomeOf (λ ended. ⊥) (λ page. ⊥) (λ shape. 0) old status new false []
+Unopened old status new = OutcomeOf (λ ended. ⊥) (λ page. ⊥) ⊥ old status new false []

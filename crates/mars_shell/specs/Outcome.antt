@@ -1,5 +1,5 @@
 -- What a run leaves on a media that tells its bytes, and what it has written, by its status.
-use Rattle.std.specs.Prelude.{ℕ, ◌≡◌, ◌+◌, ◌≤◌, ◌⊎◌, List, [], Bool, false, ⊤}
+use Rattle.std.specs.Prelude.{ℕ, ◌≡◌, ◌+◌, ◌≤◌, ◌⊎◌, List, [], Bool, ⊤}
 use Rattle.pcm_media.specs.Images.{Touched}
 use Rattle.pcm_media.specs.View.{View}
 use Rattle.array_shape.specs.declared.shape.Shape.{Shape}
@@ -26,21 +26,21 @@ abbrev pub IsShort : View → View → Type 0
 IsShort old new = (new.moment ≡ old.moment)
     ⊎ ((new.moment ≡ old.moment + 1) × (shape : Shape) × SaysShape (header_of old.content.bytes) shape × (old.size ≡ media_len shape))
 
--- the media failed within the calls of an opening, where no row is voted, and so many that look at the records
-abbrev pub IsWithin : (Shape → ℕ) → View → View → Type 0
-IsWithin looks old new = (shape : Shape) → SaysShape (header_of old.content.bytes) shape → HasNoVote shape old.content.bytes
-    → new.moment ≤ old.moment + (opening_calls shape + looks shape)
+-- the media failed within the calls of an opening, where no row is voted
+abbrev pub IsWithin : View → View → Type 0
+IsWithin old new = (shape : Shape) → SaysShape (header_of old.content.bytes) shape → HasNoVote shape old.content.bytes → new.moment ≤ old.moment + opening_calls shape
 
 -- What was written and done, by the status: the work over an array that was opened, or that there was none to open. Only over a
--- media that holds an array something may be written. Broken says which page may be named as damaged.
-abbrev pub OutcomeOf : (Ended → Type 0) → (ℕ → Type 0) → (Shape → ℕ) → View → Status → View → Bool → List ℕ → Type 0
-OutcomeOf Works Broken looks old Good new cut text = Works script.All
-OutcomeOf Works Broken looks old WriteFault new cut text = Works script.WriteFault
-OutcomeOf Works Broken looks old MediaFault new cut text = Idle (HoldsArray old) (IsWithin looks old new) old new cut text ⊎ Works script.MediaFault
-OutcomeOf Works Broken looks old NoMemory new cut text = Idle ⊥ (IsShort old new) old new cut text ⊎ Works script.NoMemory
-OutcomeOf Works Broken looks old (Damaged page) new cut text = Idle (HoldsArray old) (Broken page) old new cut text
-OutcomeOf Works Broken looks old (BadRow logger tid) new cut text = Idle ⊥ (HasBadRow old logger tid) old new cut text
-OutcomeOf Works Broken looks old NotMars new cut text = Idle ⊥ (512 ≤ old.size → HasMark (header_of old.content.bytes) → ⊥) old new cut text
-OutcomeOf Works Broken looks old (BadShape which given) new cut text =
+-- media that holds an array something may be written. Looks says that the records of an array are read before the work, so that the
+-- media may fail and memory be short meanwhile, and Broken which page may then be named as damaged.
+abbrev pub OutcomeOf : (Ended → Type 0) → (ℕ → Type 0) → Type 0 → View → Status → View → Bool → List ℕ → Type 0
+OutcomeOf Works Broken Looks old Good new cut text = Works script.All
+OutcomeOf Works Broken Looks old WriteFault new cut text = Works script.WriteFault
+OutcomeOf Works Broken Looks old MediaFault new cut text = Idle (HoldsArray old) (IsWithin old new ⊎ Looks) old new cut text ⊎ Works script.MediaFault
+OutcomeOf Works Broken Looks old NoMemory new cut text = Idle ⊥ (IsShort old new) old new cut text ⊎ (Idle (HoldsArray old) Looks old new cut text ⊎ Works script.NoMemory)
+OutcomeOf Works Broken Looks old (Damaged page) new cut text = Idle (HoldsArray old) (Broken page) old new cut text
+OutcomeOf Works Broken Looks old (BadRow logger tid) new cut text = Idle ⊥ (HasBadRow old logger tid) old new cut text
+OutcomeOf Works Broken Looks old NotMars new cut text = Idle ⊥ (512 ≤ old.size → HasMark (header_of old.content.bytes) → ⊥) old new cut text
+OutcomeOf Works Broken Looks old (BadShape which given) new cut text =
     Idle ⊥ ((512 ≤ old.size) × HasMark (header_of old.content.bytes) × IsBadIn (header_of old.content.bytes) old.size which given) old new cut text
-OutcomeOf Works Broken looks old _ new cut text = Idle (HoldsArray old) ⊤ old new cut text
+OutcomeOf Works Broken Looks old _ new cut text = Idle (HoldsArray old) ⊤ old new cut text

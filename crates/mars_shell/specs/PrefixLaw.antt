@@ -1,16 +1,17 @@
 -- What a loss of power leaves of a run, in transactions.
-use Rattle.std.specs.Prelude.{ℕ, ◌⊎◌, List, ◌++◌, length}
+use Rattle.std.specs.Prelude.{ℕ, ◌⊎◌, List, length}
 use Rattle.pcm_media.specs.Images.{MayLeave}
 use Rattle.pcm_media.specs.View.{View}
 use Rattle.array_shape.specs.declared.shape.Shape.{Shape}
 use Rattle.eaw_device.specs.Opens.{Opens, AllOpen, OpensLike}
-use Rattle.mars_shell.specs.Records.{slots_of}
-use Rattle.mars_shell.specs.Prefix.{HasPrefix}
-use Rattle.mars_shell.specs.Session.{State}
+use Rattle.key_list.specs.Index.{chain}
+use Rattle.record_table.specs.Does.{OpensWith}
+use Rattle.core_face.specs.State.{State}
+use Rattle.core_face.specs.Prefix.{HasPrefixOf}
 
--- an image that opens with the records of the first transactions, of at least so many
+-- an image that opens with sound data of the records of the first transactions, of at least so many
 abbrev pub Recovers : Shape → State → ℕ → List ℕ → Type 0
-Recovers shape final least image = HasPrefix (Opens shape) (slots_of shape) final.base (final.history ++ final.doubt) least image
+Recovers shape final least image = HasPrefixOf (OpensWith (Opens shape) chain) final least image
 
 -- The prefix law. An image that a loss of power may leave at the end opens with the records of all committed transactions, and
 -- the one in doubt may be there or not. One that might have been left at some moment of the run opens with the records of the

@@ -1,31 +1,76 @@
--- What is done over a store whose records are sound.
-use Rattle.std.specs.Prelude.{ℕ, List, [], None, Bool}
+-- What is done over a store whose records are read first.
+use Rattle.std.specs.Prelude.{ℕ, ◌≡◌, List, [], ◌++◌, length, Bool, true, false, Result, Ok, Err}
+use Rattle.std.specs.List.{concat}
+use Rattle.counted.specs.Causes.{Rose}
 use Rattle.array_shape.specs.declared.shape.Shape.{Shape}
-use Rattle.eaw_face.specs.StoreView.{StoreView}
-use Rattle.history.specs.Table.{Table}
+use Rattle.eaw_face.specs.Causes.{IsAlive}
+use Rattle.eaw_face.specs.StoreView.{StoreView, LeavesOnly}
+use Rattle.key_list.specs.Index.{chain}
+use Rattle.record_table.specs.Does.{OpensWith}
+use Rattle.record_table.specs.Shown.{table_of}
+use Rattle.history.specs.Legal.{IsLegal, with_doubt}
+use Rattle.core_face.specs.State.{State}
+use Rattle.core_face.specs.Prefix.{HasPrefixOf}
+use Rattle.mars_core.specs.Over.{limits_of}
+use Rattle.mars_core.specs.Attached.{CoreCause}
+use Rattle.mars_core.specs.declared.fault.CoreFault.{CoreFault}
+use Rattle.mars_core.specs.declared.fault.CoreFault.TheVariants.{Media}
 use Rattle.script_io.specs.Lines.{lines_of}
-use Rattle.script_run.specs.Transcript.{Ran}
+use Rattle.script_io.specs.Written.{IsWritten}
+use Rattle.script_run.specs.Counts.{Counts}
+use Rattle.script_run.specs.Transcript.{Answered}
 use Rattle.script_run.specs.declared.ended.Ended.{Ended}
-use Rattle.mars_shell.specs.Kept.{Work, work_of}
-use Rattle.mars_shell.specs.Lines.{call_script}
-use Rattle.mars_shell.specs.Records.{Holds, slots_of}
-use Rattle.mars_shell.specs.SlotTable.{records_of}
-use Rattle.mars_shell.specs.Session.{State}
-use Rattle.mars_shell.specs.Standing.{Stands, Comes}
+use Rattle.script_run.specs.declared.ended.Ended.TheVariants.{All}
+use Rattle.mars_shell.specs.Dump.{dump_text, IsCutAt}
+use Rattle.mars_shell.specs.Lines.{call_script, turns_at}
+use Rattle.mars_shell.specs.Run.{begun_on, HasAll}
 
--- the records of a store
-abbrev pub records_held : StoreView → Table
-records_held store = records_of (slots_of store.shape) store.state.bytes
+-- how images of an array of this shape open with records
+abbrev pub opens_of : (Shape → List ℕ → List ℕ → Type 0) → Shape → State → ℕ → List ℕ → Type 0
+opens_of Opens shape final least image = HasPrefixOf (OpensWith (Opens shape) chain) final least image
 
--- no call yet
-abbrev pub no_work : Work
-no_work = work_of [] None None
+-- The records were not taken: nothing was written, and whatever a loss of power might have left meanwhile opens with the store's data.
+pub record Untaken (Opens : Shape → List ℕ → List ℕ → Type 0) (old : StoreView) (fault : CoreFault) (cut : Bool) (text : List ℕ) (new : StoreView) : Type 0 where
+  pub whole : cut ≡ false
+  pub silent : text ≡ []
+  pub cause : CoreCause true chain old fault
+  pub time : LeavesOnly (λ image. Opens old.shape image old.state.bytes) old new
 
-abbrev pub first_state : StoreView → State
-first_state store = record { shape = store.shape; base = records_held store; history = []; live = None; doubt = [] }
-
--- the lines were answered over its records, by a session that has kept this of them
+-- The lines were answered over the records of the store's data, which are sound: what is said of a run, in the words of stores.
 pub record Served (Opens : Shape → List ℕ → List ℕ → Type 0) (old : StoreView) (input : List ℕ) (ended : Ended) (cut : Bool) (text : List ℕ) (new : StoreView) : Type 0 where
-  pub held : Holds (slots_of old.shape) (records_held old) old.state.bytes
-  pub work : Work
-  pub ran : Ran call_script (Stands new work) (Comes Opens old no_work (first_state old) new work) (first_state old) (lines_of input) ended cut text
+  pub sound : chain.sound old.state.bytes
+  pub shape : new.shape ≡ old.shape
+  pub answers : List (List ℕ)
+  pub rest : List ℕ
+  pub text_is : text ≡ concat answers ++ rest
+  pub final : State
+  pub base : final.base ≡ table_of chain old.state.bytes
+  pub answered : Answered call_script (turns_at (limits_of old.shape) (begun_on old.state.bytes)) 1 (lines_of input) ended cut answers rest (turns_at (limits_of old.shape) final)
+  pub legal : IsLegal final.base (with_doubt final.history final.doubt)
+  pub since : LeavesOnly (opens_of Opens old.shape final 0) old new
+  pub now : (image : List ℕ) → new.left_since new.moment image → opens_of Opens old.shape final (length final.history) image
+  pub left : ended ≡ All → IsAlive new × HasAll new.state.bytes final
+
+abbrev pub Serves : (Shape → List ℕ → List ℕ → Type 0) → StoreView → List ℕ → Result Ended CoreFault → Bool → List ℕ → StoreView → Type 0
+Serves Opens old input (Ok ended) cut text new = Served Opens old input ended cut text new
+Serves Opens old input (Err fault) cut text new = Untaken Opens old fault cut text new
+
+-- The records of the store's data, which are sound, were told.
+pub record Told (Opens : Shape → List ℕ → List ℕ → Type 0) (old : StoreView) (ended : Ended) (cut : Bool) (text : List ℕ) (new : StoreView) : Type 0 where
+  pub sound : chain.sound old.state.bytes
+  pub shape : new.shape ≡ old.shape
+  pub alive : IsAlive new
+  pub end : IsCutAt ended cut
+  pub wrote : IsWritten cut text (dump_text (table_of chain old.state.bytes))
+  pub time : LeavesOnly (λ image. Opens old.shape image old.state.bytes) old new
+  pub now : (image : List ℕ) → new.left_since new.moment image → Opens old.shape image old.state.bytes
+
+abbrev pub Tells : (Shape → List ℕ → List ℕ → Type 0) → StoreView → Result Ended CoreFault → Bool → List ℕ → StoreView → Type 0
+Tells Opens old (Ok ended) cut text new = Told Opens old ended cut text new
+Tells Opens old (Err fault) cut text new = Untaken Opens old fault cut text new
+
+-- the counts of faults of the sink and of the media
+abbrev pub ServedCounts : Result Ended CoreFault → ℕ → ℕ → ℕ → ℕ → Type 0
+ServedCounts (Ok ended) sink sink' media media' = Counts ended sink sink' media media'
+ServedCounts (Err Media) sink sink' media media' = (sink' ≡ sink) × Rose media media'
+ServedCounts (Err fault) sink sink' media media' = (sink' ≡ sink) × (media' ≡ media)

@@ -1,26 +1,24 @@
--- What a session stands for, and what it comes to.
-use Rattle.std.specs.Prelude.{ℕ, ◌≡◌, ◌++◌, List}
-use Rattle.array_shape.specs.declared.shape.Shape.{Shape}
-use Rattle.eaw_face.specs.StoreView.{StoreView}
-use Rattle.history.specs.declared.transaction.Done.{Done}
-use Rattle.mars_shell.specs.Called.{KeepsPrefix}
-use Rattle.mars_shell.specs.Kept.{Work, IsKept, state_over}
-use Rattle.mars_shell.specs.Session.{State}
+-- What callers' turns over a core stand for, and what they come to.
+use Rattle.std.specs.Prelude.{ℕ, ◌≡◌, false, length}
+use Rattle.core_face.specs.Core.{CoreView, IsSafe, Continues}
+use Rattle.core_face.specs.Sound.{IsSound}
+use Rattle.mars_shell.specs.Lines.{Turns, turns_at}
 
--- over the records at the opening, what the session keeps of its calls is what the store has
-pub record Stands (store : StoreView) (work : Work) (state : State) : Type 0 where
-  pub is : state ≡ state_over store.shape state.base work
-  pub kept : IsKept state.base store work
+-- what the core shows of its callers
+abbrev pub turns_of : CoreView → Turns
+turns_of core = turns_at core.limits core.state
 
--- a history that goes on as another did
-pub record Grows (old new : List Done) : Type 0 where
-  pub more : List Done
-  pub is : new ≡ old ++ more
+-- it can answer a further line
+pub record IsReady (callers : ℕ) (core : CoreView) : Type 0 where
+  pub callers_are : callers ≡ core.limits.callers
+  pub alive : core.state.is_dead ≡ false
 
--- From a session in a state to a later one in a state: the history goes on, and each image that a loss of power may leave has a
--- prefix of it.
-pub record Comes (Opens : Shape → List ℕ → List ℕ → Type 0) (old : StoreView) (work : Work) (before : State) (new : StoreView) (work' : Work) (after : State) : Type 0 where
-  pub shape : new.shape ≡ old.shape
-  pub is : after ≡ state_over old.shape before.base work'
-  pub grows : Grows work.history work'.history
-  pub prefix : KeepsPrefix Opens before.base old new work work'
+-- The core is in this state, which is sound; and each image that a loss of power may leave now has all of its history.
+pub record Stands (core : CoreView) (turns : Turns) : Type 0 where
+  pub is : turns ≡ turns_of core
+  pub sound : IsSound core.state
+  pub safe : IsSafe core core.moment (length core.state.history)
+
+-- From a core to a later one, in this state: the history goes on, and what a loss of power may have left has a prefix of it.
+abbrev pub Comes : CoreView → CoreView → Turns → Type 0
+Comes old new turns = (turns ≡ turns_of new) × Continues old new

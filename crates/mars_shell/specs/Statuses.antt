@@ -1,8 +1,10 @@
 -- The statuses of a run by their kinds, and the counts of faults that go with each.
-use Rattle.std.specs.Prelude.{ℕ, ◌≡◌}
+use Rattle.std.specs.Prelude.{ℕ, ◌≡◌, Result, Ok, Err}
 use Rattle.counted.specs.Causes.{Rose}
 use Rattle.eaw_device.specs.declared.fault.AttachFault.{AttachFault}
 use Rattle.eaw_device.specs.declared.fault.AttachFault.TheVariants as opening
+use Rattle.mars_core.specs.declared.fault.CoreFault.{CoreFault}
+use Rattle.mars_core.specs.declared.fault.CoreFault.TheVariants as core
 use Rattle.script_run.specs.declared.ended.Ended.{Ended}
 use Rattle.script_run.specs.declared.ended.Ended.TheVariants as script
 use Rattle.mars_shell.specs.declared.status.Status.{Status}
@@ -37,6 +39,13 @@ status_of (opening.BadShape bad) = BadShape bad.which bad.given
 status_of (opening.BadRow logger tid) = BadRow logger tid
 status_of opening.Media = MediaFault
 status_of opening.NoMemory = NoMemory
+
+-- the status of work over records, or of none that were taken
+abbrev pub served_status : Result Ended CoreFault → Status
+served_status (Ok ended) = script_status ended
+served_status (Err (core.Damaged page)) = Damaged page
+served_status (Err core.Media) = MediaFault
+served_status (Err core.NoMemory) = NoMemory
 
 -- The counts of faults of the source, the sink and the media, each before and behind: one rose where it ended the run, and else
 -- they are as they were; but a sink may also fail while a fault of the media is told.

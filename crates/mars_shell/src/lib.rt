@@ -2,18 +2,15 @@
 #![tactic(auto)]
 
 mod commands;
-mod damage;
+mod dump;
 mod fault;
 mod formatting;
 mod gate;
 mod lines;
-mod live;
 mod media_room;
 mod opening;
-mod records;
 mod responder;
 mod serve;
-mod session;
 mod status;
 mod whole;
 

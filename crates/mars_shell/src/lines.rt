@@ -6,10 +6,9 @@ ghost use Rattle.mars_shell.specs.Asked.{OutcomeFor};
 ghost use Rattle.mars_shell.specs.Input.{InputSays};
 ghost use Rattle.mars_shell.specs.Statuses.{Counts, IsEarly, IsRefusal};
 
-use crate::damage::first_damage;
 use crate::opening::open;
 use crate::serve::serve;
-use crate::status::{Status, script_status};
+use crate::status::{Status, served_status};
 use outside::{Sink, Source};
 use page_store::SaveRoom;
 use pcm_media::Media;
@@ -36,16 +35,10 @@ pub(crate) fn run_lines<S: Source, K: Sink, M: Media>(
         Ok(room) => room,
         Err(_) => return (Status::NoMemory, media),
     };
-    let (input, mut store) = match open(alloc, source, media) {
+    let (input, store) = match open(alloc, source, media) {
         Ok(opened) => opened,
         Err(ended) => return ended,
     };
-    match first_damage(&mut store) {
-        Ok(None) => {
-            let (ended, store) = serve(alloc, &input, sink, room, store);
-            (script_status(ended), store.into_media())
-        }
-        Ok(Some(page)) => (Status::Damaged { page: page as u32 }, store.into_media()),
-        Err(_) => (Status::MediaFault, store.into_media()),
-    }
+    let (served, store) = serve(alloc, &input, sink, room, store);
+    (served_status(served), store.into_media())
 }

@@ -37,8 +37,23 @@ pub fn open<S: Source, M: Media>(
         Err(InputFault::Failed) => return Err((Status::ReadFault, media)),
         Err(InputFault::NoMemory) => return Err((Status::NoMemory, media)),
     };
-    match Eaw::attach(alloc, media) {
+    match open_array(alloc, media) {
         Ok(store) => Ok((input, store)),
+        Err(ended) => Err(ended),
+    }
+}
+
+/// Opens the array that the media holds. At an error the media is given back with the status that the run ends with.
+pub fn open_array<M: Media>(alloc: Global, media: M) -> Result<Eaw<M>, (Status, M)>
+    ensures kind { IfErr result (λ ended. IsUnopened ended.0) }
+    ensures late { IfErr result (λ ended. IsEarly ended.0 → ⊥) }
+    ensures counts { IfErr result (λ ended. Counts ended.0 0 0 0 0 (M.view media).faults (M.view ended.1).faults) }
+    ensures unopened { IsTrue M.tells → IfErr result (λ ended. Unopened (M.view media) ended.0 (M.view ended.1)) }
+    ensures attached { IfOk result (λ store. Attached M.tells (M.view media) (⟦<Eaw<M> as EawStore>⟧.view store)) }
+    ensures keeps { IfOk result (λ store. KeepsData M.tells (M.view media) (⟦<Eaw<M> as EawStore>⟧.view store).moment (⟦<Eaw<M> as EawStore>⟧.view store).left_since) }
+{
+    match Eaw::attach(alloc, media) {
+        Ok(store) => Ok(store),
         Err((fault, media)) => Err((status_of(fault), media)),
     }
 }

@@ -1,56 +1,82 @@
-// A session answers the lines of its caller.
-use crate::records::slot_count;
-use crate::session::{Fault, Session};
-use eaw_face::EawStore;
+// A core answers the lines of its callers.
+ghost use Rattle.std.specs.Prelude.{◌≡◌};
+ghost use Rattle.mars_shell.specs.Lines.{Replied};
+
+use core_face::Core;
+use history::Reply;
 use script_run::{Responder, Stop};
 use script_text::{Line, read_line, write_bad_line, write_reply};
 
-// How many callers there are.
-const CALLERS: u8 = 1;
+/// A core, and how many callers it has.
+pub struct LineCore<C: Core> {
+    pub core: C,
+    pub callers: u8,
+}
 
-impl<S: EawStore> Responder for Session<S> {
-    ghost use Rattle.page_store.specs.Shown.{pages_of};
-    ghost use Rattle.mars_shell.specs.Kept.{IsReady, work_in};
-    ghost use Rattle.mars_shell.specs.Laws.{comes_none, comes_on};
-    ghost use Rattle.mars_shell.specs.Lines.{call_script};
-    ghost use Rattle.mars_shell.specs.Session.{State as CallState};
-    ghost use Rattle.mars_shell.specs.Standing.{Stands, Comes};
+impl<C: Core> Responder for LineCore<C> {
+    ghost use Rattle.core_face.proofs.Continuing.{continues_none, continues_on};
+    ghost use Rattle.mars_shell.specs.Lines.{Turns, call_script};
+    ghost use Rattle.mars_shell.specs.Standing.{IsReady, Stands, Comes};
 
-    ghost tells = { S.tells };
+    ghost tells = { C.tells };
 
-    ghost State = { CallState };
+    ghost State = { Turns };
 
     ghost script = { call_script };
 
-    ghost is_ready = { λ session. IsReady (pages_of (S.view session.pages.store) session.pages) (work_in session) };
+    ghost is_ready = { λ lines. IsReady lines.callers (C.view lines.core) };
 
-    ghost stands = { λ session. Stands (S.view session.pages.store) (work_in session) };
+    ghost stands = { λ lines. Stands (C.view lines.core) };
 
-    ghost comes = { λ old before new after. Comes S.opens (S.view old.pages.store) (work_in old) before (S.view new.pages.store) (work_in new) after };
+    ghost comes = { λ old before new. Comes (C.view old.core) (C.view new.core) };
 
-    ghost faults = { λ session. (S.view session.pages.store).faults };
+    ghost faults = { λ lines. (C.view lines.core).faults };
 
-    ghost comes_none = { λ session state told ready stands. comes_none S.opens (S.view session.pages.store) (work_in session) state stands (λ image. S.only_now session.pages.store image told ready.alive) };
+    ghost comes_none = { λ lines turns told ready stands. (stands.is, continues_none (C.view lines.core) stands.sound stands.safe) };
 
-    ghost comes_on = { λ first mid last s t u told ready stands. comes_on S.opens (S.view first.pages.store) (S.view mid.pages.store) (S.view last.pages.store) (work_in first) (work_in mid) (work_in last) s t u ready.certain };
+    ghost comes_on = { λ first mid last s t u told ready stands before behind. (behind.0, continues_on (C.view first.core) (C.view mid.core) (C.view last.core) before.1 behind.1) };
 
     fn answer(&mut self, line: &[u8], n: u64, out: &mut Vec<u8>) -> Result<(), Stop> {
         out.clear();
-        let keys = slot_count(&self.pages.shape());
-        match read_line(line, CALLERS, keys) {
+        match read_line(line, self.callers) {
             Line::Nothing => Ok(()),
             Line::Bad => match write_bad_line(out, n) {
                 Ok(()) => Ok(()),
                 Err(_) => Err(Stop::NoMemory),
             },
-            Line::Told { caller, call } => match self.step(&call) {
-                Ok(reply) => match write_reply(out, caller, &reply) {
-                    Ok(()) => Ok(()),
-                    Err(_) => Err(Stop::NoMemory),
-                },
-                Err(Fault::Media) => Err(Stop::Media { number: caller }),
-                Err(Fault::NoMemory) => Err(Stop::NoMemory),
-            },
+            Line::Told { caller, call } => {
+                let reply = self.core.step(caller, &call);
+                tell(out, caller, &reply)
+            }
         }
+    }
+}
+
+// Tells a caller's reply, behind which the script goes on, or how it ends.
+fn tell(out: &mut Vec<u8>, caller: u8, reply: &Reply) -> Result<(), Stop>
+    ensures { Replied caller reply.now out.old.items out.new.items result }
+{
+    match reply {
+        Reply::Media => Err(Stop::Media { number: caller }),
+        Reply::NoMemory => Err(Stop::NoMemory),
+        Reply::Fine
+        | Reply::Found(_)
+        | Reply::Absent
+        | Reply::Listed(_)
+        | Reply::Saved(_)
+        | Reply::Committed(_)
+        | Reply::NoTransaction
+        | Reply::Already
+        | Reply::NoSave { .. }
+        | Reply::SavesFull
+        | Reply::Busy { .. }
+        | Reply::LogFull { .. }
+        | Reply::SlotsFull { .. }
+        | Reply::PagesFull { .. }
+        | Reply::Dead
+        | Reply::Damaged { .. } => match write_reply(out, caller, reply) {
+            Ok(()) => Ok(()),
+            Err(_) => Err(Stop::NoMemory),
+        },
     }
 }

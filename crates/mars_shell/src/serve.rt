@@ -1,44 +1,41 @@
-// The work over an array whose records are sound.
-ghost use Rattle.std.specs.Prelude.{◌≡◌, None, IsTrue};
+// The work over the records of an array.
+ghost use Rattle.std.specs.Prelude.{◌≡◌, ℕ, None, false, IsTrue, IfErr};
 ghost use Rattle.eaw_face.specs.Causes.{IsAlive};
 ghost use Rattle.script_io.specs.Written.{Wrote};
-ghost use Rattle.script_run.specs.Counts.{Counts};
-ghost use Rattle.mars_shell.specs.SlotTable.{IsSoundData};
-ghost use Rattle.mars_shell.specs.Records.{slots_of};
-ghost use Rattle.mars_shell.specs.Served.{Served};
+ghost use Rattle.mars_shell.specs.Served.{Serves, ServedCounts};
 
-use crate::session::Session;
+use crate::responder::LineCore;
 use eaw_face::EawStore;
-use history::History;
+use key_list::KeyList;
+use mars_core::{Core, CoreFault};
 use outside::Sink;
-use page_store::{Pages, SaveRoom};
+use page_store::SaveRoom;
 use script_run::{Ended, answer_lines};
 use std::alloc::Global;
 
-/// Answers the lines of the input over the records of a store that are sound, and gives the store back. The pages over it lie in
-/// room that was taken before the store was opened.
+/// Answers the lines of the input over the records of a store, and gives the store back. Where they were not taken, nothing was told.
+/// The pages over the store lie in room that was taken before it was opened.
 pub fn serve<K: Sink, S: EawStore>(
     alloc: Global,
     input: &[u8],
     sink: &mut K,
     room: SaveRoom,
     store: S,
-) -> (Ended, S)
+) -> (Result<Ended, CoreFault>, S)
     requires alive { IsAlive (S.view store) }
-    requires free { (S.view store).ranges 0 ≡ None }
+    requires free { (t : ℕ) → (S.view store).ranges t ≡ None }
     ensures served { Wrote K.tells (K.written sink.old) (K.written sink.new) (K.faults sink.old) (K.faults sink.new)
-        (λ cut text. IsTrue S.tells → IsSoundData (slots_of (S.view store).shape) (S.view store).state.bytes → Served S.opens (S.view store) input.now result.0 cut text (S.view result.1)) }
-    ensures alive { result.0 ≡ Ended.All → IsAlive (S.view result.1) }
-    ensures counts { Counts result.0 (K.faults sink.old) (K.faults sink.new) (S.view store).faults (S.view result.1).faults }
+        (λ cut text. IsTrue S.tells → Serves S.opens (S.view store) input.now result.0 cut text (S.view result.1)) }
+    ensures untold { IfErr result.0 (λ fault. sink.new ≡ sink.old) }
+    ensures counts { ServedCounts result.0 (K.faults sink.old) (K.faults sink.new) (S.view store).faults (S.view result.1).faults }
 {
-    let mut session = Session {
-        alloc,
-        pages: Pages::attach_in(room, store),
-        history: History::new(alloc),
-        live: None,
-        doubt: None,
+    let callers = store.shape().numbers;
+    let core = match Core::<S, KeyList>::attach(alloc, room, store) {
+        Ok(core) => core,
+        Err((fault, store)) => return (Err(fault), store),
     };
-    let ended = answer_lines(alloc, input, sink, &mut session);
-    let Session { pages, .. } = session;
-    (ended, pages.into_store())
+    let mut lines = LineCore { core, callers };
+    let ended = answer_lines(alloc, input, sink, &mut lines);
+    let LineCore { core, callers: _ } = lines;
+    (Ok(ended), core.into_store())
 }

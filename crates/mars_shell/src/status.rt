@@ -1,9 +1,10 @@
 ghost use Rattle.std.specs.Prelude.{◌≡◌};
 ghost use Rattle.mars_shell.specs.Fault.{status_number};
-ghost use Rattle.mars_shell.specs.Statuses.{status_of, script_status};
+ghost use Rattle.mars_shell.specs.Statuses.{status_of, script_status, served_status};
 
 use array_shape::ShapeNumber;
 use eaw_device::AttachFault;
+use mars_core::CoreFault;
 use script_run::Ended;
 
 /// How a run ended.
@@ -19,7 +20,7 @@ pub enum Status {
     WriteFault,
     MediaFault,
     NoMemory,
-    /// A slot in this page of the data does not read, or carries a key that is not its own. It is the first such page.
+    /// The index of the records, or a slot that it names, is not sound in this page of the data. It is the first such page.
     Damaged { page: u32 },
     /// This logger's row of this transaction number is decided, and names a cell that is not there or holds no part of
     /// that logger.
@@ -76,5 +77,17 @@ pub(crate) fn script_status(ended: Ended) -> Status
         Ended::WriteFault => Status::WriteFault,
         Ended::MediaFault => Status::MediaFault,
         Ended::NoMemory => Status::NoMemory,
+    }
+}
+
+// The status of work over the records of an array, or why they were not taken.
+pub(crate) fn served_status(served: Result<Ended, CoreFault>) -> Status
+    ensures { result ≡ served_status served }
+{
+    match served {
+        Ok(ended) => script_status(ended),
+        Err(CoreFault::Damaged { page }) => Status::Damaged { page },
+        Err(CoreFault::Media) => Status::MediaFault,
+        Err(CoreFault::NoMemory) => Status::NoMemory,
     }
 }

@@ -2,12 +2,14 @@
 ghost use Rattle.std.specs.Prelude.{◌≡◌, ◌≢◌, ◌⊎◌, ℕ, List, map, IsTrue, string_bytes};
 ghost use Rattle.counted.specs.Causes.{Rose};
 ghost use Rattle.script_io.specs.Written.{Wrote};
-ghost use Rattle.mars_shell.specs.Asked.{WordsSay, IfFormat, OutcomeFor, IsFit};
+ghost use Rattle.command_words.specs.declared.words.Words.TheVariants.{Dump};
+ghost use Rattle.mars_shell.specs.Asked.{WordsSay, IfFormat, IfReads, OutcomeFor, IsFit};
 ghost use Rattle.mars_shell.specs.Formats.{FormatSays};
 ghost use Rattle.mars_shell.specs.Input.{InputSays};
 ghost use Rattle.mars_shell.specs.Statuses.{Counts};
 
 use crate::commands::run_commands;
+use crate::dump::run_dump;
 use crate::formatting::run_format;
 use crate::gate::Gate;
 use crate::lines::run_lines;
@@ -18,8 +20,8 @@ use pcm_media::Media;
 
 /// Does all that the program does over the words behind the image's, and gives the media back.
 ///
-/// For `run` the input is read first, then the array is opened and recovered, then its records are looked at, and then the lines
-/// are answered; for `eaw` all but the records; `format` reads no input. The gate is for runs of several threads; these words
+/// For `run` the input is read first, then the array is opened and recovered, then its records are read, and then the lines
+/// are answered; for `eaw` all but the records. `dump` and `format` read no input. The gate is for runs of several threads; these words
 /// ask for none.
 pub fn run<R: AllocGlobal, S: Source, K: Sink, M: Media, G: Gate>(
     rt: &R,
@@ -39,13 +41,15 @@ pub fn run<R: AllocGlobal, S: Source, K: Sink, M: Media, G: Gate>(
     // A fault is told as what it is, and none is hidden.
     ensures counts { Counts result.0 (S.faults source.old) (S.faults source.new) (K.faults sink.old) (K.faults sink.new) (M.view media).faults (M.view result.1).faults }
     ensures steady { IsTrue (S.steady source.old) → result.0 ≡ Status.ReadFault → ⊥ }
-    // An input is too long exactly where it is; and all of it was read where a command that reads it ends well. A format reads none.
-    ensures input { WordsSay (map string_bytes words.now) result.0 (source.new ≡ source.old) (λ asked. IfFormat asked
-        (λ numbers. source.new ≡ source.old) (IsTrue S.tells → InputSays result.0 (S.left source.old) (S.left source.new))) }
+    // An input is too long exactly where it is; and all of it was read where a command that reads it ends well. A dump and a format read none.
+    ensures input { WordsSay (map string_bytes words.now) result.0 (source.new ≡ source.old) (λ asked. IfReads asked
+        (source.new ≡ source.old) (IsTrue S.tells → InputSays result.0 (S.left source.old) (S.left source.new))) }
     ensures formats { WordsSay (map string_bytes words.now) result.0 ((sink.new ≡ sink.old) × (result.1 ≡ media)) (λ asked. IfFormat asked
         (λ numbers. FormatSays numbers (M.view media).size result.0 (sink.new ≡ sink.old) (result.1 ≡ media)) (Unit {0})) }
+    // Where a dump's media failed or memory was short nothing is told.
+    ensures dumps { WordsSay (map string_bytes words.now) result.0 (sink.new ≡ sink.old) (λ asked. asked ≡ Dump → (result.0 ≡ Status.MediaFault) ⊎ (result.0 ≡ Status.NoMemory) → sink.new ≡ sink.old) }
     // What the words ask for was done. Each status has its cause. Of a run the text answers the lines of the input one by one, the
-    // history is legal, and the prefix law holds of it; of raw commands it answers them by the model.
+    // history is legal, and the prefix law holds of it; of a dump it is the records; of raw commands it answers them by the model.
     ensures ran { WordsSay (map string_bytes words.now) result.0 ((source.new ≡ source.old) × (sink.new ≡ sink.old) × (result.1 ≡ media)) (λ asked. Wrote K.tells (K.written sink.old) (K.written sink.new) (K.faults sink.old) (K.faults sink.new)
         (λ cut text. (input : List ℕ) × (IsTrue S.tells → S.left source.old ≡ input) × (IsTrue M.tells → OutcomeFor asked (M.view media) result.0 (M.view result.1) input cut text))) }
     // What can be done is done, or memory was short.
@@ -58,6 +62,7 @@ pub fn run<R: AllocGlobal, S: Source, K: Sink, M: Media, G: Gate>(
         Err(WordsFault::NoMemory) => (Status::NoMemory, media),
         Ok(Words::Run) => run_lines(rt.alloc(), source, sink, media),
         Ok(Words::Eaw) => run_commands(rt.alloc(), source, sink, media),
+        Ok(Words::Dump) => run_dump(rt.alloc(), sink, media),
         Ok(Words::Format(numbers)) => run_format(sink, media, &numbers),
     }
 }

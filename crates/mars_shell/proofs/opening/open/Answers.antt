@@ -1,7 +1,5 @@
-use Rattle.std.proofs.Common.{inl, refl, sym, subst}
-use Rattle.mars_shell.specs.Opening.{Unopened}
-use Rattle.mars_shell.specs.declared.status.Status.{Status}
-use Rattle.mars_shell.proofs.Unopened.{idle_same, unopened_of}
+use Rattle.std.proofs.Common.{inl, refl}
+use Rattle.mars_shell.proofs.Unopened.{idle_same}
 use Rattle.mars_shell.proofs.opening.open.Goals as goal
 
 pub returns-in-Err-TooLong-clause-unopened : goal.returns-in-Err-TooLong-clause-unopened
@@ -13,11 +11,3 @@ returns-in-Err-Failed-clause-unopened g c = λ told. idle_same g.M.Media.tells t
 pub returns-in-Err-NoMemory-clause-unopened : goal.returns-in-Err-NoMemory-clause-unopened
 returns-in-Err-NoMemory-clause-unopened g c = λ told.
     inl (idle_same g.M.Media.tells told (g.M.Media.view c.args.media) (g.met.M.Media.only_now c.args.media) _ _ (inl refl))
-
-pub returns-in-Err-clause-unopened : goal.returns-in-Err-clause-unopened
-returns-in-Err-clause-unopened g c = λ told.
-    let old = g.M.Media.view c.args.media in
-    let new = g.M.Media.view c.in-Err.media in
-    let failed = c.in-Err.ensures in
-    subst (λ (s : Status). Unopened old s new) (sym c.status_of.ensures)
-    (unopened_of g.M.Media.tells told old (g.met.M.Media.only_now c.args.media) new c.in-Err.fault failed.cause failed.unwritten failed.keeps_on_err failed.within failed.early)

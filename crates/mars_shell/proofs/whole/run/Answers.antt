@@ -1,11 +1,12 @@
-use Rattle.std.proofs.Common.{◌/◌, refl}
-use Rattle.array_shape.specs.Places.{page_count}
+use Rattle.std.proofs.Common.{[], refl, arith}
 use Rattle.std.specs.Prelude.{map, string_bytes}
-use Rattle.command_words.specs.declared.words.Words.TheVariants.{Run, Eaw, Format}
+use Rattle.command_words.specs.declared.words.Words.TheVariants.{Run, Eaw, Dump, Format}
+use Rattle.eaw_device.specs.Opens.{HoldsArray}
 use Rattle.mars_shell.specs.Commands.{Obeys}
+use Rattle.mars_shell.specs.Dump.{Dumps}
 use Rattle.mars_shell.proofs.FormatLemmas.{no_usage}
 use Rattle.mars_shell.specs.Run.{Answers, IsDamaged}
-use Rattle.mars_shell.proofs.Completing.{words_say, no_damage, complete_of}
+use Rattle.mars_shell.proofs.Completing.{words_say, no_damage, no_rise, nothing_read, complete_of}
 use Rattle.mars_shell.proofs.whole.run.Goals as goal
 
 pub returns-in-Err-NoCommand-clause-words : goal.returns-in-Err-NoCommand-clause-words
@@ -20,6 +21,9 @@ returns-in-Err-NoCommand-clause-formats g c = c.in-Err-NoCommand.ensures.refused
 pub returns-in-Err-NoCommand-clause-ran : goal.returns-in-Err-NoCommand-clause-ran
 returns-in-Err-NoCommand-clause-ran g c = c.in-Err-NoCommand.ensures.refused c.in-Err-NoCommand.field-0-is
 
+pub returns-in-Err-NoCommand-clause-dumps : goal.returns-in-Err-NoCommand-clause-dumps
+returns-in-Err-NoCommand-clause-dumps g c = c.in-Err-NoCommand.ensures.refused c.in-Err-NoCommand.field-0-is
+
 pub returns-in-Err-NoCommand-clause-complete : goal.returns-in-Err-NoCommand-clause-complete
 returns-in-Err-NoCommand-clause-complete g c = c.in-Err-NoCommand.ensures.refused c.in-Err-NoCommand.field-0-is
 
@@ -32,8 +36,8 @@ returns-in-Ok-Run-clause-complete g c =
     words_say (map string_bytes c.args.words.now) c.run_lines.result.0 (Unit {0}) _ Run said.no_usage (rw c.in-Ok-Run.field-0-is at c.in-Ok-Run.ensures.asked)
     (λ fit no_source no_sink no_media.
     let input = said.ran.holds.0 in
-    complete_of (λ ended. Answers old input ended new said.ran.cut said.ran.text) (IsDamaged old) (λ shape. page_count shape / 2) old new said.ran.cut said.ran.text given _ _ _ _ _ _ _
-    fit.1 fit.3.0 fit.3.1 (λ page is. no_damage old fit.3.0 page fit.3.1 (fit.3.2 refl).0 (fit.3.2 refl).1 is) no_source no_sink no_media c.run_lines.result.0 said.no_usage said.counts (said.input fit.0) (said.ran.holds.2 fit.2))
+    complete_of (λ ended. Answers old input ended new said.ran.cut said.ran.text) (IsDamaged old) (HoldsArray old) old new said.ran.cut said.ran.text given _ _ _ _ _ _ _
+    fit.0.1 fit.2.0 fit.2.1.array (λ page is. no_damage old fit.2.0 page fit.2.1 is) no_source no_sink no_media c.run_lines.result.0 said.no_usage said.counts (said.input fit.0.0) (said.ran.holds.2 fit.1))
 
 pub returns-in-Ok-Eaw-clause-complete : goal.returns-in-Ok-Eaw-clause-complete
 returns-in-Ok-Eaw-clause-complete g c =
@@ -44,8 +48,19 @@ returns-in-Ok-Eaw-clause-complete g c =
     words_say (map string_bytes c.args.words.now) c.run_commands.result.0 (Unit {0}) _ Eaw said.no_usage (rw c.in-Ok-Eaw.field-0-is at c.in-Ok-Eaw.ensures.asked)
     (λ fit no_source no_sink no_media.
     let input = said.ran.holds.0 in
-    complete_of (λ ended. Obeys old input ended new said.ran.cut said.ran.text) (λ page. ⊥) (λ shape. 0) old new said.ran.cut said.ran.text given _ _ _ _ _ _ _
-    fit.1 fit.3.0 fit.3.1 (λ page is. is) no_source no_sink no_media c.run_commands.result.0 said.no_usage said.counts (said.input fit.0) (said.ran.holds.2 fit.2))
+    complete_of (λ ended. Obeys old input ended new said.ran.cut said.ran.text) (λ page. ⊥) ⊥ old new said.ran.cut said.ran.text given _ _ _ _ _ _ _
+    fit.0.1 fit.2.0 fit.2.1 (λ page is. is) no_source no_sink no_media c.run_commands.result.0 said.no_usage said.counts (said.input fit.0.0) (said.ran.holds.2 fit.1))
+
+pub returns-in-Ok-Dump-clause-complete : goal.returns-in-Ok-Dump-clause-complete
+returns-in-Ok-Dump-clause-complete g c =
+    let old = g.M.Media.view c.args.media in
+    let new = g.M.Media.view c.run_dump.result.1 in
+    let said = c.run_dump.ensures in
+    words_say (map string_bytes c.args.words.now) c.run_dump.result.0 (Unit {0}) _ Dump said.no_usage (rw c.in-Ok-Dump.field-0-is at c.in-Ok-Dump.ensures.asked)
+    (λ fit no_source no_sink no_media.
+    complete_of (λ ended. Dumps old ended new said.ran.cut said.ran.text) (IsDamaged old) (HoldsArray old) old new said.ran.cut said.ran.text [] _ 0 0 _ _ _ _
+    (omega arith) fit.1.0 fit.1.1.array (λ page is. no_damage old fit.1.0 page fit.1.1 is) no_rise no_sink no_media c.run_dump.result.0 said.no_usage said.counts (nothing_read c.run_dump.result.0 said.late)
+    (said.ran.holds [] fit.0))
 
 pub returns-in-Ok-Format-clause-ran : goal.returns-in-Ok-Format-clause-ran
 returns-in-Ok-Format-clause-ran g c =
@@ -53,3 +68,10 @@ returns-in-Ok-Format-clause-ran g c =
     words_say (map string_bytes c.args.words.now) c.run_format.result.0 _ _ (Format c.in-Ok-Format.numbers) (no_usage c.in-Ok-Format.numbers _ c.run_format.result.0 _ _ c.run_format.ensures.says)
     (rw c.in-Ok-Format.field-0-is at c.in-Ok-Format.ensures.asked)
     (record { cut = ran.cut; text = ran.text; wrote = ran.wrote; counts = ran.counts; holds = (g.S.Source.left c.args.source.now, (λ _. refl), ran.holds) })
+
+pub returns-in-Ok-Dump-clause-ran : goal.returns-in-Ok-Dump-clause-ran
+returns-in-Ok-Dump-clause-ran g c =
+    let ran = c.run_dump.ensures.ran in
+    let given = g.S.Source.left c.args.source.now in
+    words_say (map string_bytes c.args.words.now) c.run_dump.result.0 _ _ Dump c.run_dump.ensures.no_usage (rw c.in-Ok-Dump.field-0-is at c.in-Ok-Dump.ensures.asked)
+    (record { cut = ran.cut; text = ran.text; wrote = ran.wrote; counts = ran.counts; holds = (given, (λ _. refl), ran.holds given) })

@@ -1,32 +1,78 @@
-use Rattle.std.proofs.Common.{rules, ◌≡◌, ◌<◌, [], ℕ, Some, None, IfOk, IfErr, MatchOption, IsTrue, is_some, length, ◌+◌, ◌-◌, ◌*◌, ◌≤◌, ◌/◌, ◌%◌, Bool, true, false, nat_eq, nat_lt, List, ◌∷◌, ◌++◌, slice_index_or, slice_set, bit_and, bit_or, Fits, w8, w32, w64, Bor, MutBor}
-use Rattle.std.specs.FinMap.{entries}
+use Rattle.std.proofs.Common.{◌≡◌, ◌+◌, ◌++◌, ◌∷◌, ℕ, false, true, Bool, List, Option, Some, None, [], nat_eq, length, Result, Ok, Err, unwrap_or, ap, subst, sym, ◌∙◌, refl}
+use Rattle.std.specs.Prelude.{is_some, IsNone}
+use Rattle.std.specs.Map.{update}
 use Rattle.eaw_face.specs.Causes.{IsAlive}
-use Rattle.eaw_face.specs.State.{listed}
-use Rattle.page_store.specs.Shown.{pages_of}
-use Rattle.history.specs.declared.call.Call.TheVariants.{Begin, Commit, Abort}
+use Rattle.page_store.specs.Shown.{PagesView, pages_of}
+use Rattle.history.specs.Rows.{table_of}
+use Rattle.history.specs.Table.{Granted}
+use Rattle.history.specs.declared.call.Call.TheVariants.{Abort}
+use Rattle.history.specs.declared.call.Reply.{Reply}
+use Rattle.history.specs.declared.call.Reply.TheVariants.{Fine, Committed, NoMemory}
+use Rattle.history.specs.declared.call.Reply.TheVariants as reply
+use Rattle.history.specs.declared.transaction.Done.{Done}
+use Rattle.record_table.specs.Command.{commit, abort}
+use Rattle.record_table.specs.Does.{Does}
+use Rattle.record_table.specs.declared.fault.TableFault.{TableFault}
+use Rattle.record_table.specs.declared.fault.TableFault.TheVariants as fault
 use Rattle.core_face.specs.Core.{Steps}
-use Rattle.core_face.specs.State.{calls_of}
-use Rattle.record_table.specs.Shown.{state_of}
-use Rattle.mars_core.specs.Attached.{CoreCause, GivesBack, is_media_fault, attach_fault, scan_fault}
-use Rattle.mars_core.specs.Held.{core_of}
-use Rattle.mars_core.specs.Masks.{IsMaskOf}
-use Rattle.mars_core.specs.Over.{Begins, IsOver}
-use Rattle.mars_core.specs.Seats.{live_in}
-use Rattle.mars_core.specs.Works.{IsOfTable, IsShown}
+use Rattle.core_face.specs.State.{State, done_by}
+use Rattle.mars_core.specs.Held.{Held, core_of, state_at}
+use Rattle.mars_core.specs.Kept.{IsKept}
+use Rattle.mars_core.specs.Seats.{Seats, live_in, calls_at}
+use Rattle.mars_core.specs.Works.{reply_to}
+use Rattle.mars_core.proofs.Prefixes.{StoreLaws}
+use Rattle.mars_core.proofs.Stepping.{ShowsPages}
+use Rattle.mars_core.proofs.Staying.{some_of, changed_back, kept_same}
+use Rattle.mars_core.proofs.Finishing.{last_is, commit_fails, abort_fails, committed_keeps, committed_steps, doubted_keeps, doubted_steps, aborted_keeps, aborted_steps, unended_keeps, unended_steps, unkept}
+use Rattle.mars_core.proofs.turns.Core.abort.Given.{Over}
 use Rattle.mars_core.proofs.turns.Core.abort.Goals as goal
 
--- src/turns.rt:227:17
+laws_at : (g : Over) (store : g.row.S.Denot) → StoreLaws g.S.EawStore.tells g.S.EawStore.opens (g.S.EawStore.view store)
+laws_at g store = record {
+  long = λ told. g.met.S.EawStore.long store told;
+  some = λ told alive. g.met.S.EawStore.some_now store told alive;
+  counts = λ told t image le left. g.met.S.EawStore.counts_now store t image told le left;
+  only = λ told alive image left. g.met.S.EawStore.only_now store image told alive left;
+}
+
+live_is : (seats : Seats) (t : ℕ) → is_some (live_in seats t) ≡ true → live_in seats t ≡ Some (calls_at seats t)
+live_is seats t there = let x = some_of (live_in seats t) there in x.1 ∙ ap (λ (cs : Granted). Some cs) (sym (ap (λ (o : Option Granted). unwrap_or o []) x.1))
+
 pub invariant_of-self : goal.invariant_of-self
-invariant_of-self g c = ?
+invariant_of-self g c = aborted_keeps g.S.EawStore.tells g.S.EawStore.opens g.K.KeyIndex.index g.met.S.EawStore.one_data (pages_of (g.S.EawStore.view c.self.inside.records.store) c.self.inside.records) (pages_of (g.S.EawStore.view c.abort.new.self.store) c.abort.new.self)
+          (laws_at g c.self.inside.records.store) (laws_at g c.abort.new.self.store) (state_at g.K.KeyIndex.index (g.S.EawStore.view c.self.inside.records.store) (table_of c.self.inside.base) c.self.inside.history (live_in c.self.inside.seats) c.self.inside.doubt) (state_at g.K.KeyIndex.index (g.S.EawStore.view c.abort.new.self.store) (table_of c.self.inside.base) c.self.inside.history (live_in c.end.new.self) c.self.inside.doubt) (record { indexed = refl; dead = refl }) (record { indexed = refl; dead = refl })
+          refl (length c.self.inside.seats) (length c.end.new.self) c.end.ensures.count c.self.inside.base c.self.invariant
+          (subst (λ (h : Held g.row.S.Denot). IsAlive (g.S.EawStore.view h.records.store)) (sym c.self.view_is) c.requires.alive) c.args.caller (calls_at c.self.inside.seats c.args.caller) (live_is c.self.inside.seats c.args.caller (sym c.if-not-is_live.ensures)) refl refl c.in-Ok.ensures.does c.end.ensures.live
 
--- src/turns.rt:229:27
 pub invariant_of-self-in-Err : goal.invariant_of-self-in-Err
-invariant_of-self-in-Err g c = ?
+invariant_of-self-in-Err g c = unended_keeps g.S.EawStore.tells g.S.EawStore.opens g.K.KeyIndex.index g.met.S.EawStore.one_data (pages_of (g.S.EawStore.view c.self.inside.records.store) c.self.inside.records) (pages_of (g.S.EawStore.view c.abort.new.self.store) c.abort.new.self)
+          (laws_at g c.self.inside.records.store) (laws_at g c.abort.new.self.store) (state_at g.K.KeyIndex.index (g.S.EawStore.view c.self.inside.records.store) (table_of c.self.inside.base) c.self.inside.history (live_in c.self.inside.seats) c.self.inside.doubt) (state_at g.K.KeyIndex.index (g.S.EawStore.view c.abort.new.self.store) (table_of c.self.inside.base) c.self.inside.history (live_in c.self.inside.seats) c.self.inside.doubt) (record { indexed = refl; dead = refl }) (record { indexed = refl; dead = refl })
+          refl (length c.self.inside.seats) (length c.self.inside.seats) refl c.self.inside.base c.self.invariant
+          (subst (λ (h : Held g.row.S.Denot). IsAlive (g.S.EawStore.view h.records.store)) (sym c.self.view_is) c.requires.alive) c.args.caller (calls_at c.self.inside.seats c.args.caller) (live_is c.self.inside.seats c.args.caller (sym c.if-not-is_live.ensures)) refl refl (subst (λ (f : TableFault). (let r : Result (Unit {0}) TableFault = Err f in Does g.S.EawStore.tells (g.S.EawStore.opens (g.S.EawStore.view c.self.inside.records.store).shape) g.K.KeyIndex.index (abort c.args.caller)
+          (pages_of (g.S.EawStore.view c.self.inside.records.store) c.self.inside.records) (pages_of (g.S.EawStore.view c.abort.new.self.store) c.abort.new.self) r)) (abort_fails g.S.EawStore.tells g.K.KeyIndex.index (pages_of (g.S.EawStore.view c.self.inside.records.store) c.self.inside.records) c.args.caller (subst (λ (h : Held g.row.S.Denot). IsAlive (g.S.EawStore.view h.records.store)) (sym c.self.view_is) c.requires.alive) c.in-Err.fault c.in-Err.ensures.does.cause) c.in-Err.ensures.does) refl
 
--- src/turns.rt:215:5
 pub returns-in-Ok : goal.returns-in-Ok
-returns-in-Ok g c = ?
+returns-in-Ok g c = record {
+      steps = subst (λ (h : Held g.row.S.Denot). Steps g.S.EawStore.tells c.args.caller Abort (core_of g.S.EawStore.opens g.K.KeyIndex.index (g.S.EawStore.view h.records.store) h)
+          (core_of g.S.EawStore.opens g.K.KeyIndex.index (g.S.EawStore.view c.abort.new.self.store)
+          (record { records = c.abort.new.self; base = c.self.inside.base; seats = c.end.new.self; history = c.self.inside.history; doubt = c.self.inside.doubt })) Fine) c.self.view_is
+          (aborted_steps g.S.EawStore.tells g.S.EawStore.opens g.K.KeyIndex.index g.met.S.EawStore.one_data (pages_of (g.S.EawStore.view c.self.inside.records.store) c.self.inside.records) (pages_of (g.S.EawStore.view c.abort.new.self.store) c.abort.new.self)
+          (laws_at g c.self.inside.records.store) (laws_at g c.abort.new.self.store) (state_at g.K.KeyIndex.index (g.S.EawStore.view c.self.inside.records.store) (table_of c.self.inside.base) c.self.inside.history (live_in c.self.inside.seats) c.self.inside.doubt) (state_at g.K.KeyIndex.index (g.S.EawStore.view c.abort.new.self.store) (table_of c.self.inside.base) c.self.inside.history (live_in c.end.new.self) c.self.inside.doubt) (record { indexed = refl; dead = refl }) (record { indexed = refl; dead = refl })
+          refl (length c.self.inside.seats) (length c.end.new.self) c.end.ensures.count c.self.inside.base c.self.invariant
+          (subst (λ (h : Held g.row.S.Denot). IsAlive (g.S.EawStore.view h.records.store)) (sym c.self.view_is) c.requires.alive) c.args.caller (calls_at c.self.inside.seats c.args.caller) (live_is c.self.inside.seats c.args.caller (sym c.if-not-is_live.ensures)) refl refl c.in-Ok.ensures.does c.end.ensures.live);
+    }
 
--- src/turns.rt:215:5
 pub returns-in-Err : goal.returns-in-Err
-returns-in-Err g c = ?
+returns-in-Err g c = record {
+      steps = subst (λ (r : Reply). Steps g.S.EawStore.tells c.args.caller Abort (core_of g.S.EawStore.opens g.K.KeyIndex.index (g.S.EawStore.view c.args.self.now.records.store) c.args.self.now)
+          (core_of g.S.EawStore.opens g.K.KeyIndex.index (g.S.EawStore.view c.abort.new.self.store)
+          (record { records = c.abort.new.self; base = c.self.inside.base; seats = c.self.inside.seats; history = c.self.inside.history; doubt = c.self.inside.doubt })) r) (sym (c.reply_to.ensures ∙ ap reply_to (abort_fails g.S.EawStore.tells g.K.KeyIndex.index (pages_of (g.S.EawStore.view c.self.inside.records.store) c.self.inside.records) c.args.caller (subst (λ (h : Held g.row.S.Denot). IsAlive (g.S.EawStore.view h.records.store)) (sym c.self.view_is) c.requires.alive) c.in-Err.fault c.in-Err.ensures.does.cause)))
+          (subst (λ (h : Held g.row.S.Denot). Steps g.S.EawStore.tells c.args.caller Abort (core_of g.S.EawStore.opens g.K.KeyIndex.index (g.S.EawStore.view h.records.store) h)
+          (core_of g.S.EawStore.opens g.K.KeyIndex.index (g.S.EawStore.view c.abort.new.self.store)
+          (record { records = c.abort.new.self; base = c.self.inside.base; seats = c.self.inside.seats; history = c.self.inside.history; doubt = c.self.inside.doubt })) reply.Media) c.self.view_is
+          (unended_steps g.S.EawStore.tells g.S.EawStore.opens g.K.KeyIndex.index g.met.S.EawStore.one_data (pages_of (g.S.EawStore.view c.self.inside.records.store) c.self.inside.records) (pages_of (g.S.EawStore.view c.abort.new.self.store) c.abort.new.self)
+          (laws_at g c.self.inside.records.store) (laws_at g c.abort.new.self.store) (state_at g.K.KeyIndex.index (g.S.EawStore.view c.self.inside.records.store) (table_of c.self.inside.base) c.self.inside.history (live_in c.self.inside.seats) c.self.inside.doubt) (state_at g.K.KeyIndex.index (g.S.EawStore.view c.abort.new.self.store) (table_of c.self.inside.base) c.self.inside.history (live_in c.self.inside.seats) c.self.inside.doubt) (record { indexed = refl; dead = refl }) (record { indexed = refl; dead = refl })
+          refl (length c.self.inside.seats) (length c.self.inside.seats) refl c.self.inside.base c.self.invariant
+          (subst (λ (h : Held g.row.S.Denot). IsAlive (g.S.EawStore.view h.records.store)) (sym c.self.view_is) c.requires.alive) c.args.caller (calls_at c.self.inside.seats c.args.caller) (live_is c.self.inside.seats c.args.caller (sym c.if-not-is_live.ensures)) refl refl (subst (λ (f : TableFault). (let r : Result (Unit {0}) TableFault = Err f in Does g.S.EawStore.tells (g.S.EawStore.opens (g.S.EawStore.view c.self.inside.records.store).shape) g.K.KeyIndex.index (abort c.args.caller)
+          (pages_of (g.S.EawStore.view c.self.inside.records.store) c.self.inside.records) (pages_of (g.S.EawStore.view c.abort.new.self.store) c.abort.new.self) r)) (abort_fails g.S.EawStore.tells g.K.KeyIndex.index (pages_of (g.S.EawStore.view c.self.inside.records.store) c.self.inside.records) c.args.caller (subst (λ (h : Held g.row.S.Denot). IsAlive (g.S.EawStore.view h.records.store)) (sym c.self.view_is) c.requires.alive) c.in-Err.fault c.in-Err.ensures.does.cause) c.in-Err.ensures.does) refl));
+    }

@@ -9,6 +9,7 @@ use Rattle.history.specs.declared.call.Reply.TheVariants.{Fine}
 use Rattle.core_face.specs.Core.{Steps}
 use Rattle.mars_core.specs.Held.{Held, core_of, state_at}
 use Rattle.mars_core.specs.Seats.{live_in}
+use Rattle.mars_core.proofs.Finishing.{unkept}
 use Rattle.mars_core.proofs.Staying.{none_of, begun_keeps, begun_steps}
 use Rattle.mars_core.proofs.turns.Core.begin.Goals as goal
 

@@ -1,0 +1,315 @@
+-- The end of a transaction: a commit, an abort, and a fault of the media in them.
+use Rattle.std.proofs.Common.{◌≡◌, ◌≢◌, ◌≤◌, ◌<◌, ◌+◌, ◌⊎◌, ℕ, inl, inr, Bool, true, false, cond, ◌||◌, nat_eq, List, [], ◌∷◌, ◌++◌, length, IsTrue, Option, Some, None, unwrap_or, Result, Ok, Err, refl, sym, ap, subst, ◌∙◌, arith}
+use Rattle.std.specs.Prelude.{IsFalse}
+use Rattle.std.specs.Option.{option_to_list}
+use Rattle.std.specs.Map.{update}
+use Rattle.std.proofs.lemmas.Map.{update_here, update_apart}
+use Rattle.std.proofs.lemmas.Bool.{false≢true}
+use Rattle.counted.proofs.Going.{weaker}
+use Rattle.array_shape.specs.declared.shape.Shape.{Shape}
+use Rattle.eaw_face.specs.StoreView.{StoreView, LeavesOnly}
+use Rattle.eaw_face.specs.Causes.{IsAlive}
+use Rattle.page_store.specs.Index as below
+use Rattle.page_store.specs.Shown.{PagesView}
+use Rattle.history.specs.Writes.{Table, Write, all_written}
+use Rattle.history.specs.Table.{Granted, IsRight}
+use Rattle.history.specs.Legal.{records, with_doubt}
+use Rattle.history.specs.Log.{log_of}
+use Rattle.history.specs.declared.call.Call.{Call}
+use Rattle.history.specs.declared.call.Call.TheVariants.{Commit, Abort}
+use Rattle.history.specs.declared.call.Reply.{Reply}
+use Rattle.history.specs.declared.call.Reply.TheVariants.{Fine, Committed, NoMemory}
+use Rattle.history.specs.declared.call.Reply.TheVariants as reply
+use Rattle.history.specs.declared.transaction.Done.{Done}
+use Rattle.history.proofs.OneMore.{records-push}
+use Rattle.history.proofs.Pending.{left_is_written}
+use Rattle.page_store.specs.State.{with_one}
+use Rattle.record_table.specs.State.{TableState, seen_by}
+use Rattle.record_table.specs.Causes.{Cause}
+use Rattle.record_table.specs.Command.{commit, abort, after}
+use Rattle.record_table.specs.Does.{Does, OpensWith}
+use Rattle.record_table.specs.Shown.{state_of, keys_of}
+use Rattle.record_table.specs.declared.fault.TableFault.{TableFault}
+use Rattle.record_table.specs.declared.fault.TableFault.TheVariants as fault
+use Rattle.core_face.specs.State.{State, Index, calls_of, records_of, with_live, done_by}
+use Rattle.core_face.specs.Step.{Step}
+use Rattle.core_face.specs.Fate.{Moves}
+use Rattle.core_face.specs.Prefix.{HasPrefix, HasPrefixOf}
+use Rattle.core_face.specs.Core.{IsSafe, Steps}
+use Rattle.core_face.proofs.Sound.{step_sound}
+use Rattle.mars_core.specs.Over.{limits_of, index_of}
+use Rattle.mars_core.specs.Held.{core_over}
+use Rattle.mars_core.specs.Kept.{Mirrors, HasHeld, IsTied, IsKept}
+use Rattle.mars_core.proofs.Mirroring.{with_one_here, mirrors_at, apart}
+use Rattle.mars_core.proofs.Entering.{room_empty}
+use Rattle.mars_core.proofs.Prefixes.{StoreLaws, prefix_all, prefix_more, sound_after, safe_dead, safe_alive}
+use Rattle.mars_core.proofs.Stepping.{ShowsPages, or_false, or_true, moves_refused, step_of, steps_of, steps_same, time_same}
+
+-- what was pushed last is what is taken off
+no_tail : {A : Type 0} (x : A) (xs : List A) → x ∷ xs ≡ [] → ⊥
+no_tail x xs e = absurd (cc)
+
+heads : {A : Type 0} (x y : A) (xs ys : List A) → x ∷ xs ≡ y ∷ ys → x ≡ y
+heads x y xs ys e = cc
+
+tails : {A : Type 0} (x y : A) (xs ys : List A) → x ∷ xs ≡ y ∷ ys → xs ≡ ys
+tails x y xs ys e = cc
+
+pub last_is : {A : Type 0} (xs ys : List A) (x : A) (o : Option A) → xs ++ x ∷ [] ≡ ys ++ option_to_list o → (o ≡ None → xs ++ x ∷ [] ≡ []) → (xs ≡ ys) × (o ≡ Some x)
+last_is [] ys x None e none = absurd (no_tail x [] (none refl))
+last_is (y ∷ xs) ys x None e none = absurd (no_tail y (xs ++ x ∷ []) (none refl))
+last_is [] [] x (Some z) e none = (refl, ap (λ a. Some a) (sym (heads x z [] [] e)))
+last_is [] (y ∷ ys) x (Some z) e none = absurd (one_more ys z (tails x y [] (ys ++ z ∷ []) e))
+  where
+    one_more : {A : Type 0} (ys : List A) (z : A) → [] ≡ ys ++ z ∷ [] → ⊥
+    one_more [] z e = no_tail z [] (sym e)
+    one_more (y ∷ ys) z e = no_tail y (ys ++ z ∷ []) (sym e)
+last_is (y ∷ xs) [] x (Some z) e none = absurd (one_more xs x (tails y z (xs ++ x ∷ []) [] e))
+  where
+    one_more : {A : Type 0} (ys : List A) (z : A) → ys ++ z ∷ [] ≡ [] → ⊥
+    one_more [] z e = no_tail z [] e
+    one_more (y ∷ ys) z e = no_tail y (ys ++ z ∷ []) e
+last_is (a ∷ xs) (b ∷ ys) x (Some z) e none =
+    let rest = last_is xs ys x (Some z) (tails a b (xs ++ x ∷ []) (ys ++ z ∷ []) e) (λ never. absurd (cc)) in
+    ((λ i. heads a b (xs ++ x ∷ []) (ys ++ z ∷ []) e i ∷ rest.0 i), rest.1)
+
+-- a transaction's end is refused by the media alone
+pub commit_fails : (tells : Bool) (index : below.Index) (p : PagesView) (t : ℕ) → IsAlive p.store → (f : TableFault) → (let r : Result (Unit {0}) TableFault = Err f in Cause tells index (commit t) p r) → f ≡ fault.Media
+commit_fails tells index p t alive fault.Media cause = refl
+commit_fails tells index p t alive fault.Dead cause = absurd (false≢true (sym alive ∙ cause))
+commit_fails tells index p t alive (fault.SlotsFull n) cause = absurd cause.1
+commit_fails tells index p t alive (fault.PagesFull n) cause = absurd cause.1
+commit_fails tells index p t alive (fault.LogFull g h n) cause = absurd cause.1
+commit_fails tells index p t alive fault.SavesFull cause = absurd cause.1
+commit_fails tells index p t alive (fault.Damaged page) cause = absurd cause.1
+commit_fails tells index p t alive fault.NoMemory cause = absurd cause.1
+
+pub abort_fails : (tells : Bool) (index : below.Index) (p : PagesView) (t : ℕ) → IsAlive p.store → (f : TableFault) → (let r : Result (Unit {0}) TableFault = Err f in Cause tells index (abort t) p r) → f ≡ fault.Media
+abort_fails tells index p t alive fault.Media cause = refl
+abort_fails tells index p t alive fault.Dead cause = absurd (false≢true (sym alive ∙ cause))
+abort_fails tells index p t alive (fault.SlotsFull n) cause = absurd cause.1
+abort_fails tells index p t alive (fault.PagesFull n) cause = absurd cause.1
+abort_fails tells index p t alive (fault.LogFull g h n) cause = absurd cause.1
+abort_fails tells index p t alive fault.SavesFull cause = absurd cause.1
+abort_fails tells index p t alive (fault.Damaged page) cause = absurd cause.1
+abort_fails tells index p t alive fault.NoMemory cause = absurd cause.1
+
+module _ (tells : Bool) (Opens : Shape → List ℕ → List ℕ → Type 0) (index : below.Index) (one : (shape : Shape) (image a b : List ℕ) → Opens shape image a → Opens shape image b → a ≡ b)
+    (p q : PagesView) (old_laws : StoreLaws tells Opens p.store) (new_laws : StoreLaws tells Opens q.store) (s new : State) (shows : ShowsPages index p s) (shows_new : ShowsPages index q new)
+    (base : new.base ≡ s.base) (count count' : ℕ) (same_count : count' ≡ count) (rows : List (ℕ × List ℕ)) (kept : IsKept tells Opens index p count rows s) (alive : IsAlive p.store)
+    (t : ℕ) (calls : Granted) (is : s.live t ≡ Some calls) where
+  living_state : s.is_dead ≡ false
+  living_state = shows.dead ∙ alive
+
+  at : calls_of s t ≡ calls
+  at = ap (λ (o : Option Granted). unwrap_or o []) is
+
+  -- a commit
+  module _ (done : Done) (done_is : done ≡ done_by s t calls) (result : Result (Unit {0}) TableFault) (does : Does tells (Opens p.store.shape) index (commit t) p q result)
+      (live : new.live ≡ update nat_eq s.live t None) where
+    module _ (told : IsTrue tells) where
+      tied : IsTied index p s
+      tied = kept.tied told alive
+
+      right : IsRight (records_of s) calls
+      right = subst (λ (cs : Granted). IsRight (records_of s) cs) at (tied.sound.right t)
+
+      -- the table that it leaves is that of the longer history
+      seen_left : seen_by (state_of index p) t ≡ records s.base (s.history ++ done ∷ [])
+      seen_left = (λ i. all_written (tied.mirrors.table i) ((tied.mirrors.writes t ∙ ap (λ (cs : Granted). (log_of cs).writes) at) i)) ∙ sym (left_is_written (records_of s) calls right)
+          ∙ sym (records-push s.base s.history done ∙ ap (λ (d : Done). left_after s d) done_is)
+        where
+          left_after : State → Done → Table
+          left_after s d = records (records_of s) (d ∷ [])
+
+      time_commit : with_doubt new.history new.doubt ≡ s.history ++ done ∷ [] → LeavesOnly (HasPrefixOf (OpensWith (Opens q.store.shape) index) new (length s.history)) p.store q.store
+      time_commit list = weaker go (does.time told alive)
+        where
+          opened : (image : List ℕ) (C : Table) → OpensWith (Opens p.store.shape) index image C → OpensWith (Opens q.store.shape) index image C
+          opened image C o = subst (λ (h : Shape). OpensWith (Opens h) index image C) (sym does.shape) o
+
+          turned : (image : List ℕ) → HasPrefix (OpensWith (Opens q.store.shape) index) s.base (s.history ++ done ∷ []) (length s.history) image
+              → HasPrefixOf (OpensWith (Opens q.store.shape) index) new (length s.history) image
+          turned image has = subst (λ (b : Table). HasPrefix (OpensWith (Opens q.store.shape) index) b (with_doubt new.history new.doubt) (length s.history) image) (sym base)
+              (subst (λ (hs : List Done). HasPrefix (OpensWith (Opens q.store.shape) index) s.base hs (length s.history) image) (sym list) has)
+
+          go : (image : List ℕ) → OpensWith (Opens p.store.shape) index image (state_of index p).table ⊎ OpensWith (Opens p.store.shape) index image (after (commit t) (state_of index p)).table
+              → HasPrefixOf (OpensWith (Opens q.store.shape) index) new (length s.history) image
+          go image (inl o) = turned image (prefix_all (OpensWith (Opens q.store.shape) index) image s.base s.history (Some done)
+              (subst (λ (table : Table). OpensWith (Opens q.store.shape) index image table) tied.mirrors.table (opened image (state_of index p).table o)))
+          go image (inr o) = turned image (prefix_more (OpensWith (Opens q.store.shape) index) image s.base s.history done
+              (subst (λ (table : Table). OpensWith (Opens q.store.shape) index image table) seen_left (opened image (after (commit t) (state_of index p)).table o)))
+
+  module _ (done : Done) (done_is : done ≡ done_by s t calls) (does : (let r : Result (Unit {0}) TableFault = Ok tt in Does tells (Opens p.store.shape) index (commit t) p q r))
+      (live : new.live ≡ update nat_eq s.live t None) (history : new.history ≡ s.history ++ done ∷ []) (doubt : new.doubt ≡ s.doubt) where
+    living : IsAlive q.store
+    living = (does.faults refl).0 ∙ alive
+
+    dead_same : new.is_dead ≡ s.is_dead
+    dead_same = shows_new.dead ∙ (does.faults refl).0 ∙ sym shows.dead
+
+    longer : new.history ≡ s.history ++ done_by s t calls ∷ []
+    longer = history ∙ ap (λ (d : Done). s.history ++ d ∷ []) done_is
+
+    module _ (told : IsTrue tells) where
+      index_same : new.index ≡ s.index
+      index_same = shows_new.indexed ∙ ap index_of (does.indexed told alive refl) ∙ sym shows.indexed
+
+      step : Step (limits_of p.store.shape) s t Commit (Committed (length s.history + 1)) new
+      step = step_of (limits_of p.store.shape) (Some calls) s new t Commit (Committed (length s.history + 1)) living_state is
+          (inr (inl (refl, λ i. record { base = base i; history = longer i; live = live i; doubt = doubt i; is_dead = dead_same i; index = index_same i })))
+
+      tied_new : IsTied index q new
+      tied_new =
+          let was = kept.tied told alive in
+          record {
+            index_sound = sound_after tells Opens index one p q old_laws new_laws told does.shape alive was.index_sound _ _ (does.time told alive) living;
+            mirrors = subst (λ (b : TableState). Mirrors b new) (sym (does.done told)) (mirrors_at (state_of index p) s was.mirrors (after (commit t) (state_of index p)) new t None live
+                (seen_left done done_is (let r : Result (Unit {0}) TableFault = Ok tt in r) does live told ∙ (λ i. records (sym base i) (sym history i)))
+                (with_one_here (state_of index p).writes t [], with_one_here (state_of index p).saved t []) (apart (state_of index p) t Commit));
+            sound = step_sound (limits_of p.store.shape) s t Commit (Committed (length s.history + 1)) new was.sound step;
+            room = subst (λ (h : Shape). HasHeld (limits_of h) new) (sym does.shape) (room_empty (limits_of p.store.shape) s new t None refl was.room index_same live);
+          }
+
+      safe_new : IsSafe (core_over Opens index q.store new) q.store.moment (length new.history)
+      safe_new = safe_alive tells Opens index q new_laws new told living tied_new
+
+      no_doubt : with_doubt new.history new.doubt ≡ s.history ++ done ∷ []
+      no_doubt = ap (with_doubt new.history) (doubt ∙ (kept.tied told alive).sound.certain living_state) ∙ history
+
+    pub committed_keeps : IsKept tells Opens index q count' rows new
+    committed_keeps = record { seats = same_count ∙ kept.seats ∙ sym (ap (λ (h : Shape). h.numbers) does.shape); in_order = kept.in_order; tied = λ told _. tied_new told; safe = safe_new }
+
+    pub committed_steps : (n : ℕ) → n ≡ length s.history + 1 → Steps tells t Commit (core_over Opens index p.store s) (core_over Opens index q.store new) (Committed n)
+    committed_steps n n_is = subst (λ (k : ℕ). Steps tells t Commit (core_over Opens index p.store s) (core_over Opens index q.store new) (Committed k)) (sym n_is)
+        (steps_of tells Opens index p q s new t Commit (Committed (length s.history + 1)) does.shape (record {
+          base = base;
+          history = longer ∙ ap (λ (cs : Granted). s.history ++ done_by s t cs ∷ []) (sym at);
+          dead = dead_same ∙ sym (or_false s.is_dead);
+          own = λ _. ap (λ (f : ℕ → Option Granted). f t) live ∙ update_here s.live t None;
+          others = λ other ne. ap (λ (f : ℕ → Option Granted). f other) live ∙ update_apart s.live t None other ne;
+          refused = λ refusal _. absurd (false≢true refusal);
+        }) (λ failed. absurd (false≢true failed)) (λ _. (does.faults refl).1) step
+        (λ told. time_commit done done_is (let r : Result (Unit {0}) TableFault = Ok tt in r) does live told (no_doubt told)) safe_new)
+
+  -- the media failed in it
+  module _ (done : Done) (done_is : done ≡ done_by s t calls) (does : (let r : Result (Unit {0}) TableFault = Err fault.Media in Does tells (Opens p.store.shape) index (commit t) p q r))
+      (live : new.live ≡ update nat_eq s.live t None) (history : new.history ≡ s.history) (doubt : new.doubt ≡ Some done) where
+    died : new.is_dead ≡ true
+    died = shows_new.dead ∙ (does.dies refl).0
+
+    doubtful : with_doubt new.history new.doubt ≡ s.history ++ done ∷ []
+    doubtful = λ i. with_doubt (history i) (doubt i)
+
+    step_doubt : IsTrue tells → Step (limits_of p.store.shape) s t Commit reply.Media new
+    step_doubt told = step_of (limits_of p.store.shape) (Some calls) s new t Commit reply.Media living_state is (inr (inr (
+      refl,
+      new.index,
+      λ i. record { base = base i; history = history i; live = live i; doubt = (doubt ∙ ap (λ (d : Done). Some d) done_is) i; is_dead = died i; index = new.index },
+    )))
+
+    time_doubt : IsTrue tells → LeavesOnly (HasPrefixOf (OpensWith (Opens q.store.shape) index) new (length s.history)) p.store q.store
+    time_doubt told = time_commit done done_is (let r : Result (Unit {0}) TableFault = Err fault.Media in r) does live told doubtful
+
+    safe_doubt : IsTrue tells → IsSafe (core_over Opens index q.store new) q.store.moment (length new.history)
+    safe_doubt told = let was = kept.tied told alive in safe_dead tells Opens index one p q old_laws new_laws told does.shape alive was.index_sound s new was.mirrors.table base history (time_doubt told)
+
+    pub doubted_keeps : IsKept tells Opens index q count' rows new
+    doubted_keeps = record {
+      seats = same_count ∙ kept.seats ∙ sym (ap (λ (h : Shape). h.numbers) does.shape);
+      in_order = kept.in_order;
+      tied = λ told living. absurd (false≢true (sym living ∙ (does.dies refl).0));
+      safe = safe_doubt;
+    }
+
+    pub doubted_steps : Steps tells t Commit (core_over Opens index p.store s) (core_over Opens index q.store new) reply.Media
+    doubted_steps = steps_of tells Opens index p q s new t Commit reply.Media does.shape (record {
+      base = base;
+      history = history;
+      dead = died ∙ sym (or_true s.is_dead);
+      own = λ granted. absurd (false≢true (sym granted));
+      others = λ other ne. ap (λ (f : ℕ → Option Granted). f other) live ∙ update_apart s.live t None other ne;
+      refused = λ _ well. absurd (false≢true (sym well));
+    }) (λ _. (does.dies refl).1) (λ well. absurd (false≢true (sym well))) step_doubt time_doubt safe_doubt
+
+  -- an abort
+  module _ (history : new.history ≡ s.history) (doubt : new.doubt ≡ s.doubt) where
+    module _ (does : (let r : Result (Unit {0}) TableFault = Ok tt in Does tells (Opens p.store.shape) index (abort t) p q r)) (live : new.live ≡ update nat_eq s.live t None) where
+      lives : IsAlive q.store
+      lives = (does.faults refl).0 ∙ alive
+
+      dead_alike : new.is_dead ≡ s.is_dead
+      dead_alike = shows_new.dead ∙ (does.faults refl).0 ∙ sym shows.dead
+
+      module _ (told : IsTrue tells) where
+        index_alike : new.index ≡ s.index
+        index_alike = shows_new.indexed ∙ ap index_of (does.indexed told alive refl) ∙ sym shows.indexed
+
+        step_abort : Step (limits_of p.store.shape) s t Abort Fine new
+        step_abort = step_of (limits_of p.store.shape) (Some calls) s new t Abort Fine living_state is
+            (inl (refl, λ i. record { base = base i; history = history i; live = live i; doubt = doubt i; is_dead = dead_alike i; index = index_alike i }))
+
+        tied_abort : IsTied index q new
+        tied_abort =
+            let was = kept.tied told alive in
+            record {
+              index_sound = sound_after tells Opens index one p q old_laws new_laws told does.shape alive was.index_sound _ _ (does.time told alive) lives;
+              mirrors = subst (λ (b : TableState). Mirrors b new) (sym (does.done told)) (mirrors_at (state_of index p) s was.mirrors (after (abort t) (state_of index p)) new t None live
+                  (was.mirrors.table ∙ (λ i. records (sym base i) (sym history i)))
+                  (with_one_here (state_of index p).writes t [], with_one_here (state_of index p).saved t []) (apart (state_of index p) t Abort));
+              sound = step_sound (limits_of p.store.shape) s t Abort Fine new was.sound step_abort;
+              room = subst (λ (h : Shape). HasHeld (limits_of h) new) (sym does.shape) (room_empty (limits_of p.store.shape) s new t None refl was.room index_alike live);
+            }
+
+        safe_abort : IsSafe (core_over Opens index q.store new) q.store.moment (length new.history)
+        safe_abort = safe_alive tells Opens index q new_laws new told lives tied_abort
+
+        time_abort : LeavesOnly (HasPrefixOf (OpensWith (Opens q.store.shape) index) new (length s.history)) p.store q.store
+        time_abort = let was = kept.tied told alive in
+            time_same tells Opens index p q s new (state_of index p).table (after (abort t) (state_of index p)).table does.shape was.mirrors.table was.mirrors.table base history (does.time told alive)
+
+      pub aborted_keeps : IsKept tells Opens index q count' rows new
+      aborted_keeps = record { seats = same_count ∙ kept.seats ∙ sym (ap (λ (h : Shape). h.numbers) does.shape); in_order = kept.in_order; tied = λ told _. tied_abort told; safe = safe_abort }
+
+      pub aborted_steps : Steps tells t Abort (core_over Opens index p.store s) (core_over Opens index q.store new) Fine
+      aborted_steps = steps_of tells Opens index p q s new t Abort Fine does.shape (record {
+        base = base;
+        history = history;
+        dead = dead_alike ∙ sym (or_false s.is_dead);
+        own = λ _. ap (λ (f : ℕ → Option Granted). f t) live ∙ update_here s.live t None;
+        others = λ other ne. ap (λ (f : ℕ → Option Granted). f other) live ∙ update_apart s.live t None other ne;
+        refused = λ refusal _. absurd (false≢true refusal);
+      }) (λ failed. absurd (false≢true failed)) (λ _. (does.faults refl).1) step_abort time_abort safe_abort
+
+    module _ (does : (let r : Result (Unit {0}) TableFault = Err fault.Media in Does tells (Opens p.store.shape) index (abort t) p q r)) (live : new.live ≡ s.live) where
+      gone : new.is_dead ≡ true
+      gone = shows_new.dead ∙ (does.dies refl).0
+
+      step_gone : IsTrue tells → Step (limits_of p.store.shape) s t Abort reply.Media new
+      step_gone told = step_of (limits_of p.store.shape) (Some calls) s new t Abort reply.Media living_state is
+          (inr (refl, new.index, λ i. record { base = base i; history = history i; live = live i; doubt = doubt i; is_dead = gone i; index = new.index }))
+
+      time_gone : IsTrue tells → LeavesOnly (HasPrefixOf (OpensWith (Opens q.store.shape) index) new (length s.history)) p.store q.store
+      time_gone told = let was = kept.tied told alive in
+          time_same tells Opens index p q s new (state_of index p).table (after (abort t) (state_of index p)).table does.shape was.mirrors.table was.mirrors.table base history (does.time told alive)
+
+      safe_gone : IsTrue tells → IsSafe (core_over Opens index q.store new) q.store.moment (length new.history)
+      safe_gone told = let was = kept.tied told alive in safe_dead tells Opens index one p q old_laws new_laws told does.shape alive was.index_sound s new was.mirrors.table base history (time_gone told)
+
+      pub unended_keeps : IsKept tells Opens index q count' rows new
+      unended_keeps = record {
+        seats = same_count ∙ kept.seats ∙ sym (ap (λ (h : Shape). h.numbers) does.shape);
+        in_order = kept.in_order;
+        tied = λ told living. absurd (false≢true (sym living ∙ (does.dies refl).0));
+        safe = safe_gone;
+      }
+
+      pub unended_steps : Steps tells t Abort (core_over Opens index p.store s) (core_over Opens index q.store new) reply.Media
+      unended_steps = steps_of tells Opens index p q s new t Abort reply.Media does.shape (moves_refused s new t Abort reply.Media base history live (gone ∙ sym (or_true s.is_dead)) refl refl)
+          (λ _. (does.dies refl).1) (λ well. absurd (false≢true (sym well))) step_gone time_gone safe_gone
+
+-- a commit for which the history has no memory
+pub unkept : (tells : Bool) (Opens : Shape → List ℕ → List ℕ → Type 0) (index : below.Index) (p : PagesView) (s new : State) (shows : ShowsPages index p s) (count : ℕ) (rows : List (ℕ × List ℕ))
+    → IsKept tells Opens index p count rows s → IsAlive p.store → (t : ℕ) (calls : Granted) → s.live t ≡ Some calls → new ≡ s → Steps tells t Commit (core_over Opens index p.store s) (core_over Opens index p.store new) NoMemory
+unkept tells Opens index p s new shows count rows kept alive t calls is same = steps_same tells Opens index p s new t Commit NoMemory same kept.safe refl refl refl (λ told.
+    step_of (limits_of p.store.shape) (Some calls) s s t Commit NoMemory (shows.dead ∙ alive) is (inl (refl, refl)))

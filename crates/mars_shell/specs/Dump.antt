@@ -1,0 +1,50 @@
+-- What a dump of records does on a media that tells its bytes.
+use Rattle.std.specs.Prelude.{ℕ, ◌≡◌, List, [], ◌∷◌, ◌++◌, length, codes, Bool, true, false}
+use Rattle.std.specs.FinMap.{entries}
+use Rattle.std.specs.Fmt.{decimal}
+use Rattle.std.specs.List.{flat_map}
+use Rattle.pcm_media.specs.Images.{MayLeave}
+use Rattle.pcm_media.specs.View.{View}
+use Rattle.array_shape.specs.declared.shape.Shape.{Shape}
+use Rattle.array_image.specs.Decided.{settled_data}
+use Rattle.device_recovery.specs.Recovered.{HasNoVote}
+use Rattle.eaw_device.specs.Opens.{Opens, AllOpen, OpensLike}
+use Rattle.key_list.specs.Index.{chain}
+use Rattle.record_table.specs.Shown.{table_of}
+use Rattle.history.specs.Writes.{Table}
+use Rattle.script_io.specs.Written.{IsWritten}
+use Rattle.script_run.specs.declared.ended.Ended.{Ended}
+use Rattle.script_run.specs.declared.ended.Ended.TheVariants.{All, WriteFault}
+use Rattle.mars_shell.specs.Run.{HoldsRecords}
+
+-- a record's line, and the last one, which tells how many there are
+abbrev pub rec_line : ℕ × List ℕ → List ℕ
+rec_line row = codes "rec " ++ (decimal row.0 ++ 32 ∷ (row.1 ++ 10 ∷ []))
+
+abbrev pub count_line : ℕ → List ℕ
+count_line n = codes "records " ++ (decimal n ++ 10 ∷ [])
+
+-- the lines of rows, which rise by their keys
+abbrev pub dump_lines : List (ℕ × List ℕ) → List ℕ
+dump_lines rows = flat_map rec_line rows ++ count_line (length rows)
+
+abbrev pub dump_text : Table → List ℕ
+dump_text table = dump_lines (entries table)
+
+-- whether the sink cut the text short, by how the dump ended; it ends in no other way
+abbrev pub IsCutAt : Ended → Bool → Type 0
+IsCutAt All cut = cut ≡ false
+IsCutAt WriteFault cut = cut ≡ true
+IsCutAt _ cut = ⊥
+
+-- The records of the array are told, or a front of that text where it was cut short. The media is as an opening leaves it: each image
+-- that a loss of power may leave opens with the data that was opened; and one that might have been left since the entry with the data of
+-- an image that could be left at first, where all of these open.
+pub record Dumps (old : View) (ended : Ended) (new : View) (cut : Bool) (text : List ℕ) : Type 0 where
+  pub shape : Shape
+  pub holds : HoldsRecords shape old
+  pub end : IsCutAt ended cut
+  pub wrote : IsWritten cut text (dump_text (table_of chain (settled_data shape old.content.bytes)))
+  pub quiet : HasNoVote shape new.content.bytes
+  pub now : (image : List ℕ) → MayLeave new.content image → Opens shape image (settled_data shape old.content.bytes)
+  pub since : AllOpen shape old.content → (image : List ℕ) → new.left_since old.moment image → OpensLike shape old.content image

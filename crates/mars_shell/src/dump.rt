@@ -1,0 +1,114 @@
+// A dump of the records of an array.
+ghost use Rattle.std.specs.Prelude.{◌≡◌, ◌++◌, ℕ, List, None, IsTrue, IfOk, IfErr, OnOk, ◌⊎◌};
+ghost use Rattle.eaw_face.specs.Causes.{IsAlive};
+ghost use Rattle.script_io.specs.Written.{Wrote};
+ghost use Rattle.command_words.specs.declared.words.Words.TheVariants.{Dump};
+ghost use Rattle.mars_shell.specs.Asked.{OutcomeFor};
+ghost use Rattle.mars_shell.specs.Dump.{rec_line, count_line, dump_lines};
+ghost use Rattle.mars_shell.specs.Served.{Tells, ServedCounts};
+ghost use Rattle.mars_shell.specs.Statuses.{Counts, IsEarly, IsRefusal};
+
+use crate::opening::open_array;
+use crate::status::{Status, served_status};
+use counted::NoMemory;
+use eaw_face::EawStore;
+use history::Rows;
+use itoa::Buffer;
+use key_list::KeyList;
+use mars_core::{Core, CoreFault};
+use outside::Sink;
+use page_store::SaveRoom;
+use pcm_media::Media;
+use record_slots::Value;
+use script_io::write_whole;
+use script_run::Ended;
+use std::alloc::Global;
+
+/// Tells the records of the array that the media holds, where they are sound, and how many there are.
+pub(crate) fn run_dump<K: Sink, M: Media>(alloc: Global, sink: &mut K, media: M) -> (Status, M)
+    ensures no_usage { result.0 ≡ Status.Usage → ⊥ }
+    ensures late { IsEarly result.0 → ⊥ }
+    // Of records that were not taken nothing is told, nor where the media failed.
+    ensures refused { IsRefusal result.0 → sink.new ≡ sink.old }
+    ensures untold { (result.0 ≡ Status.MediaFault) ⊎ (result.0 ≡ Status.NoMemory) → sink.new ≡ sink.old }
+    ensures counts { Counts result.0 0 0 (K.faults sink.old) (K.faults sink.new) (M.view media).faults (M.view result.1).faults }
+    ensures ran { Wrote K.tells (K.written sink.old) (K.written sink.new) (K.faults sink.old) (K.faults sink.new)
+        (λ cut text. (input : List ℕ) → IsTrue M.tells → OutcomeFor Dump (M.view media) result.0 (M.view result.1) input cut text) }
+{
+    // The room for the pages is taken first, so that want of memory for it leaves the media alone.
+    let room = match SaveRoom::new(alloc) {
+        Ok(room) => room,
+        Err(_) => return (Status::NoMemory, media),
+    };
+    let store = match open_array(alloc, media) {
+        Ok(store) => store,
+        Err(ended) => return ended,
+    };
+    let (told, store) = tell_records(alloc, sink, room, store);
+    (served_status(told), store.into_media())
+}
+
+// Tells the records of a store in one piece, which is formed before any of it is written, and gives the store back.
+fn tell_records<K: Sink, S: EawStore>(
+    alloc: Global,
+    sink: &mut K,
+    room: SaveRoom,
+    store: S,
+) -> (Result<Ended, CoreFault>, S)
+    requires alive { IsAlive (S.view store) }
+    requires free { (t : ℕ) → (S.view store).ranges t ≡ None }
+    ensures told { Wrote K.tells (K.written sink.old) (K.written sink.new) (K.faults sink.old) (K.faults sink.new)
+        (λ cut text. IsTrue S.tells → Tells S.opens (S.view store) result.0 cut text (S.view result.1)) }
+    ensures untold { IfErr result.0 (λ fault. sink.new ≡ sink.old) }
+    ensures end { IfOk result.0 (λ ended. (ended ≡ Ended.All) ⊎ (ended ≡ Ended.WriteFault)) }
+    ensures counts { ServedCounts result.0 (K.faults sink.old) (K.faults sink.new) (S.view store).faults (S.view result.1).faults }
+{
+    let core = match Core::<S, KeyList>::attach(alloc, room, store) {
+        Ok(core) => core,
+        Err((fault, store)) => return (Err(fault), store),
+    };
+    let text = dump_lines(alloc, core.base());
+    let store = core.into_store();
+    let Ok(text) = text else {
+        return (Err(CoreFault::NoMemory), store);
+    };
+    match write_whole(sink, &text) {
+        Ok(()) => (Ok(Ended::All), store),
+        Err(_) => (Ok(Ended::WriteFault), store),
+    }
+}
+
+// The lines of rows, and of their count.
+fn dump_lines(alloc: Global, rows: &Rows) -> Result<Vec<u8>, NoMemory>
+    ensures { IfOk result (λ text. text.items ≡ dump_lines rows.now) }
+{
+    let rows = rows.as_slice();
+    let mut text = Vec::new(alloc);
+    for row in rows {
+        append_row(&mut text, row.0, &row.1)?;
+    }
+    append_count(&mut text, rows.len() as u64)?;
+    Ok(text)
+}
+
+fn append_row(text: &mut Vec<u8>, key: u64, value: &Value) -> Result<(), NoMemory>
+    ensures { OnOk result (text.new.items ≡ text.old.items ++ rec_line (key, value.now)) }
+{
+    let mut buffer = Buffer::new();
+    text.extend_from_slice(b"rec ")?;
+    text.extend_from_slice(buffer.format(key).as_bytes())?;
+    text.extend_from_slice(b" ")?;
+    text.extend_from_slice(value.as_bytes())?;
+    text.extend_from_slice(b"\n")?;
+    Ok(())
+}
+
+fn append_count(text: &mut Vec<u8>, count: u64) -> Result<(), NoMemory>
+    ensures { OnOk result (text.new.items ≡ text.old.items ++ count_line count) }
+{
+    let mut buffer = Buffer::new();
+    text.extend_from_slice(b"records ")?;
+    text.extend_from_slice(buffer.format(count).as_bytes())?;
+    text.extend_from_slice(b"\n")?;
+    Ok(())
+}
