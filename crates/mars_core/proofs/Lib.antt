@@ -9,3 +9,4 @@ pub mod Stepping
 pub mod Answering
 pub mod Staying
 pub mod Finishing
+pub mod Opening

@@ -8,8 +8,9 @@ ghost use Rattle.page_store.specs.Shown.{counts_in, top_in, pages_of};
 ghost use Rattle.history.specs.Writes.{rows_within};
 ghost use Rattle.record_table.specs.Attached.{Attached, AttachCause, is_refused_by_media};
 ghost use Rattle.record_table.specs.Command.{look, put, del, scan, save, back, commit, abort, is_seen};
-ghost use Rattle.record_table.specs.Does.{Does};
+ghost use Rattle.record_table.specs.Does.{Does, is_failed};
 ghost use Rattle.record_table.specs.Shown.{state_of, held_on, is_write_on, AreNamed};
+ghost use Rattle.record_table.specs.Sought.{LooksAs};
 ghost use Rattle.record_table.specs.State.{seen_by};
 
 use crate::fault::{AttachRecords, TableFault};
@@ -171,6 +172,8 @@ impl<S: EawStore, K: KeyIndex> Records<S, K> {
             (pages_of (S.view self.old.store) self.old) (pages_of (S.view self.new.store) self.new) result }
         ensures rows { IsTrue S.tells → IfOk result (λ rows. rows ≡
             rows_within low high (seen_by (state_of K.index (pages_of (S.view self.old.store) self.old)) tid)) }
+        ensures looks { LooksAs S.tells (S.opens (S.view self.old.store).shape) tid (is_failed result)
+            (pages_of (S.view self.old.store) self.old) (pages_of (S.view self.new.store) self.new) }
         ensures dead { IsErrOf result TableFault.Dead → self.new ≡ self.old }
     {
         if self.pages.is_dead() {

@@ -1,28 +1,64 @@
-use Rattle.std.proofs.Common.{rules, ◌≡◌, ◌<◌, [], ℕ, Some, None, IfOk, IfErr, MatchOption, IsTrue, is_some, length, ◌+◌, ◌-◌, ◌*◌, ◌≤◌, ◌/◌, ◌%◌, Bool, true, false, nat_eq, nat_lt, List, ◌∷◌, ◌++◌, slice_index_or, slice_set, bit_and, bit_or, Fits, w8, w32, w64, Bor, MutBor}
-use Rattle.std.specs.FinMap.{entries}
+use Rattle.std.proofs.Common.{◌≡◌, ℕ, Bool, true, false, List, Result, Ok, Err, [], length, ap, subst, sym, ◌∙◌, refl}
+use Rattle.array_shape.specs.declared.shape.Shape.{Shape}
+use Rattle.std.proofs.lemmas.Bool.{false≢true}
 use Rattle.eaw_face.specs.Causes.{IsAlive}
-use Rattle.eaw_face.specs.State.{listed}
-use Rattle.page_store.specs.Shown.{pages_of}
-use Rattle.history.specs.declared.call.Call.TheVariants.{Begin, Commit, Abort}
-use Rattle.core_face.specs.Core.{Steps}
-use Rattle.core_face.specs.State.{calls_of}
-use Rattle.record_table.specs.Shown.{state_of}
-use Rattle.mars_core.specs.Attached.{CoreCause, GivesBack, is_media_fault, attach_fault, scan_fault}
-use Rattle.mars_core.specs.Held.{core_of}
-use Rattle.mars_core.specs.Masks.{IsMaskOf}
-use Rattle.mars_core.specs.Over.{Begins, IsOver}
-use Rattle.mars_core.specs.Seats.{live_in}
-use Rattle.mars_core.specs.Works.{IsOfTable, IsShown}
+use Rattle.history.specs.declared.rows.Rows.{Rows}
+use Rattle.page_store.specs.Index.{Index}
+use Rattle.page_store.specs.Shown.{Shown, PagesView, pages_of}
+use Rattle.record_table.specs.Causes.{Cause}
+use Rattle.record_table.specs.Command.{scan}
+use Rattle.mars_core.specs.declared.fault.CoreFault.{CoreFault}
+use Rattle.record_table.specs.Does.{is_failed}
+use Rattle.record_table.specs.declared.fault.TableFault.{TableFault}
+use Rattle.record_table.specs.declared.fault.TableFault.TheVariants as fault
+use Rattle.mars_core.specs.Attached.{GivesBack, scan_fault, is_media_fault}
+use Rattle.mars_core.proofs.Prefixes.{StoreLaws}
+use Rattle.mars_core.proofs.Opening.{scan_gives_back, opened_keeps, opened_begins}
+use Rattle.mars_core.proofs.turns.begin_over.Given.{Over}
 use Rattle.mars_core.proofs.turns.begin_over.Goals as goal
 
--- src/turns.rt:284:23
+laws_at : (g : Over) (store : g.row.S.Denot) → StoreLaws g.S.EawStore.tells g.S.EawStore.opens (g.S.EawStore.view store)
+laws_at g store = record {
+  long = λ told. g.met.S.EawStore.long store told;
+  some = λ told alive. g.met.S.EawStore.some_now store told alive;
+  counts = λ told t image le left. g.met.S.EawStore.counts_now store t image told le left;
+  only = λ told alive image left. g.met.S.EawStore.only_now store image told alive left;
+}
+
+-- of a scan only a fault of the media is told as one
+media_alone : (tells : Bool) (index : Index) (p : PagesView) (t low high : ℕ) (T : Type 0) → IsAlive p.store → (f : TableFault) → (let r : Result T TableFault = Err f in Cause tells index (scan t low high) p r)
+    → (let r : Result T TableFault = Err f in is_failed r) ≡ is_media_fault (scan_fault f)
+media_alone tells index p t low high T alive fault.Media cause = refl
+media_alone tells index p t low high T alive fault.NoMemory cause = refl
+media_alone tells index p t low high T alive (fault.Damaged page) cause = refl
+media_alone tells index p t low high T alive fault.Dead cause = absurd (false≢true (sym alive ∙ cause))
+media_alone tells index p t low high T alive fault.SavesFull cause = absurd cause.1
+media_alone tells index p t low high T alive (fault.SlotsFull n) cause = absurd cause.1
+media_alone tells index p t low high T alive (fault.PagesFull n) cause = absurd cause.1
+media_alone tells index p t low high T alive (fault.LogFull g h n) cause = absurd cause.1
+
 pub returns-in-Err-scan-clause-gives_back : goal.returns-in-Err-scan-clause-gives_back
-returns-in-Err-scan-clause-gives_back g c = ?
+returns-in-Err-scan-clause-gives_back g c =
+    let V = g.S.EawStore.view in
+    let p = pages_of (V c.args.records.store) c.args.records in
+    let q = pages_of (V c.scan.new.self.store) c.scan.new.self in
+    let f = c.in-Err-scan.fault in
+    let media = media_alone g.S.EawStore.tells g.K.KeyIndex.index p 0 0 18446744073709551615 Rows c.requires.alive f c.in-Err-scan.ensures.does.cause in
+    let back = scan_gives_back g.S.EawStore.tells (g.S.EawStore.opens (V c.args.records.store).shape) 0 p q c.requires.alive Rows f c.in-Err-scan.ensures.looks media in
+    let store : c.into_store-in-Err-scan.result ≡ c.scan.new.self.store = c.into_store-in-Err-scan.ensures ∙ ap (λ (r : Shown g.row.S.Denot). r.store) c.into_pages-in-Err-scan.ensures in
+    subst (λ (s : g.row.S.Denot). GivesBack g.S.EawStore.tells (g.S.EawStore.opens (g.S.EawStore.view c.args.records.store).shape) (is_media_fault c.scan_fault.result) (g.S.EawStore.view c.args.records.store) (g.S.EawStore.view s)) (sym store)
+        (subst (λ (x : CoreFault). GivesBack g.S.EawStore.tells (g.S.EawStore.opens (g.S.EawStore.view c.args.records.store).shape) (is_media_fault x) (g.S.EawStore.view c.args.records.store) (g.S.EawStore.view c.scan.new.self.store)) (sym c.scan_fault.ensures) back)
 
--- src/turns.rt:286:5
 pub invariant_of-result : goal.invariant_of-result
-invariant_of-result g c = ?
+invariant_of-result g c =
+    let V = g.S.EawStore.view in
+    opened_keeps g.S.EawStore.tells g.S.EawStore.opens g.K.KeyIndex.index (pages_of (V c.args.records.store) c.args.records) (pages_of (V c.scan.new.self.store) c.scan.new.self) (laws_at g c.scan.new.self.store)
+        (g.met.K.KeyIndex.rises (V c.args.records.store).state.bytes) c.requires.alive c.requires.sound c.requires.idle c.requires.unsaved c.in-Ok-scan.ensures.looks c.in-Ok-scan.ensures.does.done
+        c.in-Ok-scan.base c.in-Ok-scan.ensures.rows c.in-Ok.seats (c.in-Ok.ensures.0 ∙ ap (λ (h : Shape). h.numbers) c.shape.ensures) c.in-Ok.ensures.1 c.new-2.result c.new-2.ensures
 
--- src/turns.rt:264:1
 pub returns-clause-begins : goal.returns-clause-begins
-returns-clause-begins g c = ?
+returns-clause-begins g c =
+    let V = g.S.EawStore.view in
+    opened_begins g.S.EawStore.tells g.S.EawStore.opens g.K.KeyIndex.index (pages_of (V c.args.records.store) c.args.records) (pages_of (V c.scan.new.self.store) c.scan.new.self) (laws_at g c.scan.new.self.store)
+        (g.met.K.KeyIndex.rises (V c.args.records.store).state.bytes) c.requires.alive c.requires.sound c.requires.idle c.requires.unsaved c.in-Ok-scan.ensures.looks c.in-Ok-scan.ensures.does.done
+        c.in-Ok-scan.base c.in-Ok-scan.ensures.rows c.in-Ok.seats (c.in-Ok.ensures.0 ∙ ap (λ (h : Shape). h.numbers) c.shape.ensures) c.in-Ok.ensures.1 c.new-2.result c.new-2.ensures
