@@ -1,16 +1,15 @@
 -- A call of a transaction that the records made: granted, refused, or failed.
-use Rattle.std.proofs.Common.{◌≡◌, ◌≢◌, ◌≤◌, ◌<◌, ◌+◌, ◌-◌, ◌*◌, ◌⊎◌, ℕ, inl, inr, Bool, true, false, cond, ◌||◌, nat_eq, List, [], ◌∷◌, ◌++◌, length, IsTrue, Option, Some, None, unwrap_or, Result, Ok, Err, refl, sym, ap, subst, ◌∙◌, arith}
-use Rattle.std.specs.Prelude.{IsFalse}
+use Rattle.std.proofs.Common.{◌≡◌, ℕ, inl, inr, Bool, true, false, ◌||◌, nat_eq, List, [], ◌∷◌, ◌++◌, length, IsTrue, Option, Some, unwrap_or, Result, Ok, Err, refl, sym, ap, subst, ◌∙◌, arith}
 use Rattle.std.specs.Map.{update}
 use Rattle.std.proofs.lemmas.Bool.{false≢true}
 use Rattle.array_shape.specs.declared.shape.Shape.{Shape}
 use Rattle.array_shape.specs.Places.{data_len}
-use Rattle.eaw_face.specs.StoreView.{StoreView, LeavesOnly}
+use Rattle.eaw_face.specs.StoreView.{LeavesOnly}
 use Rattle.eaw_face.specs.Causes.{IsAlive}
 use Rattle.page_store.specs.Index as below
 use Rattle.page_store.specs.Index.{slots_of}
 use Rattle.page_store.specs.Shown.{PagesView}
-use Rattle.history.specs.Writes.{Table, Write}
+use Rattle.history.specs.Writes.{Write}
 use Rattle.history.specs.Table.{Granted, IsRight}
 use Rattle.history.specs.Legal.{records}
 use Rattle.history.specs.Log.{log_of}
@@ -27,12 +26,11 @@ use Rattle.record_table.specs.Shown.{state_of, keys_of}
 use Rattle.record_table.specs.Shown as shown
 use Rattle.record_table.specs.declared.fault.TableFault.{TableFault}
 use Rattle.record_table.specs.declared.fault.TableFault.TheVariants.{SlotsFull, PagesFull, SavesFull, LogFull, Media, Dead, Damaged, NoMemory}
-use Rattle.core_face.specs.State.{State, Index, calls_of, records_of, view_of, with_live}
+use Rattle.core_face.specs.State.{State, Index, calls_of, records_of}
 use Rattle.core_face.specs.Locked.{IsFree}
 use Rattle.core_face.specs.Room.{Limits, Indexes}
 use Rattle.core_face.specs.Step.{Asks, Step}
 use Rattle.core_face.specs.Fate.{is_refusal, is_media, is_committed}
-use Rattle.core_face.specs.Sound.{IsSound}
 use Rattle.core_face.specs.Prefix.{HasPrefixOf}
 use Rattle.core_face.specs.Core.{IsSafe, Steps}
 use Rattle.core_face.proofs.Holding.{AreNamed}
@@ -170,13 +168,16 @@ module _ (tells : Bool) (Opens : Shape → List ℕ → List ℕ → Type 0) (in
           (λ key value e. subst (λ (c : Call). Replies (state_of index p) t c answer.told) e (works.replies told)) (works.indexed told alive refl)))
 
       asks : Asks (limits_of p.store.shape) calls s t call answer.told new
-      asks = inr (inr (free, inl (
-        answers (state_of index p) s (tied told).mirrors t (right told) call answer.told of (works.replies told) has,
-        fits_is index p s shows.indexed (tied told).mirrors (tells_writes.held told alive) t (right told) call of (works.cause.2 told),
-        new.index,
-        indexes,
-        λ i. record { base = base i; history = history i; live = live i; doubt = doubt i; is_dead = dead_same i; index = new.index },
-      )))
+      asks = inr (inr (
+        free,
+        inl (
+          answers (state_of index p) s (tied told).mirrors t (right told) call answer.told of (works.replies told) has,
+          fits_is index p s shows.indexed (tied told).mirrors (tells_writes.held told alive) t (right told) call of (works.cause.2 told),
+          new.index,
+          indexes,
+          λ i. record { base = base i; history = history i; live = live i; doubt = doubt i; is_dead = dead_same i; index = new.index },
+        ),
+      ))
 
       step : Step (limits_of p.store.shape) s t call answer.told new
       step = step_of (limits_of p.store.shape) (Some calls) s new t call answer.told living_state is
@@ -230,12 +231,33 @@ module _ (tells : Bool) (Opens : Shape → List ℕ → List ℕ → Type 0) (in
         -- by its cause
         asks_fault : (g : TableFault) → Well g → (let r : Result Answer TableFault = Err g in Cause tells index (command_of t call) p r) → Indexes (limits_of p.store.shape) call (reply_to g) s.index new.index
             → Asks (limits_of p.store.shape) calls s t call (reply_to g) new
-        asks_fault (SlotsFull n) well cause made = inr (inr (free, inr (inl (
-          slot_lacks index p s shows.indexed (tied told).mirrors (tells_writes.held told alive) t (right told) (tied told).room call n of (cause.3 told) cause.2, new.index, made, changed))))
-        asks_fault (PagesFull n) well cause made = inr (inr (free, inr (inl (
-          page_lacks index p s shows.indexed (tied told).mirrors (tells_writes.held told alive) t (right told) (tied told).room call n of (cause.3 told) cause.2, new.index, made, changed))))
-        asks_fault (LogFull g h n) well cause made = inr (inr (free, inr (inl (
-          log_lacks index p s shows.indexed (tied told).mirrors (tells_writes.held told alive) t (right told) (tied told).room call g h n of (cause.2 told) cause.1, new.index, made, changed))))
+        asks_fault (SlotsFull n) well cause made = inr (inr (
+          free,
+          inr (inl (
+            slot_lacks index p s shows.indexed (tied told).mirrors (tells_writes.held told alive) t (right told) (tied told).room call n of (cause.3 told) cause.2,
+            new.index,
+            made,
+            changed,
+          )),
+        ))
+        asks_fault (PagesFull n) well cause made = inr (inr (
+          free,
+          inr (inl (
+            page_lacks index p s shows.indexed (tied told).mirrors (tells_writes.held told alive) t (right told) (tied told).room call n of (cause.3 told) cause.2,
+            new.index,
+            made,
+            changed,
+          )),
+        ))
+        asks_fault (LogFull g h n) well cause made = inr (inr (
+          free,
+          inr (inl (
+            log_lacks index p s shows.indexed (tied told).mirrors (tells_writes.held told alive) t (right told) (tied told).room call g h n of (cause.2 told) cause.1,
+            new.index,
+            made,
+            changed,
+          )),
+        ))
         asks_fault SavesFull well cause made = absurd (saved_out p t call of saves cause.1)
         asks_fault Dead well cause made = absurd (false≢true (sym alive ∙ cause))
         asks_fault (Damaged page) well cause made = absurd (cause.2 told)

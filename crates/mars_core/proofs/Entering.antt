@@ -1,26 +1,23 @@
 -- What loggers hold of callers behind a call: no more than they have entries.
-use Rattle.std.proofs.Common.{◌≡◌, ◌≢◌, ◌≤◌, ◌<◌, ◌+◌, ◌*◌, ◌⊎◌, ℕ, inl, inr, Bool, true, false, cond, nat_eq, List, [], ◌∷◌, ◌++◌, length, filter, take, drop, Option, Some, None, unwrap_or, refl, sym, ap, subst, ◌∙◌, arith}
-use Rattle.std.specs.Prelude.{is_some}
-use Rattle.std.specs.FinMap.{get}
+use Rattle.std.proofs.Common.{◌≡◌, ◌≤◌, ◌<◌, ℕ, inl, inr, Bool, true, cond, nat_eq, List, [], ◌∷◌, ◌++◌, length, filter, take, Option, Some, None, unwrap_or, refl, sym, ap, subst, ◌∙◌, arith}
 use Rattle.std.specs.Map.{update}
 use Rattle.std.proofs.lemmas.Bool.{cases_eq}
-use Rattle.history.specs.Writes.{Table, Write}
-use Rattle.history.specs.Table.{Granted, IsRight, has_save, removed}
+use Rattle.history.specs.Writes.{Write}
+use Rattle.history.specs.Table.{Granted, has_save}
 use Rattle.history.specs.Log.{Log, log_of, log_after, save_at}
 use Rattle.history.specs.Log as log
 use Rattle.history.specs.declared.call.Call.{Call}
-use Rattle.history.specs.declared.call.Call.TheVariants.{Begin, Get, Put, Del, Scan, Save, Back, Commit, Abort}
+use Rattle.history.specs.declared.call.Call.TheVariants.{Put, Del, Back}
 use Rattle.history.specs.declared.call.Reply.{Reply}
-use Rattle.history.specs.declared.call.Reply.TheVariants.{Fine, Absent}
+use Rattle.history.specs.declared.call.Reply.TheVariants.{Fine}
 use Rattle.history.proofs.Counting.{length-filter-front}
 use Rattle.history.proofs.OneMore.{log_of-push}
 use Rattle.history.proofs.Saves.{save_is_front}
 use Rattle.core_face.specs.State.{State, Index, calls_of}
-use Rattle.core_face.specs.Room.{Limits, is_slot_on, is_write_on, held_on, HasEntry, slot_for, GainsKey, IndexesAt, Indexes}
+use Rattle.core_face.specs.Room.{Limits, is_slot_on, is_write_on, held_on, HasEntry}
 use Rattle.core_face.proofs.Holding.{held_apart, AreNamed, unnamed}
 use Rattle.mars_core.specs.Kept.{HasHeld}
-use Rattle.mars_core.specs.Works.{IsOfTable}
-use Rattle.mars_core.proofs.Indexing.{Slots, indexes_slots}
+use Rattle.mars_core.proofs.Indexing.{Slots}
 use Rattle.mars_core.proofs.Mirroring.{calls_here, calls_there}
 use Rattle.mars_core.proofs.Rooming.{written_room}
 
@@ -71,7 +68,7 @@ module _ (limits : Limits) (s : State) (named : (caller : ℕ) → AreNamed s.in
           let front = save_is_front calls n returns in
           let fewer = length-filter-front (is_write_on limits ix g) (length (save_at (log_of calls).saved n)) (log_of calls).writes in
           let same : length (filter (is_write_on limits ix g) (take (length (save_at (log_of calls).saved n)) (log_of calls).writes)) ≡ length (filter (is_write_on limits ix g) (save_at (log_of calls).saved n)) =
-            ap (λ (ws : List Write). length (filter (is_write_on limits ix g) ws)) front.is in
+          ap (λ (ws : List Write). length (filter (is_write_on limits ix g) ws)) front.is in
           subst (λ (b : Bool). length (filter (is_write_on limits ix g) (cond b (record { writes = save_at (log_of calls).saved n; saved = take n (log_of calls).saved }) (log_of calls)).writes) ≤ limits.entries) (sym returns)
           (omega (arith, fewer, same, first g))
       own_room _ answer enters returns g = first g

@@ -1,39 +1,34 @@
 -- The end of a transaction: a commit, an abort, and a fault of the media in them.
-use Rattle.std.proofs.Common.{◌≡◌, ◌≢◌, ◌≤◌, ◌<◌, ◌+◌, ◌⊎◌, ℕ, inl, inr, Bool, true, false, cond, ◌||◌, nat_eq, List, [], ◌∷◌, ◌++◌, length, IsTrue, Option, Some, None, unwrap_or, Result, Ok, Err, refl, sym, ap, subst, ◌∙◌, arith}
-use Rattle.std.specs.Prelude.{IsFalse}
+use Rattle.std.proofs.Common.{◌≡◌, ◌+◌, ◌⊎◌, ℕ, inl, inr, Bool, true, false, nat_eq, List, [], ◌∷◌, ◌++◌, length, IsTrue, Option, Some, None, unwrap_or, Result, Ok, Err, refl, sym, ap, subst, ◌∙◌}
 use Rattle.std.specs.Option.{option_to_list}
 use Rattle.std.specs.Map.{update}
 use Rattle.std.proofs.lemmas.Map.{update_here, update_apart}
 use Rattle.std.proofs.lemmas.Bool.{false≢true}
 use Rattle.counted.proofs.Going.{weaker}
 use Rattle.array_shape.specs.declared.shape.Shape.{Shape}
-use Rattle.eaw_face.specs.StoreView.{StoreView, LeavesOnly}
+use Rattle.eaw_face.specs.StoreView.{LeavesOnly}
 use Rattle.eaw_face.specs.Causes.{IsAlive}
 use Rattle.page_store.specs.Index as below
 use Rattle.page_store.specs.Shown.{PagesView}
-use Rattle.history.specs.Writes.{Table, Write, all_written}
+use Rattle.history.specs.Writes.{Table, all_written}
 use Rattle.history.specs.Table.{Granted, IsRight}
 use Rattle.history.specs.Legal.{records, with_doubt}
 use Rattle.history.specs.Log.{log_of}
-use Rattle.history.specs.declared.call.Call.{Call}
 use Rattle.history.specs.declared.call.Call.TheVariants.{Commit, Abort}
-use Rattle.history.specs.declared.call.Reply.{Reply}
 use Rattle.history.specs.declared.call.Reply.TheVariants.{Fine, Committed, NoMemory}
 use Rattle.history.specs.declared.call.Reply.TheVariants as reply
 use Rattle.history.specs.declared.transaction.Done.{Done}
 use Rattle.history.proofs.OneMore.{records-push}
 use Rattle.history.proofs.Pending.{left_is_written}
-use Rattle.page_store.specs.State.{with_one}
 use Rattle.record_table.specs.State.{TableState, seen_by}
 use Rattle.record_table.specs.Causes.{Cause}
 use Rattle.record_table.specs.Command.{commit, abort, after}
 use Rattle.record_table.specs.Does.{Does, OpensWith}
-use Rattle.record_table.specs.Shown.{state_of, keys_of}
+use Rattle.record_table.specs.Shown.{state_of}
 use Rattle.record_table.specs.declared.fault.TableFault.{TableFault}
 use Rattle.record_table.specs.declared.fault.TableFault.TheVariants as fault
-use Rattle.core_face.specs.State.{State, Index, calls_of, records_of, with_live, done_by}
+use Rattle.core_face.specs.State.{State, calls_of, records_of, done_by}
 use Rattle.core_face.specs.Step.{Step}
-use Rattle.core_face.specs.Fate.{Moves}
 use Rattle.core_face.specs.Prefix.{HasPrefix, HasPrefixOf}
 use Rattle.core_face.specs.Core.{IsSafe, Steps}
 use Rattle.core_face.proofs.Sound.{step_sound}

@@ -1,25 +1,22 @@
 -- The model of records beside the state of callers by turns.
-use Rattle.std.proofs.Common.{◌≡◌, ◌≢◌, ◌≤◌, ◌<◌, ◌+◌, ◌-◌, ℕ, inl, inr, Bool, true, false, cond, nat_eq, nat_lt, nat_le, ◌&&◌, List, [], ◌∷◌, ◌++◌, length, take, drop, Option, Some, None, unwrap_or, refl, sym, ap, subst, ◌∙◌, arith, eq-eqb, ne_eqb, le-leb, lt-ltb}
-use Rattle.std.specs.Prelude.{is_some, slice_index_or, map}
+use Rattle.std.proofs.Common.{◌≡◌, ◌≢◌, ◌≤◌, ◌<◌, ◌+◌, ℕ, inl, inr, Bool, true, false, cond, nat_eq, nat_le, ◌&&◌, List, [], ◌∷◌, ◌++◌, length, take, Option, Some, None, unwrap_or, refl, sym, ap, subst, ◌∙◌, eq-eqb, ne_eqb, le-leb, lt-ltb}
+use Rattle.std.specs.Prelude.{is_some}
 use Rattle.std.specs.FinMap.{get}
 use Rattle.std.specs.Map.{update}
 use Rattle.std.proofs.lemmas.Map.{update_here, update_apart}
 use Rattle.std.proofs.lemmas.Bool.{cases_eq}
 use Rattle.page_store.specs.State.{with_one}
 use Rattle.history.specs.Writes.{Table, Write, all_written, with_write, rows_within}
-use Rattle.history.specs.Table.{Granted, Work, begun, found, removed, has_save, worked, Answers, IsRight}
+use Rattle.history.specs.Table.{Granted, found, removed, has_save, Answers, IsRight}
 use Rattle.history.specs.Log.{Log, log_after, log_of, save_at}
 use Rattle.history.specs.Log as log
-use Rattle.history.specs.Legal.{records}
 use Rattle.history.specs.declared.call.Call.{Call}
 use Rattle.history.specs.declared.call.Call.TheVariants.{Begin, Get, Put, Del, Scan, Save, Back, Commit, Abort}
 use Rattle.history.specs.declared.call.Reply.{Reply}
-use Rattle.history.specs.declared.call.Reply.TheVariants.{Fine, Absent, Listed, Saved}
-use Rattle.history.specs.declared.call.Reply.TheVariants as reply
-use Rattle.history.specs.declared.transaction.Done.{Done}
+use Rattle.history.specs.declared.call.Reply.TheVariants.{Listed, Saved}
 use Rattle.history.proofs.OneMore.{log_of-push}
 use Rattle.history.proofs.Pending.{left_is_written, as_many_saves, has_same_saves}
-use Rattle.record_table.specs.State.{TableState, seen_by, floor_of}
+use Rattle.record_table.specs.State.{TableState, seen_by}
 use Rattle.record_table.specs.Command.{after, written, is_seen}
 use Rattle.core_face.specs.State.{State, calls_of, records_of, view_of}
 use Rattle.mars_core.specs.Works.{command_of, IsOfTable, Replies, HasSaves}

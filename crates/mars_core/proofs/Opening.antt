@@ -1,16 +1,12 @@
 -- How a core begins: with the records of the store's data.
-use Rattle.std.proofs.Common.{◌≡◌, ◌≢◌, ◌≤◌, ◌<◌, ◌+◌, ◌-◌, ◌^◌, ◌⊎◌, ℕ, suc, inl, inr, Bool, true, false, cond, ◌&&◌, nat_eq, nat_le, List, [], ◌∷◌, length, filter, IsTrue, Option, Some, None, unwrap_or, Result, Ok, Err, refl, sym, ap, subst, ◌∙◌, arith, eq-eqb, ne_eqb, le-leb}
-use Rattle.std.specs.Prelude.{IsFalse}
-use Rattle.std.specs.Ordering.{nat_cmp, eq_by_cmp}
+use Rattle.std.proofs.Common.{◌≡◌, ◌≤◌, ◌<◌, ◌-◌, ◌^◌, ℕ, suc, inl, inr, Bool, false, cond, ◌&&◌, List, [], ◌∷◌, length, filter, IsTrue, Option, Some, None, unwrap_or, Result, Err, refl, sym, ap, subst, ◌∙◌, arith, eq-eqb, ne_eqb, le-leb}
+use Rattle.std.specs.Ordering.{nat_cmp}
 use Rattle.std.specs.Cmp.{nat_cmp_total}
-use Rattle.std.specs.FinMap.{FinMap, get, entries, from_entries, get-entries, get-from_entries}
+use Rattle.std.specs.FinMap.{get, entries, from_entries, get-entries, get-from_entries}
 use Rattle.std.specs.FinMap.Entries.{find}
-use Rattle.std.proofs.lemmas.Bool.{cases_lt, cases_eq, false≢true}
-use Rattle.counted.specs.Causes.{Rose}
-use Rattle.counted.proofs.Going.{then, weaker}
+use Rattle.std.proofs.lemmas.Bool.{cases_lt}
 use Rattle.array_shape.specs.declared.shape.Shape.{Shape}
 use Rattle.eaw_face.specs.State.{State as StoreState}
-use Rattle.eaw_face.specs.StoreView.{StoreView, LeavesOnly}
 use Rattle.eaw_face.specs.Causes.{IsAlive}
 use Rattle.page_store.specs.Index as below
 use Rattle.page_store.specs.Pairs.{Pair, Rise, found}
@@ -18,7 +14,6 @@ use Rattle.page_store.specs.Shown.{PagesView}
 use Rattle.history.specs.Rows.{table_of}
 use Rattle.history.specs.Writes.{Table, Write, rows_within, is_within}
 use Rattle.history.specs.Table.{Granted}
-use Rattle.history.specs.Log.{log_of}
 use Rattle.history.specs.declared.transaction.Done.{Done}
 use Rattle.history.proofs.Tables.{same_table}
 use Rattle.record_table.specs.State.{TableState, seen_by}
@@ -27,14 +22,12 @@ use Rattle.record_table.specs.Shown.{state_of, keys_of, table_in}
 use Rattle.record_table.specs.Shown as shown
 use Rattle.record_table.specs.Sought.{LooksAs}
 use Rattle.record_table.specs.declared.fault.TableFault.{TableFault}
-use Rattle.record_table.specs.declared.fault.TableFault.TheVariants as fault
 use Rattle.record_table.proofs.Tables.{tied, get-table_in, record_at}
-use Rattle.core_face.specs.State.{State, Index, calls_of, records_of, opened}
-use Rattle.core_face.specs.Room.{Limits, held_on, is_write_on}
+use Rattle.core_face.specs.State.{State, calls_of, opened}
 use Rattle.core_face.specs.Sound.{IsSound}
 use Rattle.core_face.proofs.Sound.{opened_sound}
 use Rattle.mars_core.specs.Attached.{GivesBack, scan_fault, is_media_fault}
-use Rattle.mars_core.specs.Over.{limits_of, index_of, IsOver, Begins}
+use Rattle.mars_core.specs.Over.{limits_of, index_of, Begins}
 use Rattle.mars_core.specs.Held.{core_over, state_at}
 use Rattle.mars_core.specs.Kept.{Mirrors, HasHeld, IsTied, IsKept}
 use Rattle.mars_core.specs.Seats.{Seats, live_in}

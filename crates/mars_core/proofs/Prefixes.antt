@@ -1,7 +1,5 @@
 -- What a loss of power leaves of a core, and what holds of its data.
-use Rattle.std.proofs.Common.{◌≡◌, ◌≢◌, ◌≤◌, ◌<◌, ◌+◌, ◌⊎◌, ℕ, inl, inr, Bool, true, false, List, [], ◌∷◌, ◌++◌, length, take, IsTrue, Option, Some, None, refl, sym, ap, subst, ◌∙◌, arith}
-use Rattle.counted.specs.Moments.{Elapses}
-use Rattle.counted.proofs.Going.{weaker}
+use Rattle.std.proofs.Common.{◌≡◌, ◌≤◌, ◌+◌, ◌⊎◌, ℕ, inl, inr, Bool, List, [], ◌∷◌, ◌++◌, length, take, IsTrue, Option, Some, None, refl, sym, ap, subst, ◌∙◌, arith}
 use Rattle.array_shape.specs.declared.shape.Shape.{Shape}
 use Rattle.array_shape.specs.Places.{data_len}
 use Rattle.eaw_face.specs.StoreView.{StoreView, LeavesOnly, LeavesSome}
@@ -12,7 +10,7 @@ use Rattle.history.specs.Writes.{Table}
 use Rattle.history.specs.Legal.{records, with_doubt}
 use Rattle.history.specs.declared.transaction.Done.{Done}
 use Rattle.record_table.specs.Does.{OpensWith}
-use Rattle.record_table.specs.Shown.{table_of, state_of}
+use Rattle.record_table.specs.Shown.{table_of}
 use Rattle.core_face.specs.State.{State, records_of}
 use Rattle.core_face.specs.Prefix.{HasPrefix, HasPrefixOf}
 use Rattle.core_face.specs.Core.{IsSafe}

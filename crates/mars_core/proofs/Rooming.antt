@@ -1,49 +1,38 @@
 -- The room of an array for writes, as callers see it.
-use Rattle.std.proofs.Common.{◌≡◌, ◌≢◌, ◌≤◌, ◌<◌, ◌+◌, ◌*◌, ◌⊎◌, ℕ, inl, inr, Bool, true, false, cond, nat_eq, List, [], ◌∷◌, ◌++◌, length, filter, take, drop, ◌-◌, Option, Some, None, unwrap_or, refl, sym, ap, subst, ◌∙◌, arith, eq-eqb, ne_eqb, eqb-true}
+use Rattle.std.proofs.Common.{◌≡◌, ◌≢◌, ◌≤◌, ◌<◌, ◌+◌, ◌*◌, ◌⊎◌, ℕ, inl, inr, Bool, true, false, cond, nat_eq, List, [], ◌∷◌, length, filter, drop, ◌-◌, Option, Some, None, unwrap_or, refl, sym, ap, subst, ◌∙◌, arith, eq-eqb, ne_eqb, eqb-true}
 use Rattle.std.specs.Prelude.{IsSome, is_some}
 use Rattle.std.specs.List.{list_any}
 use Rattle.std.specs.FinMap.{get}
-use Rattle.std.specs.Map.{update}
-use Rattle.std.proofs.lemmas.Bool.{false≢true, cases_eq}
+use Rattle.std.proofs.lemmas.Bool.{cases_eq}
 use Rattle.array_shape.specs.declared.shape.Shape.{Shape}
 use Rattle.array_shape.proofs.Apart.{logger_below}
-use Rattle.eaw_face.specs.StoreView.{StoreView}
-use Rattle.eaw_face.specs.Causes.{IsAlive}
 use Rattle.page_store.specs.Index.{slots_of}
 use Rattle.page_store.specs.Index as below
 use Rattle.page_store.specs.Pairs.{Pair, found}
 use Rattle.page_store.specs.Shown.{PagesView}
 use Rattle.record_slots.specs.Places.{next_slot}
-use Rattle.history.specs.Writes.{Table, Write, is_of, with_write}
-use Rattle.history.specs.Table.{Granted, IsRight, has_save, removed}
+use Rattle.history.specs.Writes.{Table, Write, is_of}
+use Rattle.history.specs.Table.{IsRight}
 use Rattle.history.specs.Log.{Log, log_of, log_after, save_at}
 use Rattle.history.specs.Log as log
 use Rattle.history.specs.declared.call.Call.{Call}
 use Rattle.history.specs.declared.call.Call.TheVariants.{Begin, Get, Put, Del, Scan, Save, Back, Commit, Abort}
-use Rattle.history.specs.declared.call.Reply.{Reply}
 use Rattle.history.specs.declared.call.Reply.TheVariants.{Fine}
 use Rattle.history.specs.declared.call.Reply.TheVariants as reply
-use Rattle.history.specs.declared.transaction.Done.{Done}
-use Rattle.history.proofs.Counting.{length-filter-rewritten, length-filter-anew, length-filter-front}
-use Rattle.history.proofs.OneMore.{log_of-push}
-use Rattle.history.proofs.Saves.{save_is_front}
+use Rattle.history.proofs.Counting.{length-filter-rewritten, length-filter-anew}
 use Rattle.record_table.specs.State.{TableState, seen_by}
 use Rattle.record_table.specs.State as table
 use Rattle.record_table.specs.Command.{is_seen}
 use Rattle.record_table.specs.Causes as table_causes
 use Rattle.record_table.specs.Shown.{state_of, keys_of, logger_of_slot, needed_on}
 use Rattle.record_table.specs.Shown as shown
-use Rattle.record_table.specs.declared.fault.TableFault.{TableFault}
-use Rattle.record_table.specs.declared.fault.TableFault.TheVariants as fault
 use Rattle.core_face.specs.State.{State, Index, calls_of, records_of, view_of}
-use Rattle.core_face.specs.Room.{Limits, is_slot_on, is_write_on, held_on, HasEntry, slot_for, IsSeen, Fits, IsFull, LacksAt, Lacks, GainsKey, IndexesAt, Indexes}
-use Rattle.core_face.proofs.Holding.{held_apart, AreNamed, unnamed}
+use Rattle.core_face.specs.Room.{Limits, is_slot_on, is_write_on, held_on, HasEntry, slot_for, Fits, IsFull, LacksAt, Lacks}
+use Rattle.core_face.proofs.Holding.{AreNamed}
 use Rattle.mars_core.specs.Over.{limits_of, index_of}
-use Rattle.mars_core.specs.Held.{state_at}
 use Rattle.mars_core.specs.Kept.{Mirrors, HasHeld}
-use Rattle.mars_core.specs.Works.{command_of, IsOfTable, Replies, HasSaves, IsShown, reply_to}
-use Rattle.mars_core.proofs.Indexing.{Slots, indexes_slots, slot_after}
-use Rattle.mars_core.proofs.Mirroring.{seen_is, calls_here, calls_there}
+use Rattle.mars_core.specs.Works.{command_of, IsOfTable}
+use Rattle.mars_core.proofs.Mirroring.{seen_is}
 
 pub same_slot_on : (shape : Shape) (g : ℕ) (o : Option ℕ) → is_slot_on (limits_of shape) g o ≡ shown.is_slot_on shape g o
 same_slot_on shape g None = refl
@@ -92,7 +81,7 @@ module _ (index : below.Index) (p : PagesView) (s : State) (indexed : s.index �
     fits_is (Del key) of fits = λ seen_there.
         let at = fits (seen key ∙ seen_there) in
         subst (λ (slot : ℕ). HasEntry (limits_of p.store.shape) s t key slot)
-            (sym (ap (λ (o : Option ℕ). unwrap_or o (next_slot p.store.state.bytes)) at.1) ∙ slot_is key) (has_entry t key at.0 at.2)
+        (sym (ap (λ (o : Option ℕ). unwrap_or o (next_slot p.store.state.bytes)) at.1) ∙ slot_is key) (has_entry t key at.0 at.2)
     fits_is (Get key) of fits = tt
     fits_is (Scan low high) of fits = tt
     fits_is Save of fits = tt
@@ -121,9 +110,9 @@ module _ (index : below.Index) (p : PagesView) (s : State) (indexed : s.index �
 
           go : (logger_of_slot p.store.shape slot ≡ g) ⊎ (logger_of_slot p.store.shape slot ≢ g) → LacksAt (limits_of p.store.shape) s t key (Some slot) (reply.LogFull g h n)
           go (inr ne) = absurd (
-            let none : n ≡ 0 = full.needed ∙ ap (λ (b : Bool). cond b 1 0) (ne_eqb (logger_of_slot p.store.shape slot) g ne) in
-            omega (arith, none, module_full.some)
-          )
+              let none : n ≡ 0 = full.needed ∙ ap (λ (b : Bool). cond b 1 0) (ne_eqb (logger_of_slot p.store.shape slot) g ne) in
+              omega (arith, none, module_full.some)
+              )
           go (inl e) =
               let one : n ≡ 1 = full.needed ∙ ap (λ (b : Bool). cond b 1 0) (eq-eqb (logger_of_slot p.store.shape slot) g e) in (
                 λ has.
@@ -197,7 +186,7 @@ module _ (limits : Limits) (ix : Index) (write : Write) (slot : ℕ) (at : ix.sl
       on false no_slot few = omega (arith, room)
       on true here few =
           let same : length (filter (is_write_on limits ix (limits.logger_of slot)) l.writes) ≡ length (filter (is_write_on limits ix g) l.writes) =
-            ap (λ (k : ℕ). length (filter (is_write_on limits ix k) l.writes)) (eqb-true (limits.logger_of slot) g here) in
+          ap (λ (k : ℕ). length (filter (is_write_on limits ix k) l.writes)) (eqb-true (limits.logger_of slot) g here) in
           omega (arith, few, same)
 
       go : (b : Bool) → log.is_rewritten l write.0 ≡ b → length (filter (is_write_on limits ix g) (log.written l write).writes) ≤ limits.entries

@@ -1,11 +1,8 @@
 -- Lists of live transactions.
-use Rattle.std.proofs.Common.{◌≡◌, ◌≢◌, ◌≤◌, ◌<◌, ◌+◌, ℕ, zero, suc, inl, inr, Bool, true, false, nat_eq, List, [], ◌∷◌, ◌++◌, length, Option, Some, None, unwrap_or, refl, sym, ap, subst, ◌∙◌, arith, bit_and}
-use Rattle.std.specs.Prelude.{slice_get}
-use Rattle.std.specs.Map.{update}
-use Rattle.std.proofs.lemmas.Map.{update_here, update_apart}
+use Rattle.std.proofs.Common.{◌≡◌, ◌≤◌, ◌<◌, ◌+◌, ℕ, zero, suc, inl, inr, true, false, [], ◌∷◌, ◌++◌, length, Option, None, unwrap_or, refl, subst, ◌∙◌, arith, bit_and}
 use Rattle.std.proofs.lemmas.Bool.{cases_eq, cases_lt}
 use Rattle.history.specs.Table.{Granted}
-use Rattle.history.specs.Locks.{touches, touched}
+use Rattle.history.specs.Locks.{touched}
 use Rattle.history.specs.declared.call.Call.{Call}
 use Rattle.core_face.specs.Locked.{Blocks}
 use Rattle.mars_core.specs.Masks.{mask_of, IsMaskOf}

@@ -1,39 +1,34 @@
 -- Calls that the records are not asked for: refusals before them, and a begin.
-use Rattle.std.proofs.Common.{◌≡◌, ◌≢◌, ◌≤◌, ◌<◌, ◌+◌, ℕ, inl, inr, Bool, true, false, cond, ◌||◌, ◌&&◌, nat_eq, nat_lt, nat_le, List, [], ◌∷◌, ◌++◌, length, IsTrue, Option, Some, None, unwrap_or, refl, sym, ap, subst, ◌∙◌, arith}
-use Rattle.std.specs.Prelude.{IsFalse, is_some}
+use Rattle.std.proofs.Common.{◌≡◌, ◌≤◌, ◌<◌, ℕ, inl, inr, Bool, true, false, nat_eq, nat_lt, nat_le, List, [], length, IsTrue, Option, Some, None, unwrap_or, refl, sym, ap, subst, ◌∙◌, arith}
+use Rattle.std.specs.Prelude.{is_some}
 use Rattle.std.specs.Map.{update}
 use Rattle.std.proofs.lemmas.Map.{update_here, update_apart}
 use Rattle.std.proofs.lemmas.Bool.{cases_eq, false≢true, false_from_ne_true, ltb-true, leb-true}
 use Rattle.counted.proofs.Going.{stays}
 use Rattle.array_shape.specs.declared.shape.Shape.{Shape}
-use Rattle.eaw_face.specs.StoreView.{StoreView}
 use Rattle.eaw_face.specs.Causes.{IsAlive}
 use Rattle.page_store.specs.Index as below
 use Rattle.page_store.specs.Shown.{PagesView}
-use Rattle.history.specs.Writes.{Write}
-use Rattle.history.specs.Table.{Granted, IsRight, has_save}
-use Rattle.history.specs.Locks.{touches, touched}
-use Rattle.history.specs.Legal.{records}
+use Rattle.history.specs.Table.{Granted, has_save}
+use Rattle.history.specs.Locks.{touched}
 use Rattle.history.specs.Log.{log_of}
 use Rattle.history.specs.declared.call.Call.{Call}
 use Rattle.history.specs.declared.call.Call.TheVariants.{Begin, Get, Put, Del, Scan, Save, Back, Commit, Abort}
 use Rattle.history.specs.declared.call.Reply.{Reply}
 use Rattle.history.specs.declared.call.Reply.TheVariants.{Fine, Busy, NoMemory, SavesFull, NoSave}
-use Rattle.record_table.specs.State.{TableState}
-use Rattle.record_table.specs.Shown.{state_of, keys_of}
-use Rattle.core_face.specs.State.{State, Index, calls_of, records_of, view_of, with_live}
+use Rattle.record_table.specs.Shown.{state_of}
+use Rattle.core_face.specs.State.{State, calls_of, records_of, view_of, with_live}
 use Rattle.core_face.specs.Locked.{Blocks, IsFree, IsBusyWith}
-use Rattle.core_face.specs.Step.{Step, StepAt}
+use Rattle.core_face.specs.Step.{Step}
 use Rattle.core_face.specs.Fate.{is_refusal, is_media, is_committed}
-use Rattle.core_face.specs.Sound.{IsSound}
 use Rattle.core_face.specs.Core.{IsSafe, Steps}
 use Rattle.core_face.proofs.Sound.{step_sound}
-use Rattle.mars_core.specs.Over.{limits_of, index_of}
+use Rattle.mars_core.specs.Over.{limits_of}
 use Rattle.mars_core.specs.Held.{core_over}
-use Rattle.mars_core.specs.Kept.{Mirrors, HasHeld, IsTied, IsKept}
+use Rattle.mars_core.specs.Kept.{IsTied, IsKept}
 use Rattle.mars_core.specs.Works.{IsOfTable, HasSaves, IsSaveRefusal, IsShown}
 use Rattle.mars_core.proofs.Touching.{both}
-use Rattle.mars_core.proofs.Mirroring.{calls_there, mirrors_at, has_save_is, saves_are, has_saves}
+use Rattle.mars_core.proofs.Mirroring.{calls_there, mirrors_at, saves_are, has_saves}
 use Rattle.mars_core.proofs.Entering.{room_empty}
 use Rattle.mars_core.proofs.Prefixes.{StoreLaws, safe_alive}
 use Rattle.mars_core.proofs.Stepping.{ShowsPages, or_false, step_of, asks_at, steps_same, steps_of, counts_is, saves_at}

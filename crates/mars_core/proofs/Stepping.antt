@@ -1,5 +1,5 @@
 -- From what records do, a step of the core.
-use Rattle.std.proofs.Common.{◌≡◌, ◌≢◌, ◌≤◌, ◌<◌, ◌+◌, ◌*◌, ◌⊎◌, ℕ, inl, inr, Bool, true, false, cond, ◌||◌, nat_eq, List, [], ◌∷◌, ◌++◌, length, filter, IsTrue, Option, Some, None, unwrap_or, Result, Ok, Err, refl, sym, ap, subst, ◌∙◌, arith}
+use Rattle.std.proofs.Common.{◌≡◌, ◌<◌, ◌⊎◌, ℕ, inl, inr, Bool, true, false, ◌||◌, nat_eq, List, [], ◌∷◌, ◌++◌, length, filter, IsTrue, Option, Some, None, unwrap_or, refl, sym, ap, subst, ◌∙◌}
 use Rattle.std.specs.Prelude.{IsFalse, is_some, if◌then◌else◌}
 use Rattle.std.specs.FinMap.{get}
 use Rattle.std.specs.Map.{update}
@@ -9,10 +9,8 @@ use Rattle.std.proofs.lemmas.List.{length-map}
 use Rattle.counted.specs.Causes.{Rose}
 use Rattle.counted.proofs.Going.{stays, weaker}
 use Rattle.array_shape.specs.declared.shape.Shape.{Shape}
-use Rattle.eaw_face.specs.StoreView.{StoreView, LeavesOnly}
-use Rattle.eaw_face.specs.Causes.{IsAlive}
+use Rattle.eaw_face.specs.StoreView.{LeavesOnly}
 use Rattle.page_store.specs.Index as below
-use Rattle.page_store.specs.Pairs.{found}
 use Rattle.page_store.specs.Shown.{PagesView}
 use Rattle.history.specs.Writes.{Table, Write}
 use Rattle.history.specs.Table.{Granted, IsRight, has_save, removed}
@@ -24,22 +22,20 @@ use Rattle.history.specs.declared.call.Reply.{Reply}
 use Rattle.history.specs.declared.call.Reply.TheVariants.{Fine}
 use Rattle.history.specs.declared.call.Reply.TheVariants as reply
 use Rattle.history.specs.declared.transaction.Done.{Done}
-use Rattle.record_table.specs.State.{TableState, seen_by}
+use Rattle.record_table.specs.State.{seen_by}
 use Rattle.record_table.specs.Does.{OpensWith}
 use Rattle.record_table.specs.Shown.{state_of, keys_of, held_on, is_write_on}
 use Rattle.record_table.specs.Shown as shown
-use Rattle.core_face.specs.State.{State, Index, calls_of, records_of, view_of, with_live}
-use Rattle.core_face.specs.Room.{Limits, HasEntry, slot_for, IndexesAt, Indexes, Fits}
-use Rattle.core_face.specs.Room as room
-use Rattle.core_face.specs.Step.{Says, Asks, StepAt, StepIf, Step, most_saves}
+use Rattle.core_face.specs.State.{State, Index, calls_of, records_of, view_of}
+use Rattle.core_face.specs.Room.{Limits, HasEntry, IndexesAt, Indexes}
+use Rattle.core_face.specs.Step.{Asks, StepAt, StepIf, Step, most_saves}
 use Rattle.core_face.specs.Fate.{Moves, is_refusal, is_media, is_committed, history_after, live_with}
 use Rattle.core_face.specs.Prefix.{HasPrefix, HasPrefixOf}
 use Rattle.core_face.specs.Core.{IsSafe, Steps}
-use Rattle.core_face.proofs.Holding.{AreNamed}
 use Rattle.mars_core.specs.Over.{limits_of, index_of}
 use Rattle.mars_core.specs.Held.{core_over}
-use Rattle.mars_core.specs.Kept.{Mirrors, HasHeld, IsTied, IsKept}
-use Rattle.mars_core.specs.Works.{command_of, IsOfTable, Replies, HasSaves, IsShown}
+use Rattle.mars_core.specs.Kept.{Mirrors}
+use Rattle.mars_core.specs.Works.{command_of, IsOfTable, Replies, HasSaves}
 use Rattle.mars_core.proofs.Indexing.{slot_after}
 use Rattle.mars_core.proofs.Mirroring.{has_save_is, saves_are, has_saves}
 use Rattle.mars_core.proofs.Rooming.{has_entry, fits_is}

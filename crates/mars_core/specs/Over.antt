@@ -1,6 +1,5 @@
 -- A core over a store: what it shows of that, and how it begins.
-use Rattle.std.specs.Prelude.{ℕ, ◌≡◌, ◌-◌, Bool, IsTrue, List, [], Option, None}
-use Rattle.counted.specs.Causes.{Rose}
+use Rattle.std.specs.Prelude.{ℕ, ◌≡◌, Bool, IsTrue, List, [], None}
 use Rattle.array_shape.specs.declared.shape.Shape.{Shape}
 use Rattle.eaw_face.specs.StoreView.{StoreView, LeavesOnly}
 use Rattle.eaw_face.specs.Causes.{IsAlive}

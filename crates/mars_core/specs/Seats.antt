@@ -1,5 +1,5 @@
 -- The callers, and which of them have a live transaction.
-use Rattle.std.specs.Prelude.{ℕ, ◌≡◌, false, nat_eq, List, [], length, Option, Some, None, unwrap_or, slice_get}
+use Rattle.std.specs.Prelude.{ℕ, ◌≡◌, false, nat_eq, List, [], length, Option, None, unwrap_or, slice_get}
 use Rattle.std.specs.Option.{option_and_then}
 use Rattle.std.specs.Map.{update}
 use Rattle.std.specs.FinMap.{empty}

@@ -1,5 +1,5 @@
 -- A call of a transaction, as records make it.
-use Rattle.std.specs.Prelude.{ℕ, suc, ◌≡◌, ◌≤◌, ◌<◌, ◌+◌, ◌⊎◌, Bool, true, IsTrue, IsFalse, List, length, filter, Result, Ok, Err, OnOk, OnErr, IfOk}
+use Rattle.std.specs.Prelude.{ℕ, ◌≡◌, ◌≤◌, ◌<◌, ◌+◌, ◌⊎◌, Bool, true, IsTrue, IsFalse, List, length, filter, Result, OnOk, OnErr, IfOk}
 use Rattle.std.specs.FinMap.{get}
 use Rattle.counted.specs.Causes.{Rose}
 use Rattle.eaw_face.specs.StoreView.{LeavesOnly}

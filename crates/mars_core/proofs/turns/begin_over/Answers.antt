@@ -1,4 +1,4 @@
-use Rattle.std.proofs.Common.{◌≡◌, ℕ, Bool, true, false, List, Result, Ok, Err, [], length, ap, subst, sym, ◌∙◌, refl}
+use Rattle.std.proofs.Common.{◌≡◌, ℕ, Bool, Result, Err, ap, subst, sym, ◌∙◌, refl}
 use Rattle.array_shape.specs.declared.shape.Shape.{Shape}
 use Rattle.std.proofs.lemmas.Bool.{false≢true}
 use Rattle.eaw_face.specs.Causes.{IsAlive}
@@ -47,18 +47,18 @@ returns-in-Err-scan-clause-gives_back g c =
     let back = scan_gives_back g.S.EawStore.tells (g.S.EawStore.opens (V c.args.records.store).shape) 0 p q c.requires.alive Rows f c.in-Err-scan.ensures.looks media in
     let store : c.into_store-in-Err-scan.result ≡ c.scan.new.self.store = c.into_store-in-Err-scan.ensures ∙ ap (λ (r : Shown g.row.S.Denot). r.store) c.into_pages-in-Err-scan.ensures in
     subst (λ (s : g.row.S.Denot). GivesBack g.S.EawStore.tells (g.S.EawStore.opens (g.S.EawStore.view c.args.records.store).shape) (is_media_fault c.scan_fault.result) (g.S.EawStore.view c.args.records.store) (g.S.EawStore.view s)) (sym store)
-        (subst (λ (x : CoreFault). GivesBack g.S.EawStore.tells (g.S.EawStore.opens (g.S.EawStore.view c.args.records.store).shape) (is_media_fault x) (g.S.EawStore.view c.args.records.store) (g.S.EawStore.view c.scan.new.self.store)) (sym c.scan_fault.ensures) back)
+    (subst (λ (x : CoreFault). GivesBack g.S.EawStore.tells (g.S.EawStore.opens (g.S.EawStore.view c.args.records.store).shape) (is_media_fault x) (g.S.EawStore.view c.args.records.store) (g.S.EawStore.view c.scan.new.self.store)) (sym c.scan_fault.ensures) back)
 
 pub invariant_of-result : goal.invariant_of-result
 invariant_of-result g c =
     let V = g.S.EawStore.view in
     opened_keeps g.S.EawStore.tells g.S.EawStore.opens g.K.KeyIndex.index (pages_of (V c.args.records.store) c.args.records) (pages_of (V c.scan.new.self.store) c.scan.new.self) (laws_at g c.scan.new.self.store)
-        (g.met.K.KeyIndex.rises (V c.args.records.store).state.bytes) c.requires.alive c.requires.sound c.requires.idle c.requires.unsaved c.in-Ok-scan.ensures.looks c.in-Ok-scan.ensures.does.done
-        c.in-Ok-scan.base c.in-Ok-scan.ensures.rows c.in-Ok.seats (c.in-Ok.ensures.0 ∙ ap (λ (h : Shape). h.numbers) c.shape.ensures) c.in-Ok.ensures.1 c.new-2.result c.new-2.ensures
+    (g.met.K.KeyIndex.rises (V c.args.records.store).state.bytes) c.requires.alive c.requires.sound c.requires.idle c.requires.unsaved c.in-Ok-scan.ensures.looks c.in-Ok-scan.ensures.does.done
+    c.in-Ok-scan.base c.in-Ok-scan.ensures.rows c.in-Ok.seats (c.in-Ok.ensures.0 ∙ ap (λ (h : Shape). h.numbers) c.shape.ensures) c.in-Ok.ensures.1 c.new-2.result c.new-2.ensures
 
 pub returns-clause-begins : goal.returns-clause-begins
 returns-clause-begins g c =
     let V = g.S.EawStore.view in
     opened_begins g.S.EawStore.tells g.S.EawStore.opens g.K.KeyIndex.index (pages_of (V c.args.records.store) c.args.records) (pages_of (V c.scan.new.self.store) c.scan.new.self) (laws_at g c.scan.new.self.store)
-        (g.met.K.KeyIndex.rises (V c.args.records.store).state.bytes) c.requires.alive c.requires.sound c.requires.idle c.requires.unsaved c.in-Ok-scan.ensures.looks c.in-Ok-scan.ensures.does.done
-        c.in-Ok-scan.base c.in-Ok-scan.ensures.rows c.in-Ok.seats (c.in-Ok.ensures.0 ∙ ap (λ (h : Shape). h.numbers) c.shape.ensures) c.in-Ok.ensures.1 c.new-2.result c.new-2.ensures
+    (g.met.K.KeyIndex.rises (V c.args.records.store).state.bytes) c.requires.alive c.requires.sound c.requires.idle c.requires.unsaved c.in-Ok-scan.ensures.looks c.in-Ok-scan.ensures.does.done
+    c.in-Ok-scan.base c.in-Ok-scan.ensures.rows c.in-Ok.seats (c.in-Ok.ensures.0 ∙ ap (λ (h : Shape). h.numbers) c.shape.ensures) c.in-Ok.ensures.1 c.new-2.result c.new-2.ensures

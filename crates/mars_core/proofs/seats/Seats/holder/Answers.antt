@@ -1,4 +1,4 @@
-use Rattle.std.proofs.Common.{◌≡◌, ◌<◌, ℕ, ◌^◌, length, sym, ◌∙◌, ap, subst, arith, bit_and}
+use Rattle.std.proofs.Common.{◌<◌, ℕ, ◌^◌, length, sym, ◌∙◌, ap, subst, arith, bit_and}
 use Rattle.std.specs.Prelude.{◌≢◌}
 use Rattle.mars_core.specs.Masks.{mask_of}
 use Rattle.mars_core.specs.Seats.{Seats, calls_at}

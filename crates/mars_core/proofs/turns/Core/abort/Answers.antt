@@ -1,29 +1,23 @@
-use Rattle.std.proofs.Common.{◌≡◌, ◌+◌, ◌++◌, ◌∷◌, ℕ, false, true, Bool, List, Option, Some, None, [], nat_eq, length, Result, Ok, Err, unwrap_or, ap, subst, sym, ◌∙◌, refl}
-use Rattle.std.specs.Prelude.{is_some, IsNone}
-use Rattle.std.specs.Map.{update}
+use Rattle.std.proofs.Common.{◌≡◌, ℕ, true, Option, Some, [], length, Result, Err, unwrap_or, ap, subst, sym, ◌∙◌, refl}
+use Rattle.std.specs.Prelude.{is_some}
 use Rattle.eaw_face.specs.Causes.{IsAlive}
-use Rattle.page_store.specs.Shown.{PagesView, pages_of}
+use Rattle.page_store.specs.Shown.{pages_of}
 use Rattle.history.specs.Rows.{table_of}
 use Rattle.history.specs.Table.{Granted}
 use Rattle.history.specs.declared.call.Call.TheVariants.{Abort}
 use Rattle.history.specs.declared.call.Reply.{Reply}
 use Rattle.history.specs.declared.call.Reply.TheVariants.{Fine, Committed, NoMemory}
 use Rattle.history.specs.declared.call.Reply.TheVariants as reply
-use Rattle.history.specs.declared.transaction.Done.{Done}
-use Rattle.record_table.specs.Command.{commit, abort}
+use Rattle.record_table.specs.Command.{abort}
 use Rattle.record_table.specs.Does.{Does}
 use Rattle.record_table.specs.declared.fault.TableFault.{TableFault}
-use Rattle.record_table.specs.declared.fault.TableFault.TheVariants as fault
 use Rattle.core_face.specs.Core.{Steps}
-use Rattle.core_face.specs.State.{State, done_by}
 use Rattle.mars_core.specs.Held.{Held, core_of, state_at}
-use Rattle.mars_core.specs.Kept.{IsKept}
 use Rattle.mars_core.specs.Seats.{Seats, live_in, calls_at}
 use Rattle.mars_core.specs.Works.{reply_to}
 use Rattle.mars_core.proofs.Prefixes.{StoreLaws}
-use Rattle.mars_core.proofs.Stepping.{ShowsPages}
-use Rattle.mars_core.proofs.Staying.{some_of, changed_back, kept_same}
-use Rattle.mars_core.proofs.Finishing.{last_is, commit_fails, abort_fails, committed_keeps, committed_steps, doubted_keeps, doubted_steps, aborted_keeps, aborted_steps, unended_keeps, unended_steps, unkept}
+use Rattle.mars_core.proofs.Staying.{some_of}
+use Rattle.mars_core.proofs.Finishing.{abort_fails, aborted_keeps, aborted_steps, unended_keeps, unended_steps}
 use Rattle.mars_core.proofs.turns.Core.abort.Given.{Over}
 use Rattle.mars_core.proofs.turns.Core.abort.Goals as goal
 
@@ -40,39 +34,39 @@ live_is seats t there = let x = some_of (live_in seats t) there in x.1 ∙ ap (�
 
 pub invariant_of-self : goal.invariant_of-self
 invariant_of-self g c = aborted_keeps g.S.EawStore.tells g.S.EawStore.opens g.K.KeyIndex.index g.met.S.EawStore.one_data (pages_of (g.S.EawStore.view c.self.inside.records.store) c.self.inside.records) (pages_of (g.S.EawStore.view c.abort.new.self.store) c.abort.new.self)
-          (laws_at g c.self.inside.records.store) (laws_at g c.abort.new.self.store) (state_at g.K.KeyIndex.index (g.S.EawStore.view c.self.inside.records.store) (table_of c.self.inside.base) c.self.inside.history (live_in c.self.inside.seats) c.self.inside.doubt) (state_at g.K.KeyIndex.index (g.S.EawStore.view c.abort.new.self.store) (table_of c.self.inside.base) c.self.inside.history (live_in c.end.new.self) c.self.inside.doubt) (record { indexed = refl; dead = refl }) (record { indexed = refl; dead = refl })
-          refl (length c.self.inside.seats) (length c.end.new.self) c.end.ensures.count c.self.inside.base c.self.invariant
-          (subst (λ (h : Held g.row.S.Denot). IsAlive (g.S.EawStore.view h.records.store)) (sym c.self.view_is) c.requires.alive) c.args.caller (calls_at c.self.inside.seats c.args.caller) (live_is c.self.inside.seats c.args.caller (sym c.if-not-is_live.ensures)) refl refl c.in-Ok.ensures.does c.end.ensures.live
+    (laws_at g c.self.inside.records.store) (laws_at g c.abort.new.self.store) (state_at g.K.KeyIndex.index (g.S.EawStore.view c.self.inside.records.store) (table_of c.self.inside.base) c.self.inside.history (live_in c.self.inside.seats) c.self.inside.doubt) (state_at g.K.KeyIndex.index (g.S.EawStore.view c.abort.new.self.store) (table_of c.self.inside.base) c.self.inside.history (live_in c.end.new.self) c.self.inside.doubt) (record { indexed = refl; dead = refl }) (record { indexed = refl; dead = refl })
+    refl (length c.self.inside.seats) (length c.end.new.self) c.end.ensures.count c.self.inside.base c.self.invariant
+    (subst (λ (h : Held g.row.S.Denot). IsAlive (g.S.EawStore.view h.records.store)) (sym c.self.view_is) c.requires.alive) c.args.caller (calls_at c.self.inside.seats c.args.caller) (live_is c.self.inside.seats c.args.caller (sym c.if-not-is_live.ensures)) refl refl c.in-Ok.ensures.does c.end.ensures.live
 
 pub invariant_of-self-in-Err : goal.invariant_of-self-in-Err
 invariant_of-self-in-Err g c = unended_keeps g.S.EawStore.tells g.S.EawStore.opens g.K.KeyIndex.index g.met.S.EawStore.one_data (pages_of (g.S.EawStore.view c.self.inside.records.store) c.self.inside.records) (pages_of (g.S.EawStore.view c.abort.new.self.store) c.abort.new.self)
-          (laws_at g c.self.inside.records.store) (laws_at g c.abort.new.self.store) (state_at g.K.KeyIndex.index (g.S.EawStore.view c.self.inside.records.store) (table_of c.self.inside.base) c.self.inside.history (live_in c.self.inside.seats) c.self.inside.doubt) (state_at g.K.KeyIndex.index (g.S.EawStore.view c.abort.new.self.store) (table_of c.self.inside.base) c.self.inside.history (live_in c.self.inside.seats) c.self.inside.doubt) (record { indexed = refl; dead = refl }) (record { indexed = refl; dead = refl })
-          refl (length c.self.inside.seats) (length c.self.inside.seats) refl c.self.inside.base c.self.invariant
-          (subst (λ (h : Held g.row.S.Denot). IsAlive (g.S.EawStore.view h.records.store)) (sym c.self.view_is) c.requires.alive) c.args.caller (calls_at c.self.inside.seats c.args.caller) (live_is c.self.inside.seats c.args.caller (sym c.if-not-is_live.ensures)) refl refl (subst (λ (f : TableFault). (let r : Result (Unit {0}) TableFault = Err f in Does g.S.EawStore.tells (g.S.EawStore.opens (g.S.EawStore.view c.self.inside.records.store).shape) g.K.KeyIndex.index (abort c.args.caller)
-          (pages_of (g.S.EawStore.view c.self.inside.records.store) c.self.inside.records) (pages_of (g.S.EawStore.view c.abort.new.self.store) c.abort.new.self) r)) (abort_fails g.S.EawStore.tells g.K.KeyIndex.index (pages_of (g.S.EawStore.view c.self.inside.records.store) c.self.inside.records) c.args.caller (subst (λ (h : Held g.row.S.Denot). IsAlive (g.S.EawStore.view h.records.store)) (sym c.self.view_is) c.requires.alive) c.in-Err.fault c.in-Err.ensures.does.cause) c.in-Err.ensures.does) refl
+    (laws_at g c.self.inside.records.store) (laws_at g c.abort.new.self.store) (state_at g.K.KeyIndex.index (g.S.EawStore.view c.self.inside.records.store) (table_of c.self.inside.base) c.self.inside.history (live_in c.self.inside.seats) c.self.inside.doubt) (state_at g.K.KeyIndex.index (g.S.EawStore.view c.abort.new.self.store) (table_of c.self.inside.base) c.self.inside.history (live_in c.self.inside.seats) c.self.inside.doubt) (record { indexed = refl; dead = refl }) (record { indexed = refl; dead = refl })
+    refl (length c.self.inside.seats) (length c.self.inside.seats) refl c.self.inside.base c.self.invariant
+    (subst (λ (h : Held g.row.S.Denot). IsAlive (g.S.EawStore.view h.records.store)) (sym c.self.view_is) c.requires.alive) c.args.caller (calls_at c.self.inside.seats c.args.caller) (live_is c.self.inside.seats c.args.caller (sym c.if-not-is_live.ensures)) refl refl (subst (λ (f : TableFault). (let r : Result (Unit {0}) TableFault = Err f in Does g.S.EawStore.tells (g.S.EawStore.opens (g.S.EawStore.view c.self.inside.records.store).shape) g.K.KeyIndex.index (abort c.args.caller)
+    (pages_of (g.S.EawStore.view c.self.inside.records.store) c.self.inside.records) (pages_of (g.S.EawStore.view c.abort.new.self.store) c.abort.new.self) r)) (abort_fails g.S.EawStore.tells g.K.KeyIndex.index (pages_of (g.S.EawStore.view c.self.inside.records.store) c.self.inside.records) c.args.caller (subst (λ (h : Held g.row.S.Denot). IsAlive (g.S.EawStore.view h.records.store)) (sym c.self.view_is) c.requires.alive) c.in-Err.fault c.in-Err.ensures.does.cause) c.in-Err.ensures.does) refl
 
 pub returns-in-Ok : goal.returns-in-Ok
 returns-in-Ok g c = record {
-      steps = subst (λ (h : Held g.row.S.Denot). Steps g.S.EawStore.tells c.args.caller Abort (core_of g.S.EawStore.opens g.K.KeyIndex.index (g.S.EawStore.view h.records.store) h)
-          (core_of g.S.EawStore.opens g.K.KeyIndex.index (g.S.EawStore.view c.abort.new.self.store)
-          (record { records = c.abort.new.self; base = c.self.inside.base; seats = c.end.new.self; history = c.self.inside.history; doubt = c.self.inside.doubt })) Fine) c.self.view_is
-          (aborted_steps g.S.EawStore.tells g.S.EawStore.opens g.K.KeyIndex.index g.met.S.EawStore.one_data (pages_of (g.S.EawStore.view c.self.inside.records.store) c.self.inside.records) (pages_of (g.S.EawStore.view c.abort.new.self.store) c.abort.new.self)
-          (laws_at g c.self.inside.records.store) (laws_at g c.abort.new.self.store) (state_at g.K.KeyIndex.index (g.S.EawStore.view c.self.inside.records.store) (table_of c.self.inside.base) c.self.inside.history (live_in c.self.inside.seats) c.self.inside.doubt) (state_at g.K.KeyIndex.index (g.S.EawStore.view c.abort.new.self.store) (table_of c.self.inside.base) c.self.inside.history (live_in c.end.new.self) c.self.inside.doubt) (record { indexed = refl; dead = refl }) (record { indexed = refl; dead = refl })
-          refl (length c.self.inside.seats) (length c.end.new.self) c.end.ensures.count c.self.inside.base c.self.invariant
-          (subst (λ (h : Held g.row.S.Denot). IsAlive (g.S.EawStore.view h.records.store)) (sym c.self.view_is) c.requires.alive) c.args.caller (calls_at c.self.inside.seats c.args.caller) (live_is c.self.inside.seats c.args.caller (sym c.if-not-is_live.ensures)) refl refl c.in-Ok.ensures.does c.end.ensures.live);
-    }
+  steps = subst (λ (h : Held g.row.S.Denot). Steps g.S.EawStore.tells c.args.caller Abort (core_of g.S.EawStore.opens g.K.KeyIndex.index (g.S.EawStore.view h.records.store) h)
+      (core_of g.S.EawStore.opens g.K.KeyIndex.index (g.S.EawStore.view c.abort.new.self.store)
+      (record { records = c.abort.new.self; base = c.self.inside.base; seats = c.end.new.self; history = c.self.inside.history; doubt = c.self.inside.doubt })) Fine) c.self.view_is
+      (aborted_steps g.S.EawStore.tells g.S.EawStore.opens g.K.KeyIndex.index g.met.S.EawStore.one_data (pages_of (g.S.EawStore.view c.self.inside.records.store) c.self.inside.records) (pages_of (g.S.EawStore.view c.abort.new.self.store) c.abort.new.self)
+      (laws_at g c.self.inside.records.store) (laws_at g c.abort.new.self.store) (state_at g.K.KeyIndex.index (g.S.EawStore.view c.self.inside.records.store) (table_of c.self.inside.base) c.self.inside.history (live_in c.self.inside.seats) c.self.inside.doubt) (state_at g.K.KeyIndex.index (g.S.EawStore.view c.abort.new.self.store) (table_of c.self.inside.base) c.self.inside.history (live_in c.end.new.self) c.self.inside.doubt) (record { indexed = refl; dead = refl }) (record { indexed = refl; dead = refl })
+      refl (length c.self.inside.seats) (length c.end.new.self) c.end.ensures.count c.self.inside.base c.self.invariant
+      (subst (λ (h : Held g.row.S.Denot). IsAlive (g.S.EawStore.view h.records.store)) (sym c.self.view_is) c.requires.alive) c.args.caller (calls_at c.self.inside.seats c.args.caller) (live_is c.self.inside.seats c.args.caller (sym c.if-not-is_live.ensures)) refl refl c.in-Ok.ensures.does c.end.ensures.live);
+}
 
 pub returns-in-Err : goal.returns-in-Err
 returns-in-Err g c = record {
-      steps = subst (λ (r : Reply). Steps g.S.EawStore.tells c.args.caller Abort (core_of g.S.EawStore.opens g.K.KeyIndex.index (g.S.EawStore.view c.args.self.now.records.store) c.args.self.now)
-          (core_of g.S.EawStore.opens g.K.KeyIndex.index (g.S.EawStore.view c.abort.new.self.store)
-          (record { records = c.abort.new.self; base = c.self.inside.base; seats = c.self.inside.seats; history = c.self.inside.history; doubt = c.self.inside.doubt })) r) (sym (c.reply_to.ensures ∙ ap reply_to (abort_fails g.S.EawStore.tells g.K.KeyIndex.index (pages_of (g.S.EawStore.view c.self.inside.records.store) c.self.inside.records) c.args.caller (subst (λ (h : Held g.row.S.Denot). IsAlive (g.S.EawStore.view h.records.store)) (sym c.self.view_is) c.requires.alive) c.in-Err.fault c.in-Err.ensures.does.cause)))
-          (subst (λ (h : Held g.row.S.Denot). Steps g.S.EawStore.tells c.args.caller Abort (core_of g.S.EawStore.opens g.K.KeyIndex.index (g.S.EawStore.view h.records.store) h)
-          (core_of g.S.EawStore.opens g.K.KeyIndex.index (g.S.EawStore.view c.abort.new.self.store)
-          (record { records = c.abort.new.self; base = c.self.inside.base; seats = c.self.inside.seats; history = c.self.inside.history; doubt = c.self.inside.doubt })) reply.Media) c.self.view_is
-          (unended_steps g.S.EawStore.tells g.S.EawStore.opens g.K.KeyIndex.index g.met.S.EawStore.one_data (pages_of (g.S.EawStore.view c.self.inside.records.store) c.self.inside.records) (pages_of (g.S.EawStore.view c.abort.new.self.store) c.abort.new.self)
-          (laws_at g c.self.inside.records.store) (laws_at g c.abort.new.self.store) (state_at g.K.KeyIndex.index (g.S.EawStore.view c.self.inside.records.store) (table_of c.self.inside.base) c.self.inside.history (live_in c.self.inside.seats) c.self.inside.doubt) (state_at g.K.KeyIndex.index (g.S.EawStore.view c.abort.new.self.store) (table_of c.self.inside.base) c.self.inside.history (live_in c.self.inside.seats) c.self.inside.doubt) (record { indexed = refl; dead = refl }) (record { indexed = refl; dead = refl })
-          refl (length c.self.inside.seats) (length c.self.inside.seats) refl c.self.inside.base c.self.invariant
-          (subst (λ (h : Held g.row.S.Denot). IsAlive (g.S.EawStore.view h.records.store)) (sym c.self.view_is) c.requires.alive) c.args.caller (calls_at c.self.inside.seats c.args.caller) (live_is c.self.inside.seats c.args.caller (sym c.if-not-is_live.ensures)) refl refl (subst (λ (f : TableFault). (let r : Result (Unit {0}) TableFault = Err f in Does g.S.EawStore.tells (g.S.EawStore.opens (g.S.EawStore.view c.self.inside.records.store).shape) g.K.KeyIndex.index (abort c.args.caller)
-          (pages_of (g.S.EawStore.view c.self.inside.records.store) c.self.inside.records) (pages_of (g.S.EawStore.view c.abort.new.self.store) c.abort.new.self) r)) (abort_fails g.S.EawStore.tells g.K.KeyIndex.index (pages_of (g.S.EawStore.view c.self.inside.records.store) c.self.inside.records) c.args.caller (subst (λ (h : Held g.row.S.Denot). IsAlive (g.S.EawStore.view h.records.store)) (sym c.self.view_is) c.requires.alive) c.in-Err.fault c.in-Err.ensures.does.cause) c.in-Err.ensures.does) refl));
-    }
+  steps = subst (λ (r : Reply). Steps g.S.EawStore.tells c.args.caller Abort (core_of g.S.EawStore.opens g.K.KeyIndex.index (g.S.EawStore.view c.args.self.now.records.store) c.args.self.now)
+      (core_of g.S.EawStore.opens g.K.KeyIndex.index (g.S.EawStore.view c.abort.new.self.store)
+      (record { records = c.abort.new.self; base = c.self.inside.base; seats = c.self.inside.seats; history = c.self.inside.history; doubt = c.self.inside.doubt })) r) (sym (c.reply_to.ensures ∙ ap reply_to (abort_fails g.S.EawStore.tells g.K.KeyIndex.index (pages_of (g.S.EawStore.view c.self.inside.records.store) c.self.inside.records) c.args.caller (subst (λ (h : Held g.row.S.Denot). IsAlive (g.S.EawStore.view h.records.store)) (sym c.self.view_is) c.requires.alive) c.in-Err.fault c.in-Err.ensures.does.cause)))
+      (subst (λ (h : Held g.row.S.Denot). Steps g.S.EawStore.tells c.args.caller Abort (core_of g.S.EawStore.opens g.K.KeyIndex.index (g.S.EawStore.view h.records.store) h)
+      (core_of g.S.EawStore.opens g.K.KeyIndex.index (g.S.EawStore.view c.abort.new.self.store)
+      (record { records = c.abort.new.self; base = c.self.inside.base; seats = c.self.inside.seats; history = c.self.inside.history; doubt = c.self.inside.doubt })) reply.Media) c.self.view_is
+      (unended_steps g.S.EawStore.tells g.S.EawStore.opens g.K.KeyIndex.index g.met.S.EawStore.one_data (pages_of (g.S.EawStore.view c.self.inside.records.store) c.self.inside.records) (pages_of (g.S.EawStore.view c.abort.new.self.store) c.abort.new.self)
+      (laws_at g c.self.inside.records.store) (laws_at g c.abort.new.self.store) (state_at g.K.KeyIndex.index (g.S.EawStore.view c.self.inside.records.store) (table_of c.self.inside.base) c.self.inside.history (live_in c.self.inside.seats) c.self.inside.doubt) (state_at g.K.KeyIndex.index (g.S.EawStore.view c.abort.new.self.store) (table_of c.self.inside.base) c.self.inside.history (live_in c.self.inside.seats) c.self.inside.doubt) (record { indexed = refl; dead = refl }) (record { indexed = refl; dead = refl })
+      refl (length c.self.inside.seats) (length c.self.inside.seats) refl c.self.inside.base c.self.invariant
+      (subst (λ (h : Held g.row.S.Denot). IsAlive (g.S.EawStore.view h.records.store)) (sym c.self.view_is) c.requires.alive) c.args.caller (calls_at c.self.inside.seats c.args.caller) (live_is c.self.inside.seats c.args.caller (sym c.if-not-is_live.ensures)) refl refl (subst (λ (f : TableFault). (let r : Result (Unit {0}) TableFault = Err f in Does g.S.EawStore.tells (g.S.EawStore.opens (g.S.EawStore.view c.self.inside.records.store).shape) g.K.KeyIndex.index (abort c.args.caller)
+      (pages_of (g.S.EawStore.view c.self.inside.records.store) c.self.inside.records) (pages_of (g.S.EawStore.view c.abort.new.self.store) c.abort.new.self) r)) (abort_fails g.S.EawStore.tells g.K.KeyIndex.index (pages_of (g.S.EawStore.view c.self.inside.records.store) c.self.inside.records) c.args.caller (subst (λ (h : Held g.row.S.Denot). IsAlive (g.S.EawStore.view h.records.store)) (sym c.self.view_is) c.requires.alive) c.in-Err.fault c.in-Err.ensures.does.cause) c.in-Err.ensures.does) refl));
+}

@@ -1,23 +1,19 @@
-use Rattle.std.proofs.Common.{◌≡◌, ◌++◌, ◌∷◌, ℕ, false, true, Bool, List, Option, Some, [], nat_eq, length, Result, Ok, Err, unwrap_or, ap, subst, sym, ◌∙◌, refl}
+use Rattle.std.proofs.Common.{◌≡◌, ◌++◌, ◌∷◌, ℕ, true, Option, Some, [], nat_eq, length, unwrap_or, ap, subst, sym, ◌∙◌, refl}
 use Rattle.std.specs.Map.{update}
 use Rattle.std.proofs.lemmas.Map.{update_here}
 use Rattle.std.specs.Prelude.{is_some}
 use Rattle.eaw_face.specs.Causes.{IsAlive}
-use Rattle.page_store.specs.Shown.{PagesView, pages_of}
+use Rattle.page_store.specs.Shown.{pages_of}
 use Rattle.history.specs.Rows.{table_of}
 use Rattle.history.specs.Table.{Granted}
-use Rattle.history.specs.declared.call.Call.{Call}
 use Rattle.history.specs.declared.call.Reply.{Reply}
 use Rattle.history.specs.declared.call.Reply.TheVariants.{Fine, Busy, NoMemory}
 use Rattle.core_face.specs.Core.{Steps}
-use Rattle.core_face.specs.Locked.{IsFree}
-use Rattle.core_face.specs.State.{State}
 use Rattle.mars_core.specs.Held.{Held, core_of, state_at}
 use Rattle.mars_core.specs.Seats.{Seats, live_in, calls_at, bare}
 use Rattle.mars_core.specs.Works.{HasSaves, IsSaveRefusal, IsShown, reply_to}
 use Rattle.mars_core.proofs.Answering.{IndexLaws, granted_keeps, granted_steps, refused_keeps, refused_steps}
 use Rattle.mars_core.proofs.Prefixes.{StoreLaws}
-use Rattle.mars_core.proofs.Stepping.{ShowsPages}
 use Rattle.mars_core.proofs.Staying.{some_of, changed_back, changed_twice, free_before, busy_before, save_refused, memory_refused, busy_refused, kept_same}
 use Rattle.mars_core.proofs.turns.Core.ask.Given.{Over}
 use Rattle.mars_core.proofs.turns.Core.ask.Goals as goal
@@ -94,8 +90,8 @@ invariant_of-self-in-Some-holder g c =
     let second = c.pop.ensures (calls_at i.seats t) (c.args.call.now, Fine) (pushed i.seats c.push.new.self t _ first.live) in
     let back = changed_back (live_in i.seats) t _ (Some (calls_at i.seats t)) (live_in c.push.new.self) (live_in c.pop.new.self) first.live second.live (live_is i.seats t (sym c.if-not-is_live.ensures)) in
     kept_same g.S.EawStore.tells g.S.EawStore.opens g.K.KeyIndex.index (pages_of (V i.records.store) i.records) (state_at g.K.KeyIndex.index (V i.records.store) (table_of i.base) i.history (live_in i.seats) i.doubt) _
-        (length i.seats) (length c.pop.new.self) i.base c.self.invariant (second.count ∙ first.count)
-        (ap (λ (live : ℕ → Option Granted). state_at g.K.KeyIndex.index (g.S.EawStore.view c.self.inside.records.store) (table_of c.self.inside.base) c.self.inside.history live c.self.inside.doubt) back)
+    (length i.seats) (length c.pop.new.self) i.base c.self.invariant (second.count ∙ first.count)
+    (ap (λ (live : ℕ → Option Granted). state_at g.K.KeyIndex.index (g.S.EawStore.view c.self.inside.records.store) (table_of c.self.inside.base) c.self.inside.history live c.self.inside.doubt) back)
 
 pub returns-in-Some-holder : goal.returns-in-Some-holder
 returns-in-Some-holder g c =
@@ -147,12 +143,12 @@ invariant_of-self-in-Ok-work g c =
     let live = changed_twice (live_in i.seats) t _ _ (live_in c.push.new.self) (live_in c.set_last_reply.new.self) first.live second.live
     ∙ ap (λ (r : Reply). update nat_eq (live_in c.self.inside.seats) c.args.caller (Some (calls_at c.self.inside.seats c.args.caller ++ (c.args.call.now, r) ∷ []))) works.same in
     granted_keeps T E I g.met.S.EawStore.one_data (index_laws g) p q (laws_at g i.records.store) (laws_at g c.work.new.records.store) s new (record { indexed = refl; dead = refl }) (record { indexed = refl; dead = refl })
-        refl refl refl (length i.seats) (length c.set_last_reply.new.self) (second.count ∙ first.count) i.base c.self.invariant
-        (subst (λ (h : Held g.row.S.Denot). IsAlive (V h.records.store)) (sym c.self.view_is) c.requires.alive)
-        (subst (λ (h : Held g.row.S.Denot). IsShown T I (pages_of (V h.records.store) h.records)) (sym c.self.view_is) c.requires.shown)
-        t c.args.call.now c.requires.of_table (subst (λ (n : ℕ). HasSaves n c.args.call.now) c.saves.ensures.count c.in_default.ensures.has)
-        (calls_at i.seats t) (live_is i.seats t (sym c.if-not-is_live.ensures)) (free_before s (bare c.push.new.self) t _ first.live c.args.call.now c.in_default-holder.ensures.free)
-        c.in-Ok-work.answer works live
+    refl refl refl (length i.seats) (length c.set_last_reply.new.self) (second.count ∙ first.count) i.base c.self.invariant
+    (subst (λ (h : Held g.row.S.Denot). IsAlive (V h.records.store)) (sym c.self.view_is) c.requires.alive)
+    (subst (λ (h : Held g.row.S.Denot). IsShown T I (pages_of (V h.records.store) h.records)) (sym c.self.view_is) c.requires.shown)
+    t c.args.call.now c.requires.of_table (subst (λ (n : ℕ). HasSaves n c.args.call.now) c.saves.ensures.count c.in_default.ensures.has)
+    (calls_at i.seats t) (live_is i.seats t (sym c.if-not-is_live.ensures)) (free_before s (bare c.push.new.self) t _ first.live c.args.call.now c.in_default-holder.ensures.free)
+    c.in-Ok-work.answer works live
 
 pub returns-in-Ok-work : goal.returns-in-Ok-work
 returns-in-Ok-work g c =
@@ -207,12 +203,12 @@ invariant_of-self-in-Err-work g c =
     let is = live_is i.seats t (sym c.if-not-is_live.ensures) in
     let back = changed_back (live_in i.seats) t _ (Some (calls_at i.seats t)) (live_in c.push.new.self) (live_in c.pop-in-Err-work.new.self) first.live second.live is in
     refused_keeps T E I g.met.S.EawStore.one_data (index_laws g) p q (laws_at g i.records.store) (laws_at g c.work.new.records.store) s new (record { indexed = refl; dead = refl }) (record { indexed = refl; dead = refl })
-        refl refl refl (length i.seats) (length c.pop-in-Err-work.new.self) (second.count ∙ first.count) i.base c.self.invariant
-        (subst (λ (h : Held g.row.S.Denot). IsAlive (V h.records.store)) (sym c.self.view_is) c.requires.alive)
-        (subst (λ (h : Held g.row.S.Denot). IsShown T I (pages_of (V h.records.store) h.records)) (sym c.self.view_is) c.requires.shown)
-        t c.args.call.now c.requires.of_table (subst (λ (n : ℕ). HasSaves n c.args.call.now) c.saves.ensures.count c.in_default.ensures.has)
-        (calls_at i.seats t) is (free_before s (bare c.push.new.self) t _ first.live c.args.call.now c.in_default-holder.ensures.free)
-        c.in-Err-work.fault c.in-Err-work.ensures.works back
+    refl refl refl (length i.seats) (length c.pop-in-Err-work.new.self) (second.count ∙ first.count) i.base c.self.invariant
+    (subst (λ (h : Held g.row.S.Denot). IsAlive (V h.records.store)) (sym c.self.view_is) c.requires.alive)
+    (subst (λ (h : Held g.row.S.Denot). IsShown T I (pages_of (V h.records.store) h.records)) (sym c.self.view_is) c.requires.shown)
+    t c.args.call.now c.requires.of_table (subst (λ (n : ℕ). HasSaves n c.args.call.now) c.saves.ensures.count c.in_default.ensures.has)
+    (calls_at i.seats t) is (free_before s (bare c.push.new.self) t _ first.live c.args.call.now c.in_default-holder.ensures.free)
+    c.in-Err-work.fault c.in-Err-work.ensures.works back
 
 pub returns-in-Err-work : goal.returns-in-Err-work
 returns-in-Err-work g c =

@@ -1,5 +1,5 @@
-use Rattle.std.proofs.Common.{ℕ, false, Some, [], ap, subst, sym, ◌∙◌, refl}
-use Rattle.std.specs.Prelude.{◌≡◌, Option, length}
+use Rattle.std.proofs.Common.{ℕ, ap, subst, sym, ◌∙◌, refl}
+use Rattle.std.specs.Prelude.{Option, length}
 use Rattle.eaw_face.specs.Causes.{IsAlive}
 use Rattle.page_store.specs.Shown.{pages_of}
 use Rattle.history.specs.Rows.{table_of}
@@ -9,7 +9,6 @@ use Rattle.history.specs.declared.call.Reply.TheVariants.{Fine}
 use Rattle.core_face.specs.Core.{Steps}
 use Rattle.mars_core.specs.Held.{Held, core_of, state_at}
 use Rattle.mars_core.specs.Seats.{live_in}
-use Rattle.mars_core.proofs.Finishing.{unkept}
 use Rattle.mars_core.proofs.Staying.{none_of, begun_keeps, begun_steps}
 use Rattle.mars_core.proofs.turns.Core.begin.Goals as goal
 
@@ -19,10 +18,10 @@ invariant_of-self g c =
     let i = c.self.inside in
     let store = i.records.store in
     begun_keeps g.S.EawStore.tells g.S.EawStore.opens g.K.KeyIndex.index (pages_of (V store) i.records)
-        (record { long = λ told. g.met.S.EawStore.long store told; some = λ told alive. g.met.S.EawStore.some_now store told alive; counts = λ told t image le left. g.met.S.EawStore.counts_now store t image told le left; only = λ told alive image left. g.met.S.EawStore.only_now store image told alive left })
-        (state_at g.K.KeyIndex.index (V store) (table_of i.base) i.history (live_in i.seats) i.doubt) _ (record { indexed = refl; dead = refl }) (length i.seats) (length c.begin.new.self) c.begin.ensures.count i.base c.self.invariant
-        (subst (λ (h : Held g.row.S.Denot). IsAlive (V h.records.store)) (sym c.self.view_is) c.requires.alive) c.args.caller (none_of (live_in i.seats c.args.caller) (sym c.is_live.ensures ∙ c.if-is_live.false))
-        (ap (λ (live : ℕ → Option Granted). state_at g.K.KeyIndex.index (V store) (table_of i.base) i.history live i.doubt) c.begin.ensures.live)
+    (record { long = λ told. g.met.S.EawStore.long store told; some = λ told alive. g.met.S.EawStore.some_now store told alive; counts = λ told t image le left. g.met.S.EawStore.counts_now store t image told le left; only = λ told alive image left. g.met.S.EawStore.only_now store image told alive left })
+    (state_at g.K.KeyIndex.index (V store) (table_of i.base) i.history (live_in i.seats) i.doubt) _ (record { indexed = refl; dead = refl }) (length i.seats) (length c.begin.new.self) c.begin.ensures.count i.base c.self.invariant
+    (subst (λ (h : Held g.row.S.Denot). IsAlive (V h.records.store)) (sym c.self.view_is) c.requires.alive) c.args.caller (none_of (live_in i.seats c.args.caller) (sym c.is_live.ensures ∙ c.if-is_live.false))
+    (ap (λ (live : ℕ → Option Granted). state_at g.K.KeyIndex.index (V store) (table_of i.base) i.history live i.doubt) c.begin.ensures.live)
 
 pub returns : goal.returns
 returns g c =
