@@ -96,3 +96,13 @@ fn all_that_threads_commit_is_there(rt: HostRuntime) -> Result<(), Fail> {
     assert!(rt; first == 1000 && second == 1000 && told == 2000);
     Ok(())
 }
+
+#[test]
+fn two_threads_commit_a_transaction_each(rt: HostRuntime) -> Result<(), Fail> {
+    let alloc = rt.alloc();
+    let Some(core) = both_commit(&rt, alloc, EmptyCore::new(alloc)) else {
+        panic!(rt; "no memory")
+    };
+    assert!(rt; core.told() == 2);
+    Ok(())
+}

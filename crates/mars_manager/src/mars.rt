@@ -209,7 +209,7 @@ impl<C: Core + Drop> Mars<C> {
         let backoff = Backoff::new();
         for _ in rt.forever() {
             match self.call(pass, call) {
-                Ok(reply) => return reply,
+                Ok(answer) => return answer,
                 Err(_) => backoff.snooze(),
             }
         }
