@@ -5,11 +5,13 @@
 //! `Mars::close` takes all passes, and gives the core back. `Mars::call_wait` alone may wait: it calls until it gets the turn.
 #![tactic(auto)]
 
+mod laws;
 mod mars;
 mod pass;
 mod rule;
 mod setup;
 mod view;
 
+pub use laws::what_an_index_gains;
 pub use mars::{Again, Mars};
 pub use pass::{Pass, Passes};
