@@ -60,7 +60,7 @@ fn commit_many<R: Wait, C: Core + Drop>(
 }
 
 // Two threads commit at once. It answers how many each committed, and how many the core has.
-fn both_commit<R: Threads + Wait + Sync>(
+fn many_commit<R: Threads + Wait + Sync>(
     rt: &R,
     alloc: Global,
     times: u64,
@@ -90,9 +90,19 @@ fn both_commit<R: Threads + Wait + Sync>(
 
 #[test]
 fn all_that_threads_commit_is_there(rt: HostRuntime) -> Result<(), Fail> {
-    let Some((first, second, told)) = both_commit(&rt, rt.alloc(), 1000) else {
+    let Some((first, second, told)) = many_commit(&rt, rt.alloc(), 1000) else {
         panic!(rt; "no memory")
     };
     assert!(rt; first == 1000 && second == 1000 && told == 2000);
+    Ok(())
+}
+
+#[test]
+fn two_threads_commit_a_transaction_each(rt: HostRuntime) -> Result<(), Fail> {
+    let alloc = rt.alloc();
+    let Some(core) = both_commit(&rt, alloc, EmptyCore::new(alloc)) else {
+        panic!(rt; "no memory")
+    };
+    assert!(rt; core.told() == 2);
     Ok(())
 }

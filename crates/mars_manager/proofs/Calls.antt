@@ -69,7 +69,7 @@ module _ {C : Type 0} (f : Face C) where
     since = since_step f.tells setup.from n call reply (f.show setup.first) (f.show old) (f.show new) s;
     noted = λ notes few strangers since noted told.
         let step = subst (λ limits. Step limits (f.show old).state n call reply (f.show new).state) since.limits (s.step told) in
-        noted_step (f.show setup.first).limits setup.callers (f.show setup.first).state.index (f.show old).state (f.show new).state n call reply step s.moves notes few (λ other le. (strangers other le).1) (noted told);
+        noted_step (f.show setup.first).limits setup.callers (f.show setup.first).state.index (f.show old).state (f.show new).state n call reply step s.moves notes few (λ other le. (strangers other le).1) (since.continues told).sound.certain (noted told);
   }
 
   module _ (setup : Setup C) (notes : ℕ → Notes) (old new : C) (k : Known C) (call : Call) (reply : Reply) (fit : Fits setup (f.show old).state notes k) (s : Steps f.tells k.number call (f.show old) (f.show new) reply) where

@@ -54,7 +54,7 @@ module _ {C : Type 0} where
       let t : times n (newcomers setup m (suc count)) ≡ 0 + times n (newcomers setup (suc m) count) = ap (λ b. (if b then 1 else 0) + times n (newcomers setup (suc m) count)) (ne_eqb m n (λ e. omega arith)) in omega arith
 
 abbrev nothing : Notes
-nothing = record { asked = []; hit = [] }
+nothing = record { asked = []; hit = []; doubt = None }
 
 module _ {C : Type 0} (f : Face C) (setup : Setup C) where
   abbrev V : Type 0
@@ -119,6 +119,7 @@ module _ {C : Type 0} (f : Face C) (setup : Setup C) where
       heard = omega arith;
       asked = refl;
       hit = refl;
+      doubt = refl;
     },
     fresh_fit state (suc m) n none_done none_live,
   )
@@ -154,7 +155,7 @@ module _ {C : Type 0} (f : Face C) (setup : Setup C) where
           enough = can.enough;
           since = since_shared f.tells setup.callers setup.from (f.show core) can;
           strangers = λ n b. (ap (commits_of n) can.history, can.live n);
-          noted = λ told. none_noted (f.show core).limits setup.callers (f.show core).state can.live can.alive;
+          noted = λ told. none_noted (f.show core).limits setup.callers (f.show core).state can.live can.alive ((can.sound told).certain can.alive);
         })),
         refl,
       )

@@ -11,18 +11,19 @@ use Rattle.std.proofs.lemmas.List.Folds.{list_any-append}
 use Rattle.std.proofs.lemmas.Map.{update_here}
 use Rattle.history.specs.Table.{Granted, Work, Answers, found, removed}
 use Rattle.history.specs.Locks.{touches, touched}
+use Rattle.history.specs.declared.transaction.Done.{Done}
 use Rattle.history.specs.declared.call.Call.{Call}
 use Rattle.history.specs.declared.call.Call.TheVariants.{Begin, Get, Put, Del, Scan, Save, Back, Commit, Abort}
 use Rattle.history.specs.declared.call.Reply.{Reply}
 use Rattle.history.specs.declared.call.Reply.TheVariants.{Fine, NoTransaction, Already, NoSave, SavesFull, Busy, LogFull, SlotsFull, PagesFull, Media, Dead, NoMemory}
-use Rattle.core_face.specs.State.{State, Index, calls_of, view_of}
+use Rattle.core_face.specs.State.{State, Index, calls_of, view_of, done_by}
 use Rattle.core_face.specs.Locked.{Blocks}
 use Rattle.core_face.specs.Room.{Limits, LacksAt, Lacks, GainsKey, KeepsKeys, TakesPages, Inserts, IndexesAt, Indexes}
 use Rattle.core_face.specs.Step.{Says, Asks, StepAt, StepIf, Step}
 use Rattle.core_face.specs.Fate.{is_media, is_refusal, Moves}
 use Rattle.core_face.proofs.Fates.{Fate, step_fate}
 use Rattle.core_face.proofs.Fates.Fate.{refused, failed, began, granted, committed, doubted, aborted}
-use Rattle.mars_manager.specs.Notes.{Notes, hits_of, is_noted, is_begin, names, is_put, AreAsked, Gained, LacksPages, Stands, AllStand, has_media, AreNoted}
+use Rattle.mars_manager.specs.Notes.{Notes, doubt_of, hits_of, is_noted, is_begin, names, is_put, AreAsked, Gained, LacksPages, Stands, AllStand, has_media, AreNoted}
 
 -- an index after a call: it has no fewer pages and levels, and the same keys or one more, which the call puts
 pub record IndexMoves (limits : Limits) (call : Call) (old new : Index) : Type 0 where
@@ -206,8 +207,14 @@ pub note_apart : (notes : ℕ → Notes) (caller : ℕ) (note : Notes) (other : 
 note_apart notes caller note other ne = ap (λ b. if b then note else notes other) (ne_eqb other caller ne)
 
 -- a call more, with its reply
-abbrev pub added : Notes → Call → Reply → Notes
-added note call reply = record { asked = note.asked ++ call ∷ []; hit = note.hit ++ hits_of call reply }
+abbrev pub added : Notes → Call → Reply → Option Done → Notes
+added note call reply doubt = record { asked = note.asked ++ call ∷ []; hit = note.hit ++ hits_of call reply; doubt = doubt }
+
+some_same : (x y : Done) → Some x ≡ Some y → x ≡ y
+some_same x y e = cc
+
+some_none : {X : Type 0} (x : Done) → Some x ≡ None → X
+some_none x e = absurd (cc)
 
 or_left : (a b : Bool) → a ≡ true → (a || b) ≡ true
 or_left true b e = refl
@@ -251,24 +258,24 @@ hits_media call reply e =
     ap has_media hit ∙ or_left (is_media reply) false e
 
 module _ (limits : Limits) (callers : ℕ) (first : Index) (old new : State) (caller : ℕ) (call : Call) (reply : Reply) (step : Step limits old caller call reply new) (moves : Moves old caller call reply new)
-    (notes : ℕ → Notes) (few : caller < callers) (others : (other : ℕ) → callers ≤ other → old.live other ≡ None) (noted : AreNoted limits callers first old notes) where
+    (notes : ℕ → Notes) (few : caller < callers) (others : (other : ℕ) → callers ≤ other → old.live other ≡ None) (certain : old.is_dead ≡ false → old.doubt ≡ None) (noted : AreNoted limits callers first old notes) where
   abbrev notes' : ℕ → Notes
-  notes' = put_note notes caller (added (notes caller) call reply)
+  notes' = put_note notes caller (added (notes caller) call reply (doubt_of caller new.doubt))
 
   more_asked : (p : Call → Bool) (other : ℕ) → list_any p (notes other).asked ≡ true → list_any p (notes' other).asked ≡ true
   more_asked p other e = dite (ℕ_discrete other caller)
       (λ (same : other ≡ caller). subst (λ c. list_any p (notes' c).asked ≡ true) (sym same)
-      (ap (λ (n : Notes). list_any p n.asked) (note_here notes caller (added (notes caller) call reply)) ∙ any_left p (notes caller).asked (call ∷ []) (subst (λ c. list_any p (notes c).asked ≡ true) same e)))
-      (λ (ne : other ≢ caller). ap (λ (n : Notes). list_any p n.asked) (note_apart notes caller (added (notes caller) call reply) other ne) ∙ e)
+      (ap (λ (n : Notes). list_any p n.asked) (note_here notes caller (added (notes caller) call reply (doubt_of caller new.doubt))) ∙ any_left p (notes caller).asked (call ∷ []) (subst (λ c. list_any p (notes c).asked ≡ true) same e)))
+      (λ (ne : other ≢ caller). ap (λ (n : Notes). list_any p n.asked) (note_apart notes caller (added (notes caller) call reply (doubt_of caller new.doubt)) other ne) ∙ e)
 
   here_asked : (p : Call → Bool) → p call ≡ true → list_any p (notes' caller).asked ≡ true
-  here_asked p e = ap (λ (n : Notes). list_any p n.asked) (note_here notes caller (added (notes caller) call reply)) ∙ any_last p (notes caller).asked call e
+  here_asked p e = ap (λ (n : Notes). list_any p n.asked) (note_here notes caller (added (notes caller) call reply (doubt_of caller new.doubt))) ∙ any_last p (notes caller).asked call e
 
   more_media : (other : ℕ) → has_media (notes other).hit ≡ true → has_media (notes' other).hit ≡ true
   more_media other e = dite (ℕ_discrete other caller)
       (λ (same : other ≡ caller). subst (λ c. has_media (notes' c).hit ≡ true) (sym same)
-      (ap (λ (n : Notes). has_media n.hit) (note_here notes caller (added (notes caller) call reply)) ∙ any_left (λ entry. is_media entry.1) (notes caller).hit (hits_of call reply) (subst (λ c. has_media (notes c).hit ≡ true) same e)))
-      (λ (ne : other ≢ caller). ap (λ (n : Notes). has_media n.hit) (note_apart notes caller (added (notes caller) call reply) other ne) ∙ e)
+      (ap (λ (n : Notes). has_media n.hit) (note_here notes caller (added (notes caller) call reply (doubt_of caller new.doubt))) ∙ any_left (λ entry. is_media entry.1) (notes caller).hit (hits_of call reply) (subst (λ c. has_media (notes c).hit ≡ true) same e)))
+      (λ (ne : other ≢ caller). ap (λ (n : Notes). has_media n.hit) (note_apart notes caller (added (notes caller) call reply (doubt_of caller new.doubt)) other ne) ∙ e)
 
   more_keys : (keys : List ℕ) → AreAsked callers notes keys → AreAsked callers notes' keys
   more_keys [] a = tt
@@ -354,24 +361,63 @@ module _ (limits : Limits) (callers : ℕ) (first : Index) (old new : State) (ca
   stand_now : (other : ℕ) → AllStand limits callers new notes' other (notes' other).hit
   stand_now other = dite (ℕ_discrete other caller)
       (λ (same : other ≡ caller). subst (λ c. AllStand limits callers new notes' c (notes' c).hit) (sym same)
-      (subst (λ (n : Notes). AllStand limits callers new notes' caller n.hit) (sym (note_here notes caller (added (notes caller) call reply)))
+      (subst (λ (n : Notes). AllStand limits callers new notes' caller n.hit) (sym (note_here notes caller (added (notes caller) call reply (doubt_of caller new.doubt))))
       (all_append caller (notes caller).hit (hits_of call reply) (all_on caller (notes caller).hit (noted.stand caller)) (hits_stand (is_noted reply || (is_begin call && not (is_refusal reply)))))))
-      (λ (ne : other ≢ caller). subst (λ (n : Notes). AllStand limits callers new notes' other n.hit) (sym (note_apart notes caller (added (notes caller) call reply) other ne)) (all_on other (notes other).hit (noted.stand other)))
+      (λ (ne : other ≢ caller). subst (λ (n : Notes). AllStand limits callers new notes' other n.hit) (sym (note_apart notes caller (added (notes caller) call reply (doubt_of caller new.doubt)) other ne)) (all_on other (notes other).hit (noted.stand other)))
 
   cause_now : IsTrue new.is_dead → (other : ℕ) × (other < callers) × IsTrue (has_media (notes' other).hit)
   cause_now dead = ⊎_elim
       (λ was. let c = noted.cause was in (c.0, c.1, more_media c.0 c.2))
-      (λ media. (caller, few, ap (λ (n : Notes). has_media n.hit) (note_here notes caller (added (notes caller) call reply)) ∙ any_right (λ entry. is_media entry.1) (notes caller).hit (hits_of call reply) (hits_media call reply media)))
+      (λ media. (caller, few, ap (λ (n : Notes). has_media n.hit) (note_here notes caller (added (notes caller) call reply (doubt_of caller new.doubt))) ∙ any_right (λ entry. is_media entry.1) (notes caller).hit (hits_of call reply) (hits_media call reply media)))
       (or_either old.is_dead (is_media reply) (sym moves.dead ∙ dead))
 
+  -- a transaction that a step leaves in doubt is its caller's
+  doubt_at : Fate old caller call reply new → (new.doubt ≡ old.doubt) ⊎ ((done : Done) × (new.doubt ≡ Some done) × (done.caller ≡ caller))
+  doubt_at (refused refusal sure index e) = inl (ap (λ (s : State). s.doubt) e)
+  doubt_at (failed r index e) = inl (ap (λ (s : State). s.doubt) e)
+  doubt_at (began c r e) = inl (ap (λ (s : State). s.doubt) e)
+  doubt_at (granted calls l free answers index e) = inl (ap (λ (s : State). s.doubt) e)
+  doubt_at (committed calls c r l e) = inl (ap (λ (s : State). s.doubt) e)
+  doubt_at (doubted calls c r l index e) = inr (done_by old caller calls, ap (λ (s : State). s.doubt) e, refl)
+  doubt_at (aborted c r e) = inl (ap (λ (s : State). s.doubt) e)
+
+  doubt_is : (new.doubt ≡ old.doubt) ⊎ ((done : Done) × (new.doubt ≡ Some done) × (done.caller ≡ caller))
+  doubt_is = doubt_at (step_fate limits old caller new call reply step)
+
+  -- so another's stays,
+  doubt_stays : (dead : Bool) → old.is_dead ≡ dead → StepIf limits dead old caller call reply new → (other : ℕ) → other ≢ caller → doubt_of other old.doubt ≡ doubt_of other new.doubt
+  doubt_stays true is s other ne = ap (λ (s : State). doubt_of other s.doubt) (sym s.1)
+  doubt_stays false is s other ne = ⊎_elim
+      (λ e. ap (doubt_of other) (sym e))
+      (λ d. ap (doubt_of other) (certain is) ∙ sym (ap (doubt_of other) d.1 ∙ not_of d.0 (λ e. ne (sym e ∙ d.2))))
+      doubt_is
+    where
+      not_of : (done : Done) → done.caller ≢ other → doubt_of other (Some done) ≡ None
+      not_of done apart = ap (λ (b : Bool). if b then Some done else None) (ne_eqb done.caller other apart)
+
+  doubt_now : (other : ℕ) → (notes' other).doubt ≡ doubt_of other new.doubt
+  doubt_now other = dite (ℕ_discrete other caller)
+      (λ (same : other ≡ caller). subst (λ c. (notes' c).doubt ≡ doubt_of c new.doubt) (sym same) (ap (λ (n : Notes). n.doubt) (note_here notes caller (added (notes caller) call reply (doubt_of caller new.doubt)))))
+      (λ (ne : other ≢ caller). ap (λ (n : Notes). n.doubt) (note_apart notes caller (added (notes caller) call reply (doubt_of caller new.doubt)) other ne) ∙ noted.doubt other ∙ doubt_stays old.is_dead refl step other ne)
+
+  -- and it is of one of these callers.
+  owner_now : (done : Done) → new.doubt ≡ Some done → done.caller < callers
+  owner_now done is = ⊎_elim
+      (λ e. noted.owner done (sym e ∙ is))
+      (λ d. let same = ap (λ (x : Done). x.caller) (some_same d.0 done (sym d.1 ∙ is)) in let mine = d.2 in omega arith)
+      doubt_is
+
   pub noted_step : AreNoted limits callers first new notes'
-  noted_step = record { live = live_now; keys = keys_now; stand = stand_now; cause = cause_now }
+  noted_step = record { live = live_now; keys = keys_now; stand = stand_now; cause = cause_now; doubt = doubt_now; owner = owner_now }
 
 -- where nobody has called
-pub none_noted : (limits : Limits) (callers : ℕ) (state : State) → ((caller : ℕ) → state.live caller ≡ None) → state.is_dead ≡ false → AreNoted limits callers state.index state (λ caller. record { asked = []; hit = [] })
-none_noted limits callers state none alive = record {
+pub none_noted : (limits : Limits) (callers : ℕ) (state : State) → ((caller : ℕ) → state.live caller ≡ None) → state.is_dead ≡ false → state.doubt ≡ None
+    → AreNoted limits callers state.index state (λ caller. record { asked = []; hit = []; doubt = None })
+none_noted limits callers state none alive certain = record {
   live = λ caller stripe t. absurd (true≢false (sym t ∙ ap (λ (o : Option Granted). touched (unwrap_or o []) stripe) (none caller)));
   keys = λ still. ([], (refl, refl), tt);
   stand = λ caller. tt;
   cause = λ dead. absurd (true≢false (sym dead ∙ alive));
+  doubt = λ caller. sym (ap (doubt_of caller) certain);
+  owner = λ done is. some_none done (sym is ∙ certain);
 }

@@ -18,11 +18,11 @@ use Rattle.mars_manager.specs.declared.view.Known.{Known}
 use Rattle.mars_manager.specs.declared.view.Stage.TheVariants.{Vacant, Opening, Shared}
 use Rattle.mars_manager.specs.declared.view.View.{View}
 use Rattle.mars_manager.specs.declared.setup.Setup.{Setup}
-use Rattle.mars_manager.specs.Notes.{Notes, hits_of, AreNoted}
-use Rattle.mars_manager.specs.Pass.{Fits, AllFit, HasNoOthers, commits_of, times}
+use Rattle.mars_manager.specs.Notes.{Notes, hits_of, doubt_of, AreNoted}
+use Rattle.mars_manager.specs.Pass.{Fits, AllFit, HasNoOthers, commits_of, times, hears}
 use Rattle.mars_manager.specs.Sharing.{Since}
 use Rattle.mars_manager.specs.Seat.{shared_view, opener}
-use Rattle.mars_manager.specs.Rule.{Face, total, IsFree, IsHeld, IsKept, IsFresh, IsOpening, Rule, takes_turn, shown, tells_length, gives_turn, looks, hears}
+use Rattle.mars_manager.specs.Rule.{Face, total, IsFree, IsHeld, IsKept, IsFresh, IsOpening, Rule, takes_turn, shown, tells_length, gives_turn, looks}
 use Rattle.mars_manager.proofs.Notes.{put_note, added, note_here, note_apart}
 use Rattle.mars_manager.proofs.Seats.{times_first, inside, at_only, each_set, total_set, total_has, total_two}
 
@@ -59,7 +59,7 @@ pub record Moved {C : Type 0} (f : Face C) (setup : Setup C) (n : ℕ) (call : C
   pub since : Since f.tells setup.from (f.show setup.first) (f.show core) → Since f.tells setup.from (f.show setup.first) (f.show new)
   pub noted : (notes : ℕ → Notes) → n < setup.callers → HasNoOthers setup.callers (f.show core).state → Since f.tells setup.from (f.show setup.first) (f.show core)
       → (IsTrue f.tells → AreNoted (f.show setup.first).limits setup.callers (f.show setup.first).state.index (f.show core).state notes)
-      → IsTrue f.tells → AreNoted (f.show setup.first).limits setup.callers (f.show setup.first).state.index (f.show new).state (put_note notes n (added (notes n) call reply))
+      → IsTrue f.tells → AreNoted (f.show setup.first).limits setup.callers (f.show setup.first).state.index (f.show new).state (put_note notes n (added (notes n) call reply (doubt_of n (f.show new).state.doubt)))
 
 module _ {C : Type 0} (f : Face C) (setup : Setup C) where
   abbrev V : Type 0
@@ -111,6 +111,7 @@ module _ {C : Type 0} (f : Face C) (setup : Setup C) where
     heard = (let l = grows_longer (f.show core).state.history (f.show new).state.history m.grows in let o = h.heard in omega arith);
     asked = h.asked ∙ sym (ap (λ (x : Notes). x.asked) (note_apart notes n note k.number ne));
     hit = h.hit ∙ sym (ap (λ (x : Notes). x.hit) (note_apart notes n note k.number ne));
+    doubt = h.doubt ∙ sym (ap (λ (x : Notes). x.doubt) (note_apart notes n note k.number ne));
   }
 
   pub moves_all : (n : ℕ) (call : Call) (reply : Reply) (core new : C) (notes : ℕ → Notes) (note : Notes) (ks : List (Known C)) → Moved f setup n call reply core new → times n ks ≡ 0
@@ -240,7 +241,7 @@ module _ {C : Type 0} (f : Face C) (setup : Setup C) where
       let w : V = shared_view (shown f call reply new k ∷ []) (Some new) in
       let long : 1 < length s.words = (let t = h.two in omega arith) in
       let mine : Fits setup (f.show h.core).state h.notes k = (h.fit id v at).0 in
-      let note : Notes = added (h.notes k.number) call reply in
+      let note : Notes = added (h.notes k.number) call reply (doubt_of k.number (f.show new).state.doubt) in
       let notes : ℕ → Notes = put_note h.notes k.number note in
       let few : k.number < setup.callers = number_below s h k.number id v at (times_first k []) in record {
         core = new;
@@ -268,6 +269,7 @@ module _ {C : Type 0} (f : Face C) (setup : Setup C) where
             heard = (let l = grows_longer (f.show h.core).state.history (f.show new).state.history m.grows in let o = mine.heard in omega arith);
             asked = ap (λ l. l ++ call ∷ []) mine.asked ∙ sym (ap (λ (x : Notes). x.asked) (note_here h.notes k.number note));
             hit = ap (λ l. l ++ hits_of call reply) mine.hit ∙ sym (ap (λ (x : Notes). x.hit) (note_here h.notes k.number note));
+            doubt = sym (ap (λ (x : Notes). x.doubt) (note_here h.notes k.number note));
           },
           tt,
         )
@@ -364,7 +366,7 @@ module _ {C : Type 0} (f : Face C) (setup : Setup C) where
             h.place;
         staged = each_set (λ i u. u.stage ≡ Shared) s.views id w refl (λ j u _ e. h.staged j u e);
         fit = each_set (λ i u. AllFit setup (f.show h.core).state h.notes u.passes) s.views id w
-            (record { setup_is = mine.setup_is; seen = mine.seen; mine = mine.mine; live = mine.live; heard = (let e = h.told in omega arith); asked = mine.asked; hit = mine.hit }, tt)
+            (record { setup_is = mine.setup_is; seen = mine.seen; mine = mine.mine; live = mine.live; heard = (let e = h.told in omega arith); asked = mine.asked; hit = mine.hit; doubt = mine.doubt }, tt)
             (λ j u _ e. h.fit j u e);
         once = λ n. (let t = same_count n s.views id v w at refl in let o = h.once n in omega arith);
         below = λ n b. same_count n s.views id v w at refl ∙ h.below n b;

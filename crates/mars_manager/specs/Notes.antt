@@ -1,9 +1,10 @@
 -- What callers have asked for, and which refusals they have met.
-use Rattle.std.specs.Prelude.{ℕ, suc, ◌≡◌, ◌≢◌, ◌-◌, ◌<◌, ◌≤◌, ◌⊎◌, Bool, true, false, ◌&&◌, ◌||◌, not, if◌then◌else◌, nat_eq, IsTrue, IsFalse, List, [], ◌∷◌, Some, None}
+use Rattle.std.specs.Prelude.{ℕ, suc, ◌≡◌, ◌≢◌, ◌-◌, ◌<◌, ◌≤◌, ◌⊎◌, Bool, true, false, ◌&&◌, ◌||◌, not, if◌then◌else◌, nat_eq, IsTrue, IsFalse, List, [], ◌∷◌, Option, Some, None}
 use Rattle.std.specs.List.{list_any}
 use Rattle.std.specs.Map.{update}
 use Rattle.history.specs.Table.{Granted}
 use Rattle.history.specs.Locks.{touches, touched}
+use Rattle.history.specs.declared.transaction.Done.{Done}
 use Rattle.history.specs.declared.call.Call.{Call}
 use Rattle.history.specs.declared.call.Call.TheVariants.{Begin, Put}
 use Rattle.history.specs.declared.call.Reply.{Reply}
@@ -12,10 +13,17 @@ use Rattle.core_face.specs.State.{State, Index, calls_of}
 use Rattle.core_face.specs.Room.{Limits}
 use Rattle.core_face.specs.Fate.{is_refusal, is_media}
 
--- the calls that a caller has made, and those of them that began a transaction or were refused, each with its reply
+-- the calls that a caller has made; those of them that began a transaction or were refused, each with its reply; and the caller's
+-- transaction in doubt
 pub record Notes : Type 0 where
   pub asked : List Call
   pub hit : Granted
+  pub doubt : Option Done
+
+-- the transaction in doubt, where it is this caller's
+abbrev pub doubt_of : ℕ → Option Done → Option Done
+doubt_of caller None = None
+doubt_of caller (Some done) = if nat_eq done.caller caller then Some done else None
 
 abbrev pub is_begin : Call → Bool
 is_begin Begin = true
@@ -78,9 +86,11 @@ has_media hit = list_any (λ entry. is_media entry.1) hit
 
 -- What callers have asked for and met, in a state of a core with this index at the opening: what a live transaction touched, its caller
 -- has asked for; while the media has not failed, the index has just the keys of the opening and keys that were asked for; each refusal
--- stands; and where the media has failed, a caller was told so.
+-- stands; where the media has failed, a caller was told so; and the transaction in doubt is one of these callers'.
 pub record AreNoted (limits : Limits) (callers : ℕ) (first : Index) (state : State) (notes : ℕ → Notes) : Type 0 where
   pub live : (caller stripe : ℕ) → IsTrue (touched (calls_of state caller) stripe) → IsTrue (names (notes caller).asked stripe)
   pub keys : IsFalse state.is_dead → (keys : List ℕ) × Gained first keys state.index × AreAsked callers notes keys
   pub stand : (caller : ℕ) → AllStand limits callers state notes caller (notes caller).hit
   pub cause : IsTrue state.is_dead → (caller : ℕ) × (caller < callers) × IsTrue (has_media (notes caller).hit)
+  pub doubt : (caller : ℕ) → (notes caller).doubt ≡ doubt_of caller state.doubt
+  pub owner : (done : Done) → state.doubt ≡ Some done → done.caller < callers

@@ -1,12 +1,14 @@
 -- What a pass knows.
 use Rattle.std.specs.Prelude.{ℕ, zero, suc, ◌≡◌, ◌≢◌, ◌+◌, ◌<◌, ◌≤◌, ◌==◌, nat_eq, if◌then◌else◌, List, [], ◌∷◌, ◌++◌, map, filter, length, Some, None}
 use Rattle.atomic_table.specs.Seated.{TableId}
+use Rattle.history.specs.declared.call.Call.{Call}
+use Rattle.history.specs.declared.call.Reply.{Reply}
 use Rattle.history.specs.declared.transaction.Done.{Done}
 use Rattle.core_face.specs.State.{State}
 use Rattle.core_face.specs.Prefix.{Grows}
 use Rattle.mars_manager.specs.declared.setup.Setup.{Setup}
 use Rattle.mars_manager.specs.declared.view.Known.{Known}
-use Rattle.mars_manager.specs.Notes.{Notes}
+use Rattle.mars_manager.specs.Notes.{Notes, hits_of, doubt_of}
 
 -- the transactions of a caller in a history, in order
 abbrev pub commits_of : ℕ → List Done → List Done
@@ -28,6 +30,7 @@ module _ {C : Type 0} where
     pub heard : known.heard ≤ length state.history
     pub asked : known.asked ≡ (notes known.number).asked
     pub hit : known.hit ≡ (notes known.number).hit
+    pub doubt : known.doubt ≡ (notes known.number).doubt
 
   -- that is so of each
   abbrev pub AllFit : Setup C → State → (ℕ → Notes) → List (Known C) → Type 0
@@ -40,7 +43,22 @@ module _ {C : Type 0} where
 
   -- a pass of a caller that has seen nothing
   abbrev pub newcomer : Setup C → ℕ → Known C
-  newcomer setup caller = record { number = caller; setup = Some setup; seen = []; mine = []; live = None; heard = 0; asked = []; hit = [] }
+  newcomer setup caller = record { number = caller; setup = Some setup; seen = []; mine = []; live = None; heard = 0; asked = []; hit = []; doubt = None }
+
+  -- what a pass knows behind a step of its caller, which left this state,
+  abbrev pub known_after : Known C → State → Call → Reply → Known C
+  known_after was state call reply = record was {
+    seen = state.history;
+    mine = commits_of was.number state.history;
+    live = state.live was.number;
+    asked = was.asked ++ call ∷ [];
+    hit = was.hit ++ hits_of call reply;
+    doubt = doubt_of was.number state.doubt;
+  }
+
+  -- and once it has looked
+  abbrev pub hears : ℕ → Known C → Known C
+  hears n known = record known { heard = n }
 
   -- how many of the passes are of the caller
   abbrev pub times : ℕ → List (Known C) → ℕ

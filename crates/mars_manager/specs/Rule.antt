@@ -1,6 +1,6 @@
 -- The rule of the table, and what each step tells. Word 0 is the turn: 0, or one more than the number of the pass that has it. Word 1 is
 -- the length of the history that was told last. The slot has the core while the turn is free.
-use Rattle.std.specs.Prelude.{ℕ, ◌≡◌, ◌≢◌, ◌⊎◌, ◌+◌, ◌<◌, ◌≤◌, Bool, IsTrue, List, [], ◌∷◌, ◌++◌, map, length, slice_index, Option, Some, None}
+use Rattle.std.specs.Prelude.{ℕ, ◌≡◌, ◌≢◌, ◌⊎◌, ◌+◌, ◌<◌, ◌≤◌, Bool, IsTrue, List, [], ◌∷◌, map, length, slice_index, Option, Some, None}
 use mathlib.Core.Option.{some}
 use lib.ListN.{get_elem?}
 use Rattle.history.specs.declared.call.Call.{Call}
@@ -11,8 +11,8 @@ use Rattle.mars_manager.specs.declared.view.Known.{Known}
 use Rattle.mars_manager.specs.declared.view.Stage.TheVariants.{Vacant, Opening, Shared}
 use Rattle.mars_manager.specs.declared.view.View.{View}
 use Rattle.mars_manager.specs.declared.setup.Setup.{Setup}
-use Rattle.mars_manager.specs.Notes.{Notes, hits_of, AreNoted}
-use Rattle.mars_manager.specs.Pass.{AllFit, commits_of, times, HasNoOthers}
+use Rattle.mars_manager.specs.Notes.{Notes, AreNoted}
+use Rattle.mars_manager.specs.Pass.{AllFit, known_after, hears, times, HasNoOthers}
 use Rattle.mars_manager.specs.Sharing.{Since}
 use Rattle.mars_manager.specs.Seat.{view, shared_view, opener}
 
@@ -22,10 +22,6 @@ pub record Face (C : Type 0) : Type 1 where
   pub show : C → CoreView
 
 module _ {C : Type 0} where
-  -- what a pass knows once it has looked
-  abbrev pub hears : ℕ → Known C → Known C
-  hears n known = record known { heard = n }
-
   -- no pass has seen or heard more
   abbrev pub AllHeard : ℕ → List (Known C) → Type 0
   AllHeard n [] = Unit {0}
@@ -96,8 +92,7 @@ module _ {C : Type 0} where
 
     -- what a pass knows behind a step that it made
     abbrev pub shown : Call → Reply → C → Known C → Known C
-    shown call reply core known =
-        record known { seen = (f.show core).state.history; mine = commits_of known.number (f.show core).state.history; live = (f.show core).state.live known.number; asked = known.asked ++ call ∷ []; hit = known.hit ++ hits_of call reply }
+    shown call reply core known = known_after known (f.show core).state call reply
 
     -- the turn was taken, with this core
     pub record Took (m n : Me (Option C) (View C)) : Type 0 where

@@ -25,7 +25,7 @@ module _ {C : Type 0} where
 
   -- the first of the passes; none of them stands for no caller
   abbrev pub first_of : List (Known C) → Known C
-  first_of [] = record { number = 0; setup = None; seen = []; mine = []; live = None; heard = 0; asked = []; hit = [] }
+  first_of [] = record { number = 0; setup = None; seen = []; mine = []; live = None; heard = 0; asked = []; hit = []; doubt = None }
   first_of (known ∷ others) = known
 
   abbrev pub view : Stage → List (Known C) → Option C → View C

@@ -14,8 +14,8 @@ use Rattle.core_face.specs.Sound.{IsSound}
 use Rattle.core_face.specs.Core.{CoreView, IsSafe, Steps, Continues}
 use Rattle.mars_manager.specs.declared.setup.Setup.{Setup}
 use Rattle.mars_manager.specs.declared.view.Known.{Known}
-use Rattle.mars_manager.specs.Notes.{Notes, hits_of, AreNoted}
-use Rattle.mars_manager.specs.Pass.{PassView, AreSo, commits_of}
+use Rattle.mars_manager.specs.Notes.{Notes, AreNoted}
+use Rattle.mars_manager.specs.Pass.{PassView, AreSo, known_after}
 
 -- what contracts see of a shared core: its table, and how it was shared
 pub record MarsView (C : Type 0) : Type 0 where
@@ -59,7 +59,7 @@ module _ {C : Type 0} where
     pub live : (show old).state.live was.number ≡ was.live
     pub steps : Steps tells was.number call (show old) (show new) reply
     pub dead : IsTrue (show old).state.is_dead → (reply ≡ Dead) × (new ≡ old)
-    pub after : now ≡ record was { seen = (show new).state.history; mine = commits_of was.number (show new).state.history; live = (show new).state.live was.number; asked = was.asked ++ call ∷ []; hit = was.hit ++ hits_of call reply }
+    pub after : now ≡ known_after was (show new).state call reply
 
   -- What these passes know is so of the core that comes back, and what their callers have asked for and met is noted.
   pub record AreGathered (tells : Bool) (show : C → CoreView) (setup : Setup C) (core : C) (passes : List (PassView C)) : Type 0 where

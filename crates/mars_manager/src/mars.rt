@@ -5,10 +5,10 @@ ghost use mathlib.Core.Option.{none};
 ghost use Rattle.atomic_table.specs.Table.{Allows, step};
 ghost use Rattle.core_face.specs.Prefix.{Grows};
 ghost use Rattle.mars_manager.specs.declared.view.Stage.TheVariants.{Vacant};
-ghost use Rattle.mars_manager.specs.Pass.{dealt, HasEach, HasNoOthers, IsOther};
+ghost use Rattle.mars_manager.specs.Pass.{dealt, hears, HasEach, HasNoOthers, IsOther};
 ghost use Rattle.mars_manager.specs.Sharing.{CanShare, Since, Called, Commits, AreGathered, IsLegalIn};
 ghost use Rattle.mars_manager.specs.Seat.{opener};
-ghost use Rattle.mars_manager.specs.Rule.{face, Rule, hears, tells_length};
+ghost use Rattle.mars_manager.specs.Rule.{face, Rule, tells_length};
 
 use crate::pass::{Pass, Passes};
 use crate::rule::{Begin, Deal, Gather, Give, Look, Open, Take, Tell, Telling, Turns};
@@ -209,7 +209,7 @@ impl<C: Core + Drop> Mars<C> {
         let backoff = Backoff::new();
         for _ in rt.forever() {
             match self.call(pass, call) {
-                Ok(reply) => return reply,
+                Ok(answer) => return answer,
                 Err(_) => backoff.snooze(),
             }
         }

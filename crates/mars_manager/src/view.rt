@@ -1,11 +1,11 @@
 // What the rule keeps of a seat. No value of it is made.
 use crate::setup::Setup;
-use history::{Call, Calls, History};
+use history::{Call, Calls, Done, History};
 use std::collections::LinkedList;
 
 /// What a pass knows: its caller's number, how the core was shared, the history that was told at its last turn, the transactions of its
 /// caller in that history, the granted calls of its caller's live transaction, the length of the history when it last looked, the calls
-/// that its caller has made, and those of them that began a transaction or were refused.
+/// that its caller has made, those of them that began a transaction or were refused, and its caller's transaction in doubt.
 pub struct Known<C> {
     pub number: u8,
     pub setup: Option<Setup<C>>,
@@ -15,6 +15,7 @@ pub struct Known<C> {
     pub heard: u64,
     pub asked: LinkedList<Call>,
     pub hit: Calls,
+    pub doubt: Option<Done>,
 }
 
 /// How far the sharing has come.
