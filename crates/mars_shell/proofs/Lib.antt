@@ -1,5 +1,6 @@
 pub mod FaultLemmas
 pub mod FormatLemmas
+pub mod FreshRecords
 pub mod Answering
 pub mod Acknowledged
 pub mod Shapes

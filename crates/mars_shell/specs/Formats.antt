@@ -1,5 +1,6 @@
 -- What the making of a fresh array answers, writes and leaves.
 use Rattle.std.specs.Prelude.{ℕ, ◌≡◌, ◌⊎◌, List, [], ◌∷◌, ◌++◌, codes, Bool, true, false}
+use Rattle.std.specs.FinMap.{empty}
 use Rattle.std.specs.Fmt.{decimal}
 use Rattle.pcm_media.specs.Images.{MayLeave}
 use Rattle.pcm_media.specs.View.{View}
@@ -12,6 +13,8 @@ use Rattle.array_image.specs.Image.{data_of}
 use Rattle.array_image.specs.Standing.{SameCells}
 use Rattle.eaw_device.specs.Fresh.{IsFresh, IsHalfFresh}
 use Rattle.eaw_device.specs.Opens.{Opens}
+use Rattle.key_list.specs.Index.{chain}
+use Rattle.record_table.specs.Shown.{table_of}
 use Rattle.script_io.specs.Written.{IsWritten}
 use Rattle.command_words.specs.declared.words.FormatNumbers.{FormatNumbers}
 use Rattle.mars_shell.specs.declared.status.Status.{Status}
@@ -60,12 +63,18 @@ pub record IsBegun (asked : FormatNumbers) (old new : View) : Type 0 where
   pub cells : SameCells shape old.content.bytes new.content.bytes
   pub since : (image : List ℕ) → new.left_since old.moment image → IsHalfFresh shape old.content image
 
--- The media holds a fresh array, and what a loss of power leaves opens with its data. The bytes of the media and of the data are
--- told, or a front of that line where it was cut short.
+-- the data has sound records, and none
+pub record HasNone (bytes : List ℕ) : Type 0 where
+  pub sound : chain.sound bytes
+  pub none : table_of chain bytes ≡ empty
+
+-- The media holds a fresh array without records, and what a loss of power leaves opens with its data. The bytes of the media and of the
+-- data are told, or a front of that line where it was cut short.
 pub record IsFormatted (asked : FormatNumbers) (old new : View) (cut : Bool) (text : List ℕ) : Type 0 where
   pub begun : IsBegun asked old new
   pub fresh : IsFresh begun.shape new.content
   pub opens : (image : List ℕ) → MayLeave new.content image → Opens begun.shape image (data_of begun.shape new.content.bytes)
+  pub records : HasNone (data_of begun.shape new.content.bytes)
   pub wrote : IsWritten cut text (codes "formatted " ++ (decimal (media_len begun.shape) ++ 32 ∷ (decimal (data_len begun.shape) ++ 10 ∷ [])))
 
 -- what was written and done, by the status

@@ -9,6 +9,7 @@ use Rattle.command_words.specs.declared.words.FormatNumbers.{FormatNumbers}
 use Rattle.script_io.specs.Written.{IsWritten}
 use Rattle.mars_shell.specs.Formats.{HasAsked}
 use Rattle.mars_shell.proofs.FormatLemmas.{half_fresh}
+use Rattle.mars_shell.proofs.FreshRecords.{fresh_none}
 use Rattle.mars_shell.proofs.formatting.run_format.Goals as goal
 
 -- what `bad shape` says
@@ -73,6 +74,7 @@ returns-in-Ok-write_whole-clause-ran g c =
           };
           fresh = c.in-Ok-format.ensures.fresh told;
           opens = c.in-Ok-format.ensures.opens told;
+          records = fresh_none shape (media.view c.format.new.media).content.bytes (c.in-Ok-format.ensures.fresh told).parts.pages;
           wrote = c.formatted_line.ensures;
         },
       );
@@ -102,6 +104,7 @@ returns-in-Err-write_whole-clause-ran g c =
           };
           fresh = c.in-Ok-format.ensures.fresh told;
           opens = c.in-Ok-format.ensures.opens told;
+          records = fresh_none shape (media.view c.format.new.media).content.bytes (c.in-Ok-format.ensures.fresh told).parts.pages;
           wrote = subst (IsWritten true part.0) c.formatted_line.ensures part.1;
         },
       );

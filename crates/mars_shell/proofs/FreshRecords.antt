@@ -1,0 +1,72 @@
+-- A fresh array has sound records, and none.
+use Rattle.std.proofs.Common.{◌≡◌, ℕ, ◌*◌, ◌<◌, ◌≤◌, List, take, refl, ap, ◌∙◌, arith}
+use Rattle.std.proofs.Math.Nat.{le-mul_of_pos_right}
+use Rattle.array_shape.specs.declared.shape.Shape.{Shape}
+use Rattle.array_shape.specs.Places.{page_count}
+use Rattle.array_image.specs.Image.{data_of}
+use Rattle.array_image.proofs.Data.{length-data_of}
+use Rattle.eaw_device.specs.Fresh.{fresh_page, HasPages}
+use Rattle.page_store.specs.Pairs.{Pair}
+use Rattle.record_slots.specs.Places.{page_bytes, IsSuper}
+use Rattle.record_slots.specs.Super.{form_said, next_slot_said, next_page_said}
+use Rattle.record_table.specs.Shown.{table_of, table_in}
+use Rattle.index_pages.specs.Page.{kind_said, level_said, count_said, link_said}
+use Rattle.index_pages.proofs.Fresh.{fresh_chain}
+use Rattle.mars_shell.specs.Formats.{HasNone}
+
+form_fresh : form_said (fresh_page 0) ≡ 0
+unfolding form_said
+form_fresh = refl
+
+slot_fresh : next_slot_said (fresh_page 0) ≡ 0
+unfolding next_slot_said
+slot_fresh = refl
+
+page_fresh : next_page_said (fresh_page 0) ≡ 2
+unfolding next_page_said
+page_fresh = refl
+
+kind_fresh : kind_said (fresh_page 1) ≡ 1
+unfolding kind_said
+kind_fresh = refl
+
+level_fresh : level_said (fresh_page 1) ≡ 0
+unfolding level_said
+level_fresh = refl
+
+count_fresh : count_said (fresh_page 1) ≡ 0
+unfolding count_said
+count_fresh = refl
+
+link_fresh : link_said (fresh_page 1) ≡ 0
+unfolding link_said
+link_fresh = refl
+
+-- an array has at least four pages
+some_pages : (shape : Shape) → 4 ≤ page_count shape
+some_pages shape = let more : shape.pages ≤ shape.loggers * shape.pages = omega (arith, le-mul_of_pos_right shape.pages shape.in_range.some_loggers) in omega (arith, more, shape.in_range.some_pages)
+
+module _ (shape : Shape) (bytes : List ℕ) (pages : HasPages shape (page_count shape) bytes) where
+  has_page : (p : ℕ) → p < 2 → page_bytes (data_of shape bytes) p ≡ fresh_page p
+  unfolding page_bytes
+  has_page p less = pages p (omega (arith, some_pages shape))
+
+  front : IsSuper 0 (data_of shape bytes)
+  front =
+      let here = has_page 0 (omega arith) in
+      let next : next_page_said (page_bytes (data_of shape bytes) 0) ≡ 2 = ap next_page_said here ∙ page_fresh in
+      let none : next_slot_said (page_bytes (data_of shape bytes) 0) ≡ 0 = ap next_slot_said here ∙ slot_fresh in
+      record {
+        has_mark = ap (take 5) here ∙ refl;
+        form_is = ap form_said here ∙ form_fresh;
+        slots = omega (arith, none);
+        some_pages = omega (arith, next);
+        pages = omega (arith, next, some_pages shape, length-data_of shape bytes);
+      }
+
+  pub fresh_none : HasNone (data_of shape bytes)
+  unfolding table_of
+  fresh_none =
+      let here = has_page 1 (omega arith) in
+      let fresh = fresh_chain (data_of shape bytes) front (ap kind_said here ∙ kind_fresh) (ap level_said here ∙ level_fresh) (ap link_said here ∙ link_fresh) (ap count_said here ∙ count_fresh) in
+      record { sound = fresh.0; none = ap (λ (pairs : List Pair). table_in (data_of shape bytes) pairs) fresh.1 }
