@@ -7,13 +7,16 @@
 #   edits  run: a transaction is a begin, ten puts of one key, and a commit
 #   turns  run: eight callers in turn, a transaction is a begin, two puts, and a commit; every second put finds its key held
 #   raw    eaw: 64 bytes are logged, and committed
-# And of 1,000 records on a file: their load, a scan of all of them, and a dump. Each script is run three times, and the best time counts. The answers go to a file, and the last is compared, so a
-# run that stops early is no result. A time has the start of the process in it, about a millisecond.
+# And of 1,000 records on such a file: their load, a scan of all of them, and a dump. Each script is run three times, and the best time counts. The answers go to a file, and the last is compared, so a
+# run that stops early is no result. A time has the start of the process in it, about a millisecond. The image in memory keeps a record
+# of all its calls, so the peak of memory is that of a run over a file, in a folder that is memory where there is one.
 
 set -eu
 top=$(cd "$(dirname "$0")/.." && pwd)
 work=$(mktemp -d)
-trap 'rm -rf "$work"' EXIT
+room=$work
+[ ! -w /dev/shm ] || room=$(mktemp -d /dev/shm/mars-bench.XXXXXX)
+trap 'rm -rf "$work" "$room"' EXIT
 
 "$top/mars" - run </dev/null
 program=$top/crates/mars/out/mars
@@ -77,6 +80,15 @@ once() {
     echo "$((${EPOCHREALTIME/[.,]/} - start)) $(cat "$work/peak")"
 }
 
+# peak_of WORD FILE: the peak of a run over a fresh file
+peak_of() {
+    local image=$room/fresh time peak
+    "$program" "$image" format >/dev/null
+    read -r time peak <<<"$(once "$image" "$1" "$2")"
+    rm -f "$image"
+    echo "$peak"
+}
+
 # is_whole MIX TRANSACTIONS: the run went to the end
 is_whole() {
     [ "$(tail -n 1 "$work/answers")" = "$(last "$1" "$2")" ] || {
@@ -87,15 +99,15 @@ is_whole() {
 
 # measure MIX LINES: prints a row of the table, and leaves the best time in $best
 measure() {
-    local file=$work/$1.$2 count=$(($2 / $(size "$1"))) time peak most=0
+    local file=$work/$1.$2 count=$(($2 / $(size "$1"))) time peak most
     script "$1" "$count" >"$file"
     best=
     for _ in 1 2 3; do
         read -r time peak <<<"$(once - "$(word "$1")" "$file")"
         is_whole "$1" "$count"
         if [ -z "$best" ] || [ "$time" -lt "$best" ]; then best=$time; fi
-        if [ "$peak" -gt "$most" ]; then most=$peak; fi
     done
+    most=$(peak_of "$(word "$1")" "$file")
     awk -v mix="$1" -v lines="$2" -v time="$best" -v peak="$most" -v bytes="$(wc -c <"$file")" 'BEGIN {
         printf "%-6s %8d %10d %9.1f %12d %10d %8.1f\n", mix, lines, bytes, time / 1000, lines * 1e6 / time, peak, peak * 1024 / bytes
     }'
@@ -127,14 +139,14 @@ on_file() {
 timed() {
     local input=$1 start=${EPOCHREALTIME/[.,]/}
     shift
-    "$program" "$work/image" "$@" <"$input" >"$work/answers"
+    "$program" "$room/image" "$@" <"$input" >"$work/answers"
     awk -v time="$((${EPOCHREALTIME/[.,]/} - start))" 'BEGIN { printf "%.1f", time / 1000 }'
 }
 
 # records COUNT: their load into a fresh file, eight in a transaction; a hundred scans of all; a dump
 records() {
     local load scan dump
-    "$program" "$work/image" format --pages 128 >"$work/answers"
+    "$program" "$room/image" format --pages 128 >"$work/answers"
     awk -v count="$1" 'BEGIN {
         for (n = 0; n < count; n++) {
             if (n % 8 == 0) print "0 begin"
