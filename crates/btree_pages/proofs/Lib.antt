@@ -1,0 +1,9 @@
+pub mod TreeFacts
+pub mod Apart
+pub mod Frames
+pub mod Ways
+pub mod Insertion
+pub mod Splitting
+pub mod Resting
+pub mod FailingFacts
+pub mod Fresh
