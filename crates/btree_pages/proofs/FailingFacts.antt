@@ -2,11 +2,10 @@
 use Rattle.std.proofs.Common.{◌≡◌, ℕ, zero, suc, inl, inr, List, [], ◌∷◌, sym, ◌∙◌}
 use Rattle.btree_pages.specs.Failing.{SlotsFail, IsTreeLeafHead, ChildFails, TreeFails, IsFirstDamagedOfTree}
 use Rattle.btree_pages.specs.Tree.{IsTreeLeaf, AreSound, next_low, IsTree, IsSoundTree}
-use Rattle.index_pages.specs.Chain.{key_end, behind, IsChain, IsChainPage, IsSoundChain}
-use Rattle.index_pages.specs.Failing.{PairsFail, IsChainHead, ChainFails, IsFirstDamagedOfChain}
-use Rattle.index_pages.specs.Page.{page_pairs, level_of, link_of}
-use Rattle.page_store.specs.Pairs.{Pair, Rise}
-use Rattle.record_slots.specs.Places.{AreGiven, next_page}
+use Rattle.index_pages.specs.Chain.{key_end}
+use Rattle.index_pages.specs.Page.{page_pairs, level_of}
+use Rattle.page_store.specs.Pairs.{Pair}
+use Rattle.record_slots.specs.Places.{AreGiven}
 
 slots_well : (bytes : List ℕ) (page : ℕ) (ps : List Pair) (bad : ℕ) → SlotsFail bytes page ps bad → AreGiven bytes ps → ⊥
 slots_well bytes page [] bad f g = f

@@ -1,12 +1,10 @@
 -- An index of no pairs.
-use Rattle.std.proofs.Common.{◌≡◌, ℕ, zero, suc, ◌≤◌, true, nat_eq, List, [], ◌++◌, refl, sym, ◌∙◌, ap, subst, arith}
-use Rattle.std.proofs.lemmas.Bool.Decides.{nat_tests}
+use Rattle.std.proofs.Common.{◌≡◌, ℕ, List, [], refl, sym, ◌∙◌, ap, subst, arith}
 use Rattle.btree_pages.specs.Tree.{IsTree, IsTreeLeaf, pairs_under, IsSoundTree, pairs_of_tree}
-use Rattle.index_pages.specs.Chain.{key_end, IsChain, IsChainPage, chain_pieces, IsSoundChain, pairs_of_chain}
-use Rattle.index_pages.specs.Page.{page_pairs, pairs_from, pairs_said, kind_of, level_of, link_of, count_of}
-use Rattle.index_pages.specs.Pieces.{joined}
+use Rattle.index_pages.specs.Chain.{key_end}
+use Rattle.index_pages.specs.Page.{kind_of, level_of, link_of, count_of}
 use Rattle.page_store.specs.Pairs.{Pair, Rise}
-use Rattle.record_slots.specs.Places.{page_bytes, IsSuper, AreGiven, next_page}
+use Rattle.record_slots.specs.Places.{IsSuper, AreGiven}
 use Rattle.index_pages.proofs.Fresh.{no_pairs}
 
 pub fresh_tree : (bytes : List ℕ) → IsSuper 1 bytes → kind_of bytes 1 ≡ 1 → level_of bytes 1 ≡ 0 → link_of bytes 1 ≡ 0 → count_of bytes 1 ≡ 0

@@ -1,6 +1,5 @@
 -- What an insertion makes of a tree.
-use Rattle.std.proofs.Common.{◌≡◌, ◌≢◌, ℕ, zero, suc, ◌<◌, ◌≤◌, true, false, nat_lt, inl, inr, List, [], ◌∷◌, length, None, refl, sym, ◌∙◌, ap, subst, arith}
-use Rattle.std.proofs.lemmas.Bool.Decides.{leb_tells}
+use Rattle.std.proofs.Common.{◌≡◌, ◌≢◌, ℕ, suc, ◌<◌, ◌≤◌, List, length, None, refl, sym, ◌∙◌, ap, subst, arith}
 use Rattle.btree_pages.proofs.Apart.{tree_level}
 use Rattle.btree_pages.proofs.Ways.{graft, found_on_way, under_own}
 use Rattle.btree_pages.specs.Changes.{TakesPair}
@@ -8,12 +7,12 @@ use Rattle.btree_pages.specs.Descent.{page_for}
 use Rattle.btree_pages.specs.Tree.{IsTreeLeaf, IsTree, pairs_under, IsUnder, IsSoundTree, pairs_of_tree}
 use Rattle.index_pages.proofs.Kept.{given_kept}
 use Rattle.index_pages.proofs.PageFacts.{length-page_pairs}
-use Rattle.index_pages.proofs.Rising.{inserted-left, inserted-right, inserted-rises, length-inserted}
+use Rattle.index_pages.proofs.Rising.{inserted-rises, length-inserted}
 use Rattle.index_pages.specs.Chain.{key_end}
 use Rattle.index_pages.specs.Page.{page_pairs, level_of, count_of}
-use Rattle.index_pages.specs.Ways.{above, Keeps, IsLocal}
+use Rattle.index_pages.specs.Ways.{above, Keeps}
 use Rattle.page_store.specs.Pairs.{Pair, Rise, found, inserted}
-use Rattle.record_slots.specs.Places.{page_bytes, AreGiven, Carries, next_slot, next_page, IsSuper}
+use Rattle.record_slots.specs.Places.{page_bytes, AreGiven, next_page, IsSuper}
 use Rattle.index_pages.proofs.Given.{inserted_local, given_inserted, above_zero}
 
 leaf_takes : (old new : List ℕ) → Keeps old new → (leaf key to low high : ℕ) → TakesPair old new leaf key to → IsTreeLeaf old leaf low high → low ≤ key → key < high

@@ -7,3 +7,7 @@ pub mod Splitting
 pub mod Resting
 pub mod FailingFacts
 pub mod Fresh
+pub mod Nodes
+pub mod Causing
+pub mod Descending
+pub mod Given

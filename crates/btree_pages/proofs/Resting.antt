@@ -1,5 +1,5 @@
 -- A tree whose pages are as they were, and whose slots carry their keys still; and a look-up in its leaf.
-use Rattle.std.proofs.Common.{◌≡◌, ℕ, zero, suc, ◌<◌, ◌≤◌, List, [], ◌∷◌, ◌++◌, sym, ◌∙◌, ap, subst, arith}
+use Rattle.std.proofs.Common.{◌≡◌, ℕ, zero, suc, ◌<◌, List, [], ◌∷◌, ◌++◌, sym, ◌∙◌, ap, subst, arith}
 use Rattle.record_slots.specs.Super.{HasSuperMark, form_said, next_slot_said, next_page_said}
 use Rattle.record_slots.specs.Places.{page_bytes, next_slot, next_page, AreGiven, page_count}
 use Rattle.page_store.specs.Index.{KeepsIndex, HasCounts}

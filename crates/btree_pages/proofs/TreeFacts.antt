@@ -1,13 +1,11 @@
 -- What a sound tree's pairs are.
 use Rattle.std.proofs.Common.{◌≡◌, ◌≢◌, ℕ, zero, suc, ◌<◌, ◌≤◌, List, [], ◌∷◌, length, refl, ap, subst, arith}
 use Rattle.btree_pages.specs.Tree.{AreChildren, next_low, AreSound, IsTree, pieces_with, pairs_under, pieces_under, IsSoundTree, pairs_of_tree}
-use Rattle.index_pages.proofs.Rising.{rise_bounds}
 use Rattle.index_pages.proofs.Tiling.{tile_bounds, joined_rises}
 use Rattle.index_pages.specs.Chain.{key_end}
-use Rattle.index_pages.specs.Page.{page_pairs, pairs_from, pairs_said, count_of}
+use Rattle.index_pages.specs.Page.{page_pairs}
 use Rattle.index_pages.specs.Pieces.{Piece, low_of, Tile}
 use Rattle.page_store.specs.Pairs.{Pair, Rise}
-use Rattle.record_slots.specs.Places.{page_bytes}
 use Rattle.index_pages.proofs.PageFacts.{length-page_pairs, rise_wide}
 
 pub low_of-pieces : (f : ℕ → List Pair) (es : List Pair) (high : ℕ) → low_of (pieces_with f es) high ≡ next_low es high

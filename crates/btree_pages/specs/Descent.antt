@@ -1,9 +1,7 @@
 -- The way from the root down to a key, and data that keeps what a tree rests on.
-use Rattle.std.specs.Prelude.{ℕ, zero, suc, ◌≡◌, ◌<◌, ◌≤◌, nat_lt, nat_eq, if◌then◌else◌, List, [], ◌∷◌, ◌++◌}
-use Rattle.index_pages.specs.Chain.{first_key}
-use Rattle.index_pages.specs.Page.{page_pairs, level_of, link_of}
-use Rattle.page_store.specs.Pairs.{Pair, Rise}
-use Rattle.record_slots.specs.Places.{next_page, next_slot, Carries}
+use Rattle.std.specs.Prelude.{ℕ, zero, suc, nat_lt, if◌then◌else◌, List, [], ◌∷◌}
+use Rattle.index_pages.specs.Page.{page_pairs, level_of}
+use Rattle.page_store.specs.Pairs.{Pair}
 
 -- the child of the last entry whose low key is not above the key: of the first entry where none is
 abbrev pub child_for : List Pair → ℕ → ℕ

@@ -1,10 +1,10 @@
 -- The first page that fails, in the order in which an index is tested.
 use Rattle.std.specs.Prelude.{ℕ, zero, suc, ◌≡◌, ◌≢◌, ◌<◌, ◌≤◌, ◌⊎◌, List, [], ◌∷◌}
 use Rattle.btree_pages.specs.Tree.{IsInner, IsTree, next_low}
-use Rattle.index_pages.specs.Chain.{key_end, behind}
+use Rattle.index_pages.specs.Chain.{key_end}
 use Rattle.index_pages.specs.Page.{kind_of, level_of, count_of, link_of, page_pairs}
 use Rattle.page_store.specs.Pairs.{Pair, Rise}
-use Rattle.record_slots.specs.Places.{next_page, next_slot, Carries, AreGiven, IsSuper, slot_page}
+use Rattle.record_slots.specs.Places.{next_slot, Carries, IsSuper, slot_page}
 
 -- of these pairs of a page one has a slot that was not given, which the page answers for, or one that does not carry its key, which
 -- the record page answers for; and those before it are well

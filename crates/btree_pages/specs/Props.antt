@@ -1,14 +1,11 @@
 -- Soundness is a proposition: a struct can keep it.
-use Rattle.std.specs.Prelude.{ℕ, zero, suc, List, [], ◌∷◌, Option, Some, None}
-use Rattle.std.specs.Coded.{×_prop, Unit-prop, le_prop}
+use Rattle.std.specs.Prelude.{ℕ, zero, suc, List, [], ◌∷◌}
+use Rattle.std.specs.Coded.{×_prop, Unit-prop}
 use Rattle.std.proofs.Props.{props}
-use Rattle.record_slots.specs.declared.slot.Slot.{Slot}
-use Rattle.record_slots.specs.declared.slot.Slot.TheVariants.{Absent, Present}
 use Rattle.btree_pages.specs.Tree.{IsTreeLeaf, IsInner, AreChildren, AreSound, IsTree, next_low, IsSoundTree}
-use Rattle.index_pages.specs.Chain.{key_end, behind, IsChainPage, IsChain, IsSoundChain}
-use Rattle.index_pages.specs.Page.{page_pairs, link_of, level_of}
-use Rattle.page_store.specs.Pairs.{Pair, Rise}
-use Rattle.record_slots.specs.Places.{IsSuper, IsOfKey, Carries, AreGiven, next_page}
+use Rattle.index_pages.specs.Chain.{key_end}
+use Rattle.index_pages.specs.Page.{page_pairs, level_of}
+use Rattle.page_store.specs.Pairs.{Pair}
 use Rattle.index_pages.specs.Props.{Rise-prop, AreGiven-prop, IsSuper-prop}
 
 pub AreChildren-prop : (bytes : List ℕ) (es : List Pair) → IsProp (AreChildren bytes es)

@@ -2,8 +2,11 @@
 #![tactic(auto)]
 
 mod laws;
+mod look;
+mod page;
 
 pub use laws::{
     damage_is_first, descent_finds, fresh_is_sound, slots_leave_the_tree, tree_changes_keep,
     tree_rises,
 };
+pub use look::{find, next};
