@@ -11,3 +11,4 @@ pub mod Nodes
 pub mod Causing
 pub mod Descending
 pub mod Given
+pub mod Checks

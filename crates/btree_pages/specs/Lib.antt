@@ -4,5 +4,6 @@ pub mod Changes
 pub mod Node
 pub mod Leaf
 pub mod Failing
+pub mod Checked
 pub mod Index
 pub mod Props

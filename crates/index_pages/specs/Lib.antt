@@ -9,3 +9,4 @@ pub mod Props
 pub mod Written
 pub mod Fetched
 pub mod Acts
+pub mod Faults

@@ -2,11 +2,13 @@
 #![tactic(auto)]
 
 mod action;
+mod fault;
 mod fetch;
 mod laws;
 mod page;
 
 pub use action::{PagePart, act};
+pub use fault::{check_fault, index_fault};
 pub use fetch::{fetch_page, fetch_slot, fetch_super, index_page_count};
 pub use laws::{
     chain_changes_keep, chain_rises, damage_is_first, fresh_is_sound, insertion_adds,
