@@ -16,3 +16,4 @@ pub mod Acting
 pub mod Ranges
 pub mod Fronts
 pub mod Resting
+pub mod Listed

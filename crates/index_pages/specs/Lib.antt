@@ -10,3 +10,4 @@ pub mod Written
 pub mod Fetched
 pub mod Acts
 pub mod Faults
+pub mod Parts

@@ -7,7 +7,7 @@ mod fetch;
 mod laws;
 mod page;
 
-pub use action::{PagePart, act};
+pub use action::{PagePart, act, act_all};
 pub use fault::{check_fault, index_fault};
 pub use fetch::{fetch_page, fetch_slot, fetch_super, index_page_count};
 pub use laws::{
