@@ -12,3 +12,5 @@ pub mod Causing
 pub mod Descending
 pub mod Given
 pub mod Checks
+pub mod NodeBytes
+pub mod Cutting

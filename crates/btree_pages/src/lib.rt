@@ -5,6 +5,7 @@ mod checking;
 mod laws;
 mod look;
 mod page;
+mod write;
 
 pub use checking::check;
 pub use laws::{

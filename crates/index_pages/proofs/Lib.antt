@@ -17,3 +17,4 @@ pub mod Ranges
 pub mod Fronts
 pub mod Resting
 pub mod Listed
+pub mod Placing

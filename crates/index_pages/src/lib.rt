@@ -6,6 +6,7 @@ mod fault;
 mod fetch;
 mod laws;
 mod page;
+mod place;
 
 pub use action::{PagePart, act, act_all};
 pub use fault::{check_fault, index_fault};
@@ -18,3 +19,4 @@ pub use page::{
     LeafHead, PAGE_LEN, PAIRS_MAX, Pairs, next_pair, read_leaf_head, read_pair, read_pairs,
     write_leaf,
 };
+pub use place::place_of;
