@@ -14,3 +14,5 @@ pub mod Given
 pub mod Checks
 pub mod NodeBytes
 pub mod Cutting
+pub mod Actions
+pub mod Belonging
