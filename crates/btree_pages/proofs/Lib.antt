@@ -16,3 +16,6 @@ pub mod NodeBytes
 pub mod Cutting
 pub mod Actions
 pub mod Belonging
+pub mod Puts
+pub mod Entries
+pub mod CutData
