@@ -1,5 +1,6 @@
 -- What the cut of a page makes of the data.
 use Rattle.std.proofs.Common.{◌≡◌, ◌≢◌, ℕ, zero, suc, ◌+◌, ◌*◌, ◌/◌, ◌^◌, ◌<◌, ◌≤◌, true, false, nat_lt, inl, inr, List, [], ◌∷◌, length, take, drop, refl, sym, ◌∙◌, ap, subst, arith}
+use Rattle.std.specs.Prelude.{if◌then◌else◌}
 use Rattle.std.proofs.lemmas.Bool.{cases_lt}
 use Rattle.std.proofs.lemmas.Bool.Decides.{leb_tells, eqb_tells}
 use Rattle.std.proofs.lemmas.List.{length-take-le, length-drop}
@@ -33,12 +34,12 @@ use Rattle.btree_pages.specs.Node.{kind_for, node_bytes}
 use Rattle.btree_pages.specs.OnWay.{IsOnWay}
 use Rattle.btree_pages.specs.Tree.{IsTree, IsInner, IsUnder, IsSoundTree, pairs_of_tree, next_low}
 use Rattle.btree_pages.specs.Writes.{IsRead, cutting_parts}
-use Rattle.btree_pages.specs.Index.{tree}
-use Rattle.btree_pages.proofs.Actions.{under_self, way_same}
+use Rattle.btree_pages.specs.Index.{tree, half_for, actions_below}
+use Rattle.btree_pages.proofs.Actions.{under_self, way_same, half_actions}
 use Rattle.btree_pages.proofs.Belonging.{split_stays, half_named, under_way}
 use Rattle.btree_pages.proofs.Apart.{tree_level, start_of, sub_of}
 use Rattle.btree_pages.proofs.Descending.{Child, child_step}
-use Rattle.btree_pages.proofs.Entries.{with_inserted}
+use Rattle.btree_pages.proofs.Entries.{with_inserted, entry_child, page_for_last}
 use Rattle.btree_pages.proofs.NodeBytes.{node_kind, node_level, node_count, node_link, node_pairs, length-node_bytes}
 use Rattle.btree_pages.proofs.Puts.{AwayAll, AllApart, Stand, applied_long, applied_away, applied_stand}
 use Rattle.btree_pages.proofs.Splitting.{AreHalves, halves, sound_tree_splits}
@@ -395,3 +396,32 @@ module _ (shape : Shape) (old : List ℕ) (half : ℕ) (long : length old ≡ da
     },
     record { pairs = cut_sound.1; slots = slot_now ∙ says.slots },
   )
+
+  -- the half of the key is on its way then, and has room
+  pub half_there : half_for (page_pairs old page) page front.next_page key ≡ page_for (suc d) (applied (cutting_parts front page level pairs parent entries) old) 1 key
+  unfolding cut
+  half_there =
+      ap (λ (x : ℕ). if nat_lt key (key_at (page_pairs old page) 15) then x else front.next_page) page_there
+      ∙ sym (page_for_last d cut 1 key ∙ ap (λ (q : ℕ). child_for (page_pairs cut q) key) (sym parent_there) ∙ ap (λ (ps : List Pair). child_for ps key) named_pairs
+      ∙ entry_child (page_pairs old parent) key (middle old page) front.next_page entries_some)
+
+  pub half_room : count_of (applied (cutting_parts front page level pairs parent entries) old) (half_for (page_pairs old page) page front.next_page key) ≡ 15
+  unfolding cut
+  half_room = elim (leb_tells (suc key) (key_at (page_pairs old page) 15)) [
+    | inl h ↦
+        let b : nat_lt key (key_at (page_pairs old page) 15) ≡ true = h.0 in
+        rw b (sym (length-page_pairs cut page) ∙ ap (λ (ps : List Pair). length ps) lower_half.pairs_are ∙ length-take-le 15 (page_pairs old page) (omega (arith, is_cut.full)))
+    | inr h ↦
+        let b : nat_lt key (key_at (page_pairs old page) 15) ≡ false = h.0 in
+        rw b (sym (length-page_pairs cut front.next_page) ∙ ap (λ (ps : List Pair). length ps) upper_half.pairs_are ∙ (let e : length (drop 15 (page_pairs old page)) ≡ 15 = omega (arith, length-drop 15 (page_pairs old page), is_cut.full) in e))
+  ]
+
+  -- what was to be done behind the cut is what is to be done from that half on
+  pub half_left : actions_below level (applied (cutting_parts front page level pairs parent entries) old) (half_for (page_pairs old page) page front.next_page key)
+      (half_for (page_pairs old page) page front.next_page key) (next_page (applied (cutting_parts front page level pairs parent entries) old)) key
+      ≡ actions_below level old page (half_for (page_pairs old page) page front.next_page key) (suc (next_page old)) key
+  unfolding cut
+  half_left =
+      half_actions old cut (slot_now ∙ says.slots) cut_long page page front.next_page key is_cut level child.from child.to page_tree child.from_key child.key_to (below_page child.from child.to page_tree)
+      (half_for (page_pairs old page) page front.next_page key) (next_page cut)
+      ∙ ap (λ (n : ℕ). actions_below level old page (half_for (page_pairs old page) page front.next_page key) n key) cut_counts.1

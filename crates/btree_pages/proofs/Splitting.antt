@@ -155,7 +155,7 @@ under_self : (l : ℕ) (bytes : List ℕ) (q : ℕ) → IsUnder l bytes q q
 under_self zero bytes q = refl
 under_self (suc l) bytes q = inl refl
 
-next_low-with : (es : List Pair) (key low : ℕ) (p : Pair) → next_low (with_entry es key p) low ≡ next_low es low
+pub next_low-with : (es : List Pair) (key low : ℕ) (p : Pair) → next_low (with_entry es key p) low ≡ next_low es low
 next_low-with [] key low p = refl
 next_low-with (e ∷ []) key low p = refl
 next_low-with (e ∷ f ∷ es) key low p =
@@ -164,7 +164,7 @@ next_low-with (e ∷ f ∷ es) key low p =
       | inr h ↦ let b : nat_lt key f.0 ≡ false = h.0 in rw b refl
     ]
 
-length-with : (es : List Pair) (key : ℕ) (p : Pair) → 1 ≤ length es → length (with_entry es key p) ≡ suc (length es)
+pub length-with : (es : List Pair) (key : ℕ) (p : Pair) → 1 ≤ length es → length (with_entry es key p) ≡ suc (length es)
 length-with [] key p some = absurd (omega arith)
 length-with (e ∷ []) key p some = refl
 length-with (e ∷ f ∷ es) key p some =
