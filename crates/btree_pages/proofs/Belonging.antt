@@ -126,3 +126,18 @@ module _ (old new : List ℕ) (left right : ℕ) (splits : SplitsRoot old new le
 
   pub right_named : (l : ℕ) → IsUnder (suc l) new right 1
   right_named l = inr (subst (λ (ps : List Pair). IsUnderSome (IsUnder l new right) ps) (sym splits.pairs) (inr (inl (under_self l new right))))
+
+-- a leaf alone has changed
+module _ (old new : List ℕ) (leaf x : ℕ) (bottom : level_of old leaf ≡ 0) (kept : (q : ℕ) → IsOwn old q → q ≢ leaf → page_bytes new q ≡ page_bytes old q) where
+  inner_some : (l : ℕ) → ((p low high : ℕ) → IsOwn old p → IsTree l old p low high → IsUnder l old x p → IsUnder l new x p)
+      → (es : List Pair) (high : ℕ) → AreChildren old es → AreSound (IsTree l old) es high → IsUnderSome (IsUnder l old x) es → IsUnderSome (IsUnder l new x) es
+  inner_some l ih [] high are sound u = absurd u
+  inner_some l ih (e ∷ es) high are sound (inl u) = inl (ih e.1 e.0 (next_low es high) (omega (arith, are.0), are.1) sound.0 u)
+  inner_some l ih (e ∷ es) high are sound (inr u) = inr (inner_some l ih es high are.2 sound.1 u)
+
+  pub inner_stays : (l p low high : ℕ) → IsOwn old p → IsTree l old p low high → IsUnder l old x p → IsUnder l new x p
+  inner_stays zero p low high own t u = u
+  inner_stays (suc l) p low high own t (inl e) = inl e
+  inner_stays (suc l) p low high own t (inr u) =
+      let other : p ≢ leaf = λ e. omega (arith, bottom, t.0.level_is, ap (λ (y : ℕ). level_of old y) e) in
+      inr (subst (λ (b : List ℕ). IsUnderSome (IsUnder l new x) (pairs_said b)) (sym (kept p own other)) (inner_some l (inner_stays l) (page_pairs old p) high t.0.children t.1 u))

@@ -1,5 +1,5 @@
 -- What the cut of a page makes of the data.
-use Rattle.std.proofs.Common.{◌≡◌, ◌≢◌, ℕ, zero, suc, ◌+◌, ◌*◌, ◌/◌, ◌^◌, ◌<◌, ◌≤◌, true, false, nat_lt, inl, inr, List, [], ◌∷◌, length, take, drop, refl, sym, ◌∙◌, ap, subst, arith}
+use Rattle.std.proofs.Common.{◌≡◌, ◌≢◌, ℕ, zero, suc, ◌+◌, ◌*◌, ◌^◌, ◌<◌, ◌≤◌, true, false, nat_lt, inl, inr, List, [], ◌∷◌, length, take, drop, refl, sym, ◌∙◌, ap, subst, arith}
 use Rattle.std.specs.Prelude.{if◌then◌else◌}
 use Rattle.std.proofs.lemmas.Bool.{cases_lt}
 use Rattle.std.proofs.lemmas.Bool.Decides.{leb_tells, eqb_tells}
@@ -13,26 +13,26 @@ use Rattle.record_slots.specs.Slots.{slot_said}
 use Rattle.record_slots.specs.Super.{count_bytes}
 use Rattle.record_slots.specs.declared.super_page.Super.{Super}
 use Rattle.record_slots.specs.Places.{page_bytes, page_count, first_slot_page, slot_at, slot_of, next_slot, next_page, IsSuper, IsOfKey, Carries}
-use Rattle.page_store.specs.Index.{slots_of, index_pages_of, Grows, Rests}
-use Rattle.page_store.specs.Pairs.{Pair, Rise, inserted}
+use Rattle.page_store.specs.Index.{index_pages_of, Grows, Rests}
+use Rattle.page_store.specs.Pairs.{Pair, inserted}
 use Rattle.page_store.specs.Shown.{address}
 use Rattle.index_pages.specs.Chain.{key_end}
 use Rattle.index_pages.specs.Fetched.{IsFront}
 use Rattle.index_pages.specs.Keys.{key_at}
-use Rattle.index_pages.specs.Page.{page_pairs, pairs_said, kind_said, level_said, link_said, kind_of, level_of, link_of, count_of}
+use Rattle.index_pages.specs.Page.{page_pairs, pairs_said, kind_said, level_said, link_said, kind_of, level_of, count_of}
 use Rattle.index_pages.specs.Ways.{above, Keeps, IsOwn}
 use Rattle.index_pages.specs.Written.{AreSmall}
 use Rattle.index_pages.proofs.Fronts.{length-count_bytes, slot_written, page_written, mark_kept, form_kept}
 use Rattle.index_pages.proofs.PageFacts.{length-page_pairs}
 use Rattle.index_pages.proofs.Ranges.{Apart}
-use Rattle.index_pages.proofs.Rising.{length-inserted, key_at-bounds}
+use Rattle.index_pages.proofs.Rising.{length-inserted}
 use Rattle.index_pages.proofs.Writing.{small_take, small_inserted}
 use Rattle.btree_pages.specs.Changes.{IsHalf, IsCut, middle, with_entry, SplitsChild}
 use Rattle.btree_pages.specs.Checked.{IsFrontOf}
 use Rattle.btree_pages.specs.Descent.{child_for, page_for}
 use Rattle.btree_pages.specs.Node.{kind_for, node_bytes}
 use Rattle.btree_pages.specs.OnWay.{IsOnWay}
-use Rattle.btree_pages.specs.Tree.{IsTree, IsInner, IsUnder, IsSoundTree, pairs_of_tree, next_low}
+use Rattle.btree_pages.specs.Tree.{IsTree, IsUnder, IsSoundTree, pairs_of_tree, next_low}
 use Rattle.btree_pages.specs.Writes.{IsRead, cutting_parts}
 use Rattle.btree_pages.specs.Index.{tree, half_for, actions_below}
 use Rattle.btree_pages.proofs.Actions.{under_self, way_same, half_actions}
@@ -40,9 +40,9 @@ use Rattle.btree_pages.proofs.Belonging.{split_stays, half_named, under_way}
 use Rattle.btree_pages.proofs.Apart.{tree_level, start_of, sub_of}
 use Rattle.btree_pages.proofs.Descending.{Child, child_step}
 use Rattle.btree_pages.proofs.Entries.{with_inserted, entry_child, page_for_last}
-use Rattle.btree_pages.proofs.NodeBytes.{node_kind, node_level, node_count, node_link, node_pairs, length-node_bytes}
-use Rattle.btree_pages.proofs.Puts.{AwayAll, AllApart, Stand, applied_long, applied_away, applied_stand}
-use Rattle.btree_pages.proofs.Splitting.{AreHalves, halves, sound_tree_splits}
+use Rattle.btree_pages.proofs.NodeBytes.{node_kind, node_level, node_link, node_pairs, length-node_bytes}
+use Rattle.btree_pages.proofs.Puts.{AllApart, Stand, applied_long, applied_away, applied_stand}
+use Rattle.btree_pages.proofs.Splitting.{halves, sound_tree_splits}
 use Rattle.btree_pages.proofs.Ways.{Way, way_of, way_own, under_own, child_given}
 
 -- the slots of a pair carry its key where they are as they were

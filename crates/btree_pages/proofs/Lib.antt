@@ -19,3 +19,4 @@ pub mod Belonging
 pub mod Puts
 pub mod Entries
 pub mod CutData
+pub mod AddData

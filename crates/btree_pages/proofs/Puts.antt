@@ -1,5 +1,5 @@
 -- Writes that lie apart.
-use Rattle.std.proofs.Common.{◌≡◌, ℕ, ◌+◌, ◌≤◌, List, [], ◌∷◌, length, refl, sym, ◌∙◌, ap, subst, arith}
+use Rattle.std.proofs.Common.{◌≡◌, ℕ, ◌+◌, ◌≤◌, List, [], ◌∷◌, length, refl, sym, ◌∙◌, subst}
 use Rattle.counted.specs.Bytes.{put, range}
 use Rattle.counted.proofs.Puts.{length-put}
 use Rattle.array_shape.specs.Logged.{Part, applied, AllFit}
