@@ -20,3 +20,6 @@ pub mod Puts
 pub mod Entries
 pub mod CutData
 pub mod AddData
+pub mod GrowData
+pub mod Going
+pub mod Left
