@@ -1,5 +1,5 @@
 -- An insertion on its way, and its ends.
-use Rattle.std.proofs.Common.{◌≡◌, ◌≢◌, ℕ, ◌≤◌, Bool, true, false, inl, inr, List, Option, Result, Ok, Err, refl, sym, ◌∙◌, ap, subst, arith}
+use Rattle.std.proofs.Common.{◌≡◌, ◌≢◌, ℕ, ◌+◌, ◌≤◌, ◌⊎◌, Bool, true, false, inl, inr, List, Option, Result, Ok, Err, refl, sym, ◌∙◌, ap, subst, arith}
 use Rattle.std.specs.Prelude.{IsTrue}
 use Rattle.std.proofs.lemmas.Bool.{false≢true}
 use Rattle.counted.specs.Causes.{Rose}
@@ -22,6 +22,8 @@ use Rattle.index_pages.specs.Acts.{Acts}
 use Rattle.btree_pages.specs.Tree.{IsSoundTree}
 use Rattle.btree_pages.specs.Index.{tree}
 use Rattle.index_pages.specs.Faults.{as_index}
+use Rattle.std.proofs.lemmas.Bool.Decides.{leb_tells}
+use Rattle.index_pages.specs.Page.{level_of}
 
 pub nothing_grows : (bytes : List ℕ) → IsSoundTree bytes → Grows tree bytes bytes × Rests tree bytes bytes
 nothing_grows bytes sound = (
@@ -36,6 +38,22 @@ nothing_grows bytes sound = (
     levels = omega arith;
   },
   record { pairs = refl; slots = refl },
+)
+
+-- one action behind another, with nine new pages at most
+pub grows_then : (a b c : List ℕ) → Grows tree a b → Rests tree a b → Grows tree b c → Rests tree b c → next_page c ≤ next_page a + 9 → Grows tree a c × Rests tree a c
+grows_then a b c first still second still' few = (
+  record {
+    sound = second.sound;
+    size = second.size ∙ first.size;
+    slots = λ j lt. second.slots j (omega (arith, lt, still.slots)) ∙ first.slots j lt;
+    later = omega (arith, first.later, second.later);
+    few = few;
+    named = λ x from to. elim (leb_tells (next_page b) x) [ inl late ↦ second.named x late.1 to | inr early ↦ second.kept x (first.named x from (omega (arith, early.1))) ];
+    kept = λ x on. second.kept x (first.kept x on);
+    levels = omega (arith, first.levels, second.levels);
+  },
+  record { pairs = still'.pairs ∙ still.pairs; slots = still'.slots ∙ still.slots },
 )
 
 logs_then : (tells : Bool) (a b c : PagesView) → KeepsLogs tells a b → KeepsLogs tells b c → KeepsLogs tells a c
@@ -156,7 +174,7 @@ module _ (tells : Bool) (Opens : List ℕ → List ℕ → Type 0) (t key : ℕ)
 
   -- it ends without the pair
   pub inserts_refused : (old now : PagesView) → Going old now → (fault : IndexFault) → (let s : Result ℕ IndexFault = Err fault in (is_insert_failed s ≡ false) × InsertCause tells tree t key old.store s)
-      → ((n : ℕ) → fault ≡ index.PagesFull n → IsTrue tells → IsAlive old.store → n ≤ next_page now.store.state.bytes) → (let s : Result ℕ IndexFault = Err fault in Inserts tells Opens tree t key old now s)
+      → ((n : ℕ) → fault ≡ index.PagesFull n → IsTrue tells → IsAlive old.store → (n ≤ next_page now.store.state.bytes) ⊎ (7 ≤ level_of now.store.state.bytes 1)) → (let s : Result ℕ IndexFault = Err fault in Inserts tells Opens tree t key old now s)
   inserts_refused old now going fault cause full = record {
     shape = going.shape;
     cause = cause.1;
@@ -168,10 +186,10 @@ module _ (tells : Bool) (Opens : List ℕ → List ℕ → Type 0) (t key : ℕ)
     time = going.time;
   }
     where
-      made_of : (fault : IndexFault) → (let s : Result ℕ IndexFault = Err fault in is_insert_failed s ≡ false) → ((n : ℕ) → fault ≡ index.PagesFull n → IsTrue tells → IsAlive old.store → n ≤ next_page now.store.state.bytes)
+      made_of : (fault : IndexFault) → (let s : Result ℕ IndexFault = Err fault in is_insert_failed s ≡ false) → ((n : ℕ) → fault ≡ index.PagesFull n → IsTrue tells → IsAlive old.store → (n ≤ next_page now.store.state.bytes) ⊎ (7 ≤ level_of now.store.state.bytes 1))
           → IsTrue tells → IsAlive old.store → (let s : Result ℕ IndexFault = Err fault in Made tree key old.store.state.bytes now.store.state.bytes s)
       made_of (index.SlotsFull n) well full told alive = going.made told alive
-      made_of (index.PagesFull n) well full told alive = let grown = going.made told alive in (grown.0, grown.1, inl (full n refl told alive))
+      made_of (index.PagesFull n) well full told alive = let grown = going.made told alive in (grown.0, grown.1, full n refl told alive)
       made_of (index.LogFull g h n) well full told alive = going.made told alive
       made_of index.Media well full told alive = tt
       made_of index.Dead well full told alive = going.made told alive

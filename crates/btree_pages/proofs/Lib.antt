@@ -23,3 +23,4 @@ pub mod AddData
 pub mod GrowData
 pub mod Going
 pub mod Left
+pub mod Walking

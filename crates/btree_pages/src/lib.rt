@@ -4,6 +4,7 @@
 mod checking;
 mod laws;
 mod look;
+mod node;
 mod page;
 mod write;
 

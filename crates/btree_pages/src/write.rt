@@ -11,6 +11,7 @@ ghost use Rattle.btree_pages.specs.Node.{node_bytes};
 ghost use Rattle.btree_pages.specs.Writes.{IsRead, adding_pages, adding_parts, cutting_pages, cutting_parts, growing_pages, growing_parts};
 
 use crate::look::ROOT;
+use crate::node::Node;
 use eaw_face::EawStore;
 use index_pages::{PAGE_LEN, PagePart, Pairs, act_all, index_page_count, place_of, write_leaf};
 use page_store::{PageFault, Pages};
@@ -22,14 +23,6 @@ const INNER: u8 = 2;
 
 // How many of 30 pairs go to the lower half.
 const HALF: usize = 15;
-
-/// A page as it was read.
-#[derive(Drop)]
-pub struct Node {
-    pub page: u32,
-    pub level: u8,
-    pub pairs: Pairs,
-}
 
 // Writes a page of this level with these pairs.
 fn write_node(level: u8, pairs: &[(u64, u64)], out: &mut [u8; PAGE_LEN])
