@@ -45,7 +45,7 @@ use Rattle.btree_pages.specs.Changes.{TakesPair}
 use Rattle.btree_pages.specs.Writes.{adding_parts}
 use Rattle.btree_pages.proofs.Belonging.{inner_stays}
 use Rattle.btree_pages.proofs.CutData.{carries_on}
-use Rattle.btree_pages.proofs.Insertion.{sound_tree_takes}
+use Rattle.btree_pages.proofs.Taking.{sound_tree_takes}
 
 carries_absent : (new : List ℕ) (key slot : ℕ) → key < 2 ^ 64 → slot_of new slot ≡ slot_bytes (Absent key) → Carries new (key, slot)
 unfolding Carries

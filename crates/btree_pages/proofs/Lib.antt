@@ -2,7 +2,7 @@ pub mod TreeFacts
 pub mod Apart
 pub mod Frames
 pub mod Ways
-pub mod Insertion
+pub mod Taking
 pub mod Splitting
 pub mod Resting
 pub mod FailingFacts

@@ -1,10 +1,10 @@
 -- What a page of the tree says, pair by pair.
-use Rattle.std.proofs.Common.{◌≡◌, ◌≢◌, ℕ, suc, ◌-◌, ◌<◌, ◌≤◌, true, false, nat_eq, nat_lt, List, [], ◌∷◌, take, drop, Some, None, refl, sym, ◌∙◌, ap, arith}
+use Rattle.std.proofs.Common.{◌≡◌, ◌≢◌, ℕ, zero, suc, ◌-◌, ◌<◌, ◌≤◌, true, false, nat_eq, nat_lt, inl, inr, List, [], ◌∷◌, length, take, drop, Some, None, refl, sym, ◌∙◌, ap, arith}
 use Rattle.std.specs.Prelude.{slice_index}
 use Rattle.std.proofs.lemmas.Bool.Decides.{nat_tests}
 use Rattle.byteorder.specs.Endian.{little_from}
 use Rattle.page_store.specs.Pairs.{Pair, found}
-use Rattle.index_pages.specs.Page.{kind_said, level_said, count_said, link_said, pair_said, pairs_from}
+use Rattle.index_pages.specs.Page.{kind_said, level_said, count_said, link_said, pair_said, pairs_from, pairs_said}
 use Rattle.index_pages.proofs.Reading.{piece, from_step, from_end}
 use Rattle.btree_pages.specs.Descent.{child_for}
 use Rattle.btree_pages.specs.Leaf.{bound_in}
@@ -70,3 +70,15 @@ module _ (page : List ℕ) where
   -- there is no next one
   pub child_last : (k n key : ℕ) → n ≡ suc k → (child_for (pairs_from page k (n - k)) key ≡ (pair_said page k).1) × (bound_in (pairs_from page k (n - k)) key ≡ None)
   child_last k n key e = (ap (λ (ps : List Pair). child_for ps key) (last_step k n e), ap (λ (ps : List Pair). bound_in ps key) (last_step k n e))
+
+length_from : (page : List ℕ) (i n : ℕ) → length (pairs_from page i n) ≡ n
+length_from page i zero = refl
+length_from page i (suc n) = ap suc (length_from page (suc i) n)
+
+pub length_said : (page : List ℕ) → length (pairs_said page) ≡ count_said page
+unfolding pairs_said
+length_said page = length_from page 0 (count_said page)
+
+-- an inner page has a child
+pub inner_some : (page : List ℕ) → IsNode page → level_said page ≢ 0 → 1 ≤ length (pairs_said page)
+inner_some page node inner = elim node.form [ inl f ↦ absurd (inner f.1) | inr f ↦ omega (arith, f.3, length_said page) ]

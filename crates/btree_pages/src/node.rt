@@ -1,5 +1,5 @@
 // Pages of the tree as an insertion reads them.
-ghost use Rattle.std.specs.Prelude.{◌≡◌, ◌<◌, ◌≤◌, IfOk, IsErrOf, IsTrue, length};
+ghost use Rattle.std.specs.Prelude.{◌≡◌, ◌≢◌, ◌<◌, ◌≤◌, IfOk, IsErrOf, IsTrue, length};
 ghost use Rattle.record_slots.specs.Places.{page_bytes};
 ghost use Rattle.page_store.specs.Index.{index_pages_of};
 ghost use Rattle.page_store.specs.Looks.{Looks, is_failed};
@@ -32,6 +32,7 @@ pub fn fetch_node<S: EawStore>(pages: &mut Pages<S>, page: u32) -> Result<Node, 
     ensures cause { TestCause S.tells (IsNode (page_bytes (S.view pages.old.store).state.bytes page)) page (S.view pages.old.store) result }
     ensures page { IfOk result (λ node. node.page ≡ page) }
     ensures read { IfOk result (λ node. IsRead (S.view pages.old.store).shape page node.level node.pairs.items) }
+    ensures some { IfOk result (λ node. node.level ≢ 0 → 1 ≤ length node.pairs.items) }
     ensures level { IsTrue S.tells → IfOk result (λ node. node.level ≡ level_of (S.view pages.old.store).state.bytes page) }
     ensures pairs { IsTrue S.tells → IfOk result (λ node. node.pairs.items ≡ page_pairs (S.view pages.old.store).state.bytes page) }
     ensures dead { IsErrOf result PageFault.Dead → pages.new ≡ pages.old }

@@ -7,6 +7,7 @@ ghost use Rattle.page_store.specs.Shown.{pages_of, top_in};
 ghost use Rattle.index_pages.specs.Acts.{Acts};
 ghost use Rattle.index_pages.specs.Fetched.{IsFront};
 ghost use Rattle.index_pages.specs.Keys.{key_at};
+ghost use Rattle.btree_pages.specs.Index.{half_for};
 ghost use Rattle.btree_pages.specs.Node.{node_bytes};
 ghost use Rattle.btree_pages.specs.Writes.{IsRead, adding_pages, adding_parts, cutting_pages, cutting_parts, growing_pages, growing_parts};
 
@@ -198,4 +199,16 @@ pub fn grow_root<S: EawStore>(
         front_part(&counts),
     ];
     act_all(pages, tid, &parts)
+}
+
+// Which of the halves of a full page has a key in its range.
+pub fn half_of(node: &Node, left: u32, right: u32, key: u64) -> u32
+    requires { length node.now.pairs.items ≡ 30 }
+    ensures { result ≡ half_for node.now.pairs.items left right key }
+{
+    if key < middle_of(&node.pairs) {
+        left
+    } else {
+        right
+    }
 }

@@ -1,4 +1,4 @@
-use Rattle.btree_pages.proofs.Insertion.{sound_tree_takes}
+use Rattle.btree_pages.proofs.Taking.{sound_tree_takes}
 use Rattle.btree_pages.proofs.Splitting.{sound_tree_splits, sound_tree_grows}
 use Rattle.btree_pages.proofs.laws.tree_changes_keep.Goals as goal
 
