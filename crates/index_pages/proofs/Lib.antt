@@ -16,3 +16,5 @@ pub mod Acting
 pub mod Ranges
 pub mod Fronts
 pub mod Resting
+pub mod Listed
+pub mod Placing

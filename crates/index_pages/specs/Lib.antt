@@ -9,3 +9,5 @@ pub mod Props
 pub mod Written
 pub mod Fetched
 pub mod Acts
+pub mod Faults
+pub mod Parts

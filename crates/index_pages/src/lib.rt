@@ -2,11 +2,14 @@
 #![tactic(auto)]
 
 mod action;
+mod fault;
 mod fetch;
 mod laws;
 mod page;
+mod place;
 
-pub use action::{PagePart, act};
+pub use action::{PagePart, act, act_all};
+pub use fault::{check_fault, index_fault};
 pub use fetch::{fetch_page, fetch_slot, fetch_super, index_page_count};
 pub use laws::{
     chain_changes_keep, chain_rises, damage_is_first, fresh_is_sound, insertion_adds,
@@ -16,3 +19,4 @@ pub use page::{
     LeafHead, PAGE_LEN, PAIRS_MAX, Pairs, next_pair, read_leaf_head, read_pair, read_pairs,
     write_leaf,
 };
+pub use place::place_of;

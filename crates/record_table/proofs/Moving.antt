@@ -23,7 +23,8 @@ use Rattle.record_table.specs.Invariant.{AreSlotParts, IsTied, Rests}
 use Rattle.record_table.specs.Shown.{value_of, table_in, table_of, write_of, writes_of, state_of}
 use Rattle.record_table.specs.Sought.{LooksAs}
 use Rattle.record_table.specs.State.{TableState}
-use Rattle.record_table.proofs.Tables.{same_table, record_at, get-table_in}
+use Rattle.history.proofs.Tables.{same_table}
+use Rattle.record_table.proofs.Tables.{record_at, get-table_in}
 use Rattle.record_table.proofs.SlotParts.{Laws, found_given}
 
 -- records, writes and saves are as they were, and all is as records keep it

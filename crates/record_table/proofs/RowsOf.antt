@@ -13,7 +13,8 @@ use Rattle.history.specs.Writes.{is_within}
 use Rattle.page_store.specs.Pairs.{Pair, Rise, found, next}
 use Rattle.record_table.specs.Scanned.{row_at}
 use Rattle.record_table.specs.Shown.{table_in}
-use Rattle.record_table.proofs.Tables.{record_at, get-table_in, same_table, tied}
+use Rattle.history.proofs.Tables.{same_table}
+use Rattle.record_table.proofs.Tables.{record_at, get-table_in, tied}
 
 both : (a b : Bool) → T a → T b → T (a && b)
 both true b x y = y

@@ -21,7 +21,8 @@ use Rattle.page_store.specs.Index.{Index, HasCounts, KeepsIndex}
 use Rattle.page_store.proofs.Reading.{part_missed}
 use Rattle.record_table.specs.Shown.{value_of, write_said, table_in, table_of, write_of, writes_of}
 use Rattle.record_table.specs.Invariant.{IsSlotPart, AreSlotParts}
-use Rattle.record_table.proofs.Tables.{get-write_here, get-write_there, same_table, record_at, get-table_in, value_is}
+use Rattle.history.proofs.Tables.{get-set_here, get-set_there, same_table}
+use Rattle.record_table.proofs.Tables.{record_at, get-table_in, value_is}
 
 -- what an index promises of its data
 pub record Laws (index : Index) : Type 0 where
@@ -148,11 +149,11 @@ module _ (index : Index) (laws : Laws index) where
               ∙ ap (record_at (put d part.0 part.1)) is.named
               ∙ ap (λ (b : List ℕ). value_of (slot_said b)) slot_here
               ∙ value_is (slot_said part.1)
-              ∙ sym (ap (get (write_into (table_in d (index.pairs d)) (write_of part))) same ∙ get-write_here (table_in d (index.pairs d)) (write_of part).0 (write_of part).1)
+              ∙ sym (ap (get (write_into (table_in d (index.pairs d)) (write_of part))) same ∙ get-set_here (table_in d (index.pairs d)) (write_of part).0 (write_of part).1)
           | inr ne ↦
               record_there (found (index.pairs d) q) q ne refl
               ∙ sym (get-table_in d (index.pairs d) q)
-              ∙ sym (get-write_there (table_in d (index.pairs d)) (write_of part).0 (write_of part).1 q ne)
+              ∙ sym (get-set_there (table_in d (index.pairs d)) (write_of part).0 (write_of part).1 q ne)
         ])
 
     pub part_counts : (next_slot (put d part.0 part.1) ≡ next_slot d) × (next_page (put d part.0 part.1) ≡ next_page d)

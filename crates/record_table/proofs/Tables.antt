@@ -1,16 +1,15 @@
 -- Tables after writes, and the records of pairs.
-use Rattle.std.proofs.Common.{◌≡◌, ◌≢◌, ℕ, Bool, true, false, cond, inl, inr, List, [], ◌∷◌, refl, sym, ◌∙◌, ap}
+use Rattle.std.proofs.Common.{◌≡◌, ℕ, Bool, true, false, cond, inl, inr, List, [], ◌∷◌, refl, sym, ◌∙◌}
 use Rattle.std.specs.Prelude.{nat_eq, Option, Some, None}
 use Rattle.std.specs.Ordering.{nat_cmp, eq_by_cmp}
-use Rattle.std.specs.Cmp.{unsigned_tied, nat_cmp_total}
-use Rattle.std.specs.FinMap.{get, get-empty, get-insert, get-remove, same_map, nat_cmp-IsAntisymmetric}
+use Rattle.std.specs.Cmp.{unsigned_tied}
+use Rattle.std.specs.FinMap.{get, get-empty}
 use Rattle.std.proofs.lemmas.Bool.{cases_eq, eq-eqb, ne_eqb}
 use Rattle.record_slots.specs.Slots.{slot_said}
 use Rattle.record_slots.specs.Places.{slot_of}
 use Rattle.record_slots.specs.declared.slot.Slot.{Slot}
 use Rattle.record_slots.specs.declared.slot.Slot.TheVariants.{Absent, Present}
-use Rattle.history.specs.Writes.{Table}
-use Rattle.history.specs.Writes.{set_or_remove}
+use Rattle.history.proofs.Tables.{get-set}
 use Rattle.page_store.specs.Pairs.{Pair, found}
 use Rattle.record_table.specs.Shown.{value_of, write_said, table_in}
 
@@ -20,19 +19,6 @@ tied q k = elim (cases_eq q k) [
   | inr ne ↦ unsigned_tied q k ∙ ne_eqb q k ne ∙ sym (ne_eqb k q (λ e. ne (sym e)))
 ]
 
-pub get-write : (table : Table) (k : ℕ) (v : Option (List ℕ)) (q : ℕ) → get (set_or_remove table k v) q ≡ cond (nat_eq k q) v (get table q)
-get-write table k None q = get-remove nat_cmp_total table k q ∙ ap (λ (b : Bool). cond b None (get table q)) (tied q k)
-get-write table k (Some v) q = get-insert nat_cmp_total table k v q ∙ ap (λ (b : Bool). cond b (Some v) (get table q)) (tied q k)
-
-pub get-write_here : (table : Table) (k : ℕ) (v : Option (List ℕ)) → get (set_or_remove table k v) k ≡ v
-get-write_here table k v = get-write table k v k ∙ ap (λ (b : Bool). cond b v (get table k)) (eq-eqb k k refl)
-
-pub get-write_there : (table : Table) (k : ℕ) (v : Option (List ℕ)) (q : ℕ) → q ≢ k → get (set_or_remove table k v) q ≡ get table q
-get-write_there table k v q ne = get-write table k v q ∙ ap (λ (b : Bool). cond b v (get table q)) (ne_eqb k q (λ e. ne (sym e)))
-
-pub same_table : (a b : Table) → ((q : ℕ) → get a q ≡ get b q) → a ≡ b
-same_table a b same = same_map nat_cmp_total nat_cmp-IsAntisymmetric a b same
-
 -- the record in a slot, where there is a slot
 abbrev pub record_at : List ℕ → Option ℕ → Option (List ℕ)
 record_at bytes None = None
@@ -40,7 +26,7 @@ record_at bytes (Some slot) = value_of (slot_said (slot_of bytes slot))
 
 pub get-table_in : (bytes : List ℕ) (pairs : List Pair) (q : ℕ) → get (table_in bytes pairs) q ≡ record_at bytes (found pairs q)
 get-table_in bytes [] q = get-empty nat_cmp q
-get-table_in bytes (p ∷ ps) q = get-write (table_in bytes ps) p.0 (value_of (slot_said (slot_of bytes p.1))) q ∙ go (nat_eq p.0 q) (get-table_in bytes ps q)
+get-table_in bytes (p ∷ ps) q = get-set (table_in bytes ps) p.0 (value_of (slot_said (slot_of bytes p.1))) q ∙ go (nat_eq p.0 q) (get-table_in bytes ps q)
   where
     go : (b : Bool) → get (table_in bytes ps) q ≡ record_at bytes (found ps q) → cond b (value_of (slot_said (slot_of bytes p.1))) (get (table_in bytes ps) q) ≡ record_at bytes (cond b (Some p.1) (found ps q))
     go true rest = refl

@@ -1,0 +1,81 @@
+-- No page comes twice in a sound tree.
+use Rattle.std.proofs.Common.{◌≡◌, ◌≢◌, ℕ, zero, suc, ◌<◌, ◌≤◌, inl, inr, List, [], ◌∷◌, length, length-append, sym, ◌∙◌, subst, arith}
+use Rattle.btree_pages.proofs.TreeFacts.{children_tile, tree_rises, tree_wide}
+use Rattle.btree_pages.specs.Tree.{IsTreeLeaf, AreChildren, next_low, AreSound, IsTree, pieces_with, pairs_under, IsUnder, IsUnderSome}
+use Rattle.index_pages.proofs.PageFacts.{length-page_pairs}
+use Rattle.index_pages.proofs.Rising.{key_at-bounds}
+use Rattle.index_pages.proofs.Tiling.{tile_bounds}
+use Rattle.index_pages.specs.Page.{page_pairs, level_of}
+use Rattle.index_pages.specs.Pieces.{joined, Tile}
+use Rattle.page_store.specs.Pairs.{Pair, Rise}
+
+-- a page of a tree has the tree of its level, within bounds of its own
+pub record Sub (bytes : List ℕ) (q l low high : ℕ) : Type 0 where
+  pub m : ℕ
+  pub from : ℕ
+  pub to : ℕ
+  pub tree : IsTree m bytes q from to
+  pub above : low ≤ from
+  pub below : to ≤ high
+  pub most : m ≤ l
+
+pub tree_level : (m : ℕ) (bytes : List ℕ) (q low high : ℕ) → IsTree m bytes q low high → level_of bytes q ≡ m
+tree_level zero bytes q low high t = t.level
+tree_level (suc m) bytes q low high t = t.0.level_is
+
+first_some : (f : ℕ → List Pair) (P : ℕ → ℕ → ℕ → Type 0) → ((page low high : ℕ) → 2 ≤ page → P page low high → 1 ≤ length (f page))
+    → (bytes : List ℕ) (es : List Pair) (high : ℕ) → 1 ≤ length es → AreChildren bytes es → AreSound P es high → 1 ≤ length (joined (pieces_with f es))
+first_some f P fact bytes [] high some are sound = absurd (omega arith)
+first_some f P fact bytes (e ∷ es) high some are sound =
+    let h = fact e.1 e.0 (next_low es high) are.0 sound.0 in
+    omega (arith, h, length-append (f e.1) (joined (pieces_with f es)))
+
+-- no tree but the root's is empty
+pub tree_some : (m : ℕ) (bytes : List ℕ) (q low high : ℕ) → IsTree m bytes q low high → q ≢ 1 → 1 ≤ length (pairs_under m bytes q)
+tree_some zero bytes q low high t other = omega (arith, t.some other, length-page_pairs bytes q)
+tree_some (suc m) bytes q low high t other =
+    first_some (pairs_under m bytes) (IsTree m bytes) (λ (c low' high' : ℕ) (two : 2 ≤ c) (sub : IsTree m bytes c low' high'). tree_some m bytes c low' high' sub (omega arith))
+    bytes (page_pairs bytes q) high (omega (arith, t.0.some, length-page_pairs bytes q)) t.0.children t.1
+
+pub child_facts : (l : ℕ) (bytes : List ℕ) (page low high : ℕ) → 2 ≤ page → IsTree l bytes page low high → Rise low high (pairs_under l bytes page) × (low < high)
+child_facts l bytes page low high two t = (tree_rises l bytes page low high t, tree_wide l bytes page low high t (omega arith))
+
+pub entries_tile : (l : ℕ) (bytes : List ℕ) (es : List Pair) (high : ℕ) → AreChildren bytes es → AreSound (IsTree l bytes) es high → Tile (next_low es high) high (pieces_with (pairs_under l bytes) es)
+entries_tile l bytes es high are sound = children_tile (pairs_under l bytes) (IsTree l bytes) (child_facts l bytes) bytes es high are sound
+
+wider : (bytes : List ℕ) (q l l' low low' high high' : ℕ) → low' ≤ low → high ≤ high' → l ≤ l' → Sub bytes q l low high → Sub bytes q l' low' high'
+wider bytes q l l' low low' high high' a b c s = record { m = s.m; from = s.from; to = s.to; tree = s.tree; above = omega (arith, s.above); below = omega (arith, s.below); most = omega (arith, s.most) }
+
+pub sub_below : (l : ℕ) (bytes : List ℕ) (q : ℕ) → ((page low high : ℕ) → IsTree l bytes page low high → IsUnder l bytes q page → Sub bytes q l low high)
+    → (es : List Pair) (high : ℕ) → AreChildren bytes es → AreSound (IsTree l bytes) es high → IsUnderSome (IsUnder l bytes q) es → Sub bytes q l (next_low es high) high
+sub_below l bytes q ih [] high are sound u = absurd u
+sub_below l bytes q ih (e ∷ es) high are sound (inl u) =
+    let rest = tile_bounds (next_low es high) high (pieces_with (pairs_under l bytes) es) (entries_tile l bytes es high are.2 sound.1) in
+    wider bytes q l l e.0 e.0 (next_low es high) high (omega arith) rest (omega arith) (ih e.1 e.0 (next_low es high) sound.0 u)
+sub_below l bytes q ih (e ∷ es) high are sound (inr u) =
+    let w = child_facts l bytes e.1 e.0 (next_low es high) are.0 sound.0 in
+    wider bytes q l l (next_low es high) e.0 high high (omega (arith, w.1)) (omega arith) (omega arith) (sub_below l bytes q ih es high are.2 sound.1 u)
+
+pub start_of : (low high : ℕ) (es : List Pair) → 1 ≤ length es → next_low es low ≡ low → next_low es high ≡ low
+start_of low high [] some e = absurd (omega arith)
+start_of low high (x ∷ es) some e = e
+
+pub sub_of : (l : ℕ) (bytes : List ℕ) (q page low high : ℕ) → IsTree l bytes page low high → IsUnder l bytes q page → Sub bytes q l low high
+sub_of zero bytes q page low high t u =
+    record { m = 0; from = low; to = high; tree = subst (λ (x : ℕ). IsTreeLeaf bytes x low high) (sym u) t; above = omega arith; below = omega arith; most = omega arith }
+sub_of (suc l) bytes q page low high t (inl e) =
+    record { m = suc l; from = low; to = high; tree = subst (λ (x : ℕ). IsTree (suc l) bytes x low high) (sym e) t; above = omega arith; below = omega arith; most = omega arith }
+sub_of (suc l) bytes q page low high t (inr u) =
+    let start : next_low (page_pairs bytes page) high ≡ low = start_of low high (page_pairs bytes page) (omega (arith, t.0.some, length-page_pairs bytes page)) t.0.first in
+    wider bytes q l (suc l) (next_low (page_pairs bytes page) high) low high high (omega arith) (omega arith) (omega arith)
+    (sub_below l bytes q (sub_of l bytes q) (page_pairs bytes page) high t.0.children t.1 u)
+
+-- two ranges, one below the other, have no page in common
+pub subs_apart : (bytes : List ℕ) (q l l' low mid mid' high : ℕ) → q ≢ 1 → mid ≤ mid' → Sub bytes q l low mid → Sub bytes q l' mid' high → ⊥
+subs_apart bytes q l l' low mid mid' high other le s t =
+    let e : t.m ≡ s.m = sym (tree_level t.m bytes q t.from t.to t.tree) ∙ tree_level s.m bytes q s.from s.to s.tree in
+    let tree : IsTree s.m bytes q t.from t.to = subst (λ (m : ℕ). IsTree m bytes q t.from t.to) e t.tree in
+    let some = tree_some s.m bytes q s.from s.to s.tree other in
+    let a = key_at-bounds 0 s.from s.to (pairs_under s.m bytes q) some (tree_rises s.m bytes q s.from s.to s.tree) in
+    let b = key_at-bounds 0 t.from t.to (pairs_under s.m bytes q) some (tree_rises s.m bytes q t.from t.to tree) in
+    omega (arith, a.1, b.0, s.below, t.above)

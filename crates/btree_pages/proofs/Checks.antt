@@ -1,0 +1,195 @@
+-- Tests of a tree, step by step.
+use Rattle.std.proofs.Common.{◌≡◌, ◌≢◌, ◌↔◌, ℕ, zero, suc, ◌+◌, ◌-◌, ◌<◌, ◌≤◌, inl, inr, List, [], ◌∷◌, Result, Ok, Err, refl, sym, ◌∙◌, ap, subst, arith}
+use Rattle.record_slots.specs.Slots.{slot_said}
+use Rattle.record_slots.specs.Places.{slot_of, next_page, IsOfKey, Carries, AreGiven, page_bytes}
+use Rattle.record_slots.specs.declared.slot.Slot.{Slot}
+use Rattle.std.specs.Prelude.{Option}
+use Rattle.page_store.specs.Pairs.{Pair, Rise}
+use Rattle.page_store.specs.declared.index_fault.CheckFault.{CheckFault}
+use Rattle.page_store.specs.declared.index_fault.CheckFault.TheVariants.{Damaged, Media, Dead}
+use Rattle.index_pages.specs.Chain.{key_end}
+use Rattle.index_pages.specs.Page.{pairs_from, pair_said, pairs_said, page_pairs, kind_said, level_said, count_said, link_said}
+use Rattle.index_pages.proofs.Reading.{from_first, from_step, from_end}
+use Rattle.btree_pages.specs.Checked.{AreNamed, SlotCause, SlotsCause, ChildrenCause, TreeCause}
+use Rattle.btree_pages.specs.Failing.{SlotsFail, IsTreeLeafHead, ChildFails, TreeFails}
+use Rattle.btree_pages.specs.Node.{IsNode}
+use Rattle.btree_pages.specs.Tree.{AreChildren, next_low, IsInner, AreSound, IsTree}
+
+-- what a slot says of a pair
+pub carries_said : (bytes : List ℕ) (key slot : ℕ) (said : Option Slot) → said ≡ slot_said (slot_of bytes slot) → IsOfKey key said → Carries bytes (key, slot)
+unfolding Carries
+carries_said bytes key slot said is of_key = subst (λ (o : Option Slot). IsOfKey key o) is of_key
+
+pub carries_not : (bytes : List ℕ) (key slot : ℕ) (said : Option Slot) → said ≡ slot_said (slot_of bytes slot) → (IsOfKey key said → ⊥) → ¬ Carries bytes (key, slot)
+unfolding Carries
+carries_not bytes key slot said is other carries = other (subst (λ (o : Option Slot). IsOfKey key o) (sym is) carries)
+
+-- all pairs are left
+pub whole_left : (page : List ℕ) (n : ℕ) → n ≡ count_said page → pairs_said page ≡ pairs_from page 0 (n - 0)
+whole_left page n is = from_first page ∙ ap (λ (m : ℕ). pairs_from page 0 m) (let e : count_said page ≡ n - 0 = omega (arith, is) in e)
+
+pub first_said : (page : List ℕ) (n low : ℕ) → n ≡ count_said page → 1 ≤ n → next_low (pairs_said page) low ≡ (pair_said page 0).0
+first_said page n low is some = ap (λ (ps : List Pair). next_low ps low) (whole_left page n is ∙ from_step page 0 n (omega (arith, some)))
+
+-- A test of all pairs that went as far as pair i: what is left decides.
+module _ (page : List ℕ) (i n : ℕ) (All : Type 0) where
+  next_left : i < n → pairs_from page i (n - i) ≡ pair_said page i ∷ pairs_from page (i + 1) (n - (i + 1))
+  next_left lt = from_step page i n lt ∙ ap (λ (j : ℕ). pair_said page i ∷ pairs_from page j (n - j)) (let e : suc i ≡ i + 1 = omega arith in e)
+
+  module _ (least high : ℕ) (left : Rise least high (pairs_from page i (n - i)) ↔ All) where
+    pub rise_step : i < n → least ≤ (pair_said page i).0 → Rise (suc (pair_said page i).0) high (pairs_from page (i + 1) (n - (i + 1))) ↔ All
+    rise_step lt le = (
+      λ r. left.0 (subst (λ (ps : List Pair). Rise least high ps) (sym (next_left lt)) (le, r)),
+      λ all. (subst (λ (ps : List Pair). Rise least high ps) (next_left lt) (left.1 all)).1,
+    )
+
+    pub rise_not : i < n → ¬ (least ≤ (pair_said page i).0) → ¬ All
+    rise_not lt not all = not (subst (λ (ps : List Pair). Rise least high ps) (next_left lt) (left.1 all)).0
+
+    pub rise_end : n ≤ i → (least ≤ high) ↔ All
+    rise_end le = (
+      λ r. left.0 (subst (λ (ps : List Pair). Rise least high ps) (sym (from_end page i n le)) r),
+      λ all. subst (λ (ps : List Pair). Rise least high ps) (from_end page i n le) (left.1 all),
+    )
+
+  module _ (pages : ℕ) (left : AreNamed pages (pairs_from page i (n - i)) ↔ All) where
+    pub named_step : i < n → 2 ≤ (pair_said page i).1 → (pair_said page i).1 < pages → AreNamed pages (pairs_from page (i + 1) (n - (i + 1))) ↔ All
+    named_step lt two given = (
+      λ r. left.0 (subst (λ (ps : List Pair). AreNamed pages ps) (sym (next_left lt)) (two, given, r)),
+      λ all. (subst (λ (ps : List Pair). AreNamed pages ps) (next_left lt) (left.1 all)).2,
+    )
+
+    pub named_here : i < n → All → (2 ≤ (pair_said page i).1) × ((pair_said page i).1 < pages)
+    named_here lt all = let h = subst (λ (ps : List Pair). AreNamed pages ps) (next_left lt) (left.1 all) in (h.0, h.1)
+
+    pub named_end : n ≤ i → All
+    named_end le = left.0 (subst (λ (ps : List Pair). AreNamed pages ps) (sym (from_end page i n le)) tt)
+
+-- the children that were named are below the next page
+pub named_children : (bytes : List ℕ) (pages : ℕ) (es : List Pair) → pages ≡ next_page bytes → AreNamed pages es ↔ AreChildren bytes es
+named_children bytes pages [] is = (λ a. tt, λ a. tt)
+named_children bytes pages (e ∷ es) is = let h = named_children bytes pages es is in (
+  λ a. (a.0, omega (arith, a.1, is), h.0 a.2),
+  λ a. (a.0, omega (arith, a.1, is), h.1 a.2),
+)
+
+-- Of all pairs of a leaf these are left: where they are well, so are all, and the page that answers for one of them answers for all.
+pub record SlotsLeft (bytes : List ℕ) (page : ℕ) (pairs left : List Pair) : Type 0 where
+  pub fails : (bad : ℕ) → SlotsFail bytes page left bad → SlotsFail bytes page pairs bad
+  pub given : AreGiven bytes left → AreGiven bytes pairs
+
+pub slots_all : (bytes : List ℕ) (page : ℕ) (pairs : List Pair) → SlotsLeft bytes page pairs pairs
+slots_all bytes page pairs = record { fails = λ bad f. f; given = λ g. g }
+
+module _ (bytes : List ℕ) (page : ℕ) (pairs : List Pair) (p : Pair) (rest : List Pair) (left : SlotsLeft bytes page pairs (p ∷ rest)) where
+  pub slots_step : (let r : Result (Unit {0}) CheckFault = Ok tt in SlotCause bytes page p r) → SlotsLeft bytes page pairs rest
+  slots_step well = record { fails = λ bad f. left.fails bad (inr (inr (well.0, well.1, f))); given = λ g. left.given (well.0, well.1, g) }
+
+  pub slots_fail : (fault : CheckFault) → (let r : Result (Unit {0}) CheckFault = Err fault in SlotCause bytes page p r) → (let s : Result (Unit {0}) CheckFault = Err fault in SlotsCause bytes page pairs s)
+  slots_fail (Damaged bad) (inl f) = left.fails bad (inl f)
+  slots_fail (Damaged bad) (inr f) = left.fails bad (inr (inl f))
+  slots_fail Media f = tt
+  slots_fail Dead f = tt
+
+-- the same of the children of a page
+pub record ChildrenLeft (l : ℕ) (bytes : List ℕ) (all left : List Pair) (high : ℕ) : Type 0 where
+  pub fails : (bad : ℕ) → ChildFails (IsTree l bytes) (TreeFails l bytes) left high bad → ChildFails (IsTree l bytes) (TreeFails l bytes) all high bad
+  pub sound : AreSound (IsTree l bytes) left high → AreSound (IsTree l bytes) all high
+
+pub children_all : (l : ℕ) (bytes : List ℕ) (all : List Pair) (high : ℕ) → ChildrenLeft l bytes all all high
+children_all l bytes all high = record { fails = λ bad f. f; sound = λ s. s }
+
+module _ (l : ℕ) (bytes : List ℕ) (all : List Pair) (e : Pair) (rest : List Pair) (high : ℕ) (left : ChildrenLeft l bytes all (e ∷ rest) high) where
+  pub children_step : (let r : Result (Unit {0}) CheckFault = Ok tt in TreeCause l bytes e.1 e.0 (next_low rest high) r) → ChildrenLeft l bytes all rest high
+  children_step well = record { fails = λ bad f. left.fails bad (inr (well, f)); sound = λ s. left.sound (well, s) }
+
+  pub children_fail : (fault : CheckFault) → (let r : Result (Unit {0}) CheckFault = Err fault in TreeCause l bytes e.1 e.0 (next_low rest high) r)
+      → (let s : Result (Unit {0}) CheckFault = Err fault in ChildrenCause l bytes all high s)
+  children_fail (Damaged bad) f = left.fails bad (inl f)
+  children_fail Media f = tt
+  children_fail Dead f = tt
+
+-- one page's own tests, whose bytes were read
+module _ (bytes buf : List ℕ) (page low high : ℕ) (is : buf ≡ page_bytes bytes page) where
+  leaf_node : IsTreeLeafHead bytes page low high → IsNode buf
+  leaf_node t = subst (λ (b : List ℕ). IsNode b) (sym is) (record { form = inl (t.kind, t.level); link = t.link; most = t.most })
+
+  inner_node : (l : ℕ) → suc l ≤ 7 → IsInner bytes (suc l) page low → IsNode buf
+  inner_node l most t = subst (λ (b : List ℕ). IsNode b) (sym is) (record {
+    form = inr (t.kind, omega (arith, t.level_is), omega (arith, t.level_is), t.some);
+    link = t.link;
+    most = t.most;
+  })
+
+  -- it is no page of the tree
+  pub other_page : (l : ℕ) → l ≤ 7 → ¬ IsNode buf → TreeFails l bytes page low high page
+  other_page zero most other = inl ((λ t. other (leaf_node t)), refl)
+  other_page (suc l) most other = inl ((λ t. other (inner_node l most t)), refl)
+
+  -- it has another level
+  pub other_level : (l : ℕ) → level_said buf ≢ l → TreeFails l bytes page low high page
+  other_level zero other = inl ((λ t. other (ap level_said is ∙ t.level)), refl)
+  other_level (suc l) other = inl ((λ t. other (ap level_said is ∙ t.level_is)), refl)
+
+  module _ (node : IsNode buf) where
+    leaf_tests : level_said buf ≡ 0 → (page ≢ 1 → 1 ≤ count_said buf) × Rise low high (pairs_said buf) → IsTreeLeafHead bytes page low high
+    leaf_tests level tests =
+        let kind : kind_said buf ≡ 1 = elim node.form [ inl f ↦ f.0 | inr f ↦ absurd (omega (arith, f.1, level)) ] in
+        record {
+          kind = ap kind_said (sym is) ∙ kind;
+          level = ap level_said (sym is) ∙ level;
+          link = ap link_said (sym is) ∙ node.link;
+          most = subst (λ (b : List ℕ). count_said b ≤ 30) is node.most;
+          some = subst (λ (b : List ℕ). page ≢ 1 → 1 ≤ count_said b) is tests.0;
+          rises = subst (λ (b : List ℕ). Rise low high (pairs_said b)) is tests.1;
+        }
+
+    pub leaf_fails : (l : ℕ) → l ≡ 0 → ¬ ((page ≢ 1 → 1 ≤ count_said buf) × Rise low high (pairs_said buf)) → TreeFails l bytes page low high page
+    leaf_fails (suc l) none other = absurd (omega arith)
+    leaf_fails zero none other =
+        inl ((λ t. other (subst (λ (b : List ℕ). (page ≢ 1 → 1 ≤ count_said b) × Rise low high (pairs_said b)) (sym is) (t.some, t.rises))), refl)
+
+    pub leaf_slots : (l : ℕ) → l ≡ 0 → level_said buf ≡ 0 → (page ≢ 1 → 1 ≤ count_said buf) × Rise low high (pairs_said buf) → (r : Result (Unit {0}) CheckFault) → SlotsCause bytes page (pairs_said buf) r
+        → TreeCause l bytes page low high r
+    leaf_slots (suc l) none level tests r cause = absurd (omega arith)
+    leaf_slots zero none level tests (Ok tt) cause =
+        let t = leaf_tests level tests in
+        record { kind = t.kind; level = t.level; link = t.link; most = t.most; some = t.some; rises = t.rises; given = subst (λ (b : List ℕ). AreGiven bytes (pairs_said b)) is cause }
+    leaf_slots zero none level tests (Err (Damaged bad)) cause = inr (leaf_tests level tests, subst (λ (b : List ℕ). SlotsFail bytes page (pairs_said b) bad) is cause)
+    leaf_slots zero none level tests (Err Media) cause = tt
+    leaf_slots zero none level tests (Err Dead) cause = tt
+
+    module _ (pages : ℕ) (pages_is : pages ≡ next_page bytes) where
+      inner_tests : (l : ℕ) → level_said buf ≡ suc l → (next_low (pairs_said buf) low ≡ low) × Rise low key_end (pairs_said buf) × AreNamed pages (pairs_said buf) → IsInner bytes (suc l) page low
+      inner_tests l level tests =
+          let form : (kind_said buf ≡ 2) × (1 ≤ count_said buf) = elim node.form [ inl f ↦ absurd (omega (arith, f.1, level)) | inr f ↦ (f.0, f.3) ] in
+          record {
+            kind = ap kind_said (sym is) ∙ form.0;
+            level_is = ap level_said (sym is) ∙ level;
+            link = ap link_said (sym is) ∙ node.link;
+            some = subst (λ (b : List ℕ). 1 ≤ count_said b) is form.1;
+            most = subst (λ (b : List ℕ). count_said b ≤ 30) is node.most;
+            first = subst (λ (b : List ℕ). next_low (pairs_said b) low ≡ low) is tests.0;
+            rises = subst (λ (b : List ℕ). Rise low key_end (pairs_said b)) is tests.1;
+            children = subst (λ (b : List ℕ). AreChildren bytes (pairs_said b)) is ((named_children bytes pages (pairs_said buf) pages_is).0 tests.2);
+          }
+
+      pub inner_fails : (l : ℕ) → l ≢ 0 → ¬ ((next_low (pairs_said buf) low ≡ low) × Rise low key_end (pairs_said buf) × AreNamed pages (pairs_said buf)) → TreeFails l bytes page low high page
+      inner_fails zero some other = absurd (some refl)
+      inner_fails (suc l) some other =
+          inl (
+            (λ t. other (subst (λ (b : List ℕ). (next_low (pairs_said b) low ≡ low) × Rise low key_end (pairs_said b) × AreNamed pages (pairs_said b)) (sym is)
+                (t.first, t.rises, (named_children bytes pages (page_pairs bytes page) pages_is).1 t.children))),
+            refl,
+          )
+
+      pub inner_children : (l : ℕ) → l ≢ 0 → level_said buf ≡ l → (next_low (pairs_said buf) low ≡ low) × Rise low key_end (pairs_said buf) × AreNamed pages (pairs_said buf)
+          → (r : Result (Unit {0}) CheckFault) → ChildrenCause (l - 1) bytes (pairs_said buf) high r → TreeCause l bytes page low high r
+      inner_children zero some level tests r cause = absurd (some refl)
+      inner_children (suc l) some level tests r cause = go r (subst (λ (n : ℕ). ChildrenCause n bytes (pairs_said buf) high r) (let e : suc l - 1 ≡ l = omega arith in e) cause)
+        where
+          go : (r : Result (Unit {0}) CheckFault) → ChildrenCause l bytes (pairs_said buf) high r → TreeCause (suc l) bytes page low high r
+          go (Ok tt) c = (inner_tests l level tests, subst (λ (b : List ℕ). AreSound (IsTree l bytes) (pairs_said b) high) is c)
+          go (Err (Damaged bad)) c = inr (inner_tests l level tests, subst (λ (b : List ℕ). ChildFails (IsTree l bytes) (TreeFails l bytes) (pairs_said b) high bad) is c)
+          go (Err Media) c = tt
+          go (Err Dead) c = tt

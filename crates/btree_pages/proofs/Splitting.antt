@@ -1,0 +1,355 @@
+-- What splits make of a tree.
+use Rattle.std.proofs.Common.{◌≡◌, ◌≢◌, ℕ, zero, suc, ◌<◌, ◌≤◌, true, false, nat_lt, inl, inr, List, [], ◌∷◌, ◌++◌, length, take, drop, refl, sym, ◌∙◌, ap, subst, arith, append_assoc}
+use Rattle.std.proofs.lemmas.Bool.Decides.{leb_tells}
+use Rattle.std.proofs.lemmas.List.{append-nil, take-append-drop, length-drop, length-take-le}
+use Rattle.btree_pages.proofs.Apart.{tree_level, entries_tile, sub_of, sub_below, subs_apart, start_of}
+use Rattle.btree_pages.proofs.Frames.{children_kept, tree_kept, below_kept}
+use Rattle.btree_pages.proofs.TreeFacts.{length-pieces, tile_wide}
+use Rattle.btree_pages.proofs.Ways.{graft, under_own, way_own, way_of}
+use Rattle.btree_pages.specs.Changes.{IsHalf, IsCut, middle, with_entry, SplitsChild, SplitsRoot}
+use Rattle.btree_pages.specs.Descent.{page_for, child_for}
+use Rattle.btree_pages.specs.Tree.{IsTreeLeaf, IsInner, AreChildren, AreSound, next_low, IsTree, pieces_with, pairs_under, IsUnder, IsUnderSome, IsSoundTree, pairs_of_tree}
+use Rattle.index_pages.proofs.Given.{same_local}
+use Rattle.index_pages.proofs.Kept.{given_kept}
+use Rattle.index_pages.proofs.PageFacts.{length-page_pairs}
+use Rattle.index_pages.proofs.Rising.{rise_to_more, take_rises, drop_rises, key_at-bounds}
+use Rattle.index_pages.specs.Chain.{key_end}
+use Rattle.index_pages.specs.Keys.{key_at}
+use Rattle.index_pages.specs.Page.{page_pairs, level_of, count_of}
+use Rattle.index_pages.specs.Pieces.{joined}
+use Rattle.index_pages.specs.Ways.{above, Keeps, IsOwn}
+use Rattle.page_store.specs.Pairs.{Pair, Rise}
+use Rattle.record_slots.specs.Places.{page_bytes, AreGiven, next_page, IsSuper}
+use Rattle.index_pages.proofs.Halves.{given_take, joined_two}
+
+children_take : (bytes : List ℕ) (n : ℕ) (es : List Pair) → AreChildren bytes es → AreChildren bytes (take n es) × AreChildren bytes (drop n es)
+children_take bytes zero es g = (tt, g)
+children_take bytes (suc n) [] g = (tt, tt)
+children_take bytes (suc n) (p ∷ ps) g = let h = children_take bytes n ps g.2 in ((g.0, g.1, h.0), h.1)
+
+next_low-take : (n high : ℕ) (es : List Pair) → n < length es → next_low (take n es) (key_at es n) ≡ next_low es high
+next_low-take n high [] lt = absurd (omega arith)
+next_low-take zero high (e ∷ es) lt = refl
+next_low-take (suc n) high (e ∷ es) lt = refl
+
+sound_take : (P : ℕ → ℕ → ℕ → Type 0) (n high : ℕ) (es : List Pair) → n < length es → AreSound P es high → AreSound P (take n es) (key_at es n) × AreSound P (drop n es) high
+sound_take P n high [] lt s = absurd (omega arith)
+sound_take P zero high (e ∷ es) lt s = (tt, s)
+sound_take P (suc n) high (e ∷ es) lt s =
+    let h = sound_take P n high es (omega arith) s.1 in
+    ((subst (λ (x : ℕ). P e.1 e.0 x) (sym (next_low-take n high es (omega arith))) s.0, h.0), h.1)
+
+joined_take : (f : ℕ → List Pair) (n : ℕ) (es : List Pair) → joined (pieces_with f (take n es)) ++ joined (pieces_with f (drop n es)) ≡ joined (pieces_with f es)
+joined_take f zero es = refl
+joined_take f (suc n) [] = refl
+joined_take f (suc n) (e ∷ es) = append_assoc (f e.1) (joined (pieces_with f (take n es))) (joined (pieces_with f (drop n es))) ∙ ap (λ (l : List Pair). f e.1 ++ l) (joined_take f n es)
+
+next_low-drop : (n high : ℕ) (es : List Pair) → n < length es → next_low (drop n es) high ≡ key_at es n
+next_low-drop n high [] lt = absurd (omega arith)
+next_low-drop zero high (e ∷ es) lt = refl
+next_low-drop (suc n) high (e ∷ es) lt = next_low-drop n high es (omega arith)
+
+next_low-first : (low high : ℕ) (es : List Pair) → next_low es high ≡ low → 1 ≤ length es → next_low es low ≡ low
+next_low-first low high [] e some = refl
+next_low-first low high (x ∷ es) e some = e
+
+-- the two halves of a page
+pub record AreHalves (new : List ℕ) (l left right low mid high : ℕ) (pairs : List Pair) : Type 0 where
+  pub left_tree : IsTree l new left low mid
+  pub right_tree : IsTree l new right mid high
+  pub pairs_are : pairs_under l new left ++ pairs_under l new right ≡ pairs
+  pub above : low < mid
+  pub below : mid < high
+
+pub leaf_half : (old new : List ℕ) (whole half : ℕ) (ps : List Pair) → IsHalf old new whole half ps → (low high low' high' : ℕ) → IsTreeLeaf old whole low' high'
+    → length ps ≡ 15 → Rise low high ps → AreGiven new ps → IsTreeLeaf new half low high
+leaf_half old new whole half ps is low high low' high' t long r g =
+    let count : count_of new half ≡ 15 = sym (length-page_pairs new half) ∙ ap (λ (l : List Pair). length l) is.pairs_are ∙ long in
+    record {
+      kind = is.kind ∙ t.kind;
+      level = is.level ∙ t.level;
+      link = is.link;
+      most = omega arith;
+      some = λ other. omega arith;
+      rises = subst (λ (l : List Pair). Rise low high l) (sym is.pairs_are) r;
+      given = subst (λ (l : List Pair). AreGiven new l) (sym is.pairs_are) g;
+    }
+
+pub inner_half : (old new : List ℕ) (whole half : ℕ) (ps : List Pair) → IsHalf old new whole half ps → (level low low' : ℕ) → IsInner old level whole low'
+    → length ps ≡ 15 → next_low ps low ≡ low → Rise low key_end ps → AreChildren new ps → IsInner new level half low
+inner_half old new whole half ps is level low low' t long first r are =
+    let count : count_of new half ≡ 15 = sym (length-page_pairs new half) ∙ ap (λ (l : List Pair). length l) is.pairs_are ∙ long in
+    record {
+      kind = is.kind ∙ t.kind;
+      level_is = is.level ∙ t.level_is;
+      link = is.link;
+      some = omega arith;
+      most = omega arith;
+      first = subst (λ (l : List Pair). next_low l low ≡ low) (sym is.pairs_are) first;
+      rises = subst (λ (l : List Pair). Rise low key_end l) (sym is.pairs_are) r;
+      children = subst (λ (l : List Pair). AreChildren new l) (sym is.pairs_are) are;
+    }
+
+-- a cut page, where the pages below it are as they were
+pub halves : (old new : List ℕ) → Keeps old new → (l whole left right low high : ℕ) → IsTree l old whole low high → IsCut old new whole left right
+    → ((x : ℕ) → IsUnder l old x whole → x ≢ whole → page_bytes new x ≡ page_bytes old x)
+    → AreHalves new l left right low (middle old whole) high (pairs_under l old whole)
+halves old new keeps zero whole left right low high t cut kept =
+    let full = cut.full in
+    let ps : List Pair = page_pairs old whole in
+    let b = key_at-bounds 15 low high (page_pairs old whole) (omega arith) t.rises in
+    let g = given_take new 15 (page_pairs old whole) (given_kept old new keeps (page_pairs old whole) t.given) in
+    record {
+      left_tree = leaf_half old new whole left (take 15 (page_pairs old whole)) cut.left_is low (middle old whole) low high t (length-take-le 15 (page_pairs old whole) (omega arith))
+          (take_rises 15 low high (page_pairs old whole) (omega arith) t.rises) g.0;
+      right_tree = leaf_half old new whole right (drop 15 (page_pairs old whole)) cut.right_is (middle old whole) high low high t (omega (arith, length-drop 15 (page_pairs old whole)))
+          (drop_rises 15 low high (page_pairs old whole) (omega arith) t.rises) g.1;
+      pairs_are = ap (λ (l : List Pair). l ++ page_pairs new right) cut.left_is.pairs_are ∙ ap (λ (l : List Pair). take 15 (page_pairs old whole) ++ l) cut.right_is.pairs_are
+          ∙ take-append-drop 15 (page_pairs old whole);
+      above = omega arith;
+      below = b.1;
+    }
+halves old new keeps (suc l) whole left right low high t cut kept =
+    let full = cut.full in
+    let es : List Pair = page_pairs old whole in
+    let f : ℕ → List Pair = pairs_under l new in
+    let same = λ (x : ℕ) (u : IsUnderSome (IsUnder l old x) (page_pairs old whole)). kept x (inr u) (λ e.
+    let sub = sub_below l old x (sub_of l old x) (page_pairs old whole) high t.0.children t.1 u in
+    omega (arith, ap (λ (y : ℕ). level_of old y) e, tree_level sub.m old x sub.from sub.to sub.tree, sub.most, t.0.level_is)) in
+    let below = below_kept old new keeps l (tree_kept old new keeps l) (page_pairs old whole) high t.1 same in
+    let s = sound_take (IsTree l new) 15 high (page_pairs old whole) (omega arith) below.0 in
+    let s' = sound_take (IsTree l old) 15 high (page_pairs old whole) (omega arith) t.1 in
+    let are = children_take new 15 (page_pairs old whole) (children_kept old new keeps (page_pairs old whole) t.0.children) in
+    let are' = children_take old 15 (page_pairs old whole) t.0.children in
+    let b = key_at-bounds 15 low key_end (page_pairs old whole) (omega arith) t.0.rises in
+    let start = start_of low high (page_pairs old whole) (omega arith) t.0.first in
+    let start' : next_low (take 15 (page_pairs old whole)) (middle old whole) ≡ low = next_low-take 15 high (page_pairs old whole) (omega arith) ∙ start in
+    let long = length-take-le 15 (page_pairs old whole) (omega arith) in
+    let long' : length (drop 15 (page_pairs old whole)) ≡ 15 = omega (arith, length-drop 15 (page_pairs old whole)) in
+    let tile = entries_tile l old (drop 15 (page_pairs old whole)) high are'.1 s'.1 in
+    let wide = tile_wide (next_low (drop 15 (page_pairs old whole)) high) high (pieces_with (pairs_under l old) (drop 15 (page_pairs old whole)))
+    (omega (arith, long', length-pieces (pairs_under l old) (drop 15 (page_pairs old whole)))) tile in
+    record {
+      left_tree = (
+        inner_half old new whole left (take 15 (page_pairs old whole)) cut.left_is (suc l) low low t.0 long
+            (next_low-first low (middle old whole) (take 15 (page_pairs old whole)) start' (omega arith))
+            (rise_to_more low (middle old whole) key_end (take 15 (page_pairs old whole)) (omega (arith, b.1)) (take_rises 15 low key_end (page_pairs old whole) (omega arith) t.0.rises)) are.0,
+        subst (λ (ps : List Pair). AreSound (IsTree l new) ps (middle old whole)) (sym cut.left_is.pairs_are) s.0,
+      );
+      right_tree = (
+        inner_half old new whole right (drop 15 (page_pairs old whole)) cut.right_is (suc l) (middle old whole) low t.0 long'
+            (next_low-drop 15 (middle old whole) (page_pairs old whole) (omega arith))
+            (drop_rises 15 low key_end (page_pairs old whole) (omega arith) t.0.rises) are.1,
+        subst (λ (ps : List Pair). AreSound (IsTree l new) ps high) (sym cut.right_is.pairs_are) s.1,
+      );
+      pairs_are =
+          ap (λ (ps : List Pair). joined (pieces_with f ps) ++ joined (pieces_with f (page_pairs new right))) cut.left_is.pairs_are
+          ∙ ap (λ (ps : List Pair). joined (pieces_with f (take 15 (page_pairs old whole))) ++ joined (pieces_with f ps)) cut.right_is.pairs_are
+          ∙ joined_take f 15 (page_pairs old whole) ∙ below.1;
+      above = omega (arith, b.0);
+      below = omega (arith, next_low-drop 15 high (page_pairs old whole) (omega arith), wide);
+    }
+
+-- one more entry
+under_self : (l : ℕ) (bytes : List ℕ) (q : ℕ) → IsUnder l bytes q q
+under_self zero bytes q = refl
+under_self (suc l) bytes q = inl refl
+
+pub next_low-with : (es : List Pair) (key low : ℕ) (p : Pair) → next_low (with_entry es key p) low ≡ next_low es low
+next_low-with [] key low p = refl
+next_low-with (e ∷ []) key low p = refl
+next_low-with (e ∷ f ∷ es) key low p =
+    elim (leb_tells (suc key) f.0) [
+      | inl h ↦ let b : nat_lt key f.0 ≡ true = h.0 in rw b refl
+      | inr h ↦ let b : nat_lt key f.0 ≡ false = h.0 in rw b refl
+    ]
+
+pub length-with : (es : List Pair) (key : ℕ) (p : Pair) → 1 ≤ length es → length (with_entry es key p) ≡ suc (length es)
+length-with [] key p some = absurd (omega arith)
+length-with (e ∷ []) key p some = refl
+length-with (e ∷ f ∷ es) key p some =
+    elim (leb_tells (suc key) f.0) [
+      | inl h ↦ let b : nat_lt key f.0 ≡ true = h.0 in rw b refl
+      | inr h ↦ let b : nat_lt key f.0 ≡ false = h.0 in rw b (ap suc (length-with (f ∷ es) key p (omega arith)))
+    ]
+
+children_with : (bytes : List ℕ) (es : List Pair) (key : ℕ) (p : Pair) → 2 ≤ p.1 → p.1 < next_page bytes → AreChildren bytes es → AreChildren bytes (with_entry es key p)
+children_with bytes [] key p two given are = tt
+children_with bytes (e ∷ []) key p two given are = (are.0, are.1, (two, given, tt))
+children_with bytes (e ∷ f ∷ es) key p two given are =
+    elim (leb_tells (suc key) f.0) [
+      | inl h ↦ let b : nat_lt key f.0 ≡ true = h.0 in rw b (are.0, are.1, (two, given, are.2))
+      | inr h ↦ let b : nat_lt key f.0 ≡ false = h.0 in rw b (are.0, are.1, children_with bytes (f ∷ es) key p two given are.2)
+    ]
+
+-- what a split makes of the entries of the parent
+pub record Splits (old new : List ℕ) (l key : ℕ) (entry : Pair) (es : List Pair) (high : ℕ) : Type 0 where
+  pub sound : AreSound (IsTree l new) (with_entry es key entry) high
+  pub pairs : joined (pieces_with (pairs_under l new) (with_entry es key entry)) ≡ joined (pieces_with (pairs_under l old) es)
+  pub rises : (low : ℕ) → Rise low key_end es → Rise low key_end (with_entry es key entry)
+
+child_under : (l : ℕ) (bytes : List ℕ) (es : List Pair) (key : ℕ) → 1 ≤ length es → IsUnderSome (IsUnder l bytes (child_for es key)) es
+child_under l bytes [] key some = absurd (omega arith)
+child_under l bytes (e ∷ []) key some = inl (under_self l bytes e.1)
+child_under l bytes (e ∷ f ∷ es) key some =
+    elim (leb_tells (suc key) f.0) [
+      | inl h ↦ let b : nat_lt key f.0 ≡ true = h.0 in rw b (inl (under_self l bytes e.1))
+      | inr h ↦ let b : nat_lt key f.0 ≡ false = h.0 in
+          let is : child_for (e ∷ f ∷ es) key ≡ child_for (f ∷ es) key = rw b refl in
+          subst (λ (y : ℕ). IsUnderSome (IsUnder l bytes y) (e ∷ f ∷ es)) (sym is) (inr (child_under l bytes (f ∷ es) key (omega arith)))
+    ]
+
+child_two : (bytes : List ℕ) (es : List Pair) (key : ℕ) → 1 ≤ length es → AreChildren bytes es → 2 ≤ child_for es key
+child_two bytes [] key some are = absurd (omega arith)
+child_two bytes (e ∷ []) key some are = are.0
+child_two bytes (e ∷ f ∷ es) key some are =
+    elim (leb_tells (suc key) f.0) [
+      | inl h ↦ let b : nat_lt key f.0 ≡ true = h.0 in rw b are.0
+      | inr h ↦ let b : nat_lt key f.0 ≡ false = h.0 in rw b (child_two bytes (f ∷ es) key (omega arith) are.2)
+    ]
+
+module _ (old new : List ℕ) (keeps : Keeps old new) (l c right key : ℕ) (cut : IsCut old new c c right) where
+  pub split_below : (es : List Pair) (high : ℕ) → 1 ≤ length es → high ≤ key_end → c ≡ child_for es key → AreChildren old es → AreSound (IsTree l old) es high
+      → ((x : ℕ) → IsUnderSome (IsUnder l old x) es → x ≢ c → page_bytes new x ≡ page_bytes old x)
+      → Splits old new l key (middle old c, right) es high
+  split_below [] high some small is are sound kept = absurd (omega arith)
+  split_below (e ∷ []) high some small is are sound kept =
+      let t = subst (λ (x : ℕ). IsTree l old x e.0 high) (sym is) sound.0 in
+      let h = halves old new keeps l c c right e.0 high t cut (λ x u other. kept x (inl (subst (λ (y : ℕ). IsUnder l old x y) is u)) other) in
+      let e1 : pairs_under l new e.1 ++ pairs_under l new right ≡ pairs_under l old e.1 =
+      subst (λ (y : ℕ). pairs_under l new y ++ pairs_under l new right ≡ pairs_under l old y) is h.pairs_are in
+      record {
+        sound = (subst (λ (x : ℕ). IsTree l new x e.0 (middle old c)) is h.left_tree, (h.right_tree, tt));
+        pairs = joined_two (pairs_under l new e.1) (pairs_under l new right) [] (pairs_under l old e.1) e1;
+        rises = λ low r. (r.0, (omega (arith, h.above), omega (arith, h.below)));
+      }
+  split_below (e ∷ f ∷ es) high some small is are sound kept =
+      elim (leb_tells (suc key) f.0) [
+        | inl h ↦
+            let b : nat_lt key f.0 ≡ true = h.0 in
+            let is' : c ≡ e.1 = is ∙ (rw b refl) in
+            let t = subst (λ (x : ℕ). IsTree l old x e.0 f.0) (sym is') sound.0 in
+            let two = halves old new keeps l c c right e.0 f.0 t cut (λ x u other. kept x (inl (subst (λ (y : ℕ). IsUnder l old x y) is' u)) other) in
+            let rest = below_kept old new keeps l (tree_kept old new keeps l) (f ∷ es) high sound.1
+            (λ x u. kept x (inr u) (λ same.
+            let v : IsUnder l old x e.1 = subst (λ (y : ℕ). IsUnder l old y e.1) (sym (same ∙ is')) (under_self l old e.1) in
+            subs_apart old x l l e.0 f.0 f.0 high (omega (arith, same, is', are.0)) (omega arith) (sub_of l old x e.1 e.0 f.0 sound.0 v)
+            (sub_below l old x (sub_of l old x) (f ∷ es) high are.2 sound.1 u))) in
+            let e1 : pairs_under l new e.1 ++ pairs_under l new right ≡ pairs_under l old e.1 =
+            subst (λ (y : ℕ). pairs_under l new y ++ pairs_under l new right ≡ pairs_under l old y) is' two.pairs_are in
+            record {
+              sound = rw b (subst (λ (x : ℕ). IsTree l new x e.0 (middle old c)) is' two.left_tree, (two.right_tree, rest.0));
+              pairs = rw b (joined_two (pairs_under l new e.1) (pairs_under l new right) (joined (pieces_with (pairs_under l new) (f ∷ es))) (pairs_under l old e.1) e1
+                  ∙ ap (λ (ps : List Pair). pairs_under l old e.1 ++ ps) rest.1);
+              rises = λ low r. rw b (r.0, (omega (arith, two.above), (omega (arith, two.below), r.1.1)));
+            }
+        | inr h ↦
+            let b : nat_lt key f.0 ≡ false = h.0 in
+            let is' : c ≡ child_for (f ∷ es) key = is ∙ (rw b refl) in
+            let in_rest = child_under l old (f ∷ es) key (omega arith) in
+            let first = tree_kept old new keeps l e.1 e.0 f.0 sound.0
+            (λ x u. kept x (inl u) (λ same.
+            let v : IsUnderSome (IsUnder l old x) (f ∷ es) = subst (λ (y : ℕ). IsUnderSome (IsUnder l old y) (f ∷ es)) (sym (same ∙ is')) in_rest in
+            let two : 2 ≤ child_for (f ∷ es) key = child_two old (f ∷ es) key (omega arith) are.2 in
+            subs_apart old x l l e.0 f.0 f.0 high (omega (arith, same, is', two)) (omega arith) (sub_of l old x e.1 e.0 f.0 sound.0 u)
+            (sub_below l old x (sub_of l old x) (f ∷ es) high are.2 sound.1 v))) in
+            let rest = split_below (f ∷ es) high (omega arith) small is' are.2 sound.1 (λ x u other. kept x (inr u) other) in
+            record {
+              sound = rw b (subst (λ (x : ℕ). IsTree l new e.1 e.0 x) (sym (next_low-with (f ∷ es) key high (middle old c, right))) first.0, rest.sound);
+              pairs = rw b (ap (λ (ps : List Pair). ps ++ joined (pieces_with (pairs_under l new) (with_entry (f ∷ es) key (middle old c, right)))) first.1
+                  ∙ ap (λ (ps : List Pair). pairs_under l old e.1 ++ ps) rest.pairs);
+              rises = λ low r. rw b (r.0, rest.rises (suc e.0) r.1);
+            }
+      ]
+
+-- a parent whose child is split
+pub parent_splits : (old new : List ℕ) → Keeps old new → (l parent key right low high : ℕ) → IsTree (suc l) old parent low high → high ≤ key_end → SplitsChild old new parent key right
+    → ((x : ℕ) → IsUnder (suc l) old x parent → x ≢ parent → x ≢ child_for (page_pairs old parent) key → page_bytes new x ≡ page_bytes old x)
+    → IsTree (suc l) new parent low high × (pairs_under (suc l) new parent ≡ pairs_under (suc l) old parent)
+parent_splits old new keeps l parent key right low high t small splits kept =
+    let some : 1 ≤ length (page_pairs old parent) = omega (arith, t.0.some, length-page_pairs old parent) in
+    let c : ℕ = child_for (page_pairs old parent) key in
+    let p : Pair = (middle old (child_for (page_pairs old parent) key), right) in
+    let s = split_below old new keeps l (child_for (page_pairs old parent) key) right key splits.cut (page_pairs old parent) high some small refl t.0.children t.1
+    (λ x u other. kept x (inr u) (λ e.
+    let sub = sub_below l old x (sub_of l old x) (page_pairs old parent) high t.0.children t.1 u in
+    omega (arith, ap (λ (y : ℕ). level_of old y) e, tree_level sub.m old x sub.from sub.to sub.tree, sub.most, t.0.level_is)) other) in
+    let count : count_of new parent ≡ suc (count_of old parent) =
+    sym (length-page_pairs new parent) ∙ ap (λ (ps : List Pair). length ps) splits.pairs ∙ length-with (page_pairs old parent) key p some ∙ ap suc (length-page_pairs old parent) in (
+      (
+        record {
+          kind = splits.kind;
+          level_is = splits.level ∙ t.0.level_is;
+          link = splits.link;
+          some = omega arith;
+          most = omega (arith, splits.room);
+          first = subst (λ (ps : List Pair). next_low ps low ≡ low) (sym splits.pairs) (next_low-with (page_pairs old parent) key low p ∙ t.0.first);
+          rises = subst (λ (ps : List Pair). Rise low key_end ps) (sym splits.pairs) (s.rises low t.0.rises);
+          children = subst (λ (ps : List Pair). AreChildren new ps) (sym splits.pairs)
+              (children_with new (page_pairs old parent) key p splits.two splits.given (children_kept old new keeps (page_pairs old parent) t.0.children));
+        },
+        subst (λ (ps : List Pair). AreSound (IsTree l new) ps high) (sym splits.pairs) s.sound,
+      ),
+      ap (λ (ps : List Pair). joined (pieces_with (pairs_under l new) ps)) splits.pairs ∙ s.pairs,
+    )
+
+-- a split on a key's way keeps the tree and all its pairs
+pub sound_tree_splits : (old new : List ℕ) (d l key right : ℕ) → IsSoundTree old → Keeps old new → IsSuper 1 new → key < key_end → level_of old 1 ≡ above d (suc l)
+    → SplitsChild old new (page_for d old 1 key) key right
+    → ((x : ℕ) → 1 ≤ x → x < next_page old → x ≢ page_for d old 1 key → x ≢ child_for (page_pairs old (page_for d old 1 key)) key → page_bytes new x ≡ page_bytes old x)
+    → IsSoundTree new × (pairs_of_tree new ≡ pairs_of_tree old)
+unfolding pairs_of_tree
+sound_tree_splits old new d l key right sound keeps front lt e splits kept =
+    let own : IsOwn old 1 = (omega arith, omega (arith, sound.front.some_pages)) in
+    let t : IsTree (above d (suc l)) old 1 0 key_end = subst (λ (n : ℕ). IsTree n old 1 0 key_end) e sound.pages in
+    let q : ℕ = page_for d old 1 key in
+    let own_q = way_own d (suc l) old key 1 0 key_end own t (omega arith) lt in
+    let r = graft old new keeps (λ ps. ps) key (same_local key) (suc l) (page_for d old 1 key) key_end
+    (λ from to sub le' lt' small. parent_splits old new keeps l (page_for d old 1 key) key right from to sub small splits
+    (λ x u a b. let o = under_own (suc l) old x (page_for d old 1 key) from to own_q sub u in kept x o.0 o.1 a b))
+    d 1 0 key_end t (omega arith) lt (omega arith) refl
+    (λ x u out.
+    let o = under_own (above d (suc l)) old x 1 0 key_end own t u in
+    let w = way_of d (suc l) old key 1 0 key_end t (omega arith) lt in
+    kept x o.0 o.1
+    (λ same. out (subst (λ (y : ℕ). IsUnder (suc l) old y (page_for d old 1 key)) (sym same) (under_self (suc l) old (page_for d old 1 key))))
+    (λ same. out (inr (subst (λ (y : ℕ). IsUnderSome (IsUnder l old y) (page_pairs old (page_for d old 1 key))) (sym same)
+    (child_under l old (page_pairs old (page_for d old 1 key)) key (omega (arith, w.tree.0.some, length-page_pairs old (page_for d old 1 key)))))))) in
+    let same : level_of new 1 ≡ level_of old 1 = tree_level (above d (suc l)) new 1 0 key_end r.0 ∙ sym e in (
+      record { front = front; level = omega (arith, sound.level); pages = subst (λ (n : ℕ). IsTree n new 1 0 key_end) (sym (same ∙ e)) r.0 },
+      ap (λ (n : ℕ). pairs_under n new 1) (same ∙ e) ∙ r.1 ∙ ap (λ (n : ℕ). pairs_under n old 1) (sym e),
+    )
+
+-- the split of a root keeps all pairs
+pub sound_tree_grows : (old new : List ℕ) (left right : ℕ) → IsSoundTree old → Keeps old new → IsSuper 1 new → level_of old 1 < 7
+    → SplitsRoot old new left right
+    → ((x : ℕ) → 2 ≤ x → x < next_page old → page_bytes new x ≡ page_bytes old x)
+    → IsSoundTree new × (pairs_of_tree new ≡ pairs_of_tree old)
+unfolding pairs_of_tree
+sound_tree_grows old new left right sound keeps front less splits kept =
+    let own : IsOwn old 1 = (omega arith, omega (arith, sound.front.some_pages)) in
+    let l : ℕ = level_of old 1 in
+    let h = halves old new keeps (level_of old 1) 1 left right 0 key_end sound.pages splits.cut
+    (λ x u other. let o = under_own (level_of old 1) old x 1 0 key_end own sound.pages u in kept x (omega (arith, o.0, other)) o.1) in
+    let count : count_of new 1 ≡ 2 = sym (length-page_pairs new 1) ∙ ap (λ (ps : List Pair). length ps) splits.pairs in
+    let small = h.below in
+    let wide = h.above in
+    let tree : IsTree (suc (level_of old 1)) new 1 0 key_end = (
+      record {
+        kind = splits.kind;
+        level_is = splits.level;
+        link = splits.link;
+        some = omega arith;
+        most = omega arith;
+        first = subst (λ (ps : List Pair). next_low ps 0 ≡ 0) (sym splits.pairs) refl;
+        rises = subst (λ (ps : List Pair). Rise 0 key_end ps) (sym splits.pairs) (omega arith, (omega arith, omega arith));
+        children = subst (λ (ps : List Pair). AreChildren new ps) (sym splits.pairs) (splits.two, splits.left_given, (splits.two', splits.right_given, tt));
+      },
+      subst (λ (ps : List Pair). AreSound (IsTree (level_of old 1) new) ps key_end) (sym splits.pairs) (h.left_tree, (h.right_tree, tt)),
+    ) in (
+      record { front = front; level = omega (arith, splits.level); pages = subst (λ (n : ℕ). IsTree n new 1 0 key_end) (sym splits.level) tree },
+      ap (λ (n : ℕ). pairs_under n new 1) splits.level
+          ∙ ap (λ (ps : List Pair). joined (pieces_with (pairs_under (level_of old 1) new) ps)) splits.pairs
+          ∙ joined_two (pairs_under (level_of old 1) new left) (pairs_under (level_of old 1) new right) [] (pairs_under (level_of old 1) old 1) h.pairs_are
+          ∙ append-nil (pairs_under (level_of old 1) old 1),
+    )

@@ -1,0 +1,73 @@
+-- What a sound tree's pairs are.
+use Rattle.std.proofs.Common.{◌≡◌, ◌≢◌, ℕ, zero, suc, ◌<◌, ◌≤◌, List, [], ◌∷◌, length, refl, ap, subst, arith}
+use Rattle.btree_pages.specs.Tree.{AreChildren, next_low, AreSound, IsTree, pieces_with, pairs_under, pieces_under, IsSoundTree, pairs_of_tree}
+use Rattle.index_pages.proofs.Tiling.{tile_bounds, joined_rises}
+use Rattle.index_pages.specs.Chain.{key_end}
+use Rattle.index_pages.specs.Page.{page_pairs}
+use Rattle.index_pages.specs.Pieces.{Piece, low_of, Tile}
+use Rattle.page_store.specs.Pairs.{Pair, Rise}
+use Rattle.index_pages.proofs.PageFacts.{length-page_pairs, rise_wide}
+
+pub low_of-pieces : (f : ℕ → List Pair) (es : List Pair) (high : ℕ) → low_of (pieces_with f es) high ≡ next_low es high
+low_of-pieces f [] high = refl
+low_of-pieces f (e ∷ es) high = refl
+
+pub children_tile : (f : ℕ → List Pair) (P : ℕ → ℕ → ℕ → Type 0)
+    → ((page low high : ℕ) → 2 ≤ page → P page low high → Rise low high (f page) × (low < high))
+    → (bytes : List ℕ) (es : List Pair) (high : ℕ) → AreChildren bytes es → AreSound P es high → Tile (next_low es high) high (pieces_with f es)
+children_tile f P fact bytes [] high are sound = refl
+children_tile f P fact bytes (e ∷ es) high are sound =
+    let here = fact e.1 e.0 (next_low es high) are.0 sound.0 in
+    let rest = children_tile f P fact bytes es high are.2 sound.1 in
+    rw (low_of-pieces f es high) (refl, here.1, here.0, rest)
+
+pub tile_wide : (low high : ℕ) (pieces : List Piece) → 1 ≤ length pieces → Tile low high pieces → low < high
+tile_wide low high [] some t = absurd (omega arith)
+tile_wide low high (p ∷ ps) some t = let h = tile_bounds (low_of ps high) high ps t.3 in omega arith
+
+pub length-pieces : (f : ℕ → List Pair) (es : List Pair) → length (pieces_with f es) ≡ length es
+length-pieces f [] = refl
+length-pieces f (e ∷ es) = ap suc (length-pieces f es)
+
+-- where the first entry begins
+first_low : (low high : ℕ) (es : List Pair) → 1 ≤ length es → next_low es low ≡ low → next_low es high ≡ low
+first_low low high [] some e = absurd (omega arith)
+first_low low high (x ∷ es) some e = e
+
+abbrev Facts : ℕ → List ℕ → Type 0
+Facts l bytes = (page low high : ℕ) → IsTree l bytes page low high → Rise low high (pairs_under l bytes page) × (page ≢ 1 → low < high)
+
+inner_tiles : (l : ℕ) (bytes : List ℕ) → Facts l bytes → (page low high : ℕ) → IsTree (suc l) bytes page low high → Tile low high (pieces_under l bytes page)
+inner_tiles l bytes facts page low high t =
+    let len = length-page_pairs bytes page in
+    let start = first_low low high (page_pairs bytes page) (omega (arith, t.0.some)) t.0.first in
+    let tile = children_tile (pairs_under l bytes) (IsTree l bytes)
+    (λ (q low' high' : ℕ) (two : 2 ≤ q) (sub : IsTree l bytes q low' high'). let h = facts q low' high' sub in (h.0, h.1 (omega arith)))
+    bytes (page_pairs bytes page) high t.0.children t.1 in
+    subst (λ (x : ℕ). Tile x high (pieces_under l bytes page)) start tile
+
+tree_facts : (l : ℕ) (bytes : List ℕ) → Facts l bytes
+tree_facts zero bytes page low high t =
+    let len = length-page_pairs bytes page in
+    (t.rises, λ (other : page ≢ 1). rise_wide low high (page_pairs bytes page) (omega (arith, t.some other)) t.rises)
+tree_facts (suc l) bytes page low high t =
+    let tile = inner_tiles l bytes (tree_facts l bytes) page low high t in
+    let len = length-page_pairs bytes page in
+    let len' = length-pieces (pairs_under l bytes) (page_pairs bytes page) in
+    (joined_rises low high (pieces_under l bytes page) tile, λ (_ : page ≢ 1). tile_wide low high (pieces_under l bytes page) (omega (arith, t.0.some)) tile)
+
+-- what the children of an inner page hold tiles its range
+pub tree_tiles : (l : ℕ) (bytes : List ℕ) (page low high : ℕ) → IsTree (suc l) bytes page low high → Tile low high (pieces_under l bytes page)
+tree_tiles l bytes = inner_tiles l bytes (tree_facts l bytes)
+
+-- the pairs of a tree rise within its bounds
+pub tree_rises : (l : ℕ) (bytes : List ℕ) (page low high : ℕ) → IsTree l bytes page low high → Rise low high (pairs_under l bytes page)
+tree_rises l bytes page low high t = (tree_facts l bytes page low high t).0
+
+-- no tree but the root's is empty
+pub tree_wide : (l : ℕ) (bytes : List ℕ) (page low high : ℕ) → IsTree l bytes page low high → page ≢ 1 → low < high
+tree_wide l bytes page low high t = (tree_facts l bytes page low high t).1
+
+pub sound_tree_rises : (bytes : List ℕ) → IsSoundTree bytes → Rise 0 key_end (pairs_of_tree bytes)
+unfolding pairs_of_tree
+sound_tree_rises bytes sound = tree_rises _ bytes 1 0 key_end sound.pages

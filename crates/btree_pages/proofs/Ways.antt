@@ -1,0 +1,201 @@
+-- The way down to a key, and what a change at its end makes of the whole tree.
+use Rattle.std.proofs.Common.{◌≡◌, ℕ, zero, suc, ◌<◌, ◌≤◌, true, false, nat_lt, inl, inr, List, [], ◌∷◌, ◌++◌, length, refl, sym, ◌∙◌, ap, subst, arith}
+use Rattle.std.proofs.lemmas.Bool.Decides.{leb_tells}
+use Rattle.std.proofs.lemmas.List.{append-nil}
+use Rattle.btree_pages.proofs.Apart.{tree_level, child_facts, entries_tile, sub_below, sub_of, subs_apart, start_of}
+use Rattle.btree_pages.proofs.Frames.{inner_kept, tree_kept, below_kept}
+use Rattle.btree_pages.specs.Descent.{child_for, page_for}
+use Rattle.btree_pages.specs.Tree.{AreChildren, next_low, AreSound, IsTree, pieces_with, pairs_under, IsUnder, IsUnderSome}
+use Rattle.index_pages.proofs.PageFacts.{length-page_pairs}
+use Rattle.index_pages.proofs.Rising.{found-left, found-right}
+use Rattle.index_pages.proofs.Tiling.{tile_bounds, joined_rises}
+use Rattle.index_pages.specs.Page.{page_pairs, pairs_said}
+use Rattle.index_pages.specs.Pieces.{joined, Tile}
+use Rattle.index_pages.specs.Ways.{above, Keeps, IsLocal, IsOwn}
+use Rattle.page_store.specs.Pairs.{Pair, found}
+use Rattle.record_slots.specs.Places.{page_bytes, next_page}
+
+-- a page on a key's way has a tree of its level, within bounds that have the key between them
+pub record Way (bytes : List ℕ) (m q key low high : ℕ) : Type 0 where
+  pub from : ℕ
+  pub to : ℕ
+  pub tree : IsTree m bytes q from to
+  pub from_key : from ≤ key
+  pub key_to : key < to
+  pub above : low ≤ from
+  pub below : to ≤ high
+
+wider_way : (bytes : List ℕ) (m q key low low' high high' : ℕ) → low' ≤ low → high ≤ high' → Way bytes m q key low high → Way bytes m q key low' high'
+wider_way bytes m q key low low' high high' a b w = record { from = w.from; to = w.to; tree = w.tree; from_key = w.from_key; key_to = w.key_to; above = omega (arith, w.above); below = omega (arith, w.below) }
+
+pub above-le : (d m : ℕ) → m ≤ above d m
+above-le zero m = omega arith
+above-le (suc d) m = let h = above-le d m in omega arith
+
+pub way_below : (d m : ℕ) (bytes : List ℕ) (key : ℕ)
+    → ((page low high : ℕ) → IsTree (above d m) bytes page low high → low ≤ key → key < high → Way bytes m (page_for d bytes page key) key low high)
+    → (es : List Pair) (high : ℕ) → 1 ≤ length es → AreChildren bytes es → AreSound (IsTree (above d m) bytes) es high → next_low es high ≤ key → key < high
+    → Way bytes m (page_for d bytes (child_for es key) key) key (next_low es high) high
+way_below d m bytes key ih [] high some are sound le lt = absurd (omega arith)
+way_below d m bytes key ih (e ∷ []) high some are sound le lt = ih e.1 e.0 high sound.0 le lt
+way_below d m bytes key ih (e ∷ f ∷ es) high some are sound le lt =
+    let rest = tile_bounds f.0 high (pieces_with (pairs_under (above d m) bytes) (f ∷ es)) (entries_tile (above d m) bytes (f ∷ es) high are.2 sound.1) in
+    let here = child_facts (above d m) bytes e.1 e.0 f.0 are.0 sound.0 in
+    elim (leb_tells (suc key) f.0) [
+      | inl h ↦ let b : nat_lt key f.0 ≡ true = h.0 in rw b (wider_way bytes m _ key e.0 e.0 f.0 high (omega arith) rest (ih e.1 e.0 f.0 sound.0 le h.1))
+      | inr h ↦
+          let b : nat_lt key f.0 ≡ false = h.0 in
+          let step = way_below d m bytes key ih (f ∷ es) high (omega arith) are.2 sound.1 (omega (arith, h.1)) lt in
+          rw b (wider_way bytes m _ key f.0 e.0 high high (omega (arith, here.1)) (omega arith) step)
+    ]
+
+-- so many levels down on a key's way
+pub way_of : (d m : ℕ) (bytes : List ℕ) (key page low high : ℕ) → IsTree (above d m) bytes page low high → low ≤ key → key < high → Way bytes m (page_for d bytes page key) key low high
+way_of zero m bytes key page low high t le lt = record { from = low; to = high; tree = t; from_key = le; key_to = lt; above = omega arith; below = omega arith }
+way_of (suc d) m bytes key page low high t le lt =
+    let some : 1 ≤ length (page_pairs bytes page) = omega (arith, t.0.some, length-page_pairs bytes page) in
+    let start = start_of low high (page_pairs bytes page) some t.0.first in
+    wider_way bytes m _ key (next_low (page_pairs bytes page) high) low high high (omega arith) (omega arith)
+    (way_below d m bytes key (way_of d m bytes key) (page_pairs bytes page) high some t.0.children t.1 (omega arith) lt)
+
+-- the pairs of a child answer for all of a page
+pub found_below : (f : ℕ → List Pair) (key : ℕ) (es : List Pair) (high : ℕ) → 1 ≤ length es → Tile (next_low es high) high (pieces_with f es) → next_low es high ≤ key → key < high
+    → found (joined (pieces_with f es)) key ≡ found (f (child_for es key)) key
+found_below f key [] high some t le lt = absurd (omega arith)
+found_below f key (e ∷ []) high some t le lt = ap (λ (l : List Pair). found l key) (append-nil (f e.1))
+found_below f key (e ∷ g ∷ es) high some t le lt =
+    elim (leb_tells (suc key) g.0) [
+      | inl h ↦ let b : nat_lt key g.0 ≡ true = h.0 in rw b (found-left e.0 g.0 high key (f e.1) (joined (pieces_with f (g ∷ es))) t.2 (joined_rises g.0 high (pieces_with f (g ∷ es)) t.3) h.1)
+      | inr h ↦ let b : nat_lt key g.0 ≡ false = h.0 in
+          rw b (found-right e.0 g.0 key (f e.1) (joined (pieces_with f (g ∷ es))) t.2 (omega (arith, h.1))
+          ∙ found_below f key (g ∷ es) high (omega arith) t.3 (omega (arith, h.1)) lt)
+    ]
+
+-- a lookup goes down on the key's way
+pub found_on_way : (d m : ℕ) (bytes : List ℕ) (key page low high : ℕ) → IsTree (above d m) bytes page low high → low ≤ key → key < high
+    → found (pairs_under (above d m) bytes page) key ≡ found (pairs_under m bytes (page_for d bytes page key)) key
+found_on_way zero m bytes key page low high t le lt = refl
+found_on_way (suc d) m bytes key page low high t le lt =
+    let some : 1 ≤ length (page_pairs bytes page) = omega (arith, t.0.some, length-page_pairs bytes page) in
+    let start = start_of low high (page_pairs bytes page) some t.0.first in
+    let tile = entries_tile (above d m) bytes (page_pairs bytes page) high t.0.children t.1 in
+    let w = way_below zero (above d m) bytes key (way_of zero (above d m) bytes key) (page_pairs bytes page) high some t.0.children t.1 (omega arith) lt in
+    found_below (pairs_under (above d m) bytes) key (page_pairs bytes page) high some tile (omega arith) lt
+    ∙ found_on_way d m bytes key (child_for (page_pairs bytes page) key) w.from w.to w.tree w.from_key w.key_to
+
+-- the children of a page are no root, and so are all pages below them
+under_some_two : (l : ℕ) (bytes : List ℕ) (q : ℕ) → ((page low high : ℕ) → 2 ≤ page → IsTree l bytes page low high → IsUnder l bytes q page → 2 ≤ q)
+    → (es : List Pair) (high : ℕ) → AreChildren bytes es → AreSound (IsTree l bytes) es high → IsUnderSome (IsUnder l bytes q) es → 2 ≤ q
+under_some_two l bytes q ih [] high are sound u = absurd u
+under_some_two l bytes q ih (e ∷ es) high are sound (inl u) = ih e.1 e.0 (next_low es high) are.0 sound.0 u
+under_some_two l bytes q ih (e ∷ es) high are sound (inr u) = under_some_two l bytes q ih es high are.2 sound.1 u
+
+under_two : (l : ℕ) (bytes : List ℕ) (q page low high : ℕ) → 2 ≤ page → IsTree l bytes page low high → IsUnder l bytes q page → 2 ≤ q
+under_two zero bytes q page low high two t u = omega arith
+under_two (suc l) bytes q page low high two t (inl e) = omega arith
+under_two (suc l) bytes q page low high two t (inr u) = under_some_two l bytes q (under_two l bytes q) (page_pairs bytes page) high t.0.children t.1 u
+
+module _ (old new : List ℕ) (keeps : Keeps old new) (change : List Pair → List Pair) (key : ℕ) (local : IsLocal key change) (m q bound : ℕ) where
+  pub graft_below : (l c : ℕ)
+      → ((low high : ℕ) → IsTree l old c low high → low ≤ key → key < high → high ≤ bound
+      → ((x : ℕ) → IsUnder l old x c → (IsUnder m old x q → ⊥) → page_bytes new x ≡ page_bytes old x)
+      → IsTree l new c low high × (pairs_under l new c ≡ change (pairs_under l old c)))
+      → ((low high : ℕ) → IsTree l old c low high → low ≤ key → key < high → Way old m q key low high)
+      → (es : List Pair) (high : ℕ) → 1 ≤ length es → c ≡ child_for es key → AreChildren old es → AreSound (IsTree l old) es high → next_low es high ≤ key → key < high → high ≤ bound
+      → ((x : ℕ) → IsUnderSome (IsUnder l old x) es → (IsUnder m old x q → ⊥) → page_bytes new x ≡ page_bytes old x)
+      → AreSound (IsTree l new) es high × (joined (pieces_with (pairs_under l new) es) ≡ change (joined (pieces_with (pairs_under l old) es)))
+  graft_below l c ih in_c [] high some is are sound le lt small kept = absurd (omega arith)
+  graft_below l c ih in_c (e ∷ []) high some is are sound le lt small kept =
+      let r = ih e.0 high (subst (λ (x : ℕ). IsTree l old x e.0 high) (sym is) sound.0) le lt small (λ x u. kept x (inl (subst (λ (y : ℕ). IsUnder l old x y) is u))) in
+      let r' : IsTree l new e.1 e.0 high × (pairs_under l new e.1 ≡ change (pairs_under l old e.1)) =
+      subst (λ (y : ℕ). IsTree l new y e.0 high × (pairs_under l new y ≡ change (pairs_under l old y))) is r in
+      ((r'.0, tt), ap (λ (ps : List Pair). ps ++ []) r'.1 ∙ sym (local.left high high (pairs_under l old e.1) [] (omega arith) lt))
+  graft_below l c ih in_c (e ∷ f ∷ es) high some is are sound le lt small kept =
+      let tile = entries_tile l old (f ∷ es) high are.2 sound.1 in
+      let end = tile_bounds f.0 high (pieces_with (pairs_under l old) (f ∷ es)) tile in
+      let here = child_facts l old e.1 e.0 f.0 are.0 sound.0 in
+      elim (leb_tells (suc key) f.0) [
+        | inl h ↦
+            let b : nat_lt key f.0 ≡ true = h.0 in
+            let is' : c ≡ e.1 = is ∙ (rw b refl) in
+            let t' = subst (λ (x : ℕ). IsTree l old x e.0 f.0) (sym is') sound.0 in
+            let w = in_c e.0 f.0 t' le h.1 in
+            let r = ih e.0 f.0 t' le h.1 (omega (arith, end)) (λ x u. kept x (inl (subst (λ (y : ℕ). IsUnder l old x y) is' u))) in
+            let r' : IsTree l new e.1 e.0 f.0 × (pairs_under l new e.1 ≡ change (pairs_under l old e.1)) =
+            subst (λ (y : ℕ). IsTree l new y e.0 f.0 × (pairs_under l new y ≡ change (pairs_under l old y))) is' r in
+            let rest = below_kept old new keeps l (tree_kept old new keeps l) (f ∷ es) high sound.1
+            (λ x u. kept x (inr u) (λ v.
+            let two : 2 ≤ x = under_some_two l old x (under_two l old x) (f ∷ es) high are.2 sound.1 u in
+            subs_apart old x m l w.from w.to f.0 high (omega arith) w.below (sub_of m old x q w.from w.to w.tree v)
+            (sub_below l old x (sub_of l old x) (f ∷ es) high are.2 sound.1 u))) in
+            let split = local.left f.0 high (pairs_under l old e.1) (joined (pieces_with (pairs_under l old) (f ∷ es))) (joined_rises f.0 high (pieces_with (pairs_under l old) (f ∷ es)) tile) h.1 in
+            ((r'.0, rest.0), (let one = r'.1 in let two = rest.1 in cc))
+        | inr h ↦
+            let b : nat_lt key f.0 ≡ false = h.0 in
+            let is' : c ≡ child_for (f ∷ es) key = is ∙ (rw b refl) in
+            let from : f.0 ≤ key = omega (arith, h.1) in
+            let wc = way_below zero l old key (way_of zero l old key) (f ∷ es) high (omega arith) are.2 sound.1 from lt in
+            let w = in_c wc.from wc.to (subst (λ (x : ℕ). IsTree l old x wc.from wc.to) (sym is') wc.tree) wc.from_key wc.key_to in
+            let first = tree_kept old new keeps l e.1 e.0 f.0 sound.0
+            (λ x u. kept x (inl u) (λ v.
+            let two : 2 ≤ x = under_two l old x e.1 e.0 f.0 are.0 sound.0 u in
+            subs_apart old x l m e.0 f.0 w.from w.to (omega arith) (omega (arith, wc.above, w.above)) (sub_of l old x e.1 e.0 f.0 sound.0 u)
+            (sub_of m old x q w.from w.to w.tree v))) in
+            let rest = graft_below l c ih in_c (f ∷ es) high (omega arith) is' are.2 sound.1 from lt small (λ x u. kept x (inr u)) in
+            let split = local.right e.0 f.0 (pairs_under l old e.1) (joined (pieces_with (pairs_under l old) (f ∷ es))) here.0 from in
+            ((first.0, rest.0), (let one = first.1 in let two = rest.1 in cc))
+      ]
+
+  -- what is done to the tree of a page on the key's way is done to the whole tree, where all other pages are as they were
+  pub graft : ((from to : ℕ) → IsTree m old q from to → from ≤ key → key < to → to ≤ bound → IsTree m new q from to × (pairs_under m new q ≡ change (pairs_under m old q)))
+      → (d page low high : ℕ) → IsTree (above d m) old page low high → low ≤ key → key < high → high ≤ bound → q ≡ page_for d old page key
+      → ((x : ℕ) → IsUnder (above d m) old x page → (IsUnder m old x q → ⊥) → page_bytes new x ≡ page_bytes old x)
+      → IsTree (above d m) new page low high × (pairs_under (above d m) new page ≡ change (pairs_under (above d m) old page))
+  graft changed zero page low high t le lt small is kept =
+      let r = changed low high (subst (λ (x : ℕ). IsTree m old x low high) (sym is) t) le lt small in
+      subst (λ (x : ℕ). IsTree m new x low high × (pairs_under m new x ≡ change (pairs_under m old x))) is r
+  graft changed (suc d) page low high t le lt small is kept =
+      let some : 1 ≤ length (page_pairs old page) = omega (arith, t.0.some, length-page_pairs old page) in
+      let start = start_of low high (page_pairs old page) some t.0.first in
+      let w : Way old m q key low high = subst (λ (x : ℕ). Way old m x key low high) (sym is) (way_of (suc d) m old key page low high t le lt) in
+      let here : page_bytes new page ≡ page_bytes old page = kept page (inl refl) (λ u.
+      let sub = sub_of m old page q w.from w.to w.tree u in
+      omega (arith, sub.most, above-le d m, tree_level sub.m old page sub.from sub.to sub.tree, t.0.level_is)) in
+      let c : ℕ = child_for (page_pairs old page) key in
+      let below = graft_below (above d m) c
+      (λ low' high' t' le' lt' small' kept'. graft changed d c low' high' t' le' lt' small' is kept')
+      (λ low' high' t' le' lt'. subst (λ (x : ℕ). Way old m x key low' high') (sym is) (way_of d m old key c low' high' t' le' lt'))
+      (page_pairs old page) high some refl t.0.children t.1 (omega arith) lt small (λ x u. kept x (inr u)) in (
+        (inner_kept old new keeps (suc (above d m)) page low here t.0, subst (λ (b : List ℕ). AreSound (IsTree (above d m) new) (pairs_said b) high) (sym here) below.0),
+        ap (λ (b : List ℕ). joined (pieces_with (pairs_under (above d m) new) (pairs_said b))) here ∙ below.1,
+      )
+
+-- a child that a page names was given
+pub child_given : (bytes : List ℕ) (es : List Pair) (key : ℕ) → 1 ≤ length es → AreChildren bytes es → (2 ≤ child_for es key) × (child_for es key < next_page bytes)
+child_given bytes [] key some are = absurd (omega arith)
+child_given bytes (e ∷ []) key some are = (are.0, are.1)
+child_given bytes (e ∷ f ∷ es) key some are =
+    elim (leb_tells (suc key) f.0) [
+      | inl h ↦ let b : nat_lt key f.0 ≡ true = h.0 in rw b (are.0, are.1)
+      | inr h ↦ let b : nat_lt key f.0 ≡ false = h.0 in rw b (child_given bytes (f ∷ es) key (omega arith) are.2)
+    ]
+
+under_some_own : (l : ℕ) (bytes : List ℕ) (q : ℕ) → ((page low high : ℕ) → IsOwn bytes page → IsTree l bytes page low high → IsUnder l bytes q page → IsOwn bytes q)
+    → (es : List Pair) (high : ℕ) → AreChildren bytes es → AreSound (IsTree l bytes) es high → IsUnderSome (IsUnder l bytes q) es → IsOwn bytes q
+under_some_own l bytes q ih [] high are sound u = absurd u
+under_some_own l bytes q ih (e ∷ es) high are sound (inl u) = ih e.1 e.0 (next_low es high) (omega (arith, are.0), are.1) sound.0 u
+under_some_own l bytes q ih (e ∷ es) high are sound (inr u) = under_some_own l bytes q ih es high are.2 sound.1 u
+
+pub under_own : (l : ℕ) (bytes : List ℕ) (q page low high : ℕ) → IsOwn bytes page → IsTree l bytes page low high → IsUnder l bytes q page → IsOwn bytes q
+under_own zero bytes q page low high own t u = (omega (arith, own.0), omega (arith, own.1))
+under_own (suc l) bytes q page low high own t (inl e) = (omega (arith, own.0), omega (arith, own.1))
+under_own (suc l) bytes q page low high own t (inr u) = under_some_own l bytes q (under_own l bytes q) (page_pairs bytes page) high t.0.children t.1 u
+
+pub way_own : (d m : ℕ) (bytes : List ℕ) (key page low high : ℕ) → IsOwn bytes page → IsTree (above d m) bytes page low high → low ≤ key → key < high → IsOwn bytes (page_for d bytes page key)
+way_own zero m bytes key page low high own t le lt = own
+way_own (suc d) m bytes key page low high own t le lt =
+    let some : 1 ≤ length (page_pairs bytes page) = omega (arith, t.0.some, length-page_pairs bytes page) in
+    let start = start_of low high (page_pairs bytes page) some t.0.first in
+    let given = child_given bytes (page_pairs bytes page) key some t.0.children in
+    let w = way_below zero (above d m) bytes key (way_of zero (above d m) bytes key) (page_pairs bytes page) high some t.0.children t.1 (omega arith) lt in
+    way_own d m bytes key (child_for (page_pairs bytes page) key) w.from w.to (omega (arith, given.0), given.1) w.tree w.from_key w.key_to

@@ -1,0 +1,25 @@
+use Rattle.std.proofs.Common.{◌-◌, ◌+◌, ◌*◌, ◌↔◌, false, IsTrue}
+use Rattle.eaw_face.specs.Causes.{IsAlive}
+use Rattle.page_store.specs.Looks.{Looks}
+use Rattle.page_store.specs.Shown.{pages_of}
+use Rattle.index_pages.specs.Page.{pairs_from, pairs_said}
+use Rattle.btree_pages.specs.Checked.{high_of, AreNamed, IsFrontOf}
+use Rattle.btree_pages.proofs.Checks.{ChildrenLeft}
+use Rattle.btree_pages.proofs.checking.+under.Given as goal
+
+abbrev pub decreases-check_under : goal.decreases-check_under
+decreases-check_under g l = 2 * l.level + 1
+
+abbrev pub decreases-check_children : goal.decreases-check_children
+decreases-check_children g l = 2 * l.level
+
+-- the data is as it was, and what becomes of the children that are left becomes of all
+abbrev pub invariant-check_children-loop-i : goal.invariant-check_children-loop-i
+invariant-check_children-loop-i g l = record {
+  looks : Looks g.S.EawStore.tells (g.S.EawStore.opens (g.S.EawStore.view l.fn.pages.store).shape) false
+      (pages_of (g.S.EawStore.view l.fn.pages.store) l.fn.pages) (pages_of (g.S.EawStore.view l.pages.store) l.pages);
+  alive : IsAlive (g.S.EawStore.view l.pages.store);
+  named : AreNamed l.front.next_page (pairs_from l.bytes l.i (l.count - l.i)) ↔ AreNamed l.front.next_page (pairs_said l.bytes);
+  left : IsTrue g.S.EawStore.tells → IsFrontOf (g.S.EawStore.view l.fn.pages.store).state.bytes l.front
+      → ChildrenLeft (l.level - 1) (g.S.EawStore.view l.fn.pages.store).state.bytes (pairs_said l.bytes) (pairs_from l.bytes l.i (l.count - l.i)) (high_of l.high);
+}

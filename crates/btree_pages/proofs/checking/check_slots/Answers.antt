@@ -1,0 +1,62 @@
+use Rattle.std.proofs.Common.{◌≡◌, ◌+◌, ◌-◌, ℕ, suc, false, List, Ok, Err, Result, refl, sym, ◌∙◌, ap, subst, arith}
+use Rattle.eaw_face.specs.State.{State}
+use Rattle.record_slots.specs.Places.{next_slot, AreGiven}
+use Rattle.page_store.specs.Pairs.{Pair}
+use Rattle.page_store.specs.Shown.{pages_of}
+use Rattle.page_store.specs.declared.index_fault.CheckFault.{CheckFault}
+use Rattle.index_pages.specs.Page.{pairs_from, pair_said, pairs_said}
+use Rattle.index_pages.proofs.Looking.{looks_none, looks_next}
+use Rattle.index_pages.proofs.Reading.{from_step, from_end}
+use Rattle.btree_pages.specs.Checked.{SlotCause}
+use Rattle.btree_pages.proofs.Checks.{whole_left, SlotsLeft, slots_all, slots_step, slots_fail}
+use Rattle.btree_pages.proofs.checking.check_slots.Goals as goal
+
+pub loop-i-init : goal.loop-i-init
+loop-i-init g c =
+    let view = g.S.EawStore.view c.args.pages.now.store in
+    record {
+      looks = looks_none g.S.EawStore.tells (g.S.EawStore.opens view.shape) (pages_of view c.args.pages.now);
+      alive = c.requires.alive;
+      left = λ told slots. subst (λ (ps : List Pair). SlotsLeft view.state.bytes c.args.page (pairs_said c.args.bytes.now) ps) (whole_left c.args.bytes.now c.args.count c.requires.count)
+          (slots_all view.state.bytes c.args.page (pairs_said c.args.bytes.now));
+    }
+
+pub returns-in-Err-clause-cause : goal.returns-in-Err-clause-cause
+returns-in-Err-clause-cause g c = λ told slots.
+    let view = g.S.EawStore.view c.args.pages.now.store in
+    let same = (c.loop-i.invariant.looks.still refl).state told in
+    let rest = pairs_from c.args.bytes.now (suc c.loop-i.i) (c.args.count - suc c.loop-i.i) in
+    let e : Result (Unit {0}) CheckFault = Err c.in-Err.fault in
+    let left = subst (λ (ps : List Pair). SlotsLeft view.state.bytes c.args.page (pairs_said c.args.bytes.now) ps) (from_step c.args.bytes.now c.loop-i.i c.args.count c.loop-i-test.true)
+    (c.loop-i.invariant.left told slots) in
+    let cause = c.in-Err.ensures.cause told (slots ∙ ap (λ (s : State). next_slot s.bytes) (sym same)) in
+    let cause' : SlotCause view.state.bytes c.args.page (pair_said c.args.bytes.now c.loop-i.i) e =
+    subst (λ (p : Pair). SlotCause view.state.bytes c.args.page p e) c.read_pair-pair.ensures.pair (subst (λ (s : State). SlotCause s.bytes c.args.page c.read_pair-pair.result e) same cause) in
+    slots_fail view.state.bytes c.args.page (pairs_said c.args.bytes.now) (pair_said c.args.bytes.now c.loop-i.i) rest left c.in-Err.fault cause'
+
+pub loop-i-preserved : goal.loop-i-preserved
+loop-i-preserved g c =
+    let view = g.S.EawStore.view c.args.pages.now.store in
+    let mid = g.S.EawStore.view c.loop-i.pages.store in
+    record {
+      looks = looks_next g.S.EawStore.tells g.S.EawStore.opens false (pages_of view c.args.pages.now) (pages_of mid c.loop-i.pages) (pages_of (g.S.EawStore.view c.check_slot.new.pages.store) c.check_slot.new.pages)
+          c.loop-i.invariant.looks c.in-Ok.ensures.looks;
+      alive = (c.in-Ok.ensures.looks.still refl).dead ∙ c.loop-i.invariant.alive;
+      left = λ told slots.
+          let same = (c.loop-i.invariant.looks.still refl).state told in
+          let rest = pairs_from c.args.bytes.now (suc c.loop-i.i) (c.args.count - suc c.loop-i.i) in
+          let r : Result (Unit {0}) CheckFault = Ok tt in
+          let left = subst (λ (ps : List Pair). SlotsLeft view.state.bytes c.args.page (pairs_said c.args.bytes.now) ps) (from_step c.args.bytes.now c.loop-i.i c.args.count c.loop-i-test.true)
+          (c.loop-i.invariant.left told slots) in
+          let cause = c.in-Ok.ensures.cause told (slots ∙ ap (λ (s : State). next_slot s.bytes) (sym same)) in
+          let cause' : SlotCause view.state.bytes c.args.page (pair_said c.args.bytes.now c.loop-i.i) r =
+          subst (λ (p : Pair). SlotCause view.state.bytes c.args.page p r) c.read_pair-pair.ensures.pair (subst (λ (s : State). SlotCause s.bytes c.args.page c.read_pair-pair.result r) same cause) in
+          let on : suc c.loop-i.i ≡ c.loop-i.i + 1 = omega arith in
+          subst (λ (n : ℕ). SlotsLeft view.state.bytes c.args.page (pairs_said c.args.bytes.now) (pairs_from c.args.bytes.now n (c.args.count - n))) on
+          (slots_step view.state.bytes c.args.page (pairs_said c.args.bytes.now) (pair_said c.args.bytes.now c.loop-i.i) rest left cause');
+    }
+
+pub returns-clause-cause : goal.returns-clause-cause
+returns-clause-cause g c = λ told slots.
+    let view = g.S.EawStore.view c.args.pages.now.store in
+    (c.loop-i.invariant.left told slots).given (subst (λ (ps : List Pair). AreGiven view.state.bytes ps) (sym (from_end c.args.bytes.now c.loop-i.i c.args.count c.loop-i-test.false)) tt)

@@ -1,0 +1,12 @@
+use Rattle.btree_pages.proofs.TreeFacts.{tree_tiles, sound_tree_rises}
+use Rattle.btree_pages.proofs.Resting.{sound_tree_given}
+use Rattle.btree_pages.proofs.laws.tree_rises.Goals as goal
+
+pub returns-clause-tiles : goal.returns-clause-tiles
+returns-clause-tiles c = tree_tiles
+
+pub returns-clause-rises : goal.returns-clause-rises
+returns-clause-rises c = sound_tree_rises
+
+pub returns-clause-given : goal.returns-clause-given
+returns-clause-given c = sound_tree_given

@@ -1,0 +1,18 @@
+use Rattle.std.proofs.Common.{◌≡◌, ◌<◌, true, false, IsTrue}
+use Rattle.eaw_face.specs.Causes.{IsAlive}
+use Rattle.page_store.specs.Index.{index_pages_of}
+use Rattle.page_store.specs.Looks.{Looks}
+use Rattle.page_store.specs.Shown.{pages_of}
+use Rattle.btree_pages.proofs.Descending.{Down}
+use Rattle.btree_pages.proofs.look.descend.Given as goal
+
+-- the data is as it was, and the page is on the key's way
+abbrev pub invariant-loop-step : goal.invariant-loop-step
+invariant-loop-step g l = record {
+  inside : l.page < index_pages_of (g.S.EawStore.view l.fn.pages.store).shape;
+  looks : Looks g.S.EawStore.tells (g.S.EawStore.opens (g.S.EawStore.view l.fn.pages.store).shape) false
+      (pages_of (g.S.EawStore.view l.fn.pages.store) l.fn.pages) (pages_of (g.S.EawStore.view l.pages.store) l.pages);
+  alive : 0 < l._step → IsAlive (g.S.EawStore.view l.pages.store);
+  dead : (g.S.EawStore.view l.pages.store).is_dead ≡ true → l.pages ≡ l.fn.pages;
+  down : IsTrue g.S.EawStore.tells → IsAlive (g.S.EawStore.view l.fn.pages.store) → Down (g.S.EawStore.view l.fn.pages.store).state.bytes l.key l._step l.page l.bound;
+}

@@ -1,0 +1,36 @@
+use Rattle.std.proofs.Common.{◌≡◌, ◌+◌, ℕ, List, [], ◌∷◌, take, drop, ◌∙◌, ap, subst}
+use Rattle.array_shape.specs.Logged.{Part}
+use Rattle.page_store.specs.Pairs.{Pair, inserted}
+use Rattle.page_store.specs.Shown.{pages_of}
+use Rattle.index_pages.specs.Acts.{Acts}
+use Rattle.index_pages.specs.Keys.{key_at}
+use Rattle.btree_pages.specs.Node.{node_bytes}
+use Rattle.btree_pages.specs.Writes.{cutting_parts}
+use Rattle.btree_pages.proofs.Cutting.{all_behind, same_part, same_four}
+use Rattle.btree_pages.proofs.write.cut_page.Goals as goal
+
+pub returns-clause-acts : goal.returns-clause-acts
+returns-clause-acts g c =
+    let T = g.S.EawStore.tells in
+    let V = g.S.EawStore.view in
+    let O = g.S.EawStore.opens (V c.args.pages.now.store).shape in
+    let v0 = pages_of (V c.args.pages.now.store) c.args.pages.now in
+    let v1 = pages_of (V c.act_all.new.pages.store) c.act_all.new.pages in
+    let front = c.args.front.now in
+    let node = c.args.node.now in
+    let lower : c.whole_page.result.bytes.now ≡ node_bytes node.level (take 15 node.pairs.items) =
+    c.whole_page.ensures.bytes ∙ c.write_node.ensures ∙ ap (λ (ps : List Pair). node_bytes node.level (take 15 ps)) c.as_slice-pairs.ensures.value in
+    let upper : c.whole_page-2.result.bytes.now ≡ node_bytes node.level (drop 15 node.pairs.items) =
+    c.whole_page-2.ensures.bytes ∙ c.write_node-2.ensures ∙ ap (λ (ps : List Pair). node_bytes node.level ps) (all_behind c.as_slice-pairs.result.now 15) ∙ ap (λ (ps : List Pair). node_bytes node.level (drop 15 ps)) c.as_slice-pairs.ensures.value in
+    let named : c.whole_page-3.result.bytes.now ≡ node_bytes (node.level + 1) (inserted c.args.parent.pairs.items (key_at node.pairs.items 15) front.next_page) =
+    c.whole_page-3.ensures.bytes ∙ c.write_node-3.ensures ∙ ap (λ (ps : List Pair). node_bytes (node.level + 1) ps) (c.as_slice.ensures.value ∙ c.with_pair-above.ensures ∙ ap (λ (k : ℕ). inserted c.args.parent.pairs.items k front.next_page) c.middle_of.ensures) in
+    let counts = c.front_part.ensures.bytes ∙ c.write_super_counts.ensures in
+    subst (λ (ps : List ℕ). Acts T O c.args.tid ps (cutting_parts front node.page node.level node.pairs.items c.args.parent.page c.args.parent.pairs.items) v0 v1 c.act_all.result)
+    (same_four _ _ _ _ _ _ _ _ c.whole_page.ensures.page c.whole_page-2.ensures.page c.whole_page-3.ensures.page c.front_part.ensures.page)
+    (subst (λ (l : List Part). Acts T O c.args.tid (c.whole_page.result.page ∷ c.whole_page-2.result.page ∷ c.whole_page-3.result.page ∷ c.front_part.result.page ∷ []) l v0 v1 c.act_all.result)
+    (same_four _ _ _ _ _ _ _ _
+    (same_part _ _ _ _ _ _ c.whole_page.ensures.page c.whole_page.ensures.at lower)
+    (same_part _ _ _ _ _ _ c.whole_page-2.ensures.page c.whole_page-2.ensures.at upper)
+    (same_part _ _ _ _ _ _ c.whole_page-3.ensures.page c.whole_page-3.ensures.at named)
+    (same_part _ _ _ _ _ _ c.front_part.ensures.page c.front_part.ensures.at counts))
+    c.act_all.ensures.acts)

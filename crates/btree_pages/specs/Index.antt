@@ -1,0 +1,56 @@
+-- The tree as an index: its pages, and what an insertion makes.
+use Rattle.std.specs.Prelude.{ℕ, zero, suc, nat_lt, if◌then◌else◌, List, [], ◌∷◌}
+use Rattle.record_slots.specs.Places.{next_slot, next_page, first_slot_page, slot_page}
+use Rattle.page_store.specs.Index.{Action, Index}
+use Rattle.page_store.specs.Pairs.{Pair}
+use Rattle.index_pages.specs.Keys.{key_at}
+use Rattle.index_pages.specs.Page.{level_of, count_of, page_pairs}
+use Rattle.btree_pages.specs.Descent.{child_for}
+use Rattle.btree_pages.specs.Failing.{IsFirstDamagedOfTree}
+use Rattle.btree_pages.specs.Tree.{IsUnder, IsSoundTree, pairs_of_tree}
+
+-- a pair is added: the next slot, the leaf, the super page
+abbrev pub adding : List ℕ → ℕ → Action
+adding bytes leaf = record { pages = slot_page bytes (next_slot bytes) ∷ leaf ∷ 0 ∷ []; takes = 0 }
+
+-- a full page is cut: the page, the next page, which takes the upper half, the parent, the super page
+abbrev pub cutting : ℕ → ℕ → ℕ → Action
+cutting page next parent = record { pages = page ∷ next ∷ parent ∷ 0 ∷ []; takes = 1 }
+
+-- A full root is cut: the next page and the one behind it, which take the halves, the root, the super page. There is no level above 7,
+-- as if it took more pages than are left.
+abbrev pub growing : List ℕ → Action
+growing bytes = record {
+  pages = next_page bytes ∷ suc (next_page bytes) ∷ 1 ∷ 0 ∷ [];
+  takes = if nat_lt (level_of bytes 1) 7 then 2 else first_slot_page bytes;
+}
+
+-- which of the halves of 30 pairs has the key's range: of them 15 go to the left
+abbrev pub half_for : List Pair → ℕ → ℕ → ℕ → ℕ
+half_for pairs left right key = if nat_lt key (key_at pairs 15) then left else right
+
+-- The actions on the way down to a key, from behind a page so many levels above the leaves that has room. What this page said before
+-- the insertion stands under the number now, and the next page to be given is next.
+abbrev pub actions_below : ℕ → List ℕ → ℕ → ℕ → ℕ → ℕ → List Action
+actions_below zero bytes page now next key = adding bytes now ∷ []
+actions_below (suc d) bytes page now next key =
+    if nat_lt (count_of bytes (child_for (page_pairs bytes page) key)) 30 then
+    actions_below d bytes (child_for (page_pairs bytes page) key) (child_for (page_pairs bytes page) key) next key
+    else
+    cutting (child_for (page_pairs bytes page) key) next now
+    ∷ actions_below d bytes (child_for (page_pairs bytes page) key)
+    (half_for (page_pairs bytes (child_for (page_pairs bytes page) key)) (child_for (page_pairs bytes page) key) next key) (suc next) key
+
+-- from the root down
+abbrev pub tree_actions : List ℕ → ℕ → List Action
+tree_actions bytes key =
+    if nat_lt (count_of bytes 1) 30 then actions_below (level_of bytes 1) bytes 1 1 (next_page bytes) key
+    else
+    growing bytes
+    ∷ actions_below (level_of bytes 1) bytes 1 (half_for (page_pairs bytes 1) (next_page bytes) (suc (next_page bytes)) key) (suc (suc (next_page bytes))) key
+
+abbrev pub IsPageOfTree : List ℕ → ℕ → Type 0
+IsPageOfTree bytes page = IsUnder (level_of bytes 1) bytes page 1
+
+abbrev pub tree : Index
+tree = record { sound = IsSoundTree; fails = IsFirstDamagedOfTree; pairs = pairs_of_tree; level = λ bytes. level_of bytes 1; has_page = IsPageOfTree; actions = tree_actions }

@@ -1,0 +1,11 @@
+pub mod Tree
+pub mod Descent
+pub mod Changes
+pub mod Node
+pub mod Leaf
+pub mod Failing
+pub mod OnWay
+pub mod Writes
+pub mod Checked
+pub mod Index
+pub mod Props

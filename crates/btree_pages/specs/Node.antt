@@ -1,0 +1,31 @@
+-- A page as a tree has it.
+use Rattle.std.specs.Prelude.{ℕ, zero, suc, ◌≡◌, ◌≤◌, ◌⊎◌, List, ◌∷◌, drop}
+use Rattle.page_store.specs.Pairs.{Pair}
+use Rattle.index_pages.specs.Page.{kind_said, level_said, count_said, link_said}
+use Rattle.index_pages.specs.Written.{leaf_bytes}
+use Rattle.btree_pages.specs.declared.page.Head.{Head}
+
+-- a leaf, or an inner page of level 1 to 7 with a child
+abbrev pub IsForm : ℕ → ℕ → ℕ → Type 0
+IsForm kind level count = ((kind ≡ 1) × (level ≡ 0)) ⊎ ((kind ≡ 2) × (1 ≤ level) × (level ≤ 7) × (1 ≤ count))
+
+-- 512 bytes of a leaf or of an inner page, with at most 30 pairs and no link
+pub record IsNode (bytes : List ℕ) : Type 0 where
+  pub form : IsForm (kind_said bytes) (level_said bytes) (count_said bytes)
+  pub link : link_said bytes ≡ 0
+  pub most : count_said bytes ≤ 30
+
+-- they say this head
+pub record SaysNode (bytes : List ℕ) (head : Head) : Type 0 where
+  pub node : IsNode bytes
+  pub level : head.level ≡ level_said bytes
+  pub count : head.count ≡ count_said bytes
+
+-- leaves are of kind 1, inner pages of kind 2
+abbrev pub kind_for : ℕ → ℕ
+kind_for zero = 1
+kind_for (suc level) = 2
+
+-- a page of this level with these pairs: what stands behind kind and level is as in a leaf without a link
+unfoldable pub node_bytes : ℕ → List Pair → List ℕ
+node_bytes level pairs = kind_for level ∷ level ∷ drop 2 (leaf_bytes 0 pairs)

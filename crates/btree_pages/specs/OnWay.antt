@@ -1,0 +1,12 @@
+-- A page on a key's way, as the data says it.
+use Rattle.std.specs.Prelude.{ℕ, ◌≡◌, List}
+use Rattle.page_store.specs.Pairs.{Pair}
+use Rattle.index_pages.specs.Page.{page_pairs, level_of}
+use Rattle.index_pages.specs.Ways.{above}
+use Rattle.btree_pages.specs.Descent.{page_for}
+
+-- it stands d levels below the root, on this level, and has these pairs
+pub record IsOnWay (bytes : List ℕ) (key d page level : ℕ) (pairs : List Pair) : Type 0 where
+  pub page_is : page ≡ page_for d bytes 1 key
+  pub level_is : level_of bytes 1 ≡ above d level
+  pub pairs_are : pairs ≡ page_pairs bytes page

@@ -1,0 +1,79 @@
+-- The tree: its root is page 1. An inner page has pairs of a low key and a child, a leaf pairs of a key and a slot.
+use Rattle.std.specs.Prelude.{ℕ, zero, suc, ◌≡◌, ◌≢◌, ◌<◌, ◌≤◌, ◌⊎◌, List, [], ◌∷◌}
+use Rattle.index_pages.specs.Chain.{key_end}
+use Rattle.index_pages.specs.Page.{kind_of, level_of, count_of, link_of, page_pairs}
+use Rattle.index_pages.specs.Pieces.{Piece, joined}
+use Rattle.page_store.specs.Pairs.{Pair, Rise}
+use Rattle.record_slots.specs.Places.{next_page, IsSuper, AreGiven}
+
+-- a leaf with the keys from the lower bound on and below the upper one: only the root may be empty
+pub record IsTreeLeaf (bytes : List ℕ) (page low high : ℕ) : Type 0 where
+  pub kind : kind_of bytes page ≡ 1
+  pub level : level_of bytes page ≡ 0
+  pub link : link_of bytes page ≡ 0
+  pub most : count_of bytes page ≤ 30
+  pub some : page ≢ 1 → 1 ≤ count_of bytes page
+  pub rises : Rise low high (page_pairs bytes page)
+  pub given : AreGiven bytes (page_pairs bytes page)
+
+-- the children of these entries were given
+abbrev pub AreChildren : List ℕ → List Pair → Type 0
+AreChildren bytes [] = Unit {0}
+AreChildren bytes (e ∷ es) = (2 ≤ e.1) × (e.1 < next_page bytes) × AreChildren bytes es
+
+-- the low key of the next entry: the upper bound where there is none
+abbrev pub next_low : List Pair → ℕ → ℕ
+next_low [] high = high
+next_low (e ∷ es) high = e.0
+
+-- an inner page of this level, whose first low key is the lower bound
+pub record IsInner (bytes : List ℕ) (level page low : ℕ) : Type 0 where
+  pub kind : kind_of bytes page ≡ 2
+  pub level_is : level_of bytes page ≡ level
+  pub link : link_of bytes page ≡ 0
+  pub some : 1 ≤ count_of bytes page
+  pub most : count_of bytes page ≤ 30
+  pub first : next_low (page_pairs bytes page) low ≡ low
+  pub rises : Rise low key_end (page_pairs bytes page)
+  pub children : AreChildren bytes (page_pairs bytes page)
+
+-- each child is sound between its own low key and the next one
+abbrev pub AreSound : (ℕ → ℕ → ℕ → Type 0) → List Pair → ℕ → Type 0
+AreSound P [] high = Unit {0}
+AreSound P (e ∷ es) high = P e.1 e.0 (next_low es high) × AreSound P es high
+
+-- a tree of this level under a page, with the keys between these bounds
+abbrev pub IsTree : ℕ → List ℕ → ℕ → ℕ → ℕ → Type 0
+IsTree zero bytes page low high = IsTreeLeaf bytes page low high
+IsTree (suc l) bytes page low high = IsInner bytes (suc l) page low × AreSound (IsTree l bytes) (page_pairs bytes page) high
+
+-- what each child holds, under its low key
+abbrev pub pieces_with : (ℕ → List Pair) → List Pair → List Piece
+pieces_with f [] = []
+pieces_with f (e ∷ es) = (e.0, f e.1) ∷ pieces_with f es
+
+-- the pairs of the leaves, from left to right
+abbrev pub pairs_under : ℕ → List ℕ → ℕ → List Pair
+pairs_under zero bytes page = page_pairs bytes page
+pairs_under (suc l) bytes page = joined (pieces_with (pairs_under l bytes) (page_pairs bytes page))
+
+abbrev pub pieces_under : ℕ → List ℕ → ℕ → List Piece
+pieces_under l bytes page = pieces_with (pairs_under l bytes) (page_pairs bytes page)
+
+-- data that is a tree
+pub record IsSoundTree (bytes : List ℕ) : Type 0 where
+  pub front : IsSuper 1 bytes
+  pub level : level_of bytes 1 ≤ 7
+  pub pages : IsTree (level_of bytes 1) bytes 1 0 key_end
+
+unfoldable pub pairs_of_tree : List ℕ → List Pair
+pairs_of_tree bytes = pairs_under (level_of bytes 1) bytes 1
+
+-- a page is among those of the tree of this level under a page
+abbrev pub IsUnderSome : (ℕ → Type 0) → List Pair → Type 0
+IsUnderSome P [] = ⊥
+IsUnderSome P (e ∷ es) = P e.1 ⊎ IsUnderSome P es
+
+abbrev pub IsUnder : ℕ → List ℕ → ℕ → ℕ → Type 0
+IsUnder zero bytes q page = q ≡ page
+IsUnder (suc l) bytes q page = (q ≡ page) ⊎ IsUnderSome (IsUnder l bytes q) (page_pairs bytes page)

@@ -1,0 +1,326 @@
+// The test of the whole tree.
+ghost use Rattle.std.specs.Prelude.{◌≡◌, ◌≢◌, ◌<◌, ◌≤◌, ◌-◌, ◌^◌, ◌↔◌, suc, IsErrOf, IsTrue};
+ghost use Rattle.eaw_face.specs.Causes.{IsAlive};
+ghost use Rattle.record_slots.specs.Places.{next_slot, IsOfKey};
+ghost use Rattle.page_store.specs.Index.{slots_of, index_pages_of};
+ghost use Rattle.page_store.specs.Looks.{Looks, CheckCause, is_check_failed};
+ghost use Rattle.page_store.specs.Shown.{pages_of};
+ghost use Rattle.page_store.specs.Pairs.{Rise};
+ghost use Rattle.index_pages.specs.Fetched.{IsFront};
+ghost use Rattle.index_pages.specs.Page.{count_said, level_said, pairs_said, pairs_from};
+ghost use Rattle.btree_pages.specs.Checked.{high_of, least_of, AreNamed, IsFrontOf, is_media, SlotCause, SlotsCause, ChildrenCause, TreeCause};
+ghost use Rattle.index_pages.specs.Chain.{key_end};
+ghost use Rattle.btree_pages.specs.Index.{tree};
+ghost use Rattle.btree_pages.specs.Tree.{next_low};
+
+use crate::look::ROOT;
+use crate::page::{LEVEL_MAX, read_head};
+use eaw_face::EawStore;
+use index_pages::{
+    PAGE_LEN, check_fault, fetch_page, fetch_slot, fetch_super, index_page_count, read_pair,
+};
+use page_store::{CheckFault, Pages};
+use record_slots::{Slot, Super};
+
+// The form of the index that the super page of a tree says.
+pub const FORM: u8 = 1;
+
+const FIRST_CHILD: u64 = 2;
+
+const SLOTS_IN_PAGE: u32 = 8;
+
+// A page of the tree, and the range of its keys.
+#[derive(Clone, Copy)]
+struct Spot {
+    page: u32,
+    low: u64,
+    /// Above all its keys; `None` where no key is.
+    high: Option<u64>,
+}
+
+// Tests the super page, and then the pages of the tree from the root down, children from left to right.
+pub fn check<S: EawStore>(pages: &mut Pages<S>) -> Result<(), CheckFault>
+    ensures looks { Looks S.tells (S.opens (S.view pages.old.store).shape) (is_check_failed result)
+        (pages_of (S.view pages.old.store) pages.old) (pages_of (S.view pages.new.store) pages.new) }
+    ensures cause { CheckCause S.tells tree (S.view pages.old.store) result }
+    ensures dead { IsErrOf result CheckFault.Dead → pages.new ≡ pages.old }
+{
+    let front = match fetch_super(pages, FORM) {
+        Ok(front) => front,
+        Err(fault) => return Err(check_fault(fault)),
+    };
+    let mut bytes = [0; PAGE_LEN];
+    match fetch_page(pages, ROOT, &mut bytes) {
+        Ok(()) => {}
+        Err(fault) => return Err(check_fault(fault)),
+    }
+    let level = level_in(&bytes);
+    if level > LEVEL_MAX {
+        return Err(CheckFault::Damaged { page: ROOT });
+    }
+    let root = Spot {
+        page: ROOT,
+        low: 0,
+        high: None,
+    };
+    check_under(pages, &front, level, root)
+}
+
+fn level_in(page: &[u8; PAGE_LEN]) -> u8
+    ensures { result ≡ level_said page.now }
+{
+    page[1]
+}
+
+// Tests a page of this level, and all pages below it.
+#[cycle(under)]
+fn check_under<S: EawStore>(
+    pages: &mut Pages<S>,
+    front: &Super,
+    level: u8,
+    spot: Spot,
+) -> Result<(), CheckFault>
+    requires alive { IsAlive (S.view pages.old.store) }
+    requires front { IsFront (S.view pages.old.store).shape front.now }
+    requires page { spot.page < index_pages_of (S.view pages.old.store).shape }
+    requires level { level ≤ 7 }
+    ensures looks { Looks S.tells (S.opens (S.view pages.old.store).shape) (is_media result)
+        (pages_of (S.view pages.old.store) pages.old) (pages_of (S.view pages.new.store) pages.new) }
+    ensures cause { IsTrue S.tells → IsFrontOf (S.view pages.old.store).state.bytes front.now
+        → TreeCause level (S.view pages.old.store).state.bytes spot.page spot.low (high_of spot.high) result }
+    ensures dead { IsErrOf result CheckFault.Dead → ⊥ }
+{
+    let page = spot.page;
+    let mut bytes = [0; PAGE_LEN];
+    match fetch_page(pages, page, &mut bytes) {
+        Ok(()) => {}
+        Err(fault) => return Err(check_fault(fault)),
+    }
+    let Some(head) = read_head(&bytes) else {
+        return Err(CheckFault::Damaged { page });
+    };
+    if head.level != level {
+        return Err(CheckFault::Damaged { page });
+    }
+    if level == 0 {
+        if !is_leaf(&bytes, head.count, &spot) {
+            return Err(CheckFault::Damaged { page });
+        }
+        return check_slots(pages, page, &bytes, head.count, front.next_slot);
+    }
+    if !is_inner(&bytes, head.count, spot.low, front.next_page) {
+        return Err(CheckFault::Damaged { page });
+    }
+    check_children(pages, front, level, &bytes, head.count, spot.high)
+}
+
+// Tests the children of a page of this level, one after another.
+#[cycle(under)]
+fn check_children<S: EawStore>(
+    pages: &mut Pages<S>,
+    front: &Super,
+    level: u8,
+    bytes: &[u8; PAGE_LEN],
+    count: u16,
+    high: Option<u64>,
+) -> Result<(), CheckFault>
+    requires alive { IsAlive (S.view pages.old.store) }
+    requires front { IsFront (S.view pages.old.store).shape front.now }
+    requires level { level ≤ 7 }
+    requires inner { 1 ≤ level }
+    requires count { count ≡ count_said bytes.now }
+    requires most { count ≤ 30 }
+    requires named { AreNamed front.now.next_page (pairs_said bytes.now) }
+    ensures looks { Looks S.tells (S.opens (S.view pages.old.store).shape) (is_media result)
+        (pages_of (S.view pages.old.store) pages.old) (pages_of (S.view pages.new.store) pages.new) }
+    ensures cause { IsTrue S.tells → IsFrontOf (S.view pages.old.store).state.bytes front.now
+        → ChildrenCause (level - 1) (S.view pages.old.store).state.bytes (pairs_said bytes.now) (high_of high) result }
+    ensures dead { IsErrOf result CheckFault.Dead → ⊥ }
+{
+    let _most = index_page_count(pages);
+    for i in 0..count {
+        let (low, child) = read_pair(bytes, i);
+        let spot = Spot {
+            page: child as u32,
+            low,
+            high: end_of(bytes, count, i, high),
+        };
+        match check_under(pages, front, level - 1, spot) {
+            Ok(()) => {}
+            Err(fault) => return Err(fault),
+        }
+    }
+    Ok(())
+}
+
+// Where the range of child `i` ends: at the next low key, or where that of the page ends.
+fn end_of(bytes: &[u8; PAGE_LEN], count: u16, i: u16, high: Option<u64>) -> Option<u64>
+    requires count { count ≡ count_said bytes.now }
+    requires most { count ≤ 30 }
+    requires i { i < count }
+    ensures { high_of result ≡ next_low (pairs_from bytes.now (suc i) (count - suc i)) (high_of high) }
+{
+    if i + 1 < count {
+        Some(read_pair(bytes, i + 1).0)
+    } else {
+        high
+    }
+}
+
+// The tests of a leaf before its slots.
+fn is_leaf(bytes: &[u8; PAGE_LEN], count: u16, spot: &Spot) -> bool
+    requires count { count ≡ count_said bytes.now }
+    requires most { count ≤ 30 }
+    ensures { IsTrue result ↔ (spot.now.page ≢ 1 → 1 ≤ count) × Rise spot.now.low (high_of spot.now.high) (pairs_said bytes.now) }
+{
+    if spot.page != ROOT && count == 0 {
+        return false;
+    }
+    rises(bytes, count, spot.low, spot.high)
+}
+
+// The tests of an inner page: its low keys rise from the lower bound on, and its children are pages that were given.
+fn is_inner(bytes: &[u8; PAGE_LEN], count: u16, low: u64, pages: u32) -> bool
+    requires count { count ≡ count_said bytes.now }
+    requires some { 1 ≤ count }
+    requires most { count ≤ 30 }
+    ensures { IsTrue result ↔ (next_low (pairs_said bytes.now) low ≡ low) × Rise low key_end (pairs_said bytes.now) × AreNamed pages (pairs_said bytes.now) }
+{
+    if read_pair(bytes, 0).0 != low {
+        return false;
+    }
+    if !rises(bytes, count, low, None) {
+        return false;
+    }
+    are_named(bytes, count, pages)
+}
+
+// The keys of a page rise strictly, from the lower bound on and below the upper one.
+fn rises(bytes: &[u8; PAGE_LEN], count: u16, low: u64, high: Option<u64>) -> bool
+    requires count { count ≡ count_said bytes.now }
+    requires most { count ≤ 30 }
+    ensures { IsTrue result ↔ Rise low (high_of high) (pairs_said bytes.now) }
+{
+    let mut last = None;
+    for i in 0..count {
+        let key = read_pair(bytes, i).0;
+        if !is_above(low, last, key) {
+            return false;
+        }
+        last = Some(key);
+    }
+    is_below(low, last, high)
+}
+
+// The key may follow the last one.
+fn is_above(low: u64, last: Option<u64>, key: u64) -> bool
+    ensures { IsTrue result ↔ (least_of low last ≤ key) }
+{
+    match last {
+        None => low <= key,
+        Some(last) => last < key,
+    }
+}
+
+// The last key is below the upper bound.
+fn is_below(low: u64, last: Option<u64>, high: Option<u64>) -> bool
+    requires { least_of low last ≤ 2 ^ 64 }
+    ensures { IsTrue result ↔ (least_of low last ≤ high_of high) }
+{
+    match (last, high) {
+        (_, None) => true,
+        (None, Some(high)) => low <= high,
+        (Some(last), Some(high)) => last < high,
+    }
+}
+
+// The children of a page are pages that were given.
+fn are_named(bytes: &[u8; PAGE_LEN], count: u16, pages: u32) -> bool
+    requires count { count ≡ count_said bytes.now }
+    requires most { count ≤ 30 }
+    ensures { IsTrue result ↔ AreNamed pages (pairs_said bytes.now) }
+{
+    for i in 0..count {
+        let child = read_pair(bytes, i).1;
+        if child < FIRST_CHILD {
+            return false;
+        }
+        if child >= u64::from(pages) {
+            return false;
+        }
+    }
+    true
+}
+
+// Tests the slots of a leaf.
+fn check_slots<S: EawStore>(
+    pages: &mut Pages<S>,
+    page: u32,
+    bytes: &[u8; PAGE_LEN],
+    count: u16,
+    slots: u32,
+) -> Result<(), CheckFault>
+    requires alive { IsAlive (S.view pages.old.store) }
+    requires count { count ≡ count_said bytes.now }
+    requires most { count ≤ 30 }
+    requires slots { slots ≤ slots_of (S.view pages.old.store).shape }
+    ensures looks { Looks S.tells (S.opens (S.view pages.old.store).shape) (is_media result)
+        (pages_of (S.view pages.old.store) pages.old) (pages_of (S.view pages.new.store) pages.new) }
+    ensures cause { IsTrue S.tells → slots ≡ next_slot (S.view pages.old.store).state.bytes
+        → SlotsCause (S.view pages.old.store).state.bytes page (pairs_said bytes.now) result }
+    ensures dead { IsErrOf result CheckFault.Dead → ⊥ }
+{
+    for i in 0..count {
+        let pair = read_pair(bytes, i);
+        match check_slot(pages, page, pair, slots) {
+            Ok(()) => {}
+            Err(fault) => return Err(fault),
+        }
+    }
+    Ok(())
+}
+
+// Tests the slot of a pair of a leaf: it was given, and carries the key.
+fn check_slot<S: EawStore>(
+    pages: &mut Pages<S>,
+    page: u32,
+    pair: (u64, u64),
+    slots: u32,
+) -> Result<(), CheckFault>
+    requires alive { IsAlive (S.view pages.old.store) }
+    requires slots { slots ≤ slots_of (S.view pages.old.store).shape }
+    ensures looks { Looks S.tells (S.opens (S.view pages.old.store).shape) (is_media result)
+        (pages_of (S.view pages.old.store) pages.old) (pages_of (S.view pages.new.store) pages.new) }
+    ensures cause { IsTrue S.tells → slots ≡ next_slot (S.view pages.old.store).state.bytes
+        → SlotCause (S.view pages.old.store).state.bytes page pair result }
+    ensures dead { IsErrOf result CheckFault.Dead → ⊥ }
+{
+    if pair.1 >= u64::from(slots) {
+        return Err(CheckFault::Damaged { page });
+    }
+    let slot = pair.1 as u32;
+    let count = index_page_count(pages);
+    match fetch_slot(pages, slot) {
+        Ok(said) => {
+            if is_of_key(&said, pair.0) {
+                Ok(())
+            } else {
+                Err(CheckFault::Damaged {
+                    page: count + slot / SLOTS_IN_PAGE,
+                })
+            }
+        }
+        Err(fault) => Err(check_fault(fault)),
+    }
+}
+
+// What was read says a slot of this key.
+fn is_of_key(said: &Option<Slot>, key: u64) -> bool
+    ensures { IsTrue result ↔ IsOfKey key said.now }
+{
+    match said {
+        None => false,
+        Some(Slot::Absent { key: other }) => *other == key,
+        Some(Slot::Present { key: other, .. }) => *other == key,
+    }
+}

@@ -1,0 +1,16 @@
+//! An index that is a B+ tree of pages: its root is page 1.
+#![tactic(auto)]
+
+mod checking;
+mod laws;
+mod look;
+mod node;
+mod page;
+mod write;
+
+pub use checking::check;
+pub use laws::{
+    damage_is_first, descent_finds, fresh_is_sound, slots_leave_the_tree, tree_changes_keep,
+    tree_rises,
+};
+pub use look::{find, next};

@@ -1,0 +1,65 @@
+// Pages of the tree as an insertion reads them.
+ghost use Rattle.std.specs.Prelude.{◌≡◌, ◌≢◌, ◌<◌, ◌≤◌, IfOk, IsErrOf, IsTrue, length};
+ghost use Rattle.record_slots.specs.Places.{page_bytes};
+ghost use Rattle.page_store.specs.Index.{index_pages_of};
+ghost use Rattle.page_store.specs.Looks.{Looks, is_failed};
+ghost use Rattle.page_store.specs.Shown.{pages_of};
+ghost use Rattle.index_pages.specs.Fetched.{TestCause};
+ghost use Rattle.index_pages.specs.Page.{level_of, page_pairs};
+ghost use Rattle.btree_pages.specs.Descent.{child_for};
+ghost use Rattle.btree_pages.specs.Node.{IsNode};
+ghost use Rattle.btree_pages.specs.Writes.{IsRead};
+
+use crate::look::read_node;
+use eaw_face::EawStore;
+use index_pages::{PAGE_LEN, Pairs, read_pairs};
+use page_store::{PageFault, Pages};
+
+/// A page as it was read.
+#[derive(Drop)]
+pub struct Node {
+    pub page: u32,
+    pub level: u8,
+    pub pairs: Pairs,
+}
+
+// Reads a page with its pairs.
+pub fn fetch_node<S: EawStore>(pages: &mut Pages<S>, page: u32) -> Result<Node, PageFault>
+    requires some { 1 ≤ page }
+    requires inside { page < index_pages_of (S.view pages.old.store).shape }
+    ensures looks { Looks S.tells (S.opens (S.view pages.old.store).shape) (is_failed result)
+        (pages_of (S.view pages.old.store) pages.old) (pages_of (S.view pages.new.store) pages.new) }
+    ensures cause { TestCause S.tells (IsNode (page_bytes (S.view pages.old.store).state.bytes page)) page (S.view pages.old.store) result }
+    ensures page { IfOk result (λ node. node.page ≡ page) }
+    ensures read { IfOk result (λ node. IsRead (S.view pages.old.store).shape page node.level node.pairs.items) }
+    ensures some { IfOk result (λ node. node.level ≢ 0 → 1 ≤ length node.pairs.items) }
+    ensures level { IsTrue S.tells → IfOk result (λ node. node.level ≡ level_of (S.view pages.old.store).state.bytes page) }
+    ensures pairs { IsTrue S.tells → IfOk result (λ node. node.pairs.items ≡ page_pairs (S.view pages.old.store).state.bytes page) }
+    ensures dead { IsErrOf result PageFault.Dead → pages.new ≡ pages.old }
+{
+    let mut bytes = [0; PAGE_LEN];
+    let head = match read_node(pages, page, &mut bytes) {
+        Ok(head) => head,
+        Err(fault) => return Err(fault),
+    };
+    Ok(Node {
+        page,
+        level: head.level,
+        pairs: read_pairs(&bytes, head.count),
+    })
+}
+
+// The child whose range a key lies in.
+pub fn child_of(pairs: &[(u64, u64)], key: u64) -> u64
+    requires { 1 ≤ length pairs.now }
+    ensures { result ≡ child_for pairs.now key }
+{
+    let mut child = pairs[0].1;
+    for i in 1..pairs.len() {
+        if key < pairs[i].0 {
+            return child;
+        }
+        child = pairs[i].1;
+    }
+    child
+}
