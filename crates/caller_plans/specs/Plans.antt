@@ -1,0 +1,66 @@
+-- What each caller of a script plans.
+use Rattle.std.specs.Prelude.{ℕ, zero, suc, Bool, true, false, nat_eq, if◌then◌else◌, List, [], ◌∷◌, ◌++◌, Option, Some, None}
+use Rattle.history.specs.declared.call.Call.{Call}
+use Rattle.history.specs.declared.call.Call.TheVariants.{Begin, Commit, Abort}
+use Rattle.script_text.specs.declared.line.Line.{Line}
+use Rattle.script_text.specs.declared.line.Line.TheVariants.{Nothing, Told, Bad}
+use Rattle.script_text.specs.Line.{Says}
+use Rattle.caller_plans.specs.declared.plan.Plan.{Plan}
+use Rattle.caller_plans.specs.declared.plan.PlanEnd.{PlanEnd}
+use Rattle.caller_plans.specs.declared.plan.PlanEnd.TheVariants as end
+use Rattle.caller_plans.specs.declared.fate.LineFault.{LineFault}
+use Rattle.caller_plans.specs.declared.fate.LineFault.TheVariants as fault
+
+abbrev pub plan_of : List Call → PlanEnd → Plan
+plan_of calls end = record { calls = calls; end = end }
+
+-- The transactions that a caller's calls make, outside of one, or where these calls were made in one that has begun. A call outside of a
+-- transaction is passed over, and so is a begin within one.
+abbrev pub planned : Option (List Call) → List Call → List Plan
+planned None [] = []
+planned (Some made) [] = plan_of made end.Unended ∷ []
+planned None (Begin ∷ calls) = planned (Some []) calls
+planned None (call ∷ calls) = planned None calls
+planned (Some made) (Begin ∷ calls) = planned (Some made) calls
+planned (Some made) (Commit ∷ calls) = plan_of made end.Commit ∷ planned None calls
+planned (Some made) (Abort ∷ calls) = plan_of made end.Abort ∷ planned None calls
+planned (Some made) (call ∷ calls) = planned (Some (made ++ call ∷ [])) calls
+
+-- whether a caller is within a transaction after a call, where it was so before
+abbrev pub within_after : Bool → Call → Bool
+within_after was Begin = true
+within_after was Commit = false
+within_after was Abort = false
+within_after was call = was
+
+-- a call outside of a transaction, or a begin within one
+abbrev pub is_stray : Bool → Call → Bool
+is_stray false Begin = false
+is_stray false call = true
+is_stray true Begin = true
+is_stray true call = false
+
+-- the calls of a caller, in order
+abbrev pub calls_by : ℕ → List Line → List Call
+calls_by caller [] = []
+calls_by caller (Told other call ∷ lines) = if nat_eq other caller then call ∷ calls_by caller lines else calls_by caller lines
+calls_by caller (line ∷ lines) = calls_by caller lines
+
+-- the lines from the n-th on that are bad or stray, where these callers are within transactions
+abbrev pub faults_from : ℕ → (ℕ → Bool) → List Line → List LineFault
+faults_from n within [] = []
+faults_from n within (Nothing ∷ lines) = faults_from (suc n) within lines
+faults_from n within (Bad ∷ lines) = fault.Bad n ∷ faults_from (suc n) within lines
+faults_from n within (Told caller call ∷ lines) =
+    (if is_stray (within caller) call then fault.Stray n ∷ [] else []) ++ faults_from (suc n) (λ other. if nat_eq other caller then within_after (within caller) call else within other) lines
+
+-- what each line says, where there are so many callers
+abbrev pub AllSay : ℕ → List (List ℕ) → List Line → Type 0
+AllSay callers [] [] = Unit {0}
+AllSay callers (bytes ∷ lines) (line ∷ said) = Says callers bytes line × AllSay callers lines said
+AllSay callers _ _ = ⊥
+
+-- what each of so many callers plans, from this one on
+abbrev pub plans_from : ℕ → ℕ → List Line → List (List Plan)
+plans_from caller zero lines = []
+plans_from caller (suc n) lines = planned None (calls_by caller lines) ∷ plans_from (suc caller) n lines

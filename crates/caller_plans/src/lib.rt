@@ -1,0 +1,8 @@
+//! The transactions that each caller of a script plans, and how they end.
+#![tactic(auto)]
+
+mod fate;
+mod plan;
+
+pub use fate::{Fate, LineFault};
+pub use plan::{Asked, Plan, PlanEnd, Plans};
