@@ -3,6 +3,8 @@
 
 mod fate;
 mod plan;
+mod reading;
 
 pub use fate::{Fate, LineFault};
 pub use plan::{Asked, Plan, PlanEnd, Plans};
+pub use reading::{Script, read_script};

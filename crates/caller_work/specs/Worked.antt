@@ -44,8 +44,8 @@ is_fault _ = false
 -- Callers' plans were worked on, on a core that came to a later one. Where it tells its records: of each caller, what became of its plans
 -- and which transactions of the history are its; nobody else has any. At the end of all work each plan has its fate, and nothing is live.
 -- A transaction in doubt is one that its caller planned to commit. The index has just the keys of the opening and keys that were planned.
-pub record Worked (tells : Bool) (from : ℕ) (plans : List (List Plan)) (first last : CoreView) (fates : List (List Fate)) (end : WorkEnd) : Type 0 where
-  pub since : Since tells from first last
+pub record Worked (tells : Bool) (plans : List (List Plan)) (first last : CoreView) (fates : List (List Fate)) (end : WorkEnd) : Type 0 where
+  pub since : Since tells first last
   pub dead : last.state.is_dead ≡ is_fault end
   pub others : HasNoOthers (length plans) last.state
   pub each : length fates ≡ length plans

@@ -4,6 +4,7 @@ pub mod FreshRecords
 pub mod Answering
 pub mod Acknowledged
 pub mod Shapes
+pub mod Continued
 pub mod Serving
 pub mod Telling
 pub mod Unopened

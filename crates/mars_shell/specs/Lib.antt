@@ -1,3 +1,4 @@
+pub mod Joint
 pub mod Lines
 pub mod Standing
 pub mod Statuses

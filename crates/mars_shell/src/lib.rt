@@ -5,7 +5,7 @@ mod commands;
 mod dump;
 mod fault;
 mod formatting;
-mod gate;
+mod joint;
 mod lines;
 mod media_room;
 mod opening;
@@ -15,7 +15,7 @@ mod status;
 mod whole;
 
 pub use fault::fault_text;
-pub use gate::{Gate, OpenGate, Place};
+pub use caller_work::{Gate, OpenGate, Place};
 pub use media_room::room;
 pub use status::Status;
 pub use whole::run;

@@ -11,7 +11,7 @@ ghost use Rattle.mars_shell.specs.Statuses.{Counts};
 use crate::commands::run_commands;
 use crate::dump::run_dump;
 use crate::formatting::run_format;
-use crate::gate::Gate;
+use caller_work::Gate;
 use crate::lines::run_lines;
 use crate::status::Status;
 use command_words::{Words, WordsFault, read_words};

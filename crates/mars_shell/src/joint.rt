@@ -1,0 +1,152 @@
+// The work of callers beside each other.
+ghost use Rattle.std.specs.Prelude.{◌≡◌, ◌++◌, ◌<◌, ◌≤◌, ◌⊎◌, ◌↔◌, ℕ, List, None, length, IsTrue, IfErr, IfOk, OnOk};
+ghost use Rattle.std.specs.FinMap.{entries};
+ghost use Rattle.std.specs.List.{flat_map};
+ghost use Rattle.eaw_face.specs.Causes.{IsAlive};
+ghost use Rattle.history.specs.Legal.{records};
+ghost use Rattle.history_text.specs.Text.{done_lines, work_text, all_fate_lines};
+ghost use Rattle.script_io.specs.Written.{IsWritten, Wrote};
+ghost use Rattle.history.specs.Rows.{table_of};
+ghost use Rattle.mars_shell.specs.Joint.{media_line, TellsWork, IsBrokenOff, Joins};
+ghost use Rattle.mars_shell.specs.Served.{ServedCounts};
+
+use caller_plans::{LineFault, Script, read_script};
+use caller_work::{Fates, Gate, WorkEnd, work};
+use counted::NoMemory;
+use eaw_face::EawStore;
+use history::{History, Rows, play};
+use history_text::{write_faults, write_fates, write_history, write_records};
+use key_list::KeyList;
+use mars_core::{Core, CoreFault};
+use outside::Sink;
+use page_store::SaveRoom;
+use script_io::{write_front, write_whole};
+use script_run::Ended;
+use std::alloc::Global;
+use std::sync::Wait;
+use std::thread::Threads;
+
+const MEDIA_LINE: &[u8] = b"media fault\n";
+
+/// Gives the transactions of each caller in the input to a worker of its own, over the records of a store, tells what came of them, and
+/// gives the store back. Where the records were not taken, or memory was short before the work, nothing was told.
+pub fn serve_jointly<R: Threads + Wait + Sync, K: Sink, S: EawStore + Drop + Send, G: Gate + Sync>(
+    rt: &R,
+    alloc: Global,
+    input: &[u8],
+    callers: u8,
+    tries: u32,
+    sink: &mut K,
+    room: SaveRoom,
+    store: S,
+    gate: &G,
+) -> (Result<Ended, CoreFault>, S)
+    requires alive { IsAlive (S.view store) }
+    requires free { (t : ℕ) → (S.view store).ranges t ≡ None }
+    requires some { 0 < callers }
+    requires enough { callers ≤ (S.view store).shape.numbers }
+    requires tries { 1 ≤ tries }
+    ensures joined { Wrote K.tells (K.written sink.old) (K.written sink.new) (K.faults sink.old) (K.faults sink.new)
+        (λ cut text. IsTrue S.tells → Joins S.opens (S.view store) callers input.now result.0 cut text (S.view result.1)) }
+    ensures untold { IfErr result.0 (λ fault. sink.new ≡ sink.old) }
+    ensures counts { ServedCounts result.0 (K.faults sink.old) (K.faults sink.new) (S.view store).faults (S.view result.1).faults }
+{
+    let Ok(script) = read_script(alloc, input, callers) else {
+        return (Err(CoreFault::NoMemory), store);
+    };
+    let Script { faults, plans } = script;
+    let core = match Core::<S, KeyList>::attach(alloc, room, store) {
+        Ok(core) => core,
+        Err((fault, store)) => return (Err(fault), store),
+    };
+    match work(rt, alloc, core, plans, tries, gate) {
+        Ok((core, fates, end)) => {
+            let ended = tell_end(alloc, sink, &faults, core.history(), core.base(), &fates, end);
+            (Ok(ended), core.into_store())
+        }
+        Err((NoMemory, core)) => (Err(CoreFault::NoMemory), core.into_store()),
+    }
+}
+
+// Tells what came of the work, by how it ended.
+fn tell_end<K: Sink>(
+    alloc: Global,
+    sink: &mut K,
+    faults: &[LineFault],
+    history: &History,
+    base: &Rows,
+    fates: &[Fates],
+    end: WorkEnd,
+) -> Ended
+    requires few { length fates.now ≤ 255 }
+    ensures told { Wrote K.tells (K.written sink.old) (K.written sink.new) (K.faults sink.old) (K.faults sink.new)
+        (λ cut text. TellsWork result cut text (work_text faults.now history.now fates.now (entries (records (table_of base.now) history.now))) (flat_map done_lines history.now)) }
+    ensures whole { (IsBrokenOff result → ⊥) → end ≡ WorkEnd.All }
+    ensures fault { (result ≡ Ended.MediaFault) ↔ (end ≡ WorkEnd.MediaFault) }
+{
+    match end {
+        WorkEnd::All => match work_text(alloc, faults, history, base, fates) {
+            Ok(text) => match write_whole(sink, &text) {
+                Ok(()) => Ended::All,
+                Err(_) => Ended::WriteFault,
+            },
+            Err(NoMemory) => Ended::NoMemory,
+        },
+        WorkEnd::MediaFault => {
+            tell_media_fault(alloc, sink, history);
+            Ended::MediaFault
+        }
+        WorkEnd::NoMemory => Ended::NoMemory,
+    }
+}
+
+// The text of work that came to its end. All of it is formed before any of it is written.
+fn work_text(
+    alloc: Global,
+    faults: &[LineFault],
+    history: &History,
+    base: &Rows,
+    fates: &[Fates],
+) -> Result<Vec<u8>, NoMemory>
+    requires { length fates.now ≤ 255 }
+    ensures { IfOk result (λ text. text.items ≡ work_text faults.now history.now fates.now (entries (records (table_of base.now) history.now))) }
+{
+    let rows = play(history, base, alloc)?;
+    let mut text = Vec::new(alloc);
+    write_faults(&mut text, faults)?;
+    write_history(&mut text, history)?;
+    write_all_fates(&mut text, fates)?;
+    write_records(&mut text, &rows)?;
+    Ok(text)
+}
+
+fn write_all_fates(text: &mut Vec<u8>, fates: &[Fates]) -> Result<(), NoMemory>
+    requires few { length fates.now ≤ 255 }
+    ensures { OnOk result (text.new.items ≡ text.old.items ++ all_fate_lines 0 fates.now) }
+{
+    for (caller, fates) in fates.iter().enumerate() {
+        write_fates(text, caller as u8, fates.items())?;
+    }
+    Ok(())
+}
+
+// Tells the history and that the media failed. Where memory is short for the history's text, that line is told alone, so that the way the
+// work ended does not depend on memory.
+fn tell_media_fault<K: Sink>(alloc: Global, sink: &mut K, history: &History)
+    ensures { Wrote K.tells (K.written sink.old) (K.written sink.new) (K.faults sink.old) (K.faults sink.new)
+        (λ cut text. IsWritten cut text (flat_map done_lines history.now ++ media_line) ⊎ IsWritten cut text media_line) }
+{
+    match fault_text(alloc, history) {
+        Ok(text) => write_front(sink, &text),
+        Err(NoMemory) => write_front(sink, MEDIA_LINE),
+    }
+}
+
+fn fault_text(alloc: Global, history: &History) -> Result<Vec<u8>, NoMemory>
+    ensures { IfOk result (λ text. text.items ≡ flat_map done_lines history.now ++ media_line) }
+{
+    let mut text = Vec::new(alloc);
+    write_history(&mut text, history)?;
+    text.extend_from_slice(MEDIA_LINE)?;
+    Ok(text)
+}
