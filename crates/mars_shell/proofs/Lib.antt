@@ -1,3 +1,4 @@
+pub mod FateTexts
 pub mod FaultLemmas
 pub mod FormatLemmas
 pub mod FreshRecords
@@ -6,6 +7,7 @@ pub mod Acknowledged
 pub mod Shapes
 pub mod Continued
 pub mod Serving
+pub mod Joining
 pub mod Telling
 pub mod Unopened
 pub mod Running
