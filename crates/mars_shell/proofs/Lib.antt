@@ -5,6 +5,8 @@ pub mod Answering
 pub mod Acknowledged
 pub mod Shapes
 pub mod Serving
+pub mod Making
+pub mod Summing
 pub mod Telling
 pub mod Unopened
 pub mod Running

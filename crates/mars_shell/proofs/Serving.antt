@@ -22,9 +22,10 @@ use Rattle.script_run.specs.Transcript.{Answered, Ran}
 use Rattle.script_run.specs.declared.ended.Ended.{Ended}
 use Rattle.script_run.specs.declared.ended.Ended.TheVariants.{All}
 use Rattle.mars_shell.specs.Lines.{Turns, turns_at, call_script}
-use Rattle.mars_shell.specs.Run.{begun_on}
+use Rattle.mars_shell.specs.Run.{begun_on, Answers}
 use Rattle.mars_shell.specs.Served.{opens_of, Untaken, Served}
 use Rattle.mars_shell.specs.Standing.{turns_of, IsReady, Stands, Comes}
+use Rattle.mars_shell.proofs.Acknowledged.{committed_kept}
 use Rattle.mars_shell.proofs.Shapes.{same_limits}
 
 -- the records were not taken
@@ -68,66 +69,69 @@ module _ (tells : Bool) (Opens : Shape → List ℕ → List ℕ → Type 0) (ol
         safe = λ image left. record { count = 0; at_least = omega (arith, ap length begins.fresh.0); at_most = omega arith; opens = opens_base image left };
       }
 
-    module _ (new : StoreView) (later : CoreView) (over : IsOver tells (Opens new.shape) chain new later) (input : List ℕ) (ended : Ended) (cut : Bool) (text : List ℕ)
-        (ran : Ran call_script (Stands later) (Comes core later) (turns_of core) (lines_of input) ended cut text) (alive : ended ≡ All → later.state.is_dead ≡ false) where
-      on : Continues core later
-      on = ran.comes.1
-
-      shape : new.shape ≡ old.shape
-      shape = same_limits new.shape mid.shape (sym over.limits ∙ on.limits ∙ begins.over.limits) ∙ begins.shape
-
-      first_is : turns_of core ≡ turns_at (limits_of old.shape) (begun_on old.state.bytes)
-      first_is = λ i. turns_at (limits_are i) (begun_is i)
-
-      last_is : ran.final ≡ turns_at (limits_of old.shape) later.state
-      last_is = ran.comes.0 ∙ ap (λ (l : Limits). turns_at l later.state) (on.limits ∙ limits_are)
-
-      base_is : later.state.base ≡ table_of chain old.state.bytes
-      base_is = on.base ∙ ap (λ (s : State). s.base) begun_is
-
-      -- in the words of the store
-      opens_now : (more least : ℕ) (image : List ℕ) → least ≤ more → HasPrefixOf later.opens later.state more image → opens_of Opens old.shape later.state least image
-      opens_now more least image le has =
-          let table = records later.state.base (take has.count (with_doubt later.state.history later.state.doubt)) in
+    module _ (new : StoreView) (later : CoreView) (over : IsOver tells (Opens new.shape) chain new later) where
+      -- the lines of a script were answered
+      pub answers : (input : List ℕ) (ended : Ended) (cut : Bool) (text : List ℕ) → Ran call_script (Stands later) (Comes core later) (turns_of core) (lines_of input) ended cut text
+          → Answers input ended cut text core.limits core.state later.state
+      answers input ended cut text ran =
+          let last_is : ran.final ≡ turns_at core.limits later.state = ran.comes.0 ∙ ap (λ (l : Limits). turns_at l later.state) ran.comes.1.limits in
+          let answered = subst (λ (t : Turns). Answered call_script (turns_of core) 1 (lines_of input) ended cut ran.answers ran.rest t) last_is ran.answered in
           record {
-            count = has.count;
-            at_least = omega (arith, le, has.at_least);
-            at_most = has.at_most;
-            opens = subst (λ (s : Shape). OpensWith (Opens s) chain image table) shape ((over.opens_to image table).1 has.opens);
+            answers = ran.answers;
+            rest = ran.rest;
+            text_is = ran.text_is;
+            answered = answered;
+            acknowledged = λ caller n few fits has. committed_kept (turns_of core) 1 (lines_of input) ended cut ran.answers ran.rest (turns_at core.limits later.state)
+                (omega (arith, ap (λ (l : Limits). l.callers) limits_are, old.shape.in_range.most_numbers)) answered caller n few fits has;
           }
 
-      answered_time : LeavesOnly (opens_of Opens old.shape later.state 0) mid new
-      answered_time = record {
-        later = omega (arith, begins.over.moment, over.moment, on.time.later);
-        keeps = λ t image le left. (over.left t image).1 (on.time.keeps t image (omega (arith, le, begins.over.moment)) ((begins.over.left t image).0 left));
-        only = λ t image le left. ⊎_elim (λ was. inl ((begins.over.left t image).1 was)) (λ has. inr (opens_now (length core.state.history) 0 image (omega arith) has))
-            (on.time.only t image (omega (arith, le, begins.over.moment)) ((over.left t image).0 left));
-      }
+      module _ (on : Continues core later) where
+        shape : new.shape ≡ old.shape
+        shape = same_limits new.shape mid.shape (sym over.limits ∙ on.limits ∙ begins.over.limits) ∙ begins.shape
 
-      base_opens : (image : List ℕ) → Opens old.shape image old.state.bytes → opens_of Opens old.shape later.state 0 image
-      base_opens image opens = record {
-        count = 0;
-        at_least = omega arith;
-        at_most = omega arith;
-        opens = record { bytes = old.state.bytes; opened = opens; sound = begins.sound told; shows = sym base_is };
-      }
+        base_is : later.state.base ≡ table_of chain old.state.bytes
+        base_is = on.base ∙ ap (λ (s : State). s.base) begun_is
 
-      pub served : Served Opens old input ended cut text new
-      served = record {
-        sound = begins.sound told;
-        shape = shape;
-        answers = ran.answers;
-        rest = ran.rest;
-        text_is = ran.text_is;
-        final = later.state;
-        base = base_is;
-        answered = subst (λ (t : Turns). Answered call_script t 1 (lines_of input) ended cut ran.answers ran.rest (turns_at (limits_of old.shape) later.state)) first_is
-            (subst (λ (t : Turns). Answered call_script (turns_of core) 1 (lines_of input) ended cut ran.answers ran.rest t) last_is ran.answered);
-        legal = on.sound.doubtful;
-        since = going.then (going.weaker base_opens (begins.time told)) answered_time;
-        now = λ image left. opens_now (length later.state.history) (length later.state.history) image (omega arith)
-            (on.now image ((over.left later.moment image).0 (subst (λ (t : ℕ). new.left_since t image) (sym over.moment) left)));
-        left = λ all.
-            let living = sym over.dead ∙ alive all in
-            (living, record { sound = over.sound told living; table = over.table told living; index = over.keys told });
-      }
+        -- in the words of the store
+        opens_now : (more least : ℕ) (image : List ℕ) → least ≤ more → HasPrefixOf later.opens later.state more image → opens_of Opens old.shape later.state least image
+        opens_now more least image le has =
+            let table = records later.state.base (take has.count (with_doubt later.state.history later.state.doubt)) in
+            record {
+              count = has.count;
+              at_least = omega (arith, le, has.at_least);
+              at_most = has.at_most;
+              opens = subst (λ (s : Shape). OpensWith (Opens s) chain image table) shape ((over.opens_to image table).1 has.opens);
+            }
+
+        turns_time : LeavesOnly (opens_of Opens old.shape later.state 0) mid new
+        turns_time = record {
+          later = omega (arith, begins.over.moment, over.moment, on.time.later);
+          keeps = λ t image le left. (over.left t image).1 (on.time.keeps t image (omega (arith, le, begins.over.moment)) ((begins.over.left t image).0 left));
+          only = λ t image le left. ⊎_elim (λ was. inl ((begins.over.left t image).1 was)) (λ has. inr (opens_now (length core.state.history) 0 image (omega arith) has))
+              (on.time.only t image (omega (arith, le, begins.over.moment)) ((over.left t image).0 left));
+        }
+
+        base_opens : (image : List ℕ) → Opens old.shape image old.state.bytes → opens_of Opens old.shape later.state 0 image
+        base_opens image opens = record {
+          count = 0;
+          at_least = omega arith;
+          at_most = omega arith;
+          opens = record { bytes = old.state.bytes; opened = opens; sound = begins.sound told; shows = sym base_is };
+        }
+
+        -- of the turns that callers took this may be said
+        pub served : (Says : Limits → State → State → Type 0) (ended : Ended) → Says core.limits core.state later.state → (ended ≡ All → later.state.is_dead ≡ false) → Served Says Opens old ended new
+        served Says ended said alive = record {
+          sound = begins.sound told;
+          shape = shape;
+          final = later.state;
+          base = base_is;
+          says = subst (λ (l : Limits). Says l (begun_on old.state.bytes) later.state) limits_are (subst (λ (s : State). Says core.limits s later.state) begun_is said);
+          legal = on.sound.doubtful;
+          since = going.then (going.weaker base_opens (begins.time told)) turns_time;
+          now = λ image left. opens_now (length later.state.history) (length later.state.history) image (omega arith)
+              (on.now image ((over.left later.moment image).0 (subst (λ (t : ℕ). new.left_since t image) (sym over.moment) left)));
+          left = λ all.
+              let living = sym over.dead ∙ alive all in
+              (living, record { sound = over.sound told living; table = over.table told living; index = over.keys told });
+        }
