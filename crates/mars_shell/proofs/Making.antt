@@ -1,23 +1,29 @@
 -- Calls that a core makes, one after another, and what their replies come to.
-use Rattle.std.proofs.Common.{◌≡◌, ℕ, zero, suc, ◌+◌, ◌<◌, ◌≤◌, Bool, true, false, List, [], ◌∷◌, ◌++◌, length, map, take, get_or, refl, sym, ap, subst, ◌∙◌, arith, cond, length-append}
+use Rattle.std.proofs.Common.{◌≡◌, ℕ, zero, suc, ◌+◌, ◌<◌, ◌≤◌, Bool, true, false, List, [], ◌∷◌, ◌++◌, length, map, take, get_or, refl, sym, ap, subst, ◌∙◌, arith, cond, length-append, Result, Err, inl, inr, nat_le, ◌||◌}
 use Rattle.std.specs.Prelude.{IsTrue, IsFalse}
-use Rattle.std.specs.List.{All, count_by, sum_by}
-use Rattle.std.proofs.lemmas.List.{map-append, take_more, append_assoc}
+use Rattle.std.specs.List.{All, count_by}
+use Rattle.std.proofs.lemmas.Bool.{cases_lt, false≢true}
+use Rattle.std.proofs.lemmas.Bool.Decides.{nat_tests}
+use Rattle.std.proofs.lemmas.List.{map-append, take_more}
 use Rattle.std.proofs.lemmas.List.Elements.{All-from_recursion, All-append, All-nil}
 use Rattle.std.proofs.lemmas.List.Sums.{sum_by-append}
 use Rattle.history.specs.declared.call.Call.{Call}
 use Rattle.history.specs.declared.call.Reply.{Reply}
+use Rattle.history.specs.declared.call.Reply.TheVariants as told
 use Rattle.core_face.specs.State.{State}
 use Rattle.core_face.specs.Room.{Limits}
 use Rattle.core_face.specs.Step.{Step, Runs}
-use Rattle.core_face.specs.Fate.{is_committed}
-use Rattle.core_face.specs.Core.{CoreView, Steps, Continues}
+use Rattle.core_face.specs.Fate.{is_committed, is_media}
+use Rattle.core_face.specs.Core.{CoreView, Steps}
 use Rattle.core_face.proofs.Continuing.{continues_none, continues_step, continues_on}
 use Rattle.drill_gen.specs.Drill.{alone, paired, one_by_one, in_pairs, drill, transaction}
 use Rattle.drill_gen.specs.declared.transaction.Transaction.{Transaction}
-use Rattle.mars_shell.specs.Drill.{turn_of}
-use Rattle.mars_shell.specs.Made.{Made}
-use Rattle.mars_shell.specs.Tally.{is_aborted, is_busy, is_full, tally_of, more_if, counted}
+use Rattle.script_run.specs.declared.responder.Stop.{Stop}
+use Rattle.script_run.specs.declared.responder.Stop.TheVariants.{Media, NoMemory}
+use Rattle.mars_shell.specs.Drill.{turn_of, GoOn}
+use Rattle.mars_shell.specs.Lines.{goes_on}
+use Rattle.mars_shell.specs.Made.{Made, EndsEarly}
+use Rattle.mars_shell.specs.Tally.{is_aborted, is_busy, is_full, tally_of, more_if, counted, Counted}
 use Rattle.mars_shell.specs.declared.tally.Tally.{Tally}
 
 -- ---- the tally
@@ -54,6 +60,9 @@ module _ (tells : Bool) (old : CoreView) (turns : List (ℕ × Call)) where
     turns_more d more is = map-append turn_of lines ((caller, call, reply) ∷ []) ∙ ap (λ (l : List (ℕ × Call)). l ++ (caller, call) ∷ []) made.turns_are
         ∙ ap (λ (t : ℕ × Call). take (length lines) turns ++ t ∷ []) (sym is) ∙ sym (take_more turns (length lines) d more)
 
+    abbrev more_lines : List (ℕ × Call × Reply)
+    more_lines = lines ++ (caller, call, reply) ∷ []
+
     pub made_more : (d : ℕ × Call) → length lines < length turns → get_or turns (length lines) d ≡ (caller, call) → Made tells old turns (lines ++ (caller, call, reply) ∷ []) new
     made_more d more is = record {
       limits = steps.limits ∙ made.limits;
@@ -65,17 +74,48 @@ module _ (tells : Bool) (old : CoreView) (turns : List (ℕ × Call)) where
           continues_on old mid new on (continues_step tells caller call mid new reply on.sound steps told);
     }
 
+    -- a reply that ends the script
+    pub ends_early : (d : ℕ × Call) → length lines < length turns → get_or turns (length lines) d ≡ (caller, call) → GoOn lines → (tally later : Tally) (stop : Stop)
+        → (let r : Result (Unit {0}) Stop = Err stop in Counted tally caller call reply later r) → EndsEarly tells old turns stop new
+    ends_early d more is on tally later (Media number) counted = (more_lines, made_more d more is, (lines, caller, call, ap (λ (r : Reply). lines ++ (caller, call, r) ∷ []) counted.1, on))
+    ends_early d more is on tally later NoMemory counted = (more_lines, made_more d more is)
+
+    -- one that is no fault of the media leaves the core alive
+    pub stays_alive : mid.state.is_dead ≡ false → IsFalse (is_media reply) → new.state.is_dead ≡ false
+    stays_alive alive none = steps.moves.dead ∙ ap (λ (d : Bool). d || is_media reply) alive ∙ none
+
+-- no reply behind which a script goes on is a fault of the media
+pub no_fault : (reply : Reply) → IsTrue (goes_on reply) → IsFalse (is_media reply)
+no_fault told.Fine goes = refl
+no_fault (told.Found value) goes = refl
+no_fault told.Absent goes = refl
+no_fault (told.Listed rows) goes = refl
+no_fault (told.Saved n) goes = refl
+no_fault (told.Committed n) goes = refl
+no_fault told.NoTransaction goes = refl
+no_fault told.Already goes = refl
+no_fault (told.NoSave n) goes = refl
+no_fault told.SavesFull goes = refl
+no_fault (told.Busy holder) goes = refl
+no_fault (told.LogFull logger held needed) goes = refl
+no_fault (told.SlotsFull n) goes = refl
+no_fault (told.PagesFull n) goes = refl
+no_fault told.Media goes = absurd (false≢true goes)
+no_fault told.Dead goes = refl
+no_fault told.NoMemory goes = refl
+no_fault (told.Damaged page) goes = refl
+
 -- ---- the callers of a drawn script
 
 abbrev IsOf : ℕ → ℕ × Call → Type 0
 IsOf callers turn = turn.0 < callers
 
 alone_inside : (callers : ℕ) (t : Transaction) → 1 ≤ callers → All (IsOf callers) (alone t)
-alone_inside callers t some = All-from_recursion (IsOf callers) (alone t) (omega (arith, some), omega (arith, some), omega (arith, some), omega (arith, some), tt)
+alone_inside callers t some = All-from_recursion (IsOf callers) (alone t) (omega (arith, some), (omega (arith, some), (omega (arith, some), (omega (arith, some), tt))))
 
 paired_inside : (callers : ℕ) (t u : Transaction) → 2 ≤ callers → All (IsOf callers) (paired t u)
 paired_inside callers t u two = All-from_recursion (IsOf callers) (paired t u)
-    (omega (arith, two), omega (arith, two), omega (arith, two), omega (arith, two), omega (arith, two), omega (arith, two), omega (arith, two), omega (arith, two), tt)
+    (omega (arith, two), (omega (arith, two), (omega (arith, two), (omega (arith, two), (omega (arith, two), (omega (arith, two), (omega (arith, two), (omega (arith, two), tt))))))))
 
 one_by_one_inside : (callers seed i count : ℕ) → 1 ≤ callers → All (IsOf callers) (one_by_one seed i count)
 one_by_one_inside callers seed i zero some = All-nil (IsOf callers)
@@ -91,6 +131,7 @@ in_pairs_inside callers seed i (suc (suc count)) two =
 
 -- each is one of the array's
 pub drill_inside : (seed count callers : ℕ) → 1 ≤ callers → All (λ turn. turn.0 < callers) (drill seed count callers)
-drill_inside seed count zero some = absurd (omega (arith, some))
-drill_inside seed count (suc zero) some = one_by_one_inside 1 seed 0 count (omega arith)
-drill_inside seed count (suc (suc callers)) some = in_pairs_inside (suc (suc callers)) seed 0 count (omega arith)
+drill_inside seed count callers some = elim (cases_lt callers 2) [
+  | inl one ↦ let is : nat_le 2 callers ≡ false = grind (arith, nat_tests) in rw is (one_by_one_inside callers seed 0 count some)
+  | inr two ↦ let is : nat_le 2 callers ≡ true = grind (arith, nat_tests) in rw is (in_pairs_inside callers seed 0 count two)
+]

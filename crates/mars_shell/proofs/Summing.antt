@@ -1,5 +1,5 @@
 -- What a drill over a core comes to.
-use Rattle.std.proofs.Common.{◌≡◌, ℕ, List, [], ◌∷◌, ◌++◌, map, length, Bool, false, refl, sym, subst}
+use Rattle.std.proofs.Common.{◌≡◌, ℕ, List, [], ◌∷◌, ◌++◌, map, Bool, false, refl, subst}
 use Rattle.std.specs.Prelude.{IsTrue, codes}
 use Rattle.std.specs.FinMap.{entries}
 use Rattle.history.specs.declared.call.Call.{Call}

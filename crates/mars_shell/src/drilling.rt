@@ -86,12 +86,14 @@ fn drill<K: Sink, S: EawStore>(
             Ok(()) => (Ok(Ended::All), store),
             Err(_) => (Ok(Ended::WriteFault), store),
         },
-        Err(Stop::Media { number: _ }) => {
-            // This line is there without memory, so that the way the script ends does not depend on any.
-            write_front(sink, b"media fault\n");
-            (Ok(Ended::MediaFault), store)
-        }
-        Err(Stop::NoMemory) => (Ok(Ended::NoMemory), store),
+        Err(stop) => match stop {
+            Stop::Media { number: _ } => {
+                // This line is there without memory, so that the way the script ends does not depend on any.
+                write_front(sink, b"media fault\n");
+                (Ok(Ended::MediaFault), store)
+            }
+            Stop::NoMemory => (Ok(Ended::NoMemory), store),
+        },
     }
 }
 

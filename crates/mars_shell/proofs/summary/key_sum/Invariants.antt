@@ -1,4 +1,4 @@
-use Rattle.std.proofs.Common.{◌≡◌, ◌%◌, ◌^◌, take}
+use Rattle.std.proofs.Common.{◌≡◌, take}
 use Rattle.mars_shell.specs.Drill.{key_sum}
 use Rattle.mars_shell.proofs.summary.key_sum.Given as goal
 
