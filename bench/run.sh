@@ -7,7 +7,8 @@
 #   edits  run: a transaction is a begin, ten puts of one key, and a commit
 #   turns  run: eight callers in turn, a transaction is a begin, two puts, and a commit; every second put finds its key held
 #   raw    eaw: 64 bytes are logged, and committed
-# And of 1,000 records on such a file: their load, a scan of all of them, and a dump. Each script is run three times, and the best time counts. The answers go to a file, and the last is compared, so a
+# And of 1,000 records on such a file: their load, a scan of all of them, and a dump. And of a drawn script of 100,000 transactions: a
+# drill beside a run of the same calls, both over the image in memory. Each script is run three times, and the best time counts. The answers go to a file, and the last is compared, so a
 # run that stops early is no result. A time has the start of the process in it, about a millisecond. The image in memory keeps a record
 # of all its calls, so the peak of memory is that of a run over a file, in a folder that is memory where there is one.
 
@@ -165,6 +166,72 @@ records() {
     echo "records $1: loaded in $load ms, scanned a hundred times in $scan ms, dumped in $dump ms"
 }
 
+# drawn SEED COUNT: the lines of a drawn script, as two callers take them
+drawn() {
+    awk -v x="$1" -v count="$2" '
+        # The product of both is above what awk counts exactly, so half of the factor comes at a time.
+        function draw() {
+            x = ((x * 16838 % 32768) * 65536 + x * 20077 + 12345) % 2147483648
+            return int(x / 65536)
+        }
+        function transaction(t,  k, v) {
+            for (i = 1; i <= 2; i++) {
+                k = draw() % 256
+                v = draw()
+                put[t, i] = " put " k " v" v
+            }
+            ending[t] = draw() % 8 == 0 ? " abort" : " commit"
+        }
+        BEGIN {
+            for (n = 0; n + 1 < count; n += 2) {
+                transaction(0)
+                transaction(1)
+                print "0 begin"
+                print "1 begin"
+                for (step = 1; step <= 2; step++)
+                    for (c = 0; c <= 1; c++) print c put[c, step]
+                for (c = 0; c <= 1; c++) print c ending[c]
+            }
+            if (count % 2) {
+                transaction(0)
+                print "0 begin"
+                print "0" put[0, 1]
+                print "0" put[0, 2]
+                print "0" ending[0]
+            }
+        }'
+}
+
+# best_of WORD..: the least milliseconds of three runs of the program with these words on $work/drawn; what it writes goes to $work/answers
+best_of() {
+    local start time best=
+    for _ in 1 2 3; do
+        start=${EPOCHREALTIME/[.,]/}
+        "$program" - "$@" <"$work/drawn" >"$work/answers"
+        time=$((${EPOCHREALTIME/[.,]/} - start))
+        if [ -z "$best" ] || [ "$time" -lt "$best" ]; then best=$time; fi
+    done
+    echo "$best"
+}
+
+# drills SEED COUNT: a drill, and a run of the same calls, of which as many are committed, aborted and held
+drills() {
+    local run drill committed busy lines
+    drawn "$1" "$2" >"$work/drawn"
+    lines=$(wc -l <"$work/drawn")
+    run=$(best_of run)
+    committed=$(grep -c ' committed ' "$work/answers")
+    busy=$(grep -c ' busy ' "$work/answers")
+    drill=$(best_of drill "$1" "$2")
+    [ "$(sed -n '2p;4p' "$work/answers")" = "committed $committed"$'\n'"busy $busy" ] || {
+        echo "bench: the drill of $2 transactions differs from the run of its calls" >&2
+        exit 1
+    }
+    awk -v lines="$lines" -v run="$run" -v drill="$drill" 'BEGIN {
+        printf "drill  %d lines, %.0f a second; run of the same lines %.0f a second\n", lines, lines * 1e6 / drill, lines * 1e6 / run
+    }'
+}
+
 printf '%-6s %8s %10s %9s %12s %10s %8s\n' mix lines bytes ms lines/s peak-KB peak/in
 for mix in puts reads edits turns raw; do
     # Ten times as many raw lines as 30,000 were too long an input.
@@ -179,4 +246,5 @@ for mix in puts reads edits turns raw; do
 done
 records 100
 records 1000
+drills 1 100000
 [ $# -eq 0 ] || on_file "$1"

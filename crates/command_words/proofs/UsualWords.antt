@@ -8,17 +8,18 @@ use Rattle.std.proofs.lemmas.Bool.{ne_eqb}
 use Rattle.std.proofs.lemmas.Fmt.{first_decimal, decimal_digit}
 use Rattle.clap.specs.Words.{Text, Rule, Shape, fault_of, subcommand_of, first_of, built}
 use Rattle.clap.specs.Lexer.{long_of, short_of}
-use Rattle.clap.specs.Walk.{Row, Held, Names, Walk, Step, option, idle, next, trailing, arg_by_id, pushed, pending_count, most_values, walked, walk, walk_from, nothing_held, settled, finished, after_step, long_or_other, short_or_plain, option_word, word_met}
-use Rattle.clap.specs.Faults.{turn_fault, walk_fault, step_fault, flag_word_fault, bundle_fault, level_fault, settle_fault, defaults_fault, check_fault}
+use Rattle.clap.specs.Walk.{Row, Held, Names, Walk, Step, option, idle, next, trailing, arg_by_id, pushed, pending_count, most_values, to_positional, arg_by_index, value, walked, walk, walk_from, nothing_held, settled, finished, after_step, long_or_other, short_or_plain, option_word, word_met}
+use Rattle.clap.specs.Faults.{turn_fault, walk_fault, step_fault, positional_fault, stray_fault, flag_word_fault, bundle_fault, level_fault, settle_fault, defaults_fault, check_fault}
 use Rattle.clap.specs.Kinds.{Kinds, or_else}
 use Rattle.clap.specs.declared.error.ErrorKind.{ErrorKind}
 use Rattle.clap.specs.declared.error.ErrorKind.TheVariants as kind
-use Rattle.command_words.specs.Usual.{format_words, joined_words, AreSmall}
+use Rattle.command_words.specs.Usual.{format_words, joined_words, AreSmall, drill_words, AreOfDrill}
+use Rattle.command_words.specs.declared.words.DrillNumbers.{DrillNumbers}
 use Rattle.command_words.specs.declared.words.FormatNumbers.{FormatNumbers}
 use Rattle.clap.proofs.OnLiterals.{clap_on_literals}
-use Rattle.command_words.specs.CommandLine.{command_line, format_shape, option_of}
-use Rattle.command_words.specs.Asked.{AsksFor, AskForNothing, IsNumber}
-use Rattle.command_words.specs.declared.words.Words.TheVariants.{Run, Eaw, Dump, Format}
+use Rattle.command_words.specs.CommandLine.{command_line, format_shape, drill_shape, option_of}
+use Rattle.command_words.specs.Asked.{AsksFor, AskForNothing, IsNumber, IsWithin}
+use Rattle.command_words.specs.declared.words.Words.TheVariants.{Run, Eaw, Dump, Drill, Format}
 
 -- no flag
 record IsPlain (word : Text) : Type 0 where
@@ -32,7 +33,7 @@ plain_of (d ∷ ds) first =
     let differ = ne_eqb d 45 (λ same. omega (arith, first, same)) in
     record { other = rw differ refl; long = rw differ refl; short = rw differ refl }
 
-plain_decimal : (n : ℕ) → n < 2 ^ 16 → IsPlain (decimal n)
+plain_decimal : (n : ℕ) → n < 2 ^ 32 → IsPlain (decimal n)
 plain_decimal zero small = subst IsPlain (sym (decimal_digit 0 (omega arith))) (plain_of (48 ∷ []) (omega arith))
 plain_decimal (suc n) small = plain_of (decimal (suc n)) (omega (arith, first_decimal (suc n) (omega arith) (omega (arith, small))))
 
@@ -218,10 +219,10 @@ given default number first is small = rw is (small, refl)
 
 pub format_asks : (numbers : FormatNumbers) → AreSmall numbers → AsksFor (format_words numbers) (Format numbers)
 format_asks numbers small =
-    let plain_l = plain_decimal numbers.loggers small.small_loggers in
-    let plain_n = plain_decimal numbers.numbers small.small_numbers in
-    let plain_e = plain_decimal numbers.entries small.small_entries in
-    let plain_p = plain_decimal numbers.pages small.small_pages in
+    let plain_l = plain_decimal numbers.loggers (omega (arith, small.small_loggers)) in
+    let plain_n = plain_decimal numbers.numbers (omega (arith, small.small_numbers)) in
+    let plain_e = plain_decimal numbers.entries (omega (arith, small.small_entries)) in
+    let plain_p = plain_decimal numbers.pages (omega (arith, small.small_pages)) in
     let found = values (decimal numbers.loggers) (decimal numbers.numbers) (decimal numbers.entries) (decimal numbers.pages) plain_l plain_n plain_e plain_p in (
       taken (decimal numbers.loggers) (decimal numbers.numbers) (decimal numbers.entries) (decimal numbers.pages) plain_l plain_n plain_e plain_p,
       codes "format",
@@ -269,6 +270,105 @@ joined_asks numbers small =
           numbers = given _ _ _ found.1 small.small_numbers;
           entries = given _ _ _ found.2 small.small_entries;
           pages = given _ _ _ found.3 small.small_pages;
+        },
+      ),
+    )
+
+-- nothing waits for a value
+abbrev stands : Held → ℕ → Walk
+stands held position = record { held = held; waiting = idle; position = position; is_trailing = false; stopped = None }
+
+-- a word that no option names goes to the place where the walk stands
+module _ (s : Shape) (held : Held) (position : ℕ) (word : Text) (plain : IsPlain word) where
+  unnamed_met : word_met s.rules [] false idle position word held ≡ (held, value)
+  unnamed_met =
+      ap (λ b. if b then (held, trailing position) else long_or_other s.rules idle word (long_of word) held) plain.other
+      ∙ ap (λ l. long_or_other s.rules idle word l held) plain.long
+      ∙ ap (λ f. short_or_plain s.rules idle word f held) plain.short
+
+  unnamed_walked : walked s.rules [] (stands held position) word ≡ to_positional s.rules (arg_by_index s.rules position) word (stands held position) held
+  unfolding walked
+  unnamed_walked = ap (λ (m : Held × Step). after_step s.rules word (stands held position) m.0 m.1) unnamed_met
+
+  unnamed_turn : (a : Rule) → arg_by_index s.rules position ≡ Some a → positional_fault s.rules s.args_override_self a held ≡ [] → turn_fault s [] (stands held position) word ≡ []
+  unnamed_turn a is none =
+      let met = word_met s.rules [] false idle position word held in
+      ap (λ b. or_else (if b then [] else flag_word_fault s.rules s.args_override_self (long_of word) word held) (step_fault s position met.0 met.1)) plain.other
+      ∙ ap (λ l. or_else (flag_word_fault s.rules s.args_override_self l word held) (step_fault s position met.0 met.1)) plain.long
+      ∙ ap (λ f. or_else (option_map_or (λ flags. bundle_fault s.rules s.args_override_self flags held) f []) (step_fault s position met.0 met.1)) plain.short
+      ∙ ap (λ (m : Held × Step). step_fault s position m.0 m.1) unnamed_met
+      ∙ ap (λ o. option_map_or (λ b. positional_fault s.rules s.args_override_self b held) o (stray_fault s)) is
+      ∙ none
+
+  unnamed_passes : (rest : List Text) (a : Rule) → arg_by_index s.rules position ≡ Some a → positional_fault s.rules s.args_override_self a held ≡ []
+      → walk_fault s [] (stands held position) (word ∷ rest) ≡ walk_fault s [] (to_positional s.rules (arg_by_index s.rules position) word (stands held position) held) rest
+  unfolding walk_fault
+  unnamed_passes rest a is none = ap (λ k. or_else k (walk_fault s [] (walked s.rules [] (stands held position) word) rest)) (unnamed_turn a is none)
+      ∙ ap (λ w. walk_fault s [] w rest) unnamed_walked
+
+-- `drill` as it is built
+abbrev drill_built : Shape
+drill_built = unwrap_or (slice_get (built command_line).subs 4) drill_shape
+
+module _ (seed count : Text) (plain_seed : IsPlain seed) (plain_count : IsPlain count) where
+  abbrev with_seed : Walk
+  with_seed = to_positional drill_built.rules (arg_by_index drill_built.rules 1) seed (stands nothing_held 1) nothing_held
+
+  abbrev with_count : Walk
+  with_count = to_positional drill_built.rules (arg_by_index drill_built.rules 2) count (stands with_seed.held 2) with_seed.held
+
+  drill_walk : walk drill_built.rules [] nothing_held (seed ∷ count ∷ []) ≡ with_count
+  unfolding clap_on_literals
+  drill_walk = ap (λ w. fold (walked drill_built.rules []) w (count ∷ [])) (unnamed_walked drill_built nothing_held 1 seed plain_seed)
+      ∙ unnamed_walked drill_built with_seed.held 2 count plain_count
+
+  drill_passes : walk_fault drill_built [] (walk_from nothing_held) (seed ∷ count ∷ []) ≡ []
+  unfolding clap_on_literals
+  drill_passes = unnamed_passes drill_built nothing_held 1 seed plain_seed (count ∷ []) _ refl refl
+      ∙ unnamed_passes drill_built with_seed.held 2 count plain_count [] _ refl refl
+
+  -- what stands behind the walk of the subcommand
+  abbrev behind_drill : Walk → Kinds
+  behind_drill w = or_else (settle_fault drill_built.rules drill_built.args_override_self w.held)
+      (or_else (defaults_fault (settled drill_built.rules w.held).rows drill_built.rules)
+      (check_fault drill_built (finished drill_built.rules w.held) false))
+
+  drill_no_more : behind_drill with_count ≡ []
+  unfolding clap_on_literals
+  drill_no_more = refl
+
+  drill_level : level_fault drill_built [] nothing_held (seed ∷ count ∷ []) false [] ≡ []
+  drill_level = ap (λ k. or_else k (behind_drill (walk drill_built.rules [] nothing_held (seed ∷ count ∷ [])))) drill_passes ∙ ap behind_drill drill_walk ∙ drill_no_more
+
+  drill_taken : fault_of command_line (codes "drill" ∷ seed ∷ count ∷ []) ≡ []
+  unfolding clap_on_literals
+  drill_taken = ap (λ k. or_else k []) drill_level
+
+  drill_met : subcommand_of command_line (codes "drill" ∷ seed ∷ count ∷ []) ≡ Some (codes "drill", finished drill_built.rules with_count.held)
+  unfolding clap_on_literals
+  drill_met = ap (λ (w : Walk). Some (codes "drill", finished drill_built.rules w.held)) drill_walk
+
+  drill_values : (first_of (codes "seed") (finished drill_built.rules with_count.held) ≡ Some seed) × (first_of (codes "count") (finished drill_built.rules with_count.held) ≡ Some count)
+  unfolding clap_on_literals
+  drill_values = (refl, refl)
+
+within : (least most number : ℕ) (first : Option Text) → first ≡ Some (decimal number) → least ≤ number → number ≤ most → IsWithin least most first number
+within least most number first is above below = rw is (above, below, refl)
+
+pub drill_asks : (numbers : DrillNumbers) → AreOfDrill numbers → AsksFor (drill_words numbers) (Drill numbers)
+drill_asks numbers are =
+    let plain_seed = plain_decimal numbers.seed (omega (arith, are.seed)) in
+    let plain_count = plain_decimal numbers.count (omega (arith, are.few)) in
+    let found = drill_values (decimal numbers.seed) (decimal numbers.count) plain_seed plain_count in (
+      drill_taken (decimal numbers.seed) (decimal numbers.count) plain_seed plain_count,
+      codes "drill",
+      _,
+      drill_met (decimal numbers.seed) (decimal numbers.count) plain_seed plain_count,
+      (
+        refl,
+        record {
+          seed = within 0 2147483647 _ _ found.0 (omega arith) are.seed;
+          count = within 1 100000 _ _ found.1 are.some are.few;
         },
       ),
     )

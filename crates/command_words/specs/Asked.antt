@@ -1,11 +1,12 @@
 -- What words ask for.
-use Rattle.std.specs.Prelude.{ℕ, ◌≡◌, ◌<◌, ◌^◌, List, [], Option, Some, None, codes}
+use Rattle.std.specs.Prelude.{ℕ, ◌≡◌, ◌<◌, ◌≤◌, ◌^◌, List, [], Option, Some, None, codes}
 use Rattle.std.specs.Fmt.{decimal}
 use Rattle.clap.specs.Words.{Text, Row, fault_of, subcommand_of, first_of}
 use Rattle.command_words.specs.CommandLine.{command_line}
 use Rattle.command_words.specs.declared.words.FormatNumbers.{FormatNumbers}
+use Rattle.command_words.specs.declared.words.DrillNumbers.{DrillNumbers}
 use Rattle.command_words.specs.declared.words.Words.{Words}
-use Rattle.command_words.specs.declared.words.Words.TheVariants.{Run, Eaw, Dump, Format}
+use Rattle.command_words.specs.declared.words.Words.TheVariants.{Run, Eaw, Dump, Drill, Format}
 
 -- the number that an option's value is written as, in decimal; without the option it is the default
 abbrev pub IsNumber : ℕ → Option Text → ℕ → Type 0
@@ -19,11 +20,22 @@ pub record GivesNumbers (options : List Row) (given : FormatNumbers) : Type 0 wh
   pub entries : IsNumber 16 (first_of (codes "entries") options) given.entries
   pub pages : IsNumber 64 (first_of (codes "pages") options) given.pages
 
+-- the number, from the least to the most, that a value is written as, in decimal; without the value there is none
+abbrev pub IsWithin : ℕ → ℕ → Option Text → ℕ → Type 0
+IsWithin least most None number = ⊥
+IsWithin least most (Some value) number = (least ≤ number) × (number ≤ most) × (value ≡ decimal number)
+
+-- the numbers that the two values of `drill` give
+pub record GivesDrill (values : List Row) (given : DrillNumbers) : Type 0 where
+  pub seed : IsWithin 0 2147483647 (first_of (codes "seed") values) given.seed
+  pub count : IsWithin 1 100000 (first_of (codes "count") values) given.count
+
 -- the subcommand of this name, with its options, asks for that
 abbrev pub Says : Text → List Row → Words → Type 0
 Says name options Run = name ≡ codes "run"
 Says name options Eaw = name ≡ codes "eaw"
 Says name options Dump = name ≡ codes "dump"
+Says name options (Drill numbers) = (name ≡ codes "drill") × GivesDrill options numbers
 Says name options (Format numbers) = (name ≡ codes "format") × GivesNumbers options numbers
 
 -- clap takes the words, and the subcommand that it meets in them asks for that

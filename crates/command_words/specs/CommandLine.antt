@@ -12,13 +12,17 @@ abbrev pub format_shape : Shape
 format_shape =
     record (new_shape (codes "format")) { rules = map option_of (codes "loggers" ∷ codes "numbers" ∷ codes "entries" ∷ codes "pages" ∷ []) }
 
+-- `drill`, with two words that no option names
+abbrev pub drill_shape : Shape
+drill_shape = record (new_shape (codes "drill")) { rules = map new_rule (codes "seed" ∷ codes "count" ∷ []) }
+
 -- the program: a subcommand has to stand there
 abbrev pub mars_shape : Shape
 mars_shape = record (new_shape (codes "mars")) { is_leaf = false; no_binary_name = true; subcommand_required = true }
 
--- it is one of four, and there is no help
+-- it is one of five, and there is no help
 abbrev pub command_line : App
 command_line = record {
   top = record mars_shape { disable_help_flag = true; disable_help_subcommand = true };
-  subs = new_shape (codes "run") ∷ new_shape (codes "eaw") ∷ new_shape (codes "dump") ∷ format_shape ∷ [];
+  subs = new_shape (codes "run") ∷ new_shape (codes "eaw") ∷ new_shape (codes "dump") ∷ format_shape ∷ drill_shape ∷ [];
 }

@@ -1,7 +1,8 @@
 -- A usual way to write what is asked for.
-use Rattle.std.specs.Prelude.{◌<◌, ◌^◌, [], ◌∷◌, ◌++◌, List, codes}
+use Rattle.std.specs.Prelude.{◌<◌, ◌≤◌, ◌^◌, [], ◌∷◌, ◌++◌, List, codes}
 use Rattle.std.specs.Fmt.{decimal}
 use Rattle.clap.specs.Words.{Text}
+use Rattle.command_words.specs.declared.words.DrillNumbers.{DrillNumbers}
 use Rattle.command_words.specs.declared.words.FormatNumbers.{FormatNumbers}
 
 -- `format`, with each of its options as two words
@@ -20,3 +21,13 @@ pub record AreSmall (numbers : FormatNumbers) : Type 0 where
   pub small_numbers : numbers.numbers < 2 ^ 16
   pub small_entries : numbers.entries < 2 ^ 16
   pub small_pages : numbers.pages < 2 ^ 16
+
+-- `drill`, with its two values
+abbrev pub drill_words : DrillNumbers → List Text
+drill_words numbers = codes "drill" ∷ decimal numbers.seed ∷ decimal numbers.count ∷ []
+
+-- the values are within their ranges
+pub record AreOfDrill (numbers : DrillNumbers) : Type 0 where
+  pub seed : numbers.seed ≤ 2147483647
+  pub some : 1 ≤ numbers.count
+  pub few : numbers.count ≤ 100000

@@ -2,7 +2,7 @@
 ghost use Rattle.std.specs.Prelude.{◌≡◌, IfOk, false};
 ghost use Rattle.clap.specs.Words.{app_of, shape_of, rule_of};
 ghost use Rattle.clap.specs.declared.builder.Command.TheViews.{out-Command};
-ghost use Rattle.command_words.specs.CommandLine.{command_line, format_shape, option_of};
+ghost use Rattle.command_words.specs.CommandLine.{command_line, format_shape, drill_shape, option_of};
 
 use clap::{Arg, Command};
 use std::alloc::{AllocError, Global};
@@ -19,7 +19,8 @@ pub fn command_line<'a>(alloc: Global) -> Result<Command<'a>, AllocError>
         .subcommand(Command::new(alloc, "run"))?
         .subcommand(Command::new(alloc, "eaw"))?
         .subcommand(Command::new(alloc, "dump"))?
-        .subcommand(format_command(alloc)?)
+        .subcommand(format_command(alloc)?)?
+        .subcommand(drill_command(alloc)?)
 }
 
 fn format_command<'a>(alloc: Global) -> Result<Command<'a>, AllocError>
@@ -31,6 +32,15 @@ fn format_command<'a>(alloc: Global) -> Result<Command<'a>, AllocError>
         .arg(option(alloc, "numbers"))?
         .arg(option(alloc, "entries"))?
         .arg(option(alloc, "pages"))
+}
+
+fn drill_command<'a>(alloc: Global) -> Result<Command<'a>, AllocError>
+    ensures shape { IfOk result (λ command. shape_of command ≡ drill_shape) }
+    ensures local { IfOk result (λ command. (out-Command command).has_globals ≡ false) }
+{
+    Command::new(alloc, "drill")
+        .arg(Arg::new(alloc, "seed"))?
+        .arg(Arg::new(alloc, "count"))
 }
 
 // An option with one value.

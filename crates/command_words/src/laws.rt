@@ -2,9 +2,10 @@
 ghost use Rattle.std.specs.Prelude.{◌≡◌, List, [], ◌∷◌, codes};
 ghost use Rattle.clap.specs.Words.{Text};
 ghost use Rattle.command_words.specs.declared.words.Words.{Words};
+ghost use Rattle.command_words.specs.declared.words.DrillNumbers.{DrillNumbers};
 ghost use Rattle.command_words.specs.declared.words.FormatNumbers.{FormatNumbers};
 ghost use Rattle.command_words.specs.Asked.{AsksFor, AskForNothing};
-ghost use Rattle.command_words.specs.Usual.{format_words, joined_words, AreSmall};
+ghost use Rattle.command_words.specs.Usual.{format_words, joined_words, AreSmall, drill_words, AreOfDrill};
 
 /// Words ask for one thing at most.
 pub fn one_command()
@@ -18,6 +19,7 @@ pub fn usual_words()
     ensures dump { AsksFor (codes "dump" ∷ []) Words.Dump }
     ensures format { (numbers : FormatNumbers) → AreSmall numbers → AsksFor (format_words numbers) (Words.Format numbers) }
     ensures joined { (numbers : FormatNumbers) → AreSmall numbers → AsksFor (joined_words numbers) (Words.Format numbers) }
+    ensures drill { (numbers : DrillNumbers) → AreOfDrill numbers → AsksFor (drill_words numbers) (Words.Drill numbers) }
     ensures no_word { AskForNothing [] }
     ensures help { AskForNothing (codes "help" ∷ []) }
     ensures help_option { AskForNothing (codes "--help" ∷ []) }

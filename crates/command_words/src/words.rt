@@ -1,10 +1,10 @@
 ghost use Rattle.std.specs.Prelude.{◌≡◌, ◌<◌, ◌^◌, ℕ, List, Some, map, string_bytes, MatchOption, IfOk, IfErr};
 ghost use Rattle.std.specs.Fmt.{decimal};
 ghost use Rattle.clap.specs.Words.{Text, Row, found_of, rows_of, first_of, subcommand_rows_of};
-ghost use Rattle.command_words.specs.Asked.{AsksFor, AskForNothing, Says, GivesNumbers, IsNumber};
+ghost use Rattle.command_words.specs.Asked.{AsksFor, AskForNothing, Says, GivesNumbers, IsNumber, GivesDrill, IsWithin};
 
 use crate::command_line::command_line;
-use crate::number::read_number;
+use crate::number::{read_number, read_short};
 use array_shape::Shape;
 use clap::ArgMatches;
 use clap::error::ErrorKind;
@@ -20,6 +20,8 @@ pub enum Words {
     Eaw,
     /// To write the records.
     Dump,
+    /// To run a script that is drawn, and to write a summary.
+    Drill(DrillNumbers),
     /// To make an array of these numbers, whatever was there.
     Format(FormatNumbers),
 }
@@ -37,6 +39,19 @@ pub struct FormatNumbers {
     pub pages: u16,
 }
 
+/// What a script is drawn from.
+#[derive(Clone, Copy, Debug, PartialEq, Eq)]
+pub struct DrillNumbers {
+    /// The seed, below 2^31.
+    pub seed: u32,
+    /// Transactions, 1 to 100,000.
+    pub count: u32,
+}
+
+const SEED_MOST: u32 = 2_147_483_647;
+
+const COUNT_MOST: u32 = 100_000;
+
 /// Why words were not read.
 #[derive(Clone, Copy, Debug, PartialEq, Eq, Error)]
 pub enum WordsFault {
@@ -47,7 +62,8 @@ pub enum WordsFault {
     NoMemory,
 }
 
-/// Reads the words behind the image's: `run`, `eaw`, `dump`, or `format` with its options in any order, each given once at most.
+/// Reads the words behind the image's: `run`, `eaw`, `dump`, `drill` with a seed and a count, or `format` with its options in any order,
+/// each given once at most.
 pub fn read_words(alloc: Global, words: &[String]) -> Result<Words, WordsFault>
     ensures asked { IfOk result (AsksFor (map string_bytes words.now)) }
     ensures refused { IfErr result (λ fault. fault ≡ WordsFault.NoCommand → AskForNothing (map string_bytes words.now)) }
@@ -77,6 +93,10 @@ fn asked(matches: &ArgMatches<'_>) -> Option<Words>
         "run" => Some(Words::Run),
         "eaw" => Some(Words::Eaw),
         "dump" => Some(Words::Dump),
+        "drill" => {
+            let numbers = read_drill(options)?;
+            Some(Words::Drill(numbers))
+        }
         "format" => {
             let numbers = read_numbers(options)?;
             Some(Words::Format(numbers))
@@ -109,7 +129,35 @@ fn number_or(options: &ArgMatches<'_>, name: &str, default: u16) -> Option<u16>
         (IsNumber default (first_of name.now (rows_of (found_of options.now)))) }
 {
     match options.get_str(name) {
-        Some(value) => read_number(value),
+        Some(value) => read_short(value),
         None => Some(default),
     }
+}
+
+// The numbers of `drill`.
+fn read_drill(values: &ArgMatches<'_>) -> Option<DrillNumbers>
+    ensures { MatchOption result ((numbers : DrillNumbers) → GivesDrill (rows_of (found_of values.now)) numbers → ⊥)
+        (GivesDrill (rows_of (found_of values.now))) }
+{
+    let seed = number_within(values, "seed", 0, SEED_MOST)?;
+    let count = number_within(values, "count", 1, COUNT_MOST)?;
+    Some(DrillNumbers { seed, count })
+}
+
+// The number of a value, from the least to the most.
+fn number_within(values: &ArgMatches<'_>, name: &str, least: u32, most: u32) -> Option<u32>
+    ensures { MatchOption result ((n : ℕ) → IsWithin least most (first_of name.now (rows_of (found_of values.now))) n → ⊥)
+        (IsWithin least most (first_of name.now (rows_of (found_of values.now)))) }
+{
+    let number = match values.get_str(name) {
+        Some(value) => read_number(value)?,
+        None => return None,
+    };
+    if number < least {
+        return None;
+    }
+    if number > most {
+        return None;
+    }
+    Some(number)
 }

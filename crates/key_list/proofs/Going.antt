@@ -21,7 +21,7 @@ use Rattle.page_store.specs.declared.index_fault.IndexFault.TheVariants as index
 use Rattle.index_pages.specs.Acts.{Acts}
 use Rattle.index_pages.specs.Chain.{IsSoundChain}
 use Rattle.key_list.specs.Index.{chain}
-use Rattle.key_list.specs.Faults.{as_index}
+use Rattle.index_pages.specs.Faults.{as_index}
 
 pub nothing_grows : (bytes : List ℕ) → IsSoundChain bytes → Grows chain bytes bytes × Rests chain bytes bytes
 nothing_grows bytes sound = (

@@ -1,6 +1,5 @@
 pub mod Walking
 pub mod Causing
-pub mod Placing
 pub mod Chains
 pub mod Data
 pub mod Going

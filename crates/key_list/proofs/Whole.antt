@@ -21,7 +21,7 @@ use Rattle.index_pages.specs.Acts.{Acts}
 use Rattle.index_pages.specs.Chain.{IsSoundChain, pairs_of_chain}
 use Rattle.index_pages.specs.Page.{page_pairs}
 use Rattle.index_pages.specs.Ways.{page_of_key}
-use Rattle.key_list.specs.Faults.{as_index}
+use Rattle.index_pages.specs.Faults.{as_index}
 use Rattle.key_list.specs.Index.{chain, half_for}
 use Rattle.key_list.specs.Located.{IsLocated, Locates, adding_pages, adding_parts, cutting_pages, cutting_parts}
 use Rattle.key_list.specs.declared.place.Located.{Located}

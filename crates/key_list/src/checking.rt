@@ -8,14 +8,13 @@ ghost use Rattle.page_store.specs.Shown.{pages_of};
 ghost use Rattle.index_pages.specs.Page.{count_said, pairs_said};
 ghost use Rattle.index_pages.specs.Written.{SaysLeaf};
 ghost use Rattle.key_list.specs.Checked.{low_of, IsHead, PairCause, PairsCause, is_media};
-ghost use Rattle.key_list.specs.Faults.{IsOfCheck, as_check};
 ghost use Rattle.key_list.specs.Index.{chain};
 
 use crate::place::FORM;
 use eaw_face::EawStore;
 use index_pages::{
-    LeafHead, PAGE_LEN, fetch_page, fetch_slot, fetch_super, index_page_count, read_leaf_head,
-    read_pair,
+    LeafHead, PAGE_LEN, check_fault, fetch_page, fetch_slot, fetch_super, index_page_count,
+    read_leaf_head, read_pair,
 };
 use page_store::{CheckFault, PageFault, Pages};
 use record_slots::Slot;
@@ -172,18 +171,5 @@ fn is_of_key(said: &Option<Slot>, key: u64) -> bool
         None => false,
         Some(Slot::Absent { key: other }) => *other == key,
         Some(Slot::Present { key: other, .. }) => *other == key,
-    }
-}
-
-// A fault of a read, as a test tells it.
-fn check_fault(fault: PageFault) -> CheckFault
-    requires { IsOfCheck fault }
-    ensures { result ≡ as_check fault }
-{
-    match fault {
-        PageFault::Damaged { page } => CheckFault::Damaged { page },
-        PageFault::Media => CheckFault::Media,
-        PageFault::Dead => CheckFault::Dead,
-        PageFault::LogFull { .. } | PageFault::SavesFull => unreachable!(),
     }
 }

@@ -5,14 +5,13 @@ ghost use Rattle.page_store.specs.Inserts.{Inserts};
 ghost use Rattle.page_store.specs.Pairs.{found};
 ghost use Rattle.page_store.specs.Shown.{pages_of, top_in};
 ghost use Rattle.index_pages.specs.Chain.{IsSoundChain, pairs_of_chain};
-ghost use Rattle.key_list.specs.Faults.{IsOfIndex, as_index};
 ghost use Rattle.key_list.specs.Index.{chain};
 
 use crate::place::locate;
 use crate::write::{add_pair, cut_page};
 use eaw_face::EawStore;
-use index_pages::{PAIRS_MAX, index_page_count};
-use page_store::{IndexFault, PageFault, Pages};
+use index_pages::{PAIRS_MAX, index_fault, index_page_count};
+use page_store::{IndexFault, Pages};
 
 // Inserts a key that is not there. A full page is cut first.
 pub fn insert<S: EawStore>(pages: &mut Pages<S>, tid: u8, key: u64) -> Result<u32, IndexFault>
@@ -59,27 +58,5 @@ pub fn insert<S: EawStore>(pages: &mut Pages<S>, tid: u8, key: u64) -> Result<u3
     match add_pair(pages, tid, key, half) {
         Ok(()) => Ok(slot),
         Err(fault) => Err(index_fault(fault)),
-    }
-}
-
-// A fault of pages, as an insertion tells it.
-fn index_fault(fault: PageFault) -> IndexFault
-    requires { IsOfIndex fault }
-    ensures { result ≡ as_index fault }
-{
-    match fault {
-        PageFault::LogFull {
-            logger,
-            held,
-            needed,
-        } => IndexFault::LogFull {
-            logger,
-            held,
-            needed,
-        },
-        PageFault::SavesFull => unreachable!(),
-        PageFault::Media => IndexFault::Media,
-        PageFault::Dead => IndexFault::Dead,
-        PageFault::Damaged { page } => IndexFault::Damaged { page },
     }
 }

@@ -1,16 +1,14 @@
 // The nested top actions of an insertion.
-ghost use Rattle.std.specs.Prelude.{◌≡◌, ◌<◌, ◌≤◌, ℕ, None, IsErrOf, length};
-ghost use Rattle.std.specs.List.{insert};
+ghost use Rattle.std.specs.Prelude.{◌≡◌, ◌<◌, ℕ, None, IsErrOf, length};
 ghost use Rattle.eaw_face.specs.Causes.{IsAlive};
 ghost use Rattle.page_store.specs.Index.{slots_of, index_pages_of};
-ghost use Rattle.page_store.specs.Pairs.{inserted};
 ghost use Rattle.page_store.specs.Shown.{pages_of, top_in};
 ghost use Rattle.index_pages.specs.Acts.{Acts};
 ghost use Rattle.key_list.specs.Located.{IsLocated, adding_pages, adding_parts, cutting_pages, cutting_parts};
 
 use crate::place::Located;
 use eaw_face::EawStore;
-use index_pages::{PAGE_LEN, PagePart, act, index_page_count, write_leaf};
+use index_pages::{PAGE_LEN, PagePart, act, index_page_count, place_of, write_leaf};
 use page_store::{PageFault, Pages};
 use record_slots::{COUNTS_AT, COUNTS_LEN, SLOT_LEN, Slot, write_slot, write_super_counts};
 
@@ -66,19 +64,6 @@ pub fn add_pair<S: EawStore>(
         bytes: &counts,
     };
     act(pages, tid, &slot_part, &page_part, &front_part)
-}
-
-// The place of a key among pairs: in front of the first whose key is above it.
-fn place_of(pairs: &[(u64, u64)], key: u64) -> usize
-    ensures place { (to : ℕ) → insert pairs.now result (key, to) ≡ inserted pairs.now key to }
-    ensures most { result ≤ length pairs.now }
-{
-    for (i, pair) in pairs.iter().enumerate() {
-        if key < pair.0 {
-            return i;
-        }
-    }
-    pairs.len()
 }
 
 // Cuts a full page: its upper half goes to the next page.

@@ -1,21 +1,18 @@
 -- Callers' work beside each other over the records of a store, from what a core makes of it.
-use Rattle.std.proofs.Common.{◌≡◌, ℕ, zero, suc, ◌≤◌, ◌⊎◌, inl, inr, ⊎_elim, List, [], ◌∷◌, length, Bool, true, false, refl, sym, ap, subst, ◌∙◌, arith}
+use Rattle.std.proofs.Common.{◌≡◌, ℕ, zero, suc, ◌≤◌, List, [], length, Bool, false, refl, sym, ap, subst, ◌∙◌, arith}
 use Rattle.std.specs.Prelude.{IsTrue, All}
 use Rattle.std.specs.FinMap.{entries}
 use Rattle.std.specs.List.{flat_map}
 use Rattle.array_shape.specs.declared.shape.Shape.{Shape}
 use Rattle.eaw_face.specs.StoreView.{StoreView, LeavesOnly}
 use Rattle.key_list.specs.Index.{chain}
-use Rattle.record_table.specs.Shown.{table_of, keys_of}
 use Rattle.history.specs.Rows as rows
 use Rattle.history.specs.declared.transaction.Done.{Done}
 use Rattle.history.specs.Legal.{records}
-use Rattle.core_face.specs.State.{State}
 use Rattle.core_face.specs.Room.{Limits}
-use Rattle.core_face.specs.Core.{CoreView, Continues}
-use Rattle.mars_core.specs.Over.{limits_of, index_of, IsOver, Begins}
+use Rattle.core_face.specs.Core.{CoreView}
+use Rattle.mars_core.specs.Over.{limits_of, Begins}
 use Rattle.mars_core.specs.declared.fault.CoreFault.TheVariants as fault
-use Rattle.mars_manager.specs.Notes.{Gained}
 use Rattle.mars_manager.specs.Pass.{HasNoOthers, commits_of}
 use Rattle.mars_manager.specs.Sharing.{CanShare}
 use Rattle.caller_plans.specs.declared.plan.Plan.{Plan}
@@ -30,14 +27,19 @@ use Rattle.history_text.specs.Text.{done_lines, work_text}
 use Rattle.script_io.specs.Lines.{lines_of}
 use Rattle.script_text.specs.declared.line.Line.{Line}
 use Rattle.script_run.specs.declared.ended.Ended.{Ended}
-use Rattle.mars_shell.specs.Joint.{TellsWork, IsBrokenOff, JointWork, Joined}
+use Rattle.script_run.specs.declared.ended.Ended.TheVariants as ends
+use Rattle.mars_shell.specs.Joint.{TellsWork, IsBrokenOff, JointWork}
 use Rattle.mars_shell.specs.Served.{Untaken}
-use Rattle.mars_shell.proofs.Continued.{limits_are, alive, begun_is, sound, safe, shape, base_is, since, now, left}
+use Rattle.mars_shell.proofs.Serving.{stands}
 
 -- each caller has its plans
 pub as_many : (caller callers : ℕ) (said : List Line) → length (plans_from caller callers said) ≡ callers
 as_many caller zero said = refl
 as_many caller (suc callers) said = ap suc (as_many (suc caller) callers said)
+
+-- work that came to its end did not break off
+pub unbroken : (ended : Ended) → ended ≡ ends.All → IsBrokenOff ended → ⊥
+unbroken ended all broken = subst IsBrokenOff all broken
 
 -- the same told of equal things
 pub retold : (ended : Ended) (cut : Bool) (text : List ℕ) (faults faults' : List LineFault) (history history' : List Done) (base base' : List (ℕ × List ℕ)) (fates fates' : List (List Fate))
@@ -52,56 +54,43 @@ module _ (tells : Bool) (Opens : Shape → List ℕ → List ℕ → Type 0) (ol
   -- the core can be shared
   pub can_share : (callers : ℕ) → callers ≤ old.shape.numbers → (IsTrue tells → (image : List ℕ) → mid.left_since mid.moment image → Opens mid.shape image mid.state.bytes) → CanShare tells callers core
   can_share callers few only = record {
-    alive = alive tells Opens old mid core begins;
+    alive = begins.over.dead ∙ begins.alive;
     history = begins.fresh.0;
     live = begins.fresh.1;
-    enough = subst (λ (l : Limits). callers ≤ l.callers) (sym (limits_are tells Opens old mid core begins)) few;
-    sound = sound tells Opens old mid core begins;
-    now = λ told. safe tells Opens old mid core begins told (only told) 0 (omega arith);
+    enough = subst (λ (l : Limits). callers ≤ l.callers) (sym (begins.over.limits ∙ ap limits_of begins.shape)) few;
+    sound = λ told. (stands tells Opens old mid core begins told (only told)).sound;
+    now = λ told image left. 
+        let has = (stands tells Opens old mid core begins told (only told)).safe image left in
+        record { count = has.count; at_least = omega arith; at_most = has.at_most; opens = has.opens };
   }
 
   -- memory was short before the work
   pub untold : (new : StoreView) → IsTrue tells → new ≡ mid → Untaken Opens old fault.NoMemory false [] new
   untold new told same = record { whole = refl; silent = refl; cause = tt; time = subst (λ (v : StoreView). LeavesOnly (λ image. Opens old.shape image old.state.bytes) old v) (sym same) (begins.time told) }
 
-  module _ (told : IsTrue tells) (new : StoreView) (last : CoreView) (over : IsOver tells (Opens new.shape) chain new last)
-      (callers : ℕ) (input : List ℕ) (said : List Line) (says : AllSay callers (lines_of input) said) (plans : List (List Plan)) (plans_are : plans ≡ plans_from 0 callers said)
-      (fates : List (List Fate)) (end : WorkEnd) (worked : Worked tells plans core last fates end) where
-    on : Continues core last
-    on = worked.since.continues told
+module _ (tells : Bool) (told : IsTrue tells) (core last : CoreView) (callers : ℕ) (input : List ℕ) (said : List Line) (says : AllSay callers (lines_of input) said)
+    (plans : List (List Plan)) (plans_are : plans ≡ plans_from 0 callers said) (fates : List (List Fate)) (end : WorkEnd) (worked : Worked tells plans core last fates end) where
+  counted : length plans ≡ callers
+  counted = ap length plans_are ∙ as_many 0 callers said
 
-    counted : length plans ≡ callers
-    counted = ap length plans_are ∙ as_many 0 callers said
+  -- while the work did not break off, the core lives
+  pub living : end ≡ work.All → last.state.is_dead ≡ false
+  living all = worked.dead ∙ ap is_fault all
 
-    limits : last.limits ≡ limits_of old.shape
-    limits = on.limits ∙ limits_are tells Opens old mid core begins
-
-    living : end ≡ work.All → last.state.is_dead ≡ false
-    living all = worked.dead ∙ ap is_fault all
-
-    pub joined : (ended : Ended) (cut : Bool) (text : List ℕ) → ((IsBrokenOff ended → ⊥) → end ≡ work.All)
-        → TellsWork ended cut text (work_text (faults_from 1 (λ caller. false) said) last.state.history fates (entries (records last.state.base last.state.history))) (flat_map done_lines last.state.history)
-        → Joined Opens old callers input ended cut text new
-    joined ended cut text whole tells_work = record {
-      sound = begins.sound told;
-      shape = shape tells Opens old mid core begins told new last over on;
-      final = last.state;
-      base = base_is tells Opens old mid core begins told new last over on;
-      work = record {
-        said = said;
-        says = says;
-        fates = fates;
-        fated = λ caller less. subst (λ (l : Limits). AreFated l (StillLacks l last.state) caller (of_caller (plans_from 0 callers said) caller) (of_caller fates caller) (commits_of caller last.state.history)) limits
-            (subst (λ (all : List (List Plan)). AreFated last.limits (StillLacks last.limits last.state) caller (of_caller all caller) (of_caller fates caller) (commits_of caller last.state.history)) plans_are
-            (worked.fated told caller (omega (arith, less, counted))));
-        others = subst (λ (n : ℕ). HasNoOthers n last.state) counted worked.others;
-        whole = λ done caller less. worked.whole (whole done) caller (omega (arith, less, counted)) ∙ ap (λ (all : List (List Plan)). length (of_caller all caller)) plans_are;
-        doubt = λ done is. let its = worked.doubt told done is in (omega (arith, its.0, counted), subst (λ (all : List (List Plan)). IsUndecided (of_caller all done.caller) (of_caller fates done.caller) done) plans_are its.1);
-        keys = λ lives. let its = worked.keys told lives in (its.0, subst (λ (s : State). Gained s.index its.0 last.state.index) (begun_is tells Opens old mid core begins told) its.1, subst (λ (all : List (List Plan)). All (IsPlanned all) its.0) plans_are its.2);
-        tells = tells_work;
-      };
-      legal = on.sound.doubtful;
-      since = since tells Opens old mid core begins told new last over on;
-      now = now tells Opens old mid core begins told new last over on;
-      left = λ done. left tells Opens old mid core begins told new last over on (living (whole done));
-    }
+  pub joint_work : (ended : Ended) (cut : Bool) (text : List ℕ) → ((IsBrokenOff ended → ⊥) → end ≡ work.All)
+      → TellsWork ended cut text (work_text (faults_from 1 (λ caller. false) said) last.state.history fates (entries (records last.state.base last.state.history))) (flat_map done_lines last.state.history)
+      → JointWork callers input ended cut text core.limits core.state last.state
+  joint_work ended cut text whole tells_work = record {
+    said = said;
+    says = says;
+    fates = fates;
+    fated = λ caller less. subst (λ (l : Limits). AreFated l (StillLacks l last.state) caller (of_caller (plans_from 0 callers said) caller) (of_caller fates caller) (commits_of caller last.state.history)) worked.since.limits
+        (subst (λ (all : List (List Plan)). AreFated last.limits (StillLacks last.limits last.state) caller (of_caller all caller) (of_caller fates caller) (commits_of caller last.state.history)) plans_are
+        (worked.fated told caller (omega (arith, less, counted))));
+    others = subst (λ (n : ℕ). HasNoOthers n last.state) counted worked.others;
+    whole = λ done caller less. worked.whole (whole done) caller (omega (arith, less, counted)) ∙ ap (λ (all : List (List Plan)). length (of_caller all caller)) plans_are;
+    doubt = λ done is. let its = worked.doubt told done is in
+        (omega (arith, its.0, counted), subst (λ (all : List (List Plan)). IsUndecided (of_caller all done.caller) (of_caller fates done.caller) done) plans_are its.1);
+    keys = λ lives. let its = worked.keys told lives in (its.0, its.1, subst (λ (all : List (List Plan)). All (IsPlanned all) its.0) plans_are its.2);
+    tells = tells_work;
+  }

@@ -5,9 +5,10 @@ pub mod FreshRecords
 pub mod Answering
 pub mod Acknowledged
 pub mod Shapes
-pub mod Continued
 pub mod Serving
 pub mod Joining
+pub mod Making
+pub mod Summing
 pub mod Telling
 pub mod Unopened
 pub mod Running

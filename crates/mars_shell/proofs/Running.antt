@@ -1,5 +1,5 @@
 -- A run over an array that was opened: its records were read, and its lines answered.
-use Rattle.std.proofs.Common.{◌≡◌, ℕ, ◌≤◌, inl, inr, ⊎_elim, List, [], length, Bool, refl, sym, ap, subst, ◌∙◌, arith}
+use Rattle.std.proofs.Common.{◌≡◌, ℕ, ◌≤◌, inl, inr, ⊎_elim, List, [], Bool, refl, sym, ap, subst, ◌∙◌, arith}
 use Rattle.std.specs.Prelude.{IsTrue, Err}
 use Rattle.pcm_media.specs.Images.{MayLeave}
 use Rattle.pcm_media.specs.View.{View}
@@ -14,26 +14,18 @@ use Rattle.eaw_device.specs.Opens.{header_of, Opens, AllOpen, OpensLike, KeepsDa
 use Rattle.key_list.specs.Index.{chain}
 use Rattle.record_table.specs.Shown.{table_of}
 use Rattle.core_face.specs.State.{State}
+use Rattle.core_face.specs.Room.{Limits}
 use Rattle.mars_core.specs.Over.{limits_of}
 use Rattle.mars_core.specs.declared.fault.CoreFault.{CoreFault}
 use Rattle.mars_core.specs.declared.fault.CoreFault.TheVariants as core
-use Rattle.script_io.specs.Lines.{lines_of}
 use Rattle.script_io.specs.Written.{IsWritten}
-use Rattle.script_run.specs.Transcript.{Answered}
 use Rattle.script_run.specs.declared.ended.Ended.{Ended}
 use Rattle.mars_shell.specs.Dump.{Dumps, dump_text}
-use Rattle.mars_shell.specs.Lines.{turns_at, call_script}
 use Rattle.mars_shell.specs.Outcome.{Idle, OutcomeOf}
-use Rattle.mars_shell.specs.PrefixLaw.{Recovers}
-use Rattle.mars_shell.specs.Run.{HoldsRecords, IsDamaged, begun_on, HasAll, Answers}
+use Rattle.mars_shell.specs.Run.{HoldsRecords, IsDamaged, begun_on, HasAll, TakesTurns}
 use Rattle.mars_shell.specs.Served.{Untaken, Served, Told}
 use Rattle.mars_shell.specs.Statuses.{served_status}
-use Rattle.mars_shell.proofs.Acknowledged.{committed_kept}
 use Rattle.mars_shell.proofs.Unopened.{first_like}
-
--- of at least fewer transactions
-fewer : (shape : Shape) (final : State) (least n : ℕ) (image : List ℕ) → n ≤ least → Recovers shape final least image → Recovers shape final n image
-fewer shape final least n image le has = record { count = has.count; at_least = omega (arith, le, has.at_least); at_most = has.at_most; opens = has.opens }
 
 module _ (tells : Bool) (told : IsTrue tells) (old : View) (only_now : (image : List ℕ) → IsTrue tells → old.left_since old.moment image → MayLeave old.content image)
     (store : StoreView) (attached : Attached tells old store) (keeps : KeepsData tells old store.moment store.left_since) where
@@ -89,30 +81,21 @@ module _ (tells : Bool) (told : IsTrue tells) (old : View) (only_now : (image : 
       left_now : (image : List ℕ) → MayLeave new.content image → later.left_since later.moment image
       left_now image left = subst (λ (t : ℕ). later.left_since t image) behind.moment (behind.left new.moment image (counts_now new.moment image told (omega arith) left))
 
-      module _ (input : List ℕ) (ended : Ended) (cut : Bool) (text : List ℕ) (served : Served Opens store input ended cut text later) where
-        kept_now : (image : List ℕ) → MayLeave new.content image → Recovers store.shape served.final (length served.final.history) image
-        kept_now image left = served.now image (left_now image left)
-
-        pub answers : Answers old input ended new cut text
-        answers = record {
+      module _ (Says : Limits → State → State → Type 0) (ended : Ended) (served : Served Says Opens store ended later) where
+        -- callers took turns
+        pub takes_turns : TakesTurns Says old ended new
+        takes_turns = record {
           shape = store.shape;
           holds = holds served.sound;
-          answers = served.answers;
-          rest = served.rest;
-          text_is = served.text_is;
           final = served.final;
           base = served.base ∙ ap (table_of chain) (attached.bytes told);
-          answered = subst (λ (b : List ℕ). Answered call_script (turns_at (limits_of store.shape) (begun_on b)) 1 (lines_of input) ended cut served.answers served.rest (turns_at (limits_of store.shape) served.final))
-              (attached.bytes told) served.answered;
+          says = subst (λ (b : List ℕ). Says (limits_of store.shape) (begun_on b) served.final) (attached.bytes told) served.says;
           legal = served.legal;
           prefix_law = record {
-            now = kept_now;
+            now = λ image left. served.now image (left_now image left);
             since = λ all image left. ⊎_elim (λ was. inl (at_entry store.shape all image was)) (λ anew. inr anew)
                 (served.since.only old.moment image (keeps told store.shape all).later (behind.left old.moment image left));
           };
-          acknowledged = λ caller n few fits has image left. fewer store.shape served.final (length served.final.history) n image
-              (committed_kept (turns_at (limits_of store.shape) (begun_on store.state.bytes)) 1 (lines_of input) ended cut served.answers served.rest (turns_at (limits_of store.shape) served.final)
-              (omega (arith, store.shape.in_range.most_numbers)) served.answered caller n few fits has) (kept_now image left);
           quiet = λ all. subst (λ (s : Shape). HasNoVote s new.content.bytes) served.shape (behind.quiet told (served.left all).0);
           left = λ all. subst (λ (b : List ℕ). HasAll b served.final) (sym (ap (λ (s : Shape). data_of s new.content.bytes) (sym served.shape) ∙ behind.bytes)) (served.left all).1;
         }

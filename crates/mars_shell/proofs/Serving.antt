@@ -1,23 +1,32 @@
 -- The work over the records of a store, from what a core makes of it.
-use Rattle.std.proofs.Common.{◌≡◌, ℕ, List, [], length, Bool, false, refl, sym, ap, subst, ◌∙◌, arith}
+use Rattle.std.proofs.Common.{◌≡◌, ℕ, ◌≤◌, inl, inr, ⊎_elim, List, [], length, take, Bool, false, refl, sym, ap, subst, ◌∙◌, arith}
 use Rattle.std.specs.Prelude.{IsTrue}
+use Rattle.counted.proofs.Going as going
 use Rattle.array_shape.specs.declared.shape.Shape.{Shape}
-use Rattle.eaw_face.specs.StoreView.{StoreView}
+use Rattle.eaw_face.specs.StoreView.{StoreView, LeavesOnly}
 use Rattle.key_list.specs.Index.{chain}
+use Rattle.record_table.specs.Does.{OpensWith}
+use Rattle.record_table.specs.Shown.{table_of, keys_of}
+use Rattle.history.specs.Legal.{records, with_doubt}
+use Rattle.core_face.specs.State.{State}
 use Rattle.core_face.specs.Room.{Limits}
+use Rattle.core_face.specs.Sound.{IsSound}
+use Rattle.core_face.specs.Prefix.{HasPrefixOf}
 use Rattle.core_face.specs.Core.{CoreView, Continues}
+use Rattle.core_face.proofs.Sound.{opened_sound}
 use Rattle.mars_core.specs.Attached.{CoreCause, GivesBack, is_media_fault}
-use Rattle.mars_core.specs.Over.{limits_of, IsOver, Begins}
+use Rattle.mars_core.specs.Over.{limits_of, index_of, IsOver, Begins}
 use Rattle.mars_core.specs.declared.fault.CoreFault.{CoreFault}
 use Rattle.script_io.specs.Lines.{lines_of}
 use Rattle.script_run.specs.Transcript.{Answered, Ran}
 use Rattle.script_run.specs.declared.ended.Ended.{Ended}
 use Rattle.script_run.specs.declared.ended.Ended.TheVariants.{All}
 use Rattle.mars_shell.specs.Lines.{Turns, turns_at, call_script}
-use Rattle.mars_shell.specs.Run.{begun_on}
-use Rattle.mars_shell.specs.Served.{Untaken, Served}
+use Rattle.mars_shell.specs.Run.{begun_on, Answers}
+use Rattle.mars_shell.specs.Served.{opens_of, Untaken, Served}
 use Rattle.mars_shell.specs.Standing.{turns_of, IsReady, Stands, Comes}
-use Rattle.mars_shell.proofs.Continued.{limits_are, alive, begun_is, sound, safe, shape, base_is, since, now, left}
+use Rattle.mars_shell.proofs.Acknowledged.{committed_kept}
+use Rattle.mars_shell.proofs.Shapes.{same_limits}
 
 -- the records were not taken
 pub untaken : (tells : Bool) (Opens : Shape → List ℕ → List ℕ → Type 0) (old new : StoreView) (fault : CoreFault) → IsTrue tells → CoreCause tells chain old fault
@@ -26,39 +35,103 @@ untaken tells Opens old new fault told cause back =
     record { whole = refl; silent = refl; cause = subst (λ (b : Bool). CoreCause b chain old fault) told cause; time = back.time told }
 
 module _ (tells : Bool) (Opens : Shape → List ℕ → List ℕ → Type 0) (old mid : StoreView) (core : CoreView) (begins : Begins tells (Opens old.shape) chain old mid core) where
+  limits_are : core.limits ≡ limits_of old.shape
+  limits_are = begins.over.limits ∙ ap limits_of begins.shape
+
   -- the core answers the array's callers
   pub ready : (callers : ℕ) → callers ≡ old.shape.numbers → IsReady callers core
-  ready callers is = record { callers_are = is ∙ sym (ap (λ (l : Limits). l.callers) (limits_are tells Opens old mid core begins)); alive = alive tells Opens old mid core begins }
+  ready callers is = record { callers_are = is ∙ sym (ap (λ (l : Limits). l.callers) limits_are); alive = begins.over.dead ∙ begins.alive }
 
   module _ (told : IsTrue tells) where
-    -- the callers stand at its beginning
-    pub stands : (only : (image : List ℕ) → mid.left_since mid.moment image → Opens mid.shape image mid.state.bytes) → Stands core (turns_of core)
-    stands only = record { is = refl; sound = sound tells Opens old mid core begins told; safe = safe tells Opens old mid core begins told only (length core.state.history) (omega arith) }
+    begun_is : core.state ≡ begun_on old.state.bytes
+    begun_is = begins.state told
 
-    module _ (new : StoreView) (later : CoreView) (over : IsOver tells (Opens new.shape) chain new later) (input : List ℕ) (ended : Ended) (cut : Bool) (text : List ℕ)
-        (ran : Ran call_script (Stands later) (Comes core later) (turns_of core) (lines_of input) ended cut text) (alive : ended ≡ All → later.state.is_dead ≡ false) where
-      on : Continues core later
-      on = ran.comes.1
+    sound : IsSound core.state
+    sound = subst IsSound (sym begun_is) (opened_sound (table_of chain old.state.bytes) (index_of (keys_of chain old.state.bytes)))
 
-      first_is : turns_of core ≡ turns_at (limits_of old.shape) (begun_on old.state.bytes)
-      first_is = λ i. turns_at (limits_are tells Opens old mid core begins i) (begun_is tells Opens old mid core begins told i)
+    module _ (only : (image : List ℕ) → mid.left_since mid.moment image → Opens mid.shape image mid.state.bytes) where
+      opens_base : (image : List ℕ) → core.left_since core.moment image → core.opens image core.state.base
+      opens_base image left =
+          let here = subst (λ (t : ℕ). mid.left_since t image) begins.over.moment ((begins.over.left core.moment image).1 left) in
+          (begins.over.opens_to image core.state.base).0
+          (record {
+            bytes = mid.state.bytes;
+            opened = subst (λ (s : Shape). Opens s image mid.state.bytes) begins.shape (only image here);
+            sound = begins.over.sound told begins.alive;
+            shows = begins.over.table told begins.alive ∙ ap (records core.state.base) begins.fresh.0;
+          })
 
-      last_is : ran.final ≡ turns_at (limits_of old.shape) later.state
-      last_is = ran.comes.0 ∙ ap (λ (l : Limits). turns_at l later.state) (on.limits ∙ limits_are tells Opens old mid core begins)
-
-      pub served : Served Opens old input ended cut text new
-      served = record {
-        sound = begins.sound told;
-        shape = shape tells Opens old mid core begins told new later over on;
-        answers = ran.answers;
-        rest = ran.rest;
-        text_is = ran.text_is;
-        final = later.state;
-        base = base_is tells Opens old mid core begins told new later over on;
-        answered = subst (λ (t : Turns). Answered call_script t 1 (lines_of input) ended cut ran.answers ran.rest (turns_at (limits_of old.shape) later.state)) first_is
-            (subst (λ (t : Turns). Answered call_script (turns_of core) 1 (lines_of input) ended cut ran.answers ran.rest t) last_is ran.answered);
-        legal = on.sound.doubtful;
-        since = since tells Opens old mid core begins told new later over on;
-        now = now tells Opens old mid core begins told new later over on;
-        left = λ all. left tells Opens old mid core begins told new later over on (alive all);
+      -- the callers stand at its beginning
+      pub stands : Stands core (turns_of core)
+      stands = record {
+        is = refl;
+        sound = sound;
+        safe = λ image left. record { count = 0; at_least = omega (arith, ap length begins.fresh.0); at_most = omega arith; opens = opens_base image left };
       }
+
+    module _ (new : StoreView) (later : CoreView) (over : IsOver tells (Opens new.shape) chain new later) where
+      -- the lines of a script were answered
+      pub answers : (input : List ℕ) (ended : Ended) (cut : Bool) (text : List ℕ) → Ran call_script (Stands later) (Comes core later) (turns_of core) (lines_of input) ended cut text
+          → Answers input ended cut text core.limits core.state later.state
+      answers input ended cut text ran =
+          let last_is : ran.final ≡ turns_at core.limits later.state = ran.comes.0 ∙ ap (λ (l : Limits). turns_at l later.state) ran.comes.1.limits in
+          let answered = subst (λ (t : Turns). Answered call_script (turns_of core) 1 (lines_of input) ended cut ran.answers ran.rest t) last_is ran.answered in
+          record {
+            answers = ran.answers;
+            rest = ran.rest;
+            text_is = ran.text_is;
+            answered = answered;
+            acknowledged = λ caller n few fits has. committed_kept (turns_of core) 1 (lines_of input) ended cut ran.answers ran.rest (turns_at core.limits later.state)
+                (omega (arith, ap (λ (l : Limits). l.callers) limits_are, old.shape.in_range.most_numbers)) answered caller n few fits has;
+          }
+
+      module _ (on : Continues core later) where
+        shape : new.shape ≡ old.shape
+        shape = same_limits new.shape mid.shape (sym over.limits ∙ on.limits ∙ begins.over.limits) ∙ begins.shape
+
+        base_is : later.state.base ≡ table_of chain old.state.bytes
+        base_is = on.base ∙ ap (λ (s : State). s.base) begun_is
+
+        -- in the words of the store
+        opens_now : (more least : ℕ) (image : List ℕ) → least ≤ more → HasPrefixOf later.opens later.state more image → opens_of Opens old.shape later.state least image
+        opens_now more least image le has =
+            let table = records later.state.base (take has.count (with_doubt later.state.history later.state.doubt)) in
+            record {
+              count = has.count;
+              at_least = omega (arith, le, has.at_least);
+              at_most = has.at_most;
+              opens = subst (λ (s : Shape). OpensWith (Opens s) chain image table) shape ((over.opens_to image table).1 has.opens);
+            }
+
+        turns_time : LeavesOnly (opens_of Opens old.shape later.state 0) mid new
+        turns_time = record {
+          later = omega (arith, begins.over.moment, over.moment, on.time.later);
+          keeps = λ t image le left. (over.left t image).1 (on.time.keeps t image (omega (arith, le, begins.over.moment)) ((begins.over.left t image).0 left));
+          only = λ t image le left. ⊎_elim (λ was. inl ((begins.over.left t image).1 was)) (λ has. inr (opens_now (length core.state.history) 0 image (omega arith) has))
+              (on.time.only t image (omega (arith, le, begins.over.moment)) ((over.left t image).0 left));
+        }
+
+        base_opens : (image : List ℕ) → Opens old.shape image old.state.bytes → opens_of Opens old.shape later.state 0 image
+        base_opens image opens = record {
+          count = 0;
+          at_least = omega arith;
+          at_most = omega arith;
+          opens = record { bytes = old.state.bytes; opened = opens; sound = begins.sound told; shows = sym base_is };
+        }
+
+        -- of the turns that callers took this may be said
+        pub served : (Says : Limits → State → State → Type 0) (ended : Ended) → Says core.limits core.state later.state → (ended ≡ All → later.state.is_dead ≡ false) → Served Says Opens old ended new
+        served Says ended said alive = record {
+          sound = begins.sound told;
+          shape = shape;
+          final = later.state;
+          base = base_is;
+          says = subst (λ (l : Limits). Says l (begun_on old.state.bytes) later.state) limits_are (subst (λ (s : State). Says core.limits s later.state) begun_is said);
+          legal = on.sound.doubtful;
+          since = going.then (going.weaker base_opens (begins.time told)) turns_time;
+          now = λ image left. opens_now (length later.state.history) (length later.state.history) image (omega arith)
+              (on.now image ((over.left later.moment image).0 (subst (λ (t : ℕ). new.left_since t image) (sym over.moment) left)));
+          left = λ all.
+              let living = sym over.dead ∙ alive all in
+              (living, record { sound = over.sound told living; table = over.table told living; index = over.keys told });
+        }

@@ -5,14 +5,15 @@ use Rattle.array_shape.specs.declared.shape.Shape.{Shape}
 use Rattle.command_words.specs.Asked.{AsksFor}
 use Rattle.command_words.specs.declared.words.FormatNumbers.{FormatNumbers}
 use Rattle.command_words.specs.declared.words.Words.{Words}
-use Rattle.command_words.specs.declared.words.Words.TheVariants.{Run, Eaw, Dump, Format}
+use Rattle.command_words.specs.declared.words.Words.TheVariants.{Run, Eaw, Dump, Drill, Format}
 use Rattle.eaw_device.specs.Opens.{HoldsArray}
 use Rattle.script_io.specs.Input.{input_limit}
 use Rattle.mars_shell.specs.Commands.{Obeys}
 use Rattle.mars_shell.specs.Formats.{GiveLength, FormatOutcome}
 use Rattle.mars_shell.specs.Outcome.{OutcomeOf}
+use Rattle.mars_shell.specs.Drill.{Drills}
 use Rattle.mars_shell.specs.Dump.{Dumps}
-use Rattle.mars_shell.specs.Run.{HoldsRecords, Answers, IsDamaged}
+use Rattle.mars_shell.specs.Run.{HoldsRecords, TakesTurns, Answers, IsDamaged}
 use Rattle.mars_shell.specs.declared.status.Status.{Status}
 use Rattle.mars_shell.specs.declared.status.Status.TheVariants.{Usage, NoMemory}
 
@@ -34,11 +35,13 @@ IfReads Run Without Reads = Reads
 IfReads Eaw Without Reads = Reads
 IfReads _ Without Reads = Without
 
--- What was written and done, by what is asked for. A run and a dump read the records of an array that was opened; raw commands do not.
+-- What was written and done, by what is asked for. A run, a drill and a dump read the records of an array that
+-- was opened; raw commands do not.
 abbrev pub OutcomeFor : Words → View → Status → View → List ℕ → Bool → List ℕ → Type 0
-OutcomeFor Run old status new input cut text = OutcomeOf (λ ended. Answers old input ended new cut text) (IsDamaged old) (HoldsArray old) old status new cut text
+OutcomeFor Run old status new input cut text = OutcomeOf (λ ended. TakesTurns (Answers input ended cut text) old ended new) (IsDamaged old) (HoldsArray old) old status new cut text
 OutcomeFor Eaw old status new input cut text = OutcomeOf (λ ended. Obeys old input ended new cut text) (λ page. ⊥) ⊥ old status new cut text
 OutcomeFor Dump old status new input cut text = OutcomeOf (λ ended. Dumps old ended new cut text) (IsDamaged old) (HoldsArray old) old status new cut text
+OutcomeFor (Drill numbers) old status new input cut text = OutcomeOf (λ ended. TakesTurns (Drills numbers ended cut text) old ended new) (IsDamaged old) (HoldsArray old) old status new cut text
 OutcomeFor (Format numbers) old status new input cut text = FormatOutcome numbers old status new cut text
 
 -- an input that is told, and within the limit
@@ -52,3 +55,4 @@ IsFit (Format numbers) source_tells input media_tells media = GiveLength numbers
 IsFit Run source_tells input media_tells media = IsShortInput source_tells input × IsTrue media_tells × ((shape : Shape) × HoldsRecords shape media)
 IsFit Eaw source_tells input media_tells media = IsShortInput source_tells input × IsTrue media_tells × HoldsArray media
 IsFit Dump source_tells input media_tells media = IsTrue media_tells × ((shape : Shape) × HoldsRecords shape media)
+IsFit (Drill numbers) source_tells input media_tells media = IsTrue media_tells × ((shape : Shape) × HoldsRecords shape media)

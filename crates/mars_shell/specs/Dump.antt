@@ -17,12 +17,17 @@ use Rattle.script_run.specs.declared.ended.Ended.{Ended}
 use Rattle.script_run.specs.declared.ended.Ended.TheVariants.{All, WriteFault}
 use Rattle.mars_shell.specs.Run.{HoldsRecords}
 
--- a record's line, and the last one, which tells how many there are
+-- a record's line
 abbrev pub rec_line : ℕ × List ℕ → List ℕ
 rec_line row = codes "rec " ++ (decimal row.0 ++ 32 ∷ (row.1 ++ 10 ∷ []))
 
+-- a line of a word and a number
+abbrev pub number_line : List ℕ → ℕ → List ℕ
+number_line word n = word ++ 32 ∷ (decimal n ++ 10 ∷ [])
+
+-- the last line, which tells how many there are
 abbrev pub count_line : ℕ → List ℕ
-count_line n = codes "records " ++ (decimal n ++ 10 ∷ [])
+count_line n = number_line (codes "records") n
 
 -- the lines of rows, which rise by their keys
 abbrev pub dump_lines : List (ℕ × List ℕ) → List ℕ

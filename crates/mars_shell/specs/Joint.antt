@@ -1,23 +1,14 @@
 -- What comes of a script whose callers work beside each other.
-use Rattle.std.specs.Prelude.{ℕ, ◌≡◌, ◌≤◌, ◌<◌, ◌⊎◌, List, [], ◌∷◌, ◌++◌, length, codes, Bool, false, All, Some, Result, Ok, Err}
+use Rattle.std.specs.Prelude.{ℕ, ◌≡◌, ◌<◌, ◌⊎◌, List, [], ◌∷◌, ◌++◌, length, codes, Bool, false, All, Some}
 use Rattle.std.specs.FinMap.{entries}
 use Rattle.std.specs.List.{flat_map}
-use Rattle.array_shape.specs.declared.shape.Shape.{Shape}
-use Rattle.eaw_face.specs.Causes.{IsAlive}
-use Rattle.eaw_face.specs.StoreView.{StoreView, LeavesOnly}
-use Rattle.key_list.specs.Index.{chain}
-use Rattle.record_table.specs.Shown.{table_of, keys_of}
-use Rattle.history.specs.Legal.{IsLegal, records, with_doubt}
+use Rattle.history.specs.Legal.{records}
 use Rattle.history.specs.declared.transaction.Done.{Done}
-use Rattle.core_face.specs.State.{State, Index}
+use Rattle.core_face.specs.State.{State}
 use Rattle.core_face.specs.Room.{Limits}
-use Rattle.mars_core.specs.Over.{limits_of, index_of}
-use Rattle.mars_core.specs.declared.fault.CoreFault.{CoreFault}
 use Rattle.mars_manager.specs.Notes.{Gained}
 use Rattle.mars_manager.specs.Pass.{commits_of, HasNoOthers}
-use Rattle.caller_plans.specs.declared.plan.Plan.{Plan}
 use Rattle.caller_plans.specs.declared.fate.Fate.{Fate}
-use Rattle.caller_plans.specs.declared.fate.LineFault.{LineFault}
 use Rattle.caller_plans.specs.Plans.{AllSay, faults_from, plans_from}
 use Rattle.caller_work.specs.Fates.{AreFated, IsUndecided}
 use Rattle.caller_work.specs.Worked.{of_caller, IsPlanned, StillLacks}
@@ -28,8 +19,6 @@ use Rattle.script_text.specs.declared.line.Line.{Line}
 use Rattle.script_run.specs.declared.ended.Ended.{Ended}
 use Rattle.script_run.specs.declared.ended.Ended.TheVariants.{MediaFault, NoMemory} 
 use Rattle.mars_shell.specs.Dump.{IsCutAt}
-use Rattle.mars_shell.specs.Run.{HasAll}
-use Rattle.mars_shell.specs.Served.{opens_of, Untaken}
 
 -- the last line where the media failed
 abbrev pub media_line : List ℕ
@@ -48,11 +37,11 @@ IsBrokenOff MediaFault = Unit {0}
 IsBrokenOff NoMemory = Unit {0}
 IsBrokenOff ended = ⊥
 
--- Over an array of these limits, with this index at first: what the lines of an input say; what became of each caller's plans, and that
--- just those that committed are the caller's transactions of the history, in their order and each once; that, but where the work broke
--- off, each plan has its fate; that a transaction in doubt is one that its caller planned to commit; and that the index has just the keys of
--- the opening and keys that were planned. The text tells of it.
-pub record JointWork (limits : Limits) (first : Index) (callers : ℕ) (input : List ℕ) (ended : Ended) (cut : Bool) (text : List ℕ) (final : State) : Type 0 where
+-- What comes of callers' work on a core of these limits, from a first state on: what the lines of the input say; what became of each
+-- caller's plans, and that just those that committed are the caller's transactions of the history, in their order and each once; that, but
+-- where the work broke off, each plan has its fate; that a transaction in doubt is one that its caller planned to commit; and that the index
+-- has just the keys of the opening and keys that were planned. The text tells of it.
+pub record JointWork (callers : ℕ) (input : List ℕ) (ended : Ended) (cut : Bool) (text : List ℕ) (limits : Limits) (first final : State) : Type 0 where
   pub said : List Line
   pub says : AllSay callers (lines_of input) said
   pub fates : List (List Fate)
@@ -62,22 +51,6 @@ pub record JointWork (limits : Limits) (first : Index) (callers : ℕ) (input : 
   pub whole : (IsBrokenOff ended → ⊥) → (caller : ℕ) → caller < callers → length (of_caller fates caller) ≡ length (of_caller (plans_from 0 callers said) caller)
   pub doubt : (done : Done) → final.doubt ≡ Some done →
       (done.caller < callers) × IsUndecided (of_caller (plans_from 0 callers said) done.caller) (of_caller fates done.caller) done
-  pub keys : final.is_dead ≡ false → (keys : List ℕ) × Gained first keys final.index × All (IsPlanned (plans_from 0 callers said)) keys
+  pub keys : final.is_dead ≡ false → (keys : List ℕ) × Gained first.index keys final.index × All (IsPlanned (plans_from 0 callers said)) keys
   pub tells : TellsWork ended cut text (work_text (faults_from 1 (λ caller. false) said) final.history fates (entries (records final.base final.history)))
       (flat_map done_lines final.history)
-
--- The work was done over the records of the store's data, which are sound, in the words of stores.
-pub record Joined (Opens : Shape → List ℕ → List ℕ → Type 0) (old : StoreView) (callers : ℕ) (input : List ℕ) (ended : Ended) (cut : Bool) (text : List ℕ) (new : StoreView) : Type 0 where
-  pub sound : chain.sound old.state.bytes
-  pub shape : new.shape ≡ old.shape
-  pub final : State
-  pub base : final.base ≡ table_of chain old.state.bytes
-  pub work : JointWork (limits_of old.shape) (index_of (keys_of chain old.state.bytes)) callers input ended cut text final
-  pub legal : IsLegal final.base (with_doubt final.history final.doubt)
-  pub since : LeavesOnly (opens_of Opens old.shape final 0) old new
-  pub now : (image : List ℕ) → new.left_since new.moment image → opens_of Opens old.shape final (length final.history) image
-  pub left : (IsBrokenOff ended → ⊥) → IsAlive new × HasAll new.state.bytes final
-
-abbrev pub Joins : (Shape → List ℕ → List ℕ → Type 0) → StoreView → ℕ → List ℕ → Result Ended CoreFault → Bool → List ℕ → StoreView → Type 0
-Joins Opens old callers input (Ok ended) cut text new = Joined Opens old callers input ended cut text new
-Joins Opens old callers input (Err fault) cut text new = Untaken Opens old fault cut text new

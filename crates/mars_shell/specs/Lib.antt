@@ -9,6 +9,9 @@ pub mod PrefixLaw
 pub mod Run
 pub mod Dump
 pub mod Served
+pub mod Tally
+pub mod Drill
+pub mod Made
 pub mod Commands
 pub mod Formats
 pub mod Asked

@@ -1,7 +1,6 @@
 -- What a run over records does on a media that tells its bytes.
-use Rattle.std.specs.Prelude.{ℕ, ◌≡◌, ◌^◌, ◌<◌, List, ◌++◌, Bool, Contains}
+use Rattle.std.specs.Prelude.{ℕ, ◌≡◌, ◌^◌, ◌<◌, ◌≤◌, List, ◌++◌, length, Bool, Contains}
 use Rattle.std.specs.List.{concat}
-use Rattle.pcm_media.specs.Images.{MayLeave}
 use Rattle.pcm_media.specs.View.{View}
 use Rattle.array_shape.specs.declared.shape.Shape.{Shape}
 use Rattle.array_image.specs.Image.{data_of}
@@ -13,6 +12,7 @@ use Rattle.record_table.specs.Shown.{table_of, keys_of}
 use Rattle.history.specs.Legal.{IsLegal, records, with_doubt}
 use Rattle.history.specs.declared.call.Reply.TheVariants.{Committed}
 use Rattle.core_face.specs.State.{State, opened}
+use Rattle.core_face.specs.Room.{Limits}
 use Rattle.mars_core.specs.Over.{limits_of, index_of}
 use Rattle.script_io.specs.Lines.{lines_of}
 use Rattle.script_run.specs.Transcript.{Answered}
@@ -20,7 +20,7 @@ use Rattle.script_run.specs.declared.ended.Ended.{Ended}
 use Rattle.script_run.specs.declared.ended.Ended.TheVariants.{All}
 use Rattle.script_text.specs.Replies.{reply_line}
 use Rattle.mars_shell.specs.Lines.{call_script, turns_at}
-use Rattle.mars_shell.specs.PrefixLaw.{Recovers, PrefixLaw}
+use Rattle.mars_shell.specs.PrefixLaw.{PrefixLaw}
 
 -- the media holds an array whose records are sound
 pub record HoldsRecords (shape : Shape) (media : View) : Type 0 where
@@ -41,23 +41,25 @@ pub record HasAll (bytes : List ℕ) (state : State) : Type 0 where
   pub table : table_of chain bytes ≡ records state.base state.history
   pub index : state.index ≡ index_of (keys_of chain bytes)
 
--- The lines of the input were answered over an array whose records are sound: these are the base of each state. The history is
--- legal on them, also with the transaction in doubt, and it is the one that the prefix law speaks of. What was told as committed is
--- kept: where an answer is the whole line `c committed n`, each image that a loss of power may leave at the end has the records of
--- at least n transactions. At the end of all lines the data has just those of the history.
-pub record Answers (old : View) (input : List ℕ) (ended : Ended) (new : View) (cut : Bool) (text : List ℕ) : Type 0 where
+-- Callers took turns over an array whose records are sound: these are the base of each state, and what they did and was told of it is said
+-- of their limits, their first state and their last one. The history is legal on the base, also with the transaction in doubt, and it is
+-- the one that the prefix law speaks of. At the end of all turns the data has just the records of the history.
+pub record TakesTurns (Says : Limits → State → State → Type 0) (old : View) (ended : Ended) (new : View) : Type 0 where
   pub shape : Shape
   pub holds : HoldsRecords shape old
+  pub final : State
+  pub base : final.base ≡ table_of chain (settled_data shape old.content.bytes)
+  pub says : Says (limits_of shape) (begun_on (settled_data shape old.content.bytes)) final
+  pub legal : IsLegal final.base (with_doubt final.history final.doubt)
+  pub prefix_law : PrefixLaw shape old final new
+  pub quiet : ended ≡ All → HasNoVote shape new.content.bytes
+  pub left : ended ≡ All → HasAll (data_of shape new.content.bytes) final
+
+-- The lines of the input were answered one by one. What was told as committed is kept: where an answer is the whole line
+-- `c committed n`, the history has at least n transactions.
+pub record Answers (input : List ℕ) (ended : Ended) (cut : Bool) (text : List ℕ) (limits : Limits) (first final : State) : Type 0 where
   pub answers : List (List ℕ)
   pub rest : List ℕ
   pub text_is : text ≡ concat answers ++ rest
-  pub final : State
-  pub base : final.base ≡ table_of chain (settled_data shape old.content.bytes)
-  pub answered : Answered call_script (turns_at (limits_of shape) (begun_on (settled_data shape old.content.bytes)))
-      1 (lines_of input) ended cut answers rest (turns_at (limits_of shape) final)
-  pub legal : IsLegal final.base (with_doubt final.history final.doubt)
-  pub prefix_law : PrefixLaw shape old final new
-  pub acknowledged : (caller n : ℕ) → caller < 2 ^ 64 → n < 2 ^ 64 → Contains answers (reply_line caller (Committed n))
-      → (image : List ℕ) → MayLeave new.content image → Recovers shape final n image
-  pub quiet : ended ≡ All → HasNoVote shape new.content.bytes
-  pub left : ended ≡ All → HasAll (data_of shape new.content.bytes) final
+  pub answered : Answered call_script (turns_at limits first) 1 (lines_of input) ended cut answers rest (turns_at limits final)
+  pub acknowledged : (caller n : ℕ) → caller < 2 ^ 64 → n < 2 ^ 64 → Contains answers (reply_line caller (Committed n)) → n ≤ length final.history

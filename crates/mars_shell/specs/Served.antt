@@ -1,6 +1,5 @@
 -- What is done over a store whose records are read first.
-use Rattle.std.specs.Prelude.{ℕ, ◌≡◌, List, [], ◌++◌, length, Bool, true, false, Result, Ok, Err}
-use Rattle.std.specs.List.{concat}
+use Rattle.std.specs.Prelude.{ℕ, ◌≡◌, List, [], length, Bool, true, false, Result, Ok, Err}
 use Rattle.counted.specs.Causes.{Rose}
 use Rattle.array_shape.specs.declared.shape.Shape.{Shape}
 use Rattle.eaw_face.specs.Causes.{IsAlive}
@@ -10,19 +9,17 @@ use Rattle.record_table.specs.Does.{OpensWith}
 use Rattle.record_table.specs.Shown.{table_of}
 use Rattle.history.specs.Legal.{IsLegal, with_doubt}
 use Rattle.core_face.specs.State.{State}
+use Rattle.core_face.specs.Room.{Limits}
 use Rattle.core_face.specs.Prefix.{HasPrefixOf}
 use Rattle.mars_core.specs.Over.{limits_of}
 use Rattle.mars_core.specs.Attached.{CoreCause}
 use Rattle.mars_core.specs.declared.fault.CoreFault.{CoreFault}
 use Rattle.mars_core.specs.declared.fault.CoreFault.TheVariants.{Media}
-use Rattle.script_io.specs.Lines.{lines_of}
 use Rattle.script_io.specs.Written.{IsWritten}
 use Rattle.script_run.specs.Counts.{Counts}
-use Rattle.script_run.specs.Transcript.{Answered}
 use Rattle.script_run.specs.declared.ended.Ended.{Ended}
 use Rattle.script_run.specs.declared.ended.Ended.TheVariants.{All}
 use Rattle.mars_shell.specs.Dump.{dump_text, IsCutAt}
-use Rattle.mars_shell.specs.Lines.{call_script, turns_at}
 use Rattle.mars_shell.specs.Run.{begun_on, HasAll}
 
 -- how images of an array of this shape open with records
@@ -36,24 +33,21 @@ pub record Untaken (Opens : Shape → List ℕ → List ℕ → Type 0) (old : S
   pub cause : CoreCause true chain old fault
   pub time : LeavesOnly (λ image. Opens old.shape image old.state.bytes) old new
 
--- The lines were answered over the records of the store's data, which are sound: what is said of a run, in the words of stores.
-pub record Served (Opens : Shape → List ℕ → List ℕ → Type 0) (old : StoreView) (input : List ℕ) (ended : Ended) (cut : Bool) (text : List ℕ) (new : StoreView) : Type 0 where
+-- Callers took turns over the records of the store's data, which are sound: what is said of a run, in the words of stores.
+pub record Served (Says : Limits → State → State → Type 0) (Opens : Shape → List ℕ → List ℕ → Type 0) (old : StoreView) (ended : Ended) (new : StoreView) : Type 0 where
   pub sound : chain.sound old.state.bytes
   pub shape : new.shape ≡ old.shape
-  pub answers : List (List ℕ)
-  pub rest : List ℕ
-  pub text_is : text ≡ concat answers ++ rest
   pub final : State
   pub base : final.base ≡ table_of chain old.state.bytes
-  pub answered : Answered call_script (turns_at (limits_of old.shape) (begun_on old.state.bytes)) 1 (lines_of input) ended cut answers rest (turns_at (limits_of old.shape) final)
+  pub says : Says (limits_of old.shape) (begun_on old.state.bytes) final
   pub legal : IsLegal final.base (with_doubt final.history final.doubt)
   pub since : LeavesOnly (opens_of Opens old.shape final 0) old new
   pub now : (image : List ℕ) → new.left_since new.moment image → opens_of Opens old.shape final (length final.history) image
   pub left : ended ≡ All → IsAlive new × HasAll new.state.bytes final
 
-abbrev pub Serves : (Shape → List ℕ → List ℕ → Type 0) → StoreView → List ℕ → Result Ended CoreFault → Bool → List ℕ → StoreView → Type 0
-Serves Opens old input (Ok ended) cut text new = Served Opens old input ended cut text new
-Serves Opens old input (Err fault) cut text new = Untaken Opens old fault cut text new
+abbrev pub Serves : (Ended → Limits → State → State → Type 0) → (Shape → List ℕ → List ℕ → Type 0) → StoreView → Result Ended CoreFault → Bool → List ℕ → StoreView → Type 0
+Serves Says Opens old (Ok ended) cut text new = Served (Says ended) Opens old ended new
+Serves Says Opens old (Err fault) cut text new = Untaken Opens old fault cut text new
 
 -- The records of the store's data, which are sound, were told.
 pub record Told (Opens : Shape → List ℕ → List ℕ → Type 0) (old : StoreView) (ended : Ended) (cut : Bool) (text : List ℕ) (new : StoreView) : Type 0 where

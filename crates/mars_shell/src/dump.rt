@@ -4,10 +4,11 @@ ghost use Rattle.eaw_face.specs.Causes.{IsAlive};
 ghost use Rattle.script_io.specs.Written.{Wrote};
 ghost use Rattle.command_words.specs.declared.words.Words.TheVariants.{Dump};
 ghost use Rattle.mars_shell.specs.Asked.{OutcomeFor};
-ghost use Rattle.mars_shell.specs.Dump.{rec_line, count_line, dump_lines};
+ghost use Rattle.mars_shell.specs.Dump.{rec_line, dump_lines};
 ghost use Rattle.mars_shell.specs.Served.{Tells, ServedCounts};
 ghost use Rattle.mars_shell.specs.Statuses.{Counts, IsEarly, IsRefusal};
 
+use crate::number_line::append_number;
 use crate::opening::open_array;
 use crate::status::{Status, served_status};
 use counted::NoMemory;
@@ -87,7 +88,7 @@ fn dump_lines(alloc: Global, rows: &Rows) -> Result<Vec<u8>, NoMemory>
     for row in rows {
         append_row(&mut text, row.0, &row.1)?;
     }
-    append_count(&mut text, rows.len() as u64)?;
+    append_number(&mut text, b"records", rows.len() as u64)?;
     Ok(text)
 }
 
@@ -99,16 +100,6 @@ fn append_row(text: &mut Vec<u8>, key: u64, value: &Value) -> Result<(), NoMemor
     text.extend_from_slice(buffer.format(key).as_bytes())?;
     text.extend_from_slice(b" ")?;
     text.extend_from_slice(value.as_bytes())?;
-    text.extend_from_slice(b"\n")?;
-    Ok(())
-}
-
-fn append_count(text: &mut Vec<u8>, count: u64) -> Result<(), NoMemory>
-    ensures { OnOk result (text.new.items ≡ text.old.items ++ count_line count) }
-{
-    let mut buffer = Buffer::new();
-    text.extend_from_slice(b"records ")?;
-    text.extend_from_slice(buffer.format(count).as_bytes())?;
     text.extend_from_slice(b"\n")?;
     Ok(())
 }

@@ -7,8 +7,8 @@ ghost use Rattle.history.specs.Legal.{records};
 ghost use Rattle.history_text.specs.Text.{done_lines, work_text, all_fate_lines};
 ghost use Rattle.script_io.specs.Written.{IsWritten, Wrote};
 ghost use Rattle.history.specs.Rows.{table_of};
-ghost use Rattle.mars_shell.specs.Joint.{media_line, TellsWork, IsBrokenOff, Joins};
-ghost use Rattle.mars_shell.specs.Served.{ServedCounts};
+ghost use Rattle.mars_shell.specs.Joint.{media_line, TellsWork, IsBrokenOff, JointWork};
+ghost use Rattle.mars_shell.specs.Served.{Serves, ServedCounts};
 
 use caller_plans::{LineFault, Script, read_script};
 use caller_work::{Fates, Gate, WorkEnd, work};
@@ -47,7 +47,7 @@ pub fn serve_jointly<R: Threads + Wait + Sync, K: Sink, S: EawStore + Drop + Sen
     requires enough { callers ≤ (S.view store).shape.numbers }
     requires tries { 1 ≤ tries }
     ensures joined { Wrote K.tells (K.written sink.old) (K.written sink.new) (K.faults sink.old) (K.faults sink.new)
-        (λ cut text. IsTrue S.tells → Joins S.opens (S.view store) callers input.now result.0 cut text (S.view result.1)) }
+        (λ cut text. IsTrue S.tells → Serves (λ ended. JointWork callers input.now ended cut text) S.opens (S.view store) result.0 cut text (S.view result.1)) }
     ensures untold { IfErr result.0 (λ fault. sink.new ≡ sink.old) }
     ensures counts { ServedCounts result.0 (K.faults sink.old) (K.faults sink.new) (S.view store).faults (S.view result.1).faults }
 {

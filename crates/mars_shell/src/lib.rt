@@ -2,16 +2,21 @@
 #![tactic(auto)]
 
 mod commands;
+mod drilling;
 mod dump;
 mod fault;
 mod formatting;
 mod joint;
 mod lines;
 mod media_room;
+mod number_line;
 mod opening;
 mod responder;
 mod serve;
 mod status;
+mod summary;
+mod tally;
+mod turns;
 mod whole;
 
 pub use fault::fault_text;

@@ -9,6 +9,7 @@ ghost use Rattle.mars_shell.specs.Input.{InputSays};
 ghost use Rattle.mars_shell.specs.Statuses.{Counts};
 
 use crate::commands::run_commands;
+use crate::drilling::run_drill;
 use crate::dump::run_dump;
 use crate::formatting::run_format;
 use caller_work::Gate;
@@ -21,7 +22,7 @@ use pcm_media::Media;
 /// Does all that the program does over the words behind the image's, and gives the media back.
 ///
 /// For `run` the input is read first, then the array is opened and recovered, then its records are read, and then the lines
-/// are answered; for `eaw` all but the records. `dump` and `format` read no input. The gate is for runs of several threads; these words
+/// are answered; for `eaw` all but the records. `drill`, `dump` and `format` read no input. The gate is for runs of several threads; these words
 /// ask for none.
 pub fn run<R: AllocGlobal, S: Source, K: Sink, M: Media, G: Gate>(
     rt: &R,
@@ -48,8 +49,9 @@ pub fn run<R: AllocGlobal, S: Source, K: Sink, M: Media, G: Gate>(
         (λ numbers. FormatSays numbers (M.view media).size result.0 (sink.new ≡ sink.old) (result.1 ≡ media)) (Unit {0})) }
     // Where a dump's media failed or memory was short nothing is told.
     ensures dumps { WordsSay (map string_bytes words.now) result.0 (sink.new ≡ sink.old) (λ asked. asked ≡ Dump → (result.0 ≡ Status.MediaFault) ⊎ (result.0 ≡ Status.NoMemory) → sink.new ≡ sink.old) }
-    // What the words ask for was done. Each status has its cause. Of a run the text answers the lines of the input one by one, the
-    // history is legal, and the prefix law holds of it; of a dump it is the records; of raw commands it answers them by the model.
+    // What the words ask for was done. Each status has its cause. Of a run the text answers the lines of the input one by one, and of a
+    // drill it is the summary of the replies; of both the history is legal, and the prefix law holds of it. Of a dump it is the records;
+    // of raw commands it answers them by the model.
     ensures ran { WordsSay (map string_bytes words.now) result.0 ((source.new ≡ source.old) × (sink.new ≡ sink.old) × (result.1 ≡ media)) (λ asked. Wrote K.tells (K.written sink.old) (K.written sink.new) (K.faults sink.old) (K.faults sink.new)
         (λ cut text. (input : List ℕ) × (IsTrue S.tells → S.left source.old ≡ input) × (IsTrue M.tells → OutcomeFor asked (M.view media) result.0 (M.view result.1) input cut text))) }
     // What can be done is done, or memory was short.
@@ -63,6 +65,7 @@ pub fn run<R: AllocGlobal, S: Source, K: Sink, M: Media, G: Gate>(
         Ok(Words::Run) => run_lines(rt.alloc(), source, sink, media),
         Ok(Words::Eaw) => run_commands(rt.alloc(), source, sink, media),
         Ok(Words::Dump) => run_dump(rt.alloc(), sink, media),
+        Ok(Words::Drill(numbers)) => run_drill(rt.alloc(), sink, media, &numbers),
         Ok(Words::Format(numbers)) => run_format(sink, media, &numbers),
     }
 }

@@ -4,6 +4,8 @@
 #[cfg(test)]
 mod answers;
 #[cfg(test)]
+mod drill;
+#[cfg(test)]
 mod lines;
 #[cfg(test)]
 mod raw_lines;

@@ -1,4 +1,4 @@
-use command_words::{FormatNumbers, Words, WordsFault, read_words};
+use command_words::{DrillNumbers, FormatNumbers, Words, WordsFault, read_words};
 use std::alloc::{AllocError, Global};
 use std::test::Fail;
 
@@ -20,15 +20,26 @@ fn format(loggers: u16, numbers: u16, entries: u16, pages: u16) -> Words {
     })
 }
 
+fn drill(seed: u32, count: u32) -> Words {
+    Words::Drill(DrillNumbers { seed, count })
+}
+
 #[test]
 fn words_are_read(rt: HostRuntime) -> Result<(), Fail> {
-    let rows: [(&[&str], Words); 13] = [
+    let rows: [(&[&str], Words); 17] = [
         (&["run"], Words::Run),
         (&["run", "--"], Words::Run),
         (&["format", "--pages=8", "--"], format(4, 8, 16, 8)),
         (&["eaw"], Words::Eaw),
         (&["dump"], Words::Dump),
         (&["dump", "--"], Words::Dump),
+        (&["drill", "1", "2"], drill(1, 2)),
+        (&["drill", "0", "1"], drill(0, 1)),
+        (
+            &["drill", "2147483647", "100000"],
+            drill(2_147_483_647, 100_000),
+        ),
+        (&["drill", "--", "7", "200"], drill(7, 200)),
         (&["format"], format(4, 8, 16, 64)),
         (&["format", "--loggers", "2"], format(2, 8, 16, 64)),
         (&["format", "--numbers=0"], format(4, 0, 16, 64)),
@@ -67,7 +78,7 @@ fn words_are_read(rt: HostRuntime) -> Result<(), Fail> {
 
 #[test]
 fn other_words_are_none(rt: HostRuntime) -> Result<(), Fail> {
-    let rows: [&[&str]; 32] = [
+    let rows: [&[&str]; 46] = [
         &[],
         &[""],
         &["walk"],
@@ -85,6 +96,20 @@ fn other_words_are_none(rt: HostRuntime) -> Result<(), Fail> {
         &["dump", "x"],
         &["dump", "--pages=4"],
         &["dump", "--help"],
+        &["drill"],
+        &["drill", "1"],
+        &["drill", "1", "2", "3"],
+        &["drill", "1", "0"],
+        &["drill", "1", "100001"],
+        &["drill", "2147483648", "1"],
+        &["drill", "4294967297", "1"],
+        &["drill", "01", "1"],
+        &["drill", "+1", "1"],
+        &["drill", "-1", "1"],
+        &["drill", "1", "2 "],
+        &["drill", "", "2"],
+        &["drill", "--seed=1", "2"],
+        &["drill", "--help"],
         &["format", "--help"],
         &["format", "-h"],
         &["format", "--", "--pages=4"],

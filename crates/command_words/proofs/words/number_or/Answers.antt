@@ -7,7 +7,7 @@ use Rattle.command_words.proofs.words.number_or.Goals as goal
 pub returns-in-Some : goal.returns-in-Some
 returns-in-Some c =
     let first_is = sym (first_value-rows (found_of c.args.options.now) c.args.name.now) ∙ sym c.in-Some.ensures in
-    number_read c.args.default (first_of c.args.name.now (rows_of (found_of c.args.options.now))) c.in-Some.value.now c.read_number.result first_is c.read_number.ensures
+    number_read c.args.default (first_of c.args.name.now (rows_of (found_of c.args.options.now))) c.in-Some.value.now c.read_short.result first_is c.read_short.ensures
 
 pub returns-in-None : goal.returns-in-None
 returns-in-None c =

@@ -1,18 +1,13 @@
-use Rattle.std.proofs.Common.{◌≡◌, ℕ, ◌≤◌, List, [], false, length, refl, sym, subst, ap, ◌∙◌, arith}
+use Rattle.std.proofs.Common.{◌≡◌, ℕ, [], false, length, refl, sym, subst, ap, ◌∙◌, arith}
 use Rattle.std.proofs.lemmas.List.{append-nil}
-use Rattle.std.specs.FinMap.{entries}
-use Rattle.std.specs.List.{flat_map}
 use Rattle.key_list.specs.Index.{chain}
-use Rattle.history.specs.Legal.{records}
-use Rattle.history.specs.Rows.{table_of}
 use Rattle.mars_core.specs.Held.{core_of}
 use Rattle.mars_core.specs.Over.{IsOver}
 use Rattle.mars_manager.specs.Sharing.{CanShare}
-use Rattle.caller_plans.specs.declared.fate.LineFault.{LineFault}
-use Rattle.history_text.specs.Text.{done_lines, work_text}
-use Rattle.mars_shell.specs.Joint.{TellsWork, Joined}
-use Rattle.mars_shell.specs.Served.{Untaken}
-use Rattle.mars_shell.proofs.Joining.{as_many, can_share, untold, retold, joined}
+use Rattle.mars_shell.specs.Joint.{JointWork}
+use Rattle.mars_shell.specs.Served.{Served}
+use Rattle.mars_shell.proofs.Joining.{as_many, can_share, untold, retold, joint_work, living, unbroken}
+use Rattle.mars_shell.proofs.Serving.{served}
 use Rattle.mars_shell.proofs.joint.serve_jointly.Goals as goal
 
 pub work-requires-clause-few : goal.work-requires-clause-few
@@ -45,15 +40,18 @@ returns-in-Ok-work-clause-joined g c =
     let core = c.in-Ok-work.core in
     let over = subst (λ st. IsOver s.tells (s.opens (s.view st).shape) chain (s.view st) (core_of s.opens chain (s.view st) core)) c.into_store.ensures.store c.into_store.ensures.over in
     let told = c.tell_end-ended.ensures.told in
+    let worked = c.in-Ok-work.ensures.worked in
     record {
       cut = told.cut;
       text = told.text;
       wrote = told.wrote;
       counts = told.counts;
-      holds = λ tells. subst (λ st. Joined s.opens (s.view c.args.store) c.args.callers c.args.input.now c.tell_end-ended.result told.cut told.text (s.view st)) (sym c.into_store.ensures.store)
-          (joined s.tells s.opens (s.view c.args.store) (s.view store) _ begins tells (s.view core.records.store) _ over c.args.callers c.args.input.now read.0 read.1 c.in-Ok.script.plans.items read.3
-          c.in-Ok-work.fates.items c.in-Ok-work.end c.in-Ok-work.ensures.worked c.tell_end-ended.result told.cut told.text c.tell_end-ended.ensures.whole
-          (retold c.tell_end-ended.result told.cut told.text _ _ _ _ _ _ _ _ (c.deref.ensures.value ∙ read.2) c.history.ensures c.base.ensures.base c.deref-in-Ok-work.ensures.value told.holds));
+      holds = λ tells. subst (λ st. Served (JointWork c.args.callers c.args.input.now c.tell_end-ended.result told.cut told.text) s.opens (s.view c.args.store) c.tell_end-ended.result (s.view st)) (sym c.into_store.ensures.store)
+          (served s.tells s.opens (s.view c.args.store) (s.view store) _ begins tells (s.view core.records.store) _ over (worked.since.continues tells) (JointWork c.args.callers c.args.input.now c.tell_end-ended.result told.cut told.text) c.tell_end-ended.result
+          (joint_work s.tells tells _ _ c.args.callers c.args.input.now read.0 read.1 c.in-Ok.script.plans.items read.3 c.in-Ok-work.fates.items c.in-Ok-work.end worked
+          c.tell_end-ended.result told.cut told.text c.tell_end-ended.ensures.whole
+          (retold c.tell_end-ended.result told.cut told.text _ _ _ _ _ _ _ _ (c.deref.ensures.value ∙ read.2) c.history.ensures c.base.ensures.base c.deref-in-Ok-work.ensures.value told.holds))
+          (λ all. living s.tells tells _ _ c.args.callers c.args.input.now read.0 read.1 c.in-Ok.script.plans.items read.3 c.in-Ok-work.fates.items c.in-Ok-work.end worked (c.tell_end-ended.ensures.whole (unbroken c.tell_end-ended.result all))));
     }
 
 pub returns-clause-joined : goal.returns-clause-joined

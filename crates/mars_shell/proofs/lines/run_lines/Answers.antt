@@ -3,9 +3,9 @@ use Rattle.std.proofs.lemmas.List.{append-nil}
 use Rattle.command_words.specs.declared.words.Words.TheVariants.{Run}
 use Rattle.eaw_device.specs.Opens.{HoldsArray}
 use Rattle.mars_shell.specs.Asked.{OutcomeFor}
-use Rattle.mars_shell.specs.Run.{Answers, IsDamaged}
+use Rattle.mars_shell.specs.Run.{TakesTurns, Answers, IsDamaged}
 use Rattle.mars_shell.specs.declared.status.Status.{Status}
-use Rattle.mars_shell.proofs.Outcomes.{run_outcome}
+use Rattle.mars_shell.proofs.Outcomes.{turns_outcome}
 use Rattle.mars_shell.proofs.Unopened.{idle_same, unopened_as}
 use Rattle.mars_shell.proofs.lines.run_lines.Goals as goal
 
@@ -36,7 +36,7 @@ returns-in-Err-open-clause-ran g c =
       holds = (
         g.S.Source.left c.args.source.now,
         (λ _. refl),
-        λ told. unopened_as (λ ended. Answers old (g.S.Source.left c.args.source.now) ended new false []) (IsDamaged old) (HoldsArray old) old c.in-Err-open.ended.0 new c.in-Err-open.ensures.kind (c.in-Err-open.ensures.unopened told),
+        λ told. unopened_as (λ ended. TakesTurns (Answers (g.S.Source.left c.args.source.now) ended false []) old ended new) (IsDamaged old) (HoldsArray old) old c.in-Err-open.ended.0 new c.in-Err-open.ensures.kind (c.in-Err-open.ensures.unopened told),
       );
     }
 
@@ -57,7 +57,7 @@ returns-clause-ran g c =
         c.in-Ok-open.ensures.read,
         λ told.
             subst (λ (s : Status). OutcomeFor Run old s new input said.cut said.text) (sym c.served_status.ensures)
-            (run_outcome media.tells told old (g.met.M.Media.only_now c.args.media) _ c.in-Ok-open.ensures.attached c.in-Ok-open.ensures.keeps _ new c.into_media.ensures (g.met.M.Media.counts_now c.into_media.result)
-            input c.serve-served.result.0 said.cut said.text (rw c.deref.ensures.value at (said.holds told))),
+            (turns_outcome media.tells told old (g.met.M.Media.only_now c.args.media) _ c.in-Ok-open.ensures.attached c.in-Ok-open.ensures.keeps _ new c.into_media.ensures (g.met.M.Media.counts_now c.into_media.result)
+            (λ ended. Answers input ended said.cut said.text) c.serve-served.result.0 said.cut said.text (rw c.deref.ensures.value at (said.holds told))),
       );
     }

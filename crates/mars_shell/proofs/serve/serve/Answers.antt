@@ -2,8 +2,9 @@ use Rattle.std.proofs.Common.{sym, subst}
 use Rattle.key_list.specs.Index.{chain}
 use Rattle.mars_core.specs.Held.{core_of}
 use Rattle.mars_core.specs.Over.{IsOver}
+use Rattle.mars_shell.specs.Run.{Answers}
 use Rattle.mars_shell.specs.Served.{Served}
-use Rattle.mars_shell.proofs.Serving.{stands, served}
+use Rattle.mars_shell.proofs.Serving.{stands, answers, served}
 use Rattle.mars_shell.proofs.serve.serve.Goals as goal
 
 pub returns-clause-served : goal.returns-clause-served
@@ -19,8 +20,13 @@ returns-clause-served g c =
       text = ran.text;
       wrote = ran.wrote;
       counts = ran.counts;
-      holds = λ told. subst (λ st. Served s.opens (s.view c.args.store) c.args.input.now c.answer_lines-ended.result ran.cut ran.text (s.view st)) (sym c.into_store.ensures.store)
-          (served s.tells s.opens (s.view c.args.store) (s.view store) _ begins told (s.view core.records.store) _ over c.args.input.now c.answer_lines-ended.result ran.cut ran.text
-          (ran.holds told _ (stands s.tells s.opens (s.view c.args.store) (s.view store) _ begins told (λ image left. g.met.S.EawStore.only_now store image told begins.alive left)))
+      holds = λ told.
+          let begun = stands s.tells s.opens (s.view c.args.store) (s.view store) _ begins told (λ image left. g.met.S.EawStore.only_now store image told begins.alive left) in
+          let lines = ran.holds told _ begun in
+          let input = c.args.input.now in
+          let ended = c.answer_lines-ended.result in
+          subst (λ st. Served (Answers input ended ran.cut ran.text) s.opens (s.view c.args.store) ended (s.view st)) (sym c.into_store.ensures.store)
+          (served s.tells s.opens (s.view c.args.store) (s.view store) _ begins told (s.view core.records.store) _ over lines.comes.1 (Answers input ended ran.cut ran.text) ended
+          (answers s.tells s.opens (s.view c.args.store) (s.view store) _ begins told (s.view core.records.store) _ over input ended ran.cut ran.text lines)
           (λ all. (c.answer_lines-ended.ensures.ready all).alive));
     }

@@ -1,11 +1,12 @@
 use Rattle.std.proofs.Common.{[], refl, arith}
 use Rattle.std.specs.Prelude.{map, string_bytes}
-use Rattle.command_words.specs.declared.words.Words.TheVariants.{Run, Eaw, Dump, Format}
+use Rattle.command_words.specs.declared.words.Words.TheVariants.{Run, Eaw, Dump, Drill, Format}
 use Rattle.eaw_device.specs.Opens.{HoldsArray}
 use Rattle.mars_shell.specs.Commands.{Obeys}
+use Rattle.mars_shell.specs.Drill.{Drills}
 use Rattle.mars_shell.specs.Dump.{Dumps}
 use Rattle.mars_shell.proofs.FormatLemmas.{no_usage}
-use Rattle.mars_shell.specs.Run.{Answers, IsDamaged}
+use Rattle.mars_shell.specs.Run.{TakesTurns, Answers, IsDamaged}
 use Rattle.mars_shell.proofs.Completing.{words_say, no_damage, no_rise, nothing_read, complete_of}
 use Rattle.mars_shell.proofs.whole.run.Goals as goal
 
@@ -36,7 +37,7 @@ returns-in-Ok-Run-clause-complete g c =
     words_say (map string_bytes c.args.words.now) c.run_lines.result.0 (Unit {0}) _ Run said.no_usage (rw c.in-Ok-Run.field-0-is at c.in-Ok-Run.ensures.asked)
     (λ fit no_source no_sink no_media.
     let input = said.ran.holds.0 in
-    complete_of (λ ended. Answers old input ended new said.ran.cut said.ran.text) (IsDamaged old) (HoldsArray old) old new said.ran.cut said.ran.text given _ _ _ _ _ _ _
+    complete_of (λ ended. TakesTurns (Answers input ended said.ran.cut said.ran.text) old ended new) (IsDamaged old) (HoldsArray old) old new said.ran.cut said.ran.text given _ _ _ _ _ _ _
     fit.0.1 fit.2.0 fit.2.1.array (λ page is. no_damage old fit.2.0 page fit.2.1 is) no_source no_sink no_media c.run_lines.result.0 said.no_usage said.counts (said.input fit.0.0) (said.ran.holds.2 fit.1))
 
 pub returns-in-Ok-Eaw-clause-complete : goal.returns-in-Ok-Eaw-clause-complete
@@ -74,4 +75,23 @@ returns-in-Ok-Dump-clause-ran g c =
     let ran = c.run_dump.ensures.ran in
     let given = g.S.Source.left c.args.source.now in
     words_say (map string_bytes c.args.words.now) c.run_dump.result.0 _ _ Dump c.run_dump.ensures.no_usage (rw c.in-Ok-Dump.field-0-is at c.in-Ok-Dump.ensures.asked)
+    (record { cut = ran.cut; text = ran.text; wrote = ran.wrote; counts = ran.counts; holds = (given, (λ _. refl), ran.holds given) })
+
+pub returns-in-Ok-Drill-clause-complete : goal.returns-in-Ok-Drill-clause-complete
+returns-in-Ok-Drill-clause-complete g c =
+    let old = g.M.Media.view c.args.media in
+    let new = g.M.Media.view c.run_drill.result.1 in
+    let numbers = c.in-Ok-Drill.numbers in
+    let said = c.run_drill.ensures in
+    words_say (map string_bytes c.args.words.now) c.run_drill.result.0 (Unit {0}) _ (Drill numbers) said.no_usage (rw c.in-Ok-Drill.field-0-is at c.in-Ok-Drill.ensures.asked)
+    (λ fit no_source no_sink no_media.
+    complete_of (λ ended. TakesTurns (Drills numbers ended said.ran.cut said.ran.text) old ended new) (IsDamaged old) (HoldsArray old) old new said.ran.cut said.ran.text [] _ 0 0 _ _ _ _
+    (omega arith) fit.1.0 fit.1.1.array (λ page is. no_damage old fit.1.0 page fit.1.1 is) no_rise no_sink no_media c.run_drill.result.0 said.no_usage said.counts (nothing_read c.run_drill.result.0 said.late)
+    (said.ran.holds [] fit.0))
+
+pub returns-in-Ok-Drill-clause-ran : goal.returns-in-Ok-Drill-clause-ran
+returns-in-Ok-Drill-clause-ran g c =
+    let ran = c.run_drill.ensures.ran in
+    let given = g.S.Source.left c.args.source.now in
+    words_say (map string_bytes c.args.words.now) c.run_drill.result.0 _ _ (Drill c.in-Ok-Drill.numbers) c.run_drill.ensures.no_usage (rw c.in-Ok-Drill.field-0-is at c.in-Ok-Drill.ensures.asked)
     (record { cut = ran.cut; text = ran.text; wrote = ran.wrote; counts = ran.counts; holds = (given, (λ _. refl), ran.holds given) })

@@ -1,0 +1,137 @@
+-- Calls that a core makes, one after another, and what their replies come to.
+use Rattle.std.proofs.Common.{◌≡◌, ℕ, zero, suc, ◌+◌, ◌<◌, ◌≤◌, Bool, true, false, List, [], ◌∷◌, ◌++◌, length, map, take, get_or, refl, sym, ap, subst, ◌∙◌, arith, cond, length-append, Result, Err, inl, inr, nat_le, ◌||◌}
+use Rattle.std.specs.Prelude.{IsTrue, IsFalse}
+use Rattle.std.specs.List.{All, count_by}
+use Rattle.std.proofs.lemmas.Bool.{cases_lt, false≢true}
+use Rattle.std.proofs.lemmas.Bool.Decides.{nat_tests}
+use Rattle.std.proofs.lemmas.List.{map-append, take_more}
+use Rattle.std.proofs.lemmas.List.Elements.{All-from_recursion, All-append, All-nil}
+use Rattle.std.proofs.lemmas.List.Sums.{sum_by-append}
+use Rattle.history.specs.declared.call.Call.{Call}
+use Rattle.history.specs.declared.call.Reply.{Reply}
+use Rattle.history.specs.declared.call.Reply.TheVariants as told
+use Rattle.core_face.specs.State.{State}
+use Rattle.core_face.specs.Room.{Limits}
+use Rattle.core_face.specs.Step.{Step, Runs}
+use Rattle.core_face.specs.Fate.{is_committed, is_media}
+use Rattle.core_face.specs.Core.{CoreView, Steps}
+use Rattle.core_face.proofs.Continuing.{continues_none, continues_step, continues_on}
+use Rattle.drill_gen.specs.Drill.{alone, paired, one_by_one, in_pairs, drill, transaction}
+use Rattle.drill_gen.specs.declared.transaction.Transaction.{Transaction}
+use Rattle.script_run.specs.declared.responder.Stop.{Stop}
+use Rattle.script_run.specs.declared.responder.Stop.TheVariants.{Media, NoMemory}
+use Rattle.mars_shell.specs.Drill.{turn_of, GoOn}
+use Rattle.mars_shell.specs.Lines.{goes_on}
+use Rattle.mars_shell.specs.Made.{Made, EndsEarly}
+use Rattle.mars_shell.specs.Tally.{is_aborted, is_busy, is_full, tally_of, more_if, counted, Counted}
+use Rattle.mars_shell.specs.declared.tally.Tally.{Tally}
+
+-- ---- the tally
+
+one_more : (so : Bool) (n : ℕ) → n + (0 + cond so 1 0) ≡ more_if so n
+one_more true n = refl
+one_more false n = omega arith
+
+count_more : (p : ℕ × Call × Reply → Bool) (lines : List (ℕ × Call × Reply)) (line : ℕ × Call × Reply) → count_by p (lines ++ line ∷ []) ≡ more_if (p line) (count_by p lines)
+count_more p lines line = sum_by-append (λ l. cond (p l) 1 0) lines (line ∷ []) ∙ one_more (p line) (count_by p lines)
+
+pub tally_more : (lines : List (ℕ × Call × Reply)) (caller : ℕ) (call : Call) (reply : Reply) → tally_of (lines ++ (caller, call, reply) ∷ []) ≡ counted (tally_of lines) call reply
+tally_more lines caller call reply = λ i. record {
+  committed = count_more (λ line. is_committed line.2) lines (caller, call, reply) i;
+  aborted = count_more (λ line. is_aborted line.1 line.2) lines (caller, call, reply) i;
+  busy = count_more (λ line. is_busy line.2) lines (caller, call, reply) i;
+  refused = count_more (λ line. is_full line.2) lines (caller, call, reply) i;
+}
+
+-- ---- the calls
+
+runs_more : (limits : Limits) (old : State) (lines : List (ℕ × Call × Reply)) (mid : State) (line : ℕ × Call × Reply) (new : State) → Runs limits old lines mid → Step limits mid line.0 line.1 line.2 new
+    → Runs limits old (lines ++ line ∷ []) new
+runs_more limits old [] mid line new same step = (new, subst (λ (s : State). Step limits s line.0 line.1 line.2 new) same step, refl)
+runs_more limits old (first ∷ lines) mid line new runs step = (runs.0, runs.1, runs_more limits runs.0 lines mid line new runs.2 step)
+
+module _ (tells : Bool) (old : CoreView) (turns : List (ℕ × Call)) where
+  pub made_none : Made tells old turns [] old
+  made_none = record { limits = refl; turns_are = refl; runs = λ told. refl; comes = λ told sound safe. continues_none old sound safe }
+
+  module _ (lines : List (ℕ × Call × Reply)) (mid new : CoreView) (caller : ℕ) (call : Call) (reply : Reply) (made : Made tells old turns lines mid) (steps : Steps tells caller call mid new reply) where
+    pub turns_more : (d : ℕ × Call) → length lines < length turns → get_or turns (length lines) d ≡ (caller, call)
+        → map turn_of (lines ++ (caller, call, reply) ∷ []) ≡ take (length lines + 1) turns
+    turns_more d more is = map-append turn_of lines ((caller, call, reply) ∷ []) ∙ ap (λ (l : List (ℕ × Call)). l ++ (caller, call) ∷ []) made.turns_are
+        ∙ ap (λ (t : ℕ × Call). take (length lines) turns ++ t ∷ []) (sym is) ∙ sym (take_more turns (length lines) d more)
+
+    abbrev more_lines : List (ℕ × Call × Reply)
+    more_lines = lines ++ (caller, call, reply) ∷ []
+
+    pub made_more : (d : ℕ × Call) → length lines < length turns → get_or turns (length lines) d ≡ (caller, call) → Made tells old turns (lines ++ (caller, call, reply) ∷ []) new
+    made_more d more is = record {
+      limits = steps.limits ∙ made.limits;
+      turns_are = turns_more d more is ∙ ap (λ (n : ℕ). take n turns) (sym (length-append lines ((caller, call, reply) ∷ [])));
+      runs = λ told. runs_more old.limits old.state lines mid.state (caller, call, reply) new.state (made.runs told)
+          (subst (λ (l : Limits). Step l mid.state caller call reply new.state) made.limits (steps.step told));
+      comes = λ told sound safe.
+          let on = made.comes told sound safe in
+          continues_on old mid new on (continues_step tells caller call mid new reply on.sound steps told);
+    }
+
+    -- a reply that ends the script
+    pub ends_early : (d : ℕ × Call) → length lines < length turns → get_or turns (length lines) d ≡ (caller, call) → GoOn lines → (tally later : Tally) (stop : Stop)
+        → (let r : Result (Unit {0}) Stop = Err stop in Counted tally caller call reply later r) → EndsEarly tells old turns stop new
+    ends_early d more is on tally later (Media number) counted = (more_lines, made_more d more is, (lines, caller, call, ap (λ (r : Reply). lines ++ (caller, call, r) ∷ []) counted.1, on))
+    ends_early d more is on tally later NoMemory counted = (more_lines, made_more d more is)
+
+    -- one that is no fault of the media leaves the core alive
+    pub stays_alive : mid.state.is_dead ≡ false → IsFalse (is_media reply) → new.state.is_dead ≡ false
+    stays_alive alive none = steps.moves.dead ∙ ap (λ (d : Bool). d || is_media reply) alive ∙ none
+
+-- no reply behind which a script goes on is a fault of the media
+pub no_fault : (reply : Reply) → IsTrue (goes_on reply) → IsFalse (is_media reply)
+no_fault told.Fine goes = refl
+no_fault (told.Found value) goes = refl
+no_fault told.Absent goes = refl
+no_fault (told.Listed rows) goes = refl
+no_fault (told.Saved n) goes = refl
+no_fault (told.Committed n) goes = refl
+no_fault told.NoTransaction goes = refl
+no_fault told.Already goes = refl
+no_fault (told.NoSave n) goes = refl
+no_fault told.SavesFull goes = refl
+no_fault (told.Busy holder) goes = refl
+no_fault (told.LogFull logger held needed) goes = refl
+no_fault (told.SlotsFull n) goes = refl
+no_fault (told.PagesFull n) goes = refl
+no_fault told.Media goes = absurd (false≢true goes)
+no_fault told.Dead goes = refl
+no_fault told.NoMemory goes = refl
+no_fault (told.Damaged page) goes = refl
+
+-- ---- the callers of a drawn script
+
+abbrev IsOf : ℕ → ℕ × Call → Type 0
+IsOf callers turn = turn.0 < callers
+
+alone_inside : (callers : ℕ) (t : Transaction) → 1 ≤ callers → All (IsOf callers) (alone t)
+alone_inside callers t some = All-from_recursion (IsOf callers) (alone t) (omega (arith, some), (omega (arith, some), (omega (arith, some), (omega (arith, some), tt))))
+
+paired_inside : (callers : ℕ) (t u : Transaction) → 2 ≤ callers → All (IsOf callers) (paired t u)
+paired_inside callers t u two = All-from_recursion (IsOf callers) (paired t u)
+    (omega (arith, two), (omega (arith, two), (omega (arith, two), (omega (arith, two), (omega (arith, two), (omega (arith, two), (omega (arith, two), (omega (arith, two), tt))))))))
+
+one_by_one_inside : (callers seed i count : ℕ) → 1 ≤ callers → All (IsOf callers) (one_by_one seed i count)
+one_by_one_inside callers seed i zero some = All-nil (IsOf callers)
+one_by_one_inside callers seed i (suc count) some =
+    All-append (IsOf callers) (alone (transaction seed i)) (one_by_one seed (i + 1) count) (alone_inside callers (transaction seed i) some) (one_by_one_inside callers seed (i + 1) count some)
+
+in_pairs_inside : (callers seed i count : ℕ) → 2 ≤ callers → All (IsOf callers) (in_pairs seed i count)
+in_pairs_inside callers seed i zero two = All-nil (IsOf callers)
+in_pairs_inside callers seed i (suc zero) two = alone_inside callers (transaction seed i) (omega (arith, two))
+in_pairs_inside callers seed i (suc (suc count)) two =
+    All-append (IsOf callers) (paired (transaction seed i) (transaction seed (i + 1))) (in_pairs seed (i + 2) count) (paired_inside callers (transaction seed i) (transaction seed (i + 1)) two)
+    (in_pairs_inside callers seed (i + 2) count two)
+
+-- each is one of the array's
+pub drill_inside : (seed count callers : ℕ) → 1 ≤ callers → All (λ turn. turn.0 < callers) (drill seed count callers)
+drill_inside seed count callers some = elim (cases_lt callers 2) [
+  | inl one ↦ let is : nat_le 2 callers ≡ false = grind (arith, nat_tests) in rw is (one_by_one_inside callers seed 0 count some)
+  | inr two ↦ let is : nat_le 2 callers ≡ true = grind (arith, nat_tests) in rw is (in_pairs_inside callers seed 0 count two)
+]

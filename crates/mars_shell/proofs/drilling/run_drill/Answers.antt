@@ -1,0 +1,53 @@
+use Rattle.std.proofs.Common.{[], false, inl, refl, sym, subst}
+use Rattle.std.proofs.lemmas.List.{append-nil}
+use Rattle.command_words.specs.declared.words.Words.TheVariants.{Drill}
+use Rattle.eaw_device.specs.Opens.{HoldsArray}
+use Rattle.mars_shell.specs.Asked.{OutcomeFor}
+use Rattle.mars_shell.specs.Drill.{Drills}
+use Rattle.mars_shell.specs.Run.{TakesTurns, IsDamaged}
+use Rattle.mars_shell.specs.declared.status.Status.{Status}
+use Rattle.mars_shell.proofs.Outcomes.{turns_outcome}
+use Rattle.mars_shell.proofs.Unopened.{idle_same, unopened_as}
+use Rattle.mars_shell.proofs.drilling.run_drill.Goals as goal
+
+pub returns-in-Err-clause-ran : goal.returns-in-Err-clause-ran
+returns-in-Err-clause-ran g c =
+    let media = g.M.Media.view c.args.media in
+    record {
+      cut = false;
+      text = [];
+      wrote = λ _. sym (append-nil _);
+      counts = refl;
+      holds = λ input told. inl (idle_same g.M.Media.tells told media (g.met.M.Media.only_now c.args.media) _ _ (inl refl));
+    }
+
+pub returns-in-Err-open_array-clause-ran : goal.returns-in-Err-open_array-clause-ran
+returns-in-Err-open_array-clause-ran g c =
+    let old = g.M.Media.view c.args.media in
+    let new = g.M.Media.view c.in-Err-open_array.ended.1 in
+    record {
+      cut = false;
+      text = [];
+      wrote = λ _. sym (append-nil _);
+      counts = refl;
+      holds = λ input told.
+          unopened_as (λ ended. TakesTurns (Drills c.args.numbers.now ended false []) old ended new) (IsDamaged old) (HoldsArray old) old c.in-Err-open_array.ended.0 new c.in-Err-open_array.ensures.kind
+          (c.in-Err-open_array.ensures.unopened told);
+    }
+
+pub returns-clause-ran : goal.returns-clause-ran
+returns-clause-ran g c =
+    let media = g.M.Media in
+    let old = media.view c.args.media in
+    let new = media.view c.into_media.result in
+    let said = c.drill-drilled.ensures.served in
+    record {
+      cut = said.cut;
+      text = said.text;
+      wrote = said.wrote;
+      counts = said.counts;
+      holds = λ input told.
+          subst (λ (s : Status). OutcomeFor (Drill c.args.numbers.now) old s new input said.cut said.text) (sym c.served_status.ensures)
+          (turns_outcome media.tells told old (g.met.M.Media.only_now c.args.media) _ c.in-Ok-open_array.ensures.attached c.in-Ok-open_array.ensures.keeps _ new c.into_media.ensures (g.met.M.Media.counts_now c.into_media.result)
+          (λ ended. Drills c.args.numbers.now ended said.cut said.text) c.drill-drilled.result.0 said.cut said.text (said.holds told));
+    }

@@ -1,0 +1,58 @@
+// What is told of a drill.
+ghost use Rattle.std.specs.Prelude.{◌≡◌, ◌++◌, codes, IfOk, OnOk};
+ghost use Rattle.std.specs.Fmt.{decimal};
+ghost use Rattle.mars_shell.specs.Drill.{key_sum, summary_text};
+ghost use Rattle.mars_shell.specs.Dump.{number_line};
+
+use crate::number_line::append_number;
+use crate::tally::Tally;
+use command_words::DrillNumbers;
+use counted::NoMemory;
+use history::Rows;
+use itoa::Buffer;
+use record_slots::Value;
+use std::alloc::Global;
+
+/// The text that tells what a script was drawn from, what its replies come to, and what the records are behind it.
+pub fn summary_text(
+    alloc: Global,
+    numbers: &DrillNumbers,
+    tally: &Tally,
+    rows: &Rows,
+) -> Result<Vec<u8>, NoMemory>
+    ensures { IfOk result (λ text. text.items ≡ summary_text numbers.now tally.now rows.now) }
+{
+    let rows = rows.as_slice();
+    let mut text = Vec::new(alloc);
+    append_drill(&mut text, numbers)?;
+    append_number(&mut text, b"committed", tally.committed)?;
+    append_number(&mut text, b"aborted", tally.aborted)?;
+    append_number(&mut text, b"busy", tally.busy)?;
+    append_number(&mut text, b"refused", tally.refused)?;
+    append_number(&mut text, b"records", rows.len() as u64)?;
+    append_number(&mut text, b"sum", key_sum(rows))?;
+    Ok(text)
+}
+
+fn append_drill(text: &mut Vec<u8>, numbers: &DrillNumbers) -> Result<(), NoMemory>
+    ensures { OnOk result (text.new.items ≡ text.old.items ++ number_line (codes "drill " ++ decimal numbers.now.seed) numbers.now.count) }
+{
+    let mut buffer = Buffer::new();
+    text.extend_from_slice(b"drill ")?;
+    append_number(
+        text,
+        buffer.format(numbers.seed).as_bytes(),
+        u64::from(numbers.count),
+    )
+}
+
+// The sum of the keys of rows, in 64 bits.
+fn key_sum(rows: &[(u64, Value)]) -> u64
+    ensures { result ≡ key_sum rows.now }
+{
+    let mut sum: u64 = 0;
+    for row in rows {
+        sum = sum.wrapping_add(row.0);
+    }
+    sum
+}

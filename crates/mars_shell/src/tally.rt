@@ -1,0 +1,85 @@
+// What the replies to a script come to.
+ghost use Rattle.std.specs.Prelude.{◌≡◌, ◌≤◌, ◌<◌, ◌+◌, ◌-◌, ◌^◌, []};
+ghost use Rattle.history.specs.declared.call.Reply.TheVariants.{Fine};
+ghost use Rattle.mars_shell.specs.Tally.{tally_of, total, Counted, more_if, is_aborted};
+
+use history::{Call, Reply};
+use script_run::Stop;
+
+/// How many commits and aborts were done, how many calls found their keys held, and how many the array full.
+#[derive(Clone, Copy, Debug, PartialEq, Eq)]
+pub struct Tally {
+    pub committed: u64,
+    pub aborted: u64,
+    pub busy: u64,
+    pub refused: u64,
+}
+
+impl Tally {
+    pub fn new() -> Tally
+        ensures { result ≡ tally_of [] }
+    {
+        Tally {
+            committed: 0,
+            aborted: 0,
+            busy: 0,
+            refused: 0,
+        }
+    }
+
+    /// Counts the reply to a caller's call, behind which the script goes on, or says why that ends.
+    pub fn count(&mut self, caller: u8, call: &Call, reply: &Reply) -> Result<(), Stop>
+        requires { total self.old < 2 ^ 64 - 1 }
+        ensures counted { Counted self.old caller call.now reply.now self.new result }
+        ensures one { total self.new ≤ total self.old + 1 }
+    {
+        match reply {
+            Reply::Media => Err(Stop::Media { number: caller }),
+            Reply::NoMemory => Err(Stop::NoMemory),
+            Reply::Committed(_) => {
+                self.committed += 1;
+                Ok(())
+            }
+            Reply::Fine => {
+                self.count_fine(call);
+                Ok(())
+            }
+            Reply::Busy { .. } => {
+                self.busy += 1;
+                Ok(())
+            }
+            Reply::LogFull { .. } | Reply::SlotsFull { .. } | Reply::PagesFull { .. } => {
+                self.refused += 1;
+                Ok(())
+            }
+            Reply::Found(_)
+            | Reply::Absent
+            | Reply::Listed(_)
+            | Reply::Saved(_)
+            | Reply::NoTransaction
+            | Reply::Already
+            | Reply::NoSave { .. }
+            | Reply::SavesFull
+            | Reply::Dead
+            | Reply::Damaged { .. } => Ok(()),
+        }
+    }
+
+    // Of the calls that are only done, an abort is counted.
+    fn count_fine(&mut self, call: &Call)
+        requires { self.old.aborted < 2 ^ 64 - 1 }
+        ensures { self.new ≡ record self.old { aborted = more_if (is_aborted call.now Fine) self.old.aborted } }
+    {
+        match call {
+            Call::Abort => self.aborted += 1,
+            Call::Begin
+            | Call::Get { .. }
+            | Call::Put { .. }
+            | Call::Del { .. }
+            | Call::Scan { .. }
+            | Call::Save
+            | Call::Back { .. }
+            | Call::Commit => {}
+        }
+    }
+}
