@@ -1,5 +1,5 @@
 -- Callers' work beside each other over the records of a store, from what a core makes of it.
-use Rattle.std.proofs.Common.{◌≡◌, ℕ, zero, suc, ◌≤◌, List, [], length, Bool, false, refl, sym, ap, subst, ◌∙◌, arith}
+use Rattle.std.proofs.Common.{◌≡◌, ℕ, zero, suc, ◌≤◌, List, [], length, Bool, false, Result, Ok, Err, refl, sym, ap, subst, ◌∙◌, arith}
 use Rattle.std.specs.Prelude.{IsTrue, All}
 use Rattle.std.specs.FinMap.{entries}
 use Rattle.std.specs.List.{flat_map}
@@ -28,7 +28,16 @@ use Rattle.script_io.specs.Lines.{lines_of}
 use Rattle.script_text.specs.declared.line.Line.{Line}
 use Rattle.script_run.specs.declared.ended.Ended.{Ended}
 use Rattle.script_run.specs.declared.ended.Ended.TheVariants as ends
-use Rattle.mars_shell.specs.Joint.{TellsWork, IsBrokenOff, JointWork}
+use Rattle.mars_shell.specs.Joint.{TellsWork, IsBrokenOff, JointWork, JointOutcome}
+use Rattle.mars_shell.specs.Opening.{IsUnopened}
+use Rattle.mars_shell.specs.Outcome.{OutcomeOf}
+use Rattle.mars_shell.specs.Run.{TakesTurns, IsDamaged}
+use Rattle.mars_shell.specs.Statuses.{served_status}
+use Rattle.mars_shell.specs.declared.status.Status.{Status}
+use Rattle.mars_shell.specs.declared.status.Status.TheVariants as says
+use Rattle.mars_core.specs.declared.fault.CoreFault.{CoreFault}
+use Rattle.pcm_media.specs.View.{View}
+use Rattle.eaw_device.specs.Opens.{HoldsArray}
 use Rattle.mars_shell.specs.Served.{Untaken}
 use Rattle.mars_shell.proofs.Serving.{stands}
 
@@ -69,7 +78,7 @@ module _ (tells : Bool) (Opens : Shape → List ℕ → List ℕ → Type 0) (ol
   untold new told same = record { whole = refl; silent = refl; cause = tt; time = subst (λ (v : StoreView). LeavesOnly (λ image. Opens old.shape image old.state.bytes) old v) (sym same) (begins.time told) }
 
 module _ (tells : Bool) (told : IsTrue tells) (core last : CoreView) (callers : ℕ) (input : List ℕ) (said : List Line) (says : AllSay callers (lines_of input) said)
-    (plans : List (List Plan)) (plans_are : plans ≡ plans_from 0 callers said) (fates : List (List Fate)) (end : WorkEnd) (worked : Worked tells plans core last fates end) where
+    (plans : List (List Plan)) (plans_are : plans ≡ plans_from 0 callers said) (fates : List (List Fate)) (end : WorkEnd) (worked : Worked tells plans core last fates end) (enough : callers ≤ core.limits.callers) where
   counted : length plans ≡ callers
   counted = ap length plans_are ∙ as_many 0 callers said
 
@@ -81,6 +90,7 @@ module _ (tells : Bool) (told : IsTrue tells) (core last : CoreView) (callers : 
       → TellsWork ended cut text (work_text (faults_from 1 (λ caller. false) said) last.state.history fates (entries (records last.state.base last.state.history))) (flat_map done_lines last.state.history)
       → JointWork callers input ended cut text core.limits core.state last.state
   joint_work ended cut text whole tells_work = record {
+    enough = enough;
     said = said;
     says = says;
     fates = fates;
@@ -94,3 +104,37 @@ module _ (tells : Bool) (told : IsTrue tells) (core last : CoreView) (callers : 
     keys = λ lives. let its = worked.keys told lives in (its.0, its.1, subst (λ (all : List (List Plan)). All (IsPlanned all) its.0) plans_are its.2);
     tells = tells_work;
   }
+
+module _ (callers : ℕ) (old new : View) (input : List ℕ) (cut : Bool) (text : List ℕ) where
+  abbrev Works : Ended → Type 0
+  Works ended = TakesTurns (JointWork callers input ended cut text) old ended new
+
+  abbrev Turned : Status → Type 0
+  Turned status = OutcomeOf Works (IsDamaged old) (HoldsArray old) old status new cut text
+
+  -- the outcome of each status but of wrong usage
+  pub joint_of : (status : Status) → (status ≡ says.Usage → ⊥) → Turned status → JointOutcome callers old status new input cut text
+  joint_of says.Good other outcome = outcome
+  joint_of says.Usage other outcome = absurd (other refl)
+  joint_of says.TooLong other outcome = outcome
+  joint_of says.ReadFault other outcome = outcome
+  joint_of says.WriteFault other outcome = outcome
+  joint_of says.MediaFault other outcome = outcome
+  joint_of says.NoMemory other outcome = outcome
+  joint_of (says.Damaged page) other outcome = outcome
+  joint_of (says.BadRow logger tid) other outcome = outcome
+  joint_of says.NotMars other outcome = outcome
+  joint_of (says.BadShape which given) other outcome = outcome
+
+  -- work over an array is told by none that says wrong usage
+  pub joint_served : (result : Result Ended CoreFault) → Turned (served_status result) → JointOutcome callers old (served_status result) new input cut text
+  joint_served (Ok ends.All) outcome = outcome
+  joint_served (Ok ends.WriteFault) outcome = outcome
+  joint_served (Ok ends.MediaFault) outcome = outcome
+  joint_served (Ok ends.NoMemory) outcome = outcome
+  joint_served (Err (fault.Damaged page)) outcome = outcome
+  joint_served (Err fault.Media) outcome = outcome
+  joint_served (Err fault.NoMemory) outcome = outcome
+
+pub not_usage : (status : Status) → IsUnopened status → status ≡ says.Usage → ⊥
+not_usage status kind is = subst IsUnopened is kind

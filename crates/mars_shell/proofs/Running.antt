@@ -1,5 +1,5 @@
 -- A run over an array that was opened: its records were read, and its lines answered.
-use Rattle.std.proofs.Common.{◌≡◌, ℕ, ◌≤◌, inl, inr, ⊎_elim, List, [], Bool, refl, sym, ap, subst, ◌∙◌, arith}
+use Rattle.std.proofs.Common.{◌≡◌, ℕ, ◌≤◌, false, inl, inr, ⊎_elim, List, [], Bool, refl, sym, ap, subst, ◌∙◌, arith}
 use Rattle.std.specs.Prelude.{IsTrue, Err}
 use Rattle.pcm_media.specs.Images.{MayLeave}
 use Rattle.pcm_media.specs.View.{View}
@@ -59,6 +59,16 @@ module _ (tells : Bool) (told : IsTrue tells) (old : View) (only_now : (image : 
     -- the records were read
     looked : LeavesOnly (λ image. Opens store.shape image store.state.bytes) store later → (shape : Shape) → AllOpen shape old.content → (image : List ℕ) → new.left_since old.moment image → OpensLike shape old.content image
     looked time shape all image left = ⊎_elim (at_entry shape all image) (like_data shape all image) (time.only old.moment image (keeps told shape all).later (behind.left old.moment image left))
+
+    -- the array is left as it was opened
+    pub left_alone : (Cause : Type 0) → later ≡ store → Cause → Idle (HoldsArray old) Cause old new false []
+    left_alone Cause same cause = record {
+      silent = refl;
+      keeps = looked (subst (λ (v : StoreView). LeavesOnly (λ image. Opens store.shape image store.state.bytes) store v) (sym same)
+          (record { later = omega arith; keeps = λ t image le left. left; only = λ t image le left. inl left }));
+      spared = inr (store.shape, array);
+      cause = cause;
+    }
 
     module _ (fault : CoreFault) (cut : Bool) (text : List ℕ) (off : Untaken Opens store fault cut text later) where
       idle : (Cause : Type 0) → Cause → Idle (HoldsArray old) Cause old new cut text

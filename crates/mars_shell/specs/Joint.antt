@@ -1,7 +1,10 @@
 -- What comes of a script whose callers work beside each other.
-use Rattle.std.specs.Prelude.{ℕ, ◌≡◌, ◌<◌, ◌⊎◌, List, [], ◌∷◌, ◌++◌, length, codes, Bool, false, All, Some}
+use Rattle.std.specs.Prelude.{ℕ, ◌≡◌, ◌≤◌, ◌<◌, ◌⊎◌, List, [], ◌∷◌, ◌++◌, length, codes, Bool, false, All, Some}
 use Rattle.std.specs.FinMap.{entries}
 use Rattle.std.specs.List.{flat_map}
+use Rattle.pcm_media.specs.View.{View}
+use Rattle.array_shape.specs.declared.shape.Shape.{Shape}
+use Rattle.eaw_device.specs.Opens.{IsArray, HoldsArray}
 use Rattle.history.specs.Legal.{records}
 use Rattle.history.specs.declared.transaction.Done.{Done}
 use Rattle.core_face.specs.State.{State}
@@ -19,6 +22,10 @@ use Rattle.script_text.specs.declared.line.Line.{Line}
 use Rattle.script_run.specs.declared.ended.Ended.{Ended}
 use Rattle.script_run.specs.declared.ended.Ended.TheVariants.{MediaFault, NoMemory} 
 use Rattle.mars_shell.specs.Dump.{IsCutAt}
+use Rattle.mars_shell.specs.Outcome.{Idle, OutcomeOf}
+use Rattle.mars_shell.specs.Run.{TakesTurns, IsDamaged}
+use Rattle.mars_shell.specs.declared.status.Status.{Status}
+use Rattle.mars_shell.specs.declared.status.Status.TheVariants.{Usage}
 
 -- the last line where the media failed
 abbrev pub media_line : List ℕ
@@ -37,11 +44,12 @@ IsBrokenOff MediaFault = Unit {0}
 IsBrokenOff NoMemory = Unit {0}
 IsBrokenOff ended = ⊥
 
--- What comes of callers' work on a core of these limits, from a first state on: what the lines of the input say; what became of each
+-- What comes of callers' work on a core of these limits, which has as many, from a first state on: what the lines of the input say; what became of each
 -- caller's plans, and that just those that committed are the caller's transactions of the history, in their order and each once; that, but
 -- where the work broke off, each plan has its fate; that a transaction in doubt is one that its caller planned to commit; and that the index
 -- has just the keys of the opening and keys that were planned. The text tells of it.
 pub record JointWork (callers : ℕ) (input : List ℕ) (ended : Ended) (cut : Bool) (text : List ℕ) (limits : Limits) (first final : State) : Type 0 where
+  pub enough : callers ≤ limits.callers
   pub said : List Line
   pub says : AllSay callers (lines_of input) said
   pub fates : List (List Fate)
@@ -54,3 +62,13 @@ pub record JointWork (callers : ℕ) (input : List ℕ) (ended : Ended) (cut : B
   pub keys : final.is_dead ≡ false → (keys : List ℕ) × Gained first.index keys final.index × All (IsPlanned (plans_from 0 callers said)) keys
   pub tells : TellsWork ended cut text (work_text (faults_from 1 (λ caller. false) said) final.history fates (entries (records final.base final.history)))
       (flat_map done_lines final.history)
+
+-- the media holds an array with fewer transaction numbers
+abbrev pub Exceeds : ℕ → View → Type 0
+Exceeds callers media = (shape : Shape) × IsArray shape media × (shape.numbers < callers)
+
+-- What was written and done, by the status. It is wrong usage where there are more callers than numbers; then nothing was done.
+abbrev pub JointOutcome : ℕ → View → Status → View → List ℕ → Bool → List ℕ → Type 0
+JointOutcome callers old Usage new input cut text = Idle (HoldsArray old) (Exceeds callers old) old new cut text
+JointOutcome callers old status new input cut text =
+    OutcomeOf (λ ended. TakesTurns (JointWork callers input ended cut text) old ended new) (IsDamaged old) (HoldsArray old) old status new cut text

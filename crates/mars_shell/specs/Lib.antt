@@ -1,4 +1,3 @@
-pub mod Joint
 pub mod Lines
 pub mod Standing
 pub mod Statuses
@@ -14,6 +13,7 @@ pub mod Drill
 pub mod Made
 pub mod Commands
 pub mod Formats
+pub mod Joint
 pub mod Asked
 pub mod Fault
 pub mod Room

@@ -1,6 +1,7 @@
 //! The program over a source, a sink and a media that are handed in.
 #![tactic(auto)]
 
+mod callers;
 mod commands;
 mod drilling;
 mod dump;

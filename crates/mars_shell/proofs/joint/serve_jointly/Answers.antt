@@ -1,8 +1,8 @@
-use Rattle.std.proofs.Common.{◌≡◌, ℕ, [], false, length, refl, sym, subst, ap, ◌∙◌, arith}
+use Rattle.std.proofs.Common.{◌≤◌, ◌≡◌, ℕ, [], false, length, refl, sym, subst, ap, ◌∙◌, arith}
 use Rattle.std.proofs.lemmas.List.{append-nil}
 use Rattle.key_list.specs.Index.{chain}
 use Rattle.mars_core.specs.Held.{core_of}
-use Rattle.mars_core.specs.Over.{IsOver}
+use Rattle.mars_core.specs.Over.{IsOver, limits_of}
 use Rattle.mars_manager.specs.Sharing.{CanShare}
 use Rattle.mars_shell.specs.Joint.{JointWork}
 use Rattle.mars_shell.specs.Served.{Served}
@@ -41,6 +41,7 @@ returns-in-Ok-work-clause-joined g c =
     let over = subst (λ st. IsOver s.tells (s.opens (s.view st).shape) chain (s.view st) (core_of s.opens chain (s.view st) core)) c.into_store.ensures.store c.into_store.ensures.over in
     let told = c.tell_end-ended.ensures.told in
     let worked = c.in-Ok-work.ensures.worked in
+    let enough = subst (λ l. c.args.callers ≤ l.callers) (sym (begins.over.limits ∙ ap limits_of begins.shape)) c.requires.enough in
     record {
       cut = told.cut;
       text = told.text;
@@ -48,10 +49,10 @@ returns-in-Ok-work-clause-joined g c =
       counts = told.counts;
       holds = λ tells. subst (λ st. Served (JointWork c.args.callers c.args.input.now c.tell_end-ended.result told.cut told.text) s.opens (s.view c.args.store) c.tell_end-ended.result (s.view st)) (sym c.into_store.ensures.store)
           (served s.tells s.opens (s.view c.args.store) (s.view store) _ begins tells (s.view core.records.store) _ over (worked.since.continues tells) (JointWork c.args.callers c.args.input.now c.tell_end-ended.result told.cut told.text) c.tell_end-ended.result
-          (joint_work s.tells tells _ _ c.args.callers c.args.input.now read.0 read.1 c.in-Ok.script.plans.items read.3 c.in-Ok-work.fates.items c.in-Ok-work.end worked
+          (joint_work s.tells tells _ _ c.args.callers c.args.input.now read.0 read.1 c.in-Ok.script.plans.items read.3 c.in-Ok-work.fates.items c.in-Ok-work.end worked enough
           c.tell_end-ended.result told.cut told.text c.tell_end-ended.ensures.whole
           (retold c.tell_end-ended.result told.cut told.text _ _ _ _ _ _ _ _ (c.deref.ensures.value ∙ read.2) c.history.ensures c.base.ensures.base c.deref-in-Ok-work.ensures.value told.holds))
-          (λ all. living s.tells tells _ _ c.args.callers c.args.input.now read.0 read.1 c.in-Ok.script.plans.items read.3 c.in-Ok-work.fates.items c.in-Ok-work.end worked (c.tell_end-ended.ensures.whole (unbroken c.tell_end-ended.result all))));
+          (λ all. living s.tells tells _ _ c.args.callers c.args.input.now read.0 read.1 c.in-Ok.script.plans.items read.3 c.in-Ok-work.fates.items c.in-Ok-work.end worked enough (c.tell_end-ended.ensures.whole (unbroken c.tell_end-ended.result all))));
     }
 
 pub returns-clause-joined : goal.returns-clause-joined

@@ -1,0 +1,86 @@
+use Rattle.std.proofs.Common.{[], false, inl, refl, sym, subst, ap, arith}
+use Rattle.std.proofs.lemmas.List.{append-nil}
+use Rattle.eaw_device.specs.Opens.{HoldsArray}
+use Rattle.mars_shell.specs.Joint.{JointWork, JointOutcome, Exceeds}
+use Rattle.mars_shell.specs.Run.{TakesTurns, IsDamaged}
+use Rattle.mars_shell.specs.declared.status.Status.{Status}
+use Rattle.mars_shell.proofs.Joining.{joint_of, joint_served, not_usage}
+use Rattle.mars_shell.proofs.Outcomes.{turns_outcome}
+use Rattle.mars_shell.proofs.Running.{array, left_alone}
+use Rattle.mars_shell.proofs.Unopened.{idle_same, unopened_as}
+use Rattle.mars_shell.proofs.callers.run_callers.Goals as goal
+
+pub returns-in-Err-clause-ran : goal.returns-in-Err-clause-ran
+returns-in-Err-clause-ran g c =
+    let media = g.M.Media.view c.args.media in
+    let met = g.met.M.Media g.world.𝓛 g.world.𝓜 g.world.𝓡 ((λ s x. x), (λ x. x), (λ x. x), λ x. x) in
+    record {
+      cut = false;
+      text = [];
+      wrote = λ _. sym (append-nil _);
+      counts = refl;
+      holds = (g.S.Source.left c.args.source.now, (λ _. refl), λ told. inl (idle_same g.M.Media.tells told media (met.only_now c.args.media) _ _ (inl refl)));
+    }
+
+pub returns-in-Err-open-clause-ran : goal.returns-in-Err-open-clause-ran
+returns-in-Err-open-clause-ran g c =
+    let old = g.M.Media.view c.args.media in
+    let new = g.M.Media.view c.in-Err-open.ended.1 in
+    let input = g.S.Source.left c.args.source.now in
+    record {
+      cut = false;
+      text = [];
+      wrote = λ _. sym (append-nil _);
+      counts = refl;
+      holds = (
+        input,
+        (λ _. refl),
+        λ told. joint_of c.args.callers old new input false [] c.in-Err-open.ended.0 (not_usage c.in-Err-open.ended.0 c.in-Err-open.ensures.kind)
+            (unopened_as (λ ended. TakesTurns (JointWork c.args.callers input ended false []) old ended new) (IsDamaged old) (HoldsArray old) old c.in-Err-open.ended.0 new c.in-Err-open.ensures.kind (c.in-Err-open.ensures.unopened told)),
+      );
+    }
+
+pub returns-then-callers-shape-clause-ran : goal.returns-then-callers-shape-clause-ran
+returns-then-callers-shape-clause-ran g c =
+    let media = g.M.Media in
+    let met = g.met.M.Media g.world.𝓛 g.world.𝓜 g.world.𝓡 ((λ s x. x), (λ x. x), (λ x. x), λ x. x) in
+    let old = media.view c.args.media in
+    let new = media.view c.into_media.result in
+    record {
+      cut = false;
+      text = [];
+      wrote = λ _. sym (append-nil _);
+      counts = refl;
+      holds = (
+        c.in-Ok-open.opened.0.items,
+        c.in-Ok-open.ensures.read,
+        λ told.
+            let attached = c.in-Ok-open.ensures.attached in
+            left_alone media.tells told old (met.only_now c.args.media) _ attached c.in-Ok-open.ensures.keeps _ new c.into_media.ensures (Exceeds c.args.callers old) refl
+            (_, array media.tells told old (met.only_now c.args.media) _ attached c.in-Ok-open.ensures.keeps, omega (arith, c.if-callers-shape.true, ap (λ s. s.numbers) c.shape.ensures)),
+      );
+    }
+
+pub returns-clause-ran : goal.returns-clause-ran
+returns-clause-ran g c =
+    let media = g.M.Media in
+    let met = g.met.M.Media g.world.𝓛 g.world.𝓜 g.world.𝓡 ((λ s x. x), (λ x. x), (λ x. x), λ x. x) in
+    let old = media.view c.args.media in
+    let new = media.view c.into_media-2.result in
+    let said = c.serve_jointly-worked.ensures.joined in
+    let input = c.in-Ok-open.opened.0.items in
+    record {
+      cut = said.cut;
+      text = said.text;
+      wrote = said.wrote;
+      counts = said.counts;
+      holds = (
+        input,
+        c.in-Ok-open.ensures.read,
+        λ told.
+            subst (λ (s : Status). JointOutcome c.args.callers old s new input said.cut said.text) (sym c.served_status.ensures)
+            (joint_served c.args.callers old new input said.cut said.text c.serve_jointly-worked.result.0
+            (turns_outcome media.tells told old (met.only_now c.args.media) _ c.in-Ok-open.ensures.attached c.in-Ok-open.ensures.keeps _ new c.into_media-2.ensures (met.counts_now c.into_media-2.result)
+            (λ ended. JointWork c.args.callers input ended said.cut said.text) c.serve_jointly-worked.result.0 said.cut said.text (rw c.deref.ensures.value at (said.holds told)))),
+      );
+    }

@@ -1,0 +1,65 @@
+// A run of callers beside each other.
+ghost use Rattle.std.specs.Prelude.{◌≡◌, ◌<◌, ◌≤◌, ◌⊎◌, ℕ, List, IsTrue};
+ghost use Rattle.script_io.specs.Written.{Wrote};
+ghost use Rattle.mars_shell.specs.Joint.{JointOutcome};
+ghost use Rattle.mars_shell.specs.Input.{InputSays};
+ghost use Rattle.mars_shell.specs.Statuses.{Counts, IsRefusal};
+
+use crate::joint::serve_jointly;
+use crate::opening::open;
+use crate::status::{Status, served_status};
+use caller_work::Gate;
+use eaw_face::EawStore;
+use outside::{Sink, Source};
+use page_store::SaveRoom;
+use pcm_media::Media;
+use std::alloc::Global;
+use std::sync::Wait;
+use std::thread::Threads;
+
+/// Gives the transactions of each caller in the source to a worker of its own, over the array that the media holds, where its records are
+/// sound. It is wrong usage where the array has fewer transaction numbers than there are callers.
+pub(crate) fn run_callers<
+    R: Threads + Wait + Sync,
+    S: Source,
+    K: Sink,
+    M: Media + Drop + Send,
+    G: Gate + Sync,
+>(
+    rt: &R,
+    alloc: Global,
+    callers: u8,
+    tries: u32,
+    source: &mut S,
+    sink: &mut K,
+    media: M,
+    gate: &G,
+) -> (Status, M)
+    requires some { 0 < callers }
+    requires tries { 1 ≤ tries }
+    ensures early { (result.0 ≡ Status.TooLong) ⊎ (result.0 ≡ Status.ReadFault) → result.1 ≡ media }
+    ensures silent { (result.0 ≡ Status.TooLong) ⊎ (result.0 ≡ Status.ReadFault) → sink.new ≡ sink.old }
+    ensures usage { result.0 ≡ Status.Usage → sink.new ≡ sink.old }
+    ensures refused { IsRefusal result.0 → sink.new ≡ sink.old }
+    ensures counts { Counts result.0 (S.faults source.old) (S.faults source.new) (K.faults sink.old) (K.faults sink.new) (M.view media).faults (M.view result.1).faults }
+    ensures steady { IsTrue (S.steady source.old) → result.0 ≡ Status.ReadFault → ⊥ }
+    ensures input { IsTrue S.tells → InputSays result.0 (S.left source.old) (S.left source.new) }
+    ensures ran { Wrote K.tells (K.written sink.old) (K.written sink.new) (K.faults sink.old) (K.faults sink.new)
+        (λ cut text. (input : List ℕ) × (IsTrue S.tells → S.left source.old ≡ input) × (IsTrue M.tells → JointOutcome callers (M.view media) result.0 (M.view result.1) input cut text)) }
+{
+    // The room for the pages is taken first, so that want of memory for it leaves the media alone.
+    let room = match SaveRoom::new(alloc) {
+        Ok(room) => room,
+        Err(_) => return (Status::NoMemory, media),
+    };
+    let (input, store) = match open(alloc, source, media) {
+        Ok(opened) => opened,
+        Err(ended) => return ended,
+    };
+    if callers > store.shape().numbers {
+        return (Status::Usage, store.into_media());
+    }
+    let (worked, store) =
+        serve_jointly(rt, alloc, &input, callers, tries, sink, room, store, gate);
+    (served_status(worked), store.into_media())
+}
