@@ -105,36 +105,16 @@ module _ (tells : Bool) (told : IsTrue tells) (core last : CoreView) (callers : 
     tells = tells_work;
   }
 
-module _ (callers : ℕ) (old new : View) (input : List ℕ) (cut : Bool) (text : List ℕ) where
-  abbrev Works : Ended → Type 0
-  Works ended = TakesTurns (JointWork callers input ended cut text) old ended new
+-- no work over an array is told to be wrong usage
+pub never_usage : (result : Result Ended CoreFault) → served_status result ≡ says.Usage → ⊥
+never_usage (Ok ends.All) is = cc is
+never_usage (Ok ends.WriteFault) is = cc is
+never_usage (Ok ends.MediaFault) is = cc is
+never_usage (Ok ends.NoMemory) is = cc is
+never_usage (Err (fault.Damaged page)) is = cc is
+never_usage (Err fault.Media) is = cc is
+never_usage (Err fault.NoMemory) is = cc is
 
-  abbrev Turned : Status → Type 0
-  Turned status = OutcomeOf Works (IsDamaged old) (HoldsArray old) old status new cut text
-
-  -- the outcome of each status but of wrong usage
-  pub joint_of : (status : Status) → (status ≡ says.Usage → ⊥) → Turned status → JointOutcome callers old status new input cut text
-  joint_of says.Good other outcome = outcome
-  joint_of says.Usage other outcome = absurd (other refl)
-  joint_of says.TooLong other outcome = outcome
-  joint_of says.ReadFault other outcome = outcome
-  joint_of says.WriteFault other outcome = outcome
-  joint_of says.MediaFault other outcome = outcome
-  joint_of says.NoMemory other outcome = outcome
-  joint_of (says.Damaged page) other outcome = outcome
-  joint_of (says.BadRow logger tid) other outcome = outcome
-  joint_of says.NotMars other outcome = outcome
-  joint_of (says.BadShape which given) other outcome = outcome
-
-  -- work over an array is told by none that says wrong usage
-  pub joint_served : (result : Result Ended CoreFault) → Turned (served_status result) → JointOutcome callers old (served_status result) new input cut text
-  joint_served (Ok ends.All) outcome = outcome
-  joint_served (Ok ends.WriteFault) outcome = outcome
-  joint_served (Ok ends.MediaFault) outcome = outcome
-  joint_served (Ok ends.NoMemory) outcome = outcome
-  joint_served (Err (fault.Damaged page)) outcome = outcome
-  joint_served (Err fault.Media) outcome = outcome
-  joint_served (Err fault.NoMemory) outcome = outcome
-
+-- nor where the array was not opened
 pub not_usage : (status : Status) → IsUnopened status → status ≡ says.Usage → ⊥
 not_usage status kind is = subst IsUnopened is kind

@@ -22,7 +22,7 @@ use Rattle.script_text.specs.declared.line.Line.{Line}
 use Rattle.script_run.specs.declared.ended.Ended.{Ended}
 use Rattle.script_run.specs.declared.ended.Ended.TheVariants.{MediaFault, NoMemory} 
 use Rattle.mars_shell.specs.Dump.{IsCutAt}
-use Rattle.mars_shell.specs.Outcome.{Idle, OutcomeOf}
+use Rattle.mars_shell.specs.Outcome.{OutcomeOf}
 use Rattle.mars_shell.specs.Run.{TakesTurns, IsDamaged}
 use Rattle.mars_shell.specs.declared.status.Status.{Status}
 use Rattle.mars_shell.specs.declared.status.Status.TheVariants.{Usage}
@@ -67,8 +67,7 @@ pub record JointWork (callers : ℕ) (input : List ℕ) (ended : Ended) (cut : B
 abbrev pub Exceeds : ℕ → View → Type 0
 Exceeds callers media = (shape : Shape) × IsArray shape media × (shape.numbers < callers)
 
--- What was written and done, by the status. It is wrong usage where there are more callers than numbers; then nothing was done.
+-- What was written and done, by the status; and that is wrong usage only where there are more callers than numbers.
 abbrev pub JointOutcome : ℕ → View → Status → View → List ℕ → Bool → List ℕ → Type 0
-JointOutcome callers old Usage new input cut text = Idle (HoldsArray old) (Exceeds callers old) old new cut text
 JointOutcome callers old status new input cut text =
-    OutcomeOf (λ ended. TakesTurns (JointWork callers input ended cut text) old ended new) (IsDamaged old) (HoldsArray old) old status new cut text
+    OutcomeOf (λ ended. TakesTurns (JointWork callers input ended cut text) old ended new) (IsDamaged old) (HoldsArray old) old status new cut text × (status ≡ Usage → Exceeds callers old)

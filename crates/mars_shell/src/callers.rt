@@ -3,7 +3,7 @@ ghost use Rattle.std.specs.Prelude.{◌≡◌, ◌<◌, ◌≤◌, ◌⊎◌, �
 ghost use Rattle.script_io.specs.Written.{Wrote};
 ghost use Rattle.mars_shell.specs.Joint.{JointOutcome};
 ghost use Rattle.mars_shell.specs.Input.{InputSays};
-ghost use Rattle.mars_shell.specs.Statuses.{Counts, IsRefusal};
+ghost use Rattle.mars_shell.specs.Statuses.{Counts, IsEarly, IsRefusal};
 
 use crate::joint::serve_jointly;
 use crate::opening::open;
@@ -38,8 +38,7 @@ pub(crate) fn run_callers<
     requires some { 0 < callers }
     requires tries { 1 ≤ tries }
     ensures early { (result.0 ≡ Status.TooLong) ⊎ (result.0 ≡ Status.ReadFault) → result.1 ≡ media }
-    ensures silent { (result.0 ≡ Status.TooLong) ⊎ (result.0 ≡ Status.ReadFault) → sink.new ≡ sink.old }
-    ensures usage { result.0 ≡ Status.Usage → sink.new ≡ sink.old }
+    ensures silent { IsEarly result.0 → sink.new ≡ sink.old }
     ensures refused { IsRefusal result.0 → sink.new ≡ sink.old }
     ensures counts { Counts result.0 (S.faults source.old) (S.faults source.new) (K.faults sink.old) (K.faults sink.new) (M.view media).faults (M.view result.1).faults }
     ensures steady { IsTrue (S.steady source.old) → result.0 ≡ Status.ReadFault → ⊥ }

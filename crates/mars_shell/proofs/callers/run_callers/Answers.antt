@@ -4,7 +4,7 @@ use Rattle.eaw_device.specs.Opens.{HoldsArray}
 use Rattle.mars_shell.specs.Joint.{JointWork, JointOutcome, Exceeds}
 use Rattle.mars_shell.specs.Run.{TakesTurns, IsDamaged}
 use Rattle.mars_shell.specs.declared.status.Status.{Status}
-use Rattle.mars_shell.proofs.Joining.{joint_of, joint_served, not_usage}
+use Rattle.mars_shell.proofs.Joining.{never_usage, not_usage}
 use Rattle.mars_shell.proofs.Outcomes.{turns_outcome}
 use Rattle.mars_shell.proofs.Running.{array, left_alone}
 use Rattle.mars_shell.proofs.Unopened.{idle_same, unopened_as}
@@ -19,7 +19,7 @@ returns-in-Err-clause-ran g c =
       text = [];
       wrote = λ _. sym (append-nil _);
       counts = refl;
-      holds = (g.S.Source.left c.args.source.now, (λ _. refl), λ told. inl (idle_same g.M.Media.tells told media (met.only_now c.args.media) _ _ (inl refl)));
+      holds = (g.S.Source.left c.args.source.now, (λ _. refl), λ told. (inl (idle_same g.M.Media.tells told media (met.only_now c.args.media) _ _ (inl refl)), λ is. absurd (let no : ⊥ = cc is in no)));
     }
 
 pub returns-in-Err-open-clause-ran : goal.returns-in-Err-open-clause-ran
@@ -35,8 +35,7 @@ returns-in-Err-open-clause-ran g c =
       holds = (
         input,
         (λ _. refl),
-        λ told. joint_of c.args.callers old new input false [] c.in-Err-open.ended.0 (not_usage c.in-Err-open.ended.0 c.in-Err-open.ensures.kind)
-            (unopened_as (λ ended. TakesTurns (JointWork c.args.callers input ended false []) old ended new) (IsDamaged old) (HoldsArray old) old c.in-Err-open.ended.0 new c.in-Err-open.ensures.kind (c.in-Err-open.ensures.unopened told)),
+        λ told. (unopened_as (λ ended. TakesTurns (JointWork c.args.callers input ended false []) old ended new) (IsDamaged old) (HoldsArray old) old c.in-Err-open.ended.0 new c.in-Err-open.ensures.kind (c.in-Err-open.ensures.unopened told), λ is. absurd (not_usage c.in-Err-open.ended.0 c.in-Err-open.ensures.kind is)),
       );
     }
 
@@ -56,8 +55,8 @@ returns-then-callers-shape-clause-ran g c =
         c.in-Ok-open.ensures.read,
         λ told.
             let attached = c.in-Ok-open.ensures.attached in
-            left_alone media.tells told old (met.only_now c.args.media) _ attached c.in-Ok-open.ensures.keeps _ new c.into_media.ensures (Exceeds c.args.callers old) refl
-            (_, array media.tells told old (met.only_now c.args.media) _ attached c.in-Ok-open.ensures.keeps, omega (arith, c.if-callers-shape.true, ap (λ s. s.numbers) c.shape.ensures)),
+            (left_alone media.tells told old (met.only_now c.args.media) _ attached c.in-Ok-open.ensures.keeps _ new c.into_media.ensures _ refl tt,
+            λ is. (_, array media.tells told old (met.only_now c.args.media) _ attached c.in-Ok-open.ensures.keeps, omega (arith, c.if-callers-shape.true, ap (λ s. s.numbers) c.shape.ensures))),
       );
     }
 
@@ -79,8 +78,7 @@ returns-clause-ran g c =
         c.in-Ok-open.ensures.read,
         λ told.
             subst (λ (s : Status). JointOutcome c.args.callers old s new input said.cut said.text) (sym c.served_status.ensures)
-            (joint_served c.args.callers old new input said.cut said.text c.serve_jointly-worked.result.0
             (turns_outcome media.tells told old (met.only_now c.args.media) _ c.in-Ok-open.ensures.attached c.in-Ok-open.ensures.keeps _ new c.into_media-2.ensures (met.counts_now c.into_media-2.result)
-            (λ ended. JointWork c.args.callers input ended said.cut said.text) c.serve_jointly-worked.result.0 said.cut said.text (rw c.deref.ensures.value at (said.holds told)))),
+            (λ ended. JointWork c.args.callers input ended said.cut said.text) c.serve_jointly-worked.result.0 said.cut said.text (rw c.deref.ensures.value at (said.holds told)), λ is. absurd (never_usage c.serve_jointly-worked.result.0 is)),
       );
     }
