@@ -10,13 +10,16 @@ use Rattle.array_shape.specs.Places.{media_len}
 use Rattle.row_bytes.specs.Header.{SaysShape, IsBadIn}
 use Rattle.eaw_device.specs.Opens.{header_of, IsArray, HasBadRow}
 use Rattle.command_words.specs.Asked.{AsksFor}
+use Rattle.command_words.specs.declared.words.CallersNumbers.{CallersNumbers}
 use Rattle.command_words.specs.declared.words.Words.{Words}
+use Rattle.command_words.specs.declared.words.Words.TheVariants.{Callers}
 use Rattle.key_list.specs.Index.{chain}
 use Rattle.index_pages.proofs.FailingFacts.{damaged_chain_is_not_sound}
 use Rattle.script_run.specs.declared.ended.Ended.{Ended}
 use Rattle.script_io.specs.Input.{input_limit}
 use Rattle.mars_shell.specs.Asked.{WordsSay}
 use Rattle.mars_shell.specs.Input.{InputSays}
+use Rattle.mars_shell.specs.Joint.{Exceeds}
 use Rattle.mars_shell.specs.Outcome.{OutcomeOf}
 use Rattle.mars_shell.specs.Run.{HoldsRecords, IsDamaged}
 use Rattle.mars_shell.specs.Statuses.{Counts, IsEarly}
@@ -37,6 +40,26 @@ words_say words (Damaged page) Unread Holds asked other asks holds = (asked, ask
 words_say words (BadRow logger tid) Unread Holds asked other asks holds = (asked, asks, holds)
 words_say words NotMars Unread Holds asked other asks holds = (asked, asks, holds)
 words_say words (BadShape which given) Unread Holds asked other asks holds = (asked, asks, holds)
+
+-- the same of callers, at each status
+pub callers_say : (words : List (List ℕ)) (status : Status) (Unread : Type 0) (Holds : Words → Type 0) (numbers : CallersNumbers) → AsksFor words (Callers numbers) → Holds (Callers numbers) → WordsSay words status Unread Holds
+callers_say words Usage Unread Holds numbers asks holds = inr (Callers numbers, asks, tt, holds)
+callers_say words NoMemory Unread Holds numbers asks holds = inr (Callers numbers, asks, holds)
+callers_say words Good Unread Holds numbers asks holds = (Callers numbers, asks, holds)
+callers_say words TooLong Unread Holds numbers asks holds = (Callers numbers, asks, holds)
+callers_say words ReadFault Unread Holds numbers asks holds = (Callers numbers, asks, holds)
+callers_say words WriteFault Unread Holds numbers asks holds = (Callers numbers, asks, holds)
+callers_say words MediaFault Unread Holds numbers asks holds = (Callers numbers, asks, holds)
+callers_say words (Damaged page) Unread Holds numbers asks holds = (Callers numbers, asks, holds)
+callers_say words (BadRow logger tid) Unread Holds numbers asks holds = (Callers numbers, asks, holds)
+callers_say words NotMars Unread Holds numbers asks holds = (Callers numbers, asks, holds)
+callers_say words (BadShape which given) Unread Holds numbers asks holds = (Callers numbers, asks, holds)
+
+-- an array with as many numbers as callers does not have fewer
+pub no_excess : (media : View) (shape : Shape) (callers : ℕ) → IsArray shape media → callers ≤ shape.numbers → Exceeds callers media → ⊥
+no_excess media shape callers array enough is =
+    let same : shape ≡ is.0 = one_shape (header_of media.content.bytes) shape is.0 array.header is.1.header in
+    omega (arith, enough, is.2, ap (λ (s : Shape). s.numbers) same)
 
 -- a header that says a shape is not wrong
 not_bad_in : (bytes : List ℕ) (size : ℕ) (shape : Shape) (which : ShapeNumber) (given : ℕ) → SaysShape bytes shape → size ≡ media_len shape → IsBadIn bytes size which given → ⊥

@@ -2,14 +2,15 @@
 use Rattle.std.specs.Prelude.{ℕ, ◌≤◌, ◌⊎◌, List, length, Bool, IsTrue}
 use Rattle.pcm_media.specs.View.{View}
 use Rattle.array_shape.specs.declared.shape.Shape.{Shape}
-use Rattle.command_words.specs.Asked.{AsksFor}
+use Rattle.command_words.specs.Asked.{AsksFor, AskForNothing}
 use Rattle.command_words.specs.declared.words.FormatNumbers.{FormatNumbers}
 use Rattle.command_words.specs.declared.words.Words.{Words}
-use Rattle.command_words.specs.declared.words.Words.TheVariants.{Run, Eaw, Dump, Drill, Format}
+use Rattle.command_words.specs.declared.words.Words.TheVariants.{Run, Callers, Eaw, Dump, Drill, Format}
 use Rattle.eaw_device.specs.Opens.{HoldsArray}
 use Rattle.script_io.specs.Input.{input_limit}
 use Rattle.mars_shell.specs.Commands.{Obeys}
 use Rattle.mars_shell.specs.Formats.{GiveLength, FormatOutcome}
+use Rattle.mars_shell.specs.Joint.{JointOutcome}
 use Rattle.mars_shell.specs.Outcome.{OutcomeOf}
 use Rattle.mars_shell.specs.Drill.{Drills}
 use Rattle.mars_shell.specs.Dump.{Dumps}
@@ -17,10 +18,15 @@ use Rattle.mars_shell.specs.Run.{HoldsRecords, TakesTurns, Answers, IsDamaged}
 use Rattle.mars_shell.specs.declared.status.Status.{Status}
 use Rattle.mars_shell.specs.declared.status.Status.TheVariants.{Usage, NoMemory}
 
--- Usage comes exactly where the words ask for nothing. Else they ask for something, of which this holds; but where memory was
+-- the words ask for callers, of which an array may have too few
+abbrev pub IsOfCallers : Words → Type 0
+IsOfCallers (Callers numbers) = Unit {0}
+IsOfCallers asked = ⊥
+
+-- Usage comes where the words ask for nothing, or for callers. Else they ask for something, of which this holds; but where memory was
 -- short they may be unread.
 abbrev pub WordsSay : List (List ℕ) → Status → Type 0 → (Words → Type 0) → Type 0
-WordsSay words Usage Unread Holds = (asked : Words) → AsksFor words asked → ⊥
+WordsSay words Usage Unread Holds = AskForNothing words ⊎ ((asked : Words) × AsksFor words asked × IsOfCallers asked × Holds asked)
 WordsSay words NoMemory Unread Holds = Unread ⊎ ((asked : Words) × AsksFor words asked × Holds asked)
 WordsSay words _ Unread Holds = (asked : Words) × AsksFor words asked × Holds asked
 
@@ -32,13 +38,15 @@ IfFormat _ Formats Other = Other
 -- of a command that reads no input, and of one that does
 abbrev pub IfReads : Words → Type 0 → Type 0 → Type 0
 IfReads Run Without Reads = Reads
+IfReads (Callers numbers) Without Reads = Reads
 IfReads Eaw Without Reads = Reads
 IfReads _ Without Reads = Without
 
--- What was written and done, by what is asked for. A run, a drill and a dump read the records of an array that
+-- What was written and done, by what is asked for. A run, callers beside each other, a drill and a dump read the records of an array that
 -- was opened; raw commands do not.
 abbrev pub OutcomeFor : Words → View → Status → View → List ℕ → Bool → List ℕ → Type 0
 OutcomeFor Run old status new input cut text = OutcomeOf (λ ended. TakesTurns (Answers input ended cut text) old ended new) (IsDamaged old) (HoldsArray old) old status new cut text
+OutcomeFor (Callers numbers) old status new input cut text = JointOutcome numbers.callers old status new input cut text
 OutcomeFor Eaw old status new input cut text = OutcomeOf (λ ended. Obeys old input ended new cut text) (λ page. ⊥) ⊥ old status new cut text
 OutcomeFor Dump old status new input cut text = OutcomeOf (λ ended. Dumps old ended new cut text) (IsDamaged old) (HoldsArray old) old status new cut text
 OutcomeFor (Drill numbers) old status new input cut text = OutcomeOf (λ ended. TakesTurns (Drills numbers ended cut text) old ended new) (IsDamaged old) (HoldsArray old) old status new cut text
@@ -49,10 +57,12 @@ abbrev pub IsShortInput : Bool → List ℕ → Type 0
 IsShortInput tells input = IsTrue tells × (length input ≤ input_limit)
 
 -- What is asked for can be done: a format has numbers in range and the media the length that they give; else the input that is read is
--- within the limit, over an array, whose records are sound where they are read.
+-- within the limit, over an array, whose records are sound where they are read, and which has as many numbers as there are callers.
 abbrev pub IsFit : Words → Bool → List ℕ → Bool → View → Type 0
 IsFit (Format numbers) source_tells input media_tells media = GiveLength numbers media.size
 IsFit Run source_tells input media_tells media = IsShortInput source_tells input × IsTrue media_tells × ((shape : Shape) × HoldsRecords shape media)
+IsFit (Callers numbers) source_tells input media_tells media =
+    IsShortInput source_tells input × IsTrue media_tells × ((shape : Shape) × HoldsRecords shape media × (numbers.callers ≤ shape.numbers))
 IsFit Eaw source_tells input media_tells media = IsShortInput source_tells input × IsTrue media_tells × HoldsArray media
 IsFit Dump source_tells input media_tells media = IsTrue media_tells × ((shape : Shape) × HoldsRecords shape media)
 IsFit (Drill numbers) source_tells input media_tells media = IsTrue media_tells × ((shape : Shape) × HoldsRecords shape media)

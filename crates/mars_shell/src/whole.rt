@@ -2,41 +2,51 @@
 ghost use Rattle.std.specs.Prelude.{◌≡◌, ◌≢◌, ◌⊎◌, ℕ, List, map, IsTrue, string_bytes};
 ghost use Rattle.counted.specs.Causes.{Rose};
 ghost use Rattle.script_io.specs.Written.{Wrote};
+ghost use Rattle.command_words.specs.Asked.{AskForNothing};
 ghost use Rattle.command_words.specs.declared.words.Words.TheVariants.{Dump};
 ghost use Rattle.mars_shell.specs.Asked.{WordsSay, IfFormat, IfReads, OutcomeFor, IsFit};
 ghost use Rattle.mars_shell.specs.Formats.{FormatSays};
 ghost use Rattle.mars_shell.specs.Input.{InputSays};
 ghost use Rattle.mars_shell.specs.Statuses.{Counts};
 
+use crate::callers::run_callers;
 use crate::commands::run_commands;
 use crate::drilling::run_drill;
 use crate::dump::run_dump;
 use crate::formatting::run_format;
-use caller_work::Gate;
 use crate::lines::run_lines;
 use crate::status::Status;
-use command_words::{Words, WordsFault, read_words};
+use caller_work::Gate;
+use command_words::{CallersNumbers, Words, WordsFault, read_words};
 use outside::{Sink, Source};
 use pcm_media::Media;
+use std::sync::Wait;
+use std::thread::Threads;
 
 /// Does all that the program does over the words behind the image's, and gives the media back.
 ///
 /// For `run` the input is read first, then the array is opened and recovered, then its records are read, and then the lines
-/// are answered; for `eaw` all but the records. `drill`, `dump` and `format` read no input. The gate is for runs of several threads; these words
-/// ask for none.
-pub fn run<R: AllocGlobal, S: Source, K: Sink, M: Media, G: Gate>(
+/// are answered; for `callers` each caller's transactions are made by a worker of its own, on a thread, which calls the gate between its calls;
+/// for `eaw` all but the records. `drill`, `dump` and `format` read no input. Only `callers` may wait.
+pub fn run<
+    R: AllocGlobal + Threads + Wait + Sync,
+    S: Source,
+    K: Sink,
+    M: Media + Drop + Send,
+    G: Gate + Sync,
+>(
     rt: &R,
     words: &[String],
     source: &mut S,
     sink: &mut K,
     media: M,
-    _gate: &G,
+    gate: &G,
 ) -> (Status, M)
-    // Usage comes exactly where the words ask for nothing.
+    // Usage comes exactly where the words ask for nothing, or for more callers than the array has numbers (`ran`).
     ensures words { WordsSay (map string_bytes words.now) result.0 (Unit {0}) (λ asked. Unit {0}) }
     // Other words touch nothing, what ends the run before the media is opened leaves that alone, and where no line is answered
     // and no array made nothing is told.
-    ensures usage { result.0 ≡ Status.Usage → (source.new ≡ source.old) × (sink.new ≡ sink.old) × (result.1 ≡ media) }
+    ensures usage { AskForNothing (map string_bytes words.now) → (source.new ≡ source.old) × (sink.new ≡ sink.old) × (result.1 ≡ media) }
     ensures early { (result.0 ≡ Status.TooLong) ⊎ (result.0 ≡ Status.ReadFault) → result.1 ≡ media }
     ensures silent { result.0 ≢ Status.Good → result.0 ≢ Status.WriteFault → result.0 ≢ Status.MediaFault → result.0 ≢ Status.NoMemory → sink.new ≡ sink.old }
     // A fault is told as what it is, and none is hidden.
@@ -63,6 +73,10 @@ pub fn run<R: AllocGlobal, S: Source, K: Sink, M: Media, G: Gate>(
         Err(WordsFault::NoCommand) => (Status::Usage, media),
         Err(WordsFault::NoMemory) => (Status::NoMemory, media),
         Ok(Words::Run) => run_lines(rt.alloc(), source, sink, media),
+        Ok(Words::Callers(numbers)) => {
+            let CallersNumbers { callers, tries } = numbers;
+            run_callers(rt, rt.alloc(), callers, tries, source, sink, media, gate)
+        }
         Ok(Words::Eaw) => run_commands(rt.alloc(), source, sink, media),
         Ok(Words::Dump) => run_dump(rt.alloc(), sink, media),
         Ok(Words::Drill(numbers)) => run_drill(rt.alloc(), sink, media, &numbers),

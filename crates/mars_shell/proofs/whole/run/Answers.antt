@@ -1,4 +1,4 @@
-use Rattle.std.proofs.Common.{[], refl, arith}
+use Rattle.std.proofs.Common.{[], inl, refl, arith}
 use Rattle.std.specs.Prelude.{map, string_bytes}
 use Rattle.command_words.specs.declared.words.Words.TheVariants.{Run, Eaw, Dump, Drill, Format}
 use Rattle.eaw_device.specs.Opens.{HoldsArray}
@@ -11,22 +11,22 @@ use Rattle.mars_shell.proofs.Completing.{words_say, no_damage, no_rise, nothing_
 use Rattle.mars_shell.proofs.whole.run.Goals as goal
 
 pub returns-in-Err-NoCommand-clause-words : goal.returns-in-Err-NoCommand-clause-words
-returns-in-Err-NoCommand-clause-words g c = c.in-Err-NoCommand.ensures.refused c.in-Err-NoCommand.field-0-is
+returns-in-Err-NoCommand-clause-words g c = inl (c.in-Err-NoCommand.ensures.refused c.in-Err-NoCommand.field-0-is)
 
 pub returns-in-Err-NoCommand-clause-input : goal.returns-in-Err-NoCommand-clause-input
-returns-in-Err-NoCommand-clause-input g c = c.in-Err-NoCommand.ensures.refused c.in-Err-NoCommand.field-0-is
+returns-in-Err-NoCommand-clause-input g c = inl (c.in-Err-NoCommand.ensures.refused c.in-Err-NoCommand.field-0-is)
 
 pub returns-in-Err-NoCommand-clause-formats : goal.returns-in-Err-NoCommand-clause-formats
-returns-in-Err-NoCommand-clause-formats g c = c.in-Err-NoCommand.ensures.refused c.in-Err-NoCommand.field-0-is
+returns-in-Err-NoCommand-clause-formats g c = inl (c.in-Err-NoCommand.ensures.refused c.in-Err-NoCommand.field-0-is)
 
 pub returns-in-Err-NoCommand-clause-ran : goal.returns-in-Err-NoCommand-clause-ran
-returns-in-Err-NoCommand-clause-ran g c = c.in-Err-NoCommand.ensures.refused c.in-Err-NoCommand.field-0-is
+returns-in-Err-NoCommand-clause-ran g c = inl (c.in-Err-NoCommand.ensures.refused c.in-Err-NoCommand.field-0-is)
 
 pub returns-in-Err-NoCommand-clause-dumps : goal.returns-in-Err-NoCommand-clause-dumps
-returns-in-Err-NoCommand-clause-dumps g c = c.in-Err-NoCommand.ensures.refused c.in-Err-NoCommand.field-0-is
+returns-in-Err-NoCommand-clause-dumps g c = inl (c.in-Err-NoCommand.ensures.refused c.in-Err-NoCommand.field-0-is)
 
 pub returns-in-Err-NoCommand-clause-complete : goal.returns-in-Err-NoCommand-clause-complete
-returns-in-Err-NoCommand-clause-complete g c = c.in-Err-NoCommand.ensures.refused c.in-Err-NoCommand.field-0-is
+returns-in-Err-NoCommand-clause-complete g c = inl (c.in-Err-NoCommand.ensures.refused c.in-Err-NoCommand.field-0-is)
 
 pub returns-in-Ok-Run-clause-complete : goal.returns-in-Ok-Run-clause-complete
 returns-in-Ok-Run-clause-complete g c =
