@@ -27,7 +27,7 @@ use Rattle.mars_manager.specs.Sharing.{Since, Called, IsLegalIn, done_of, HasCom
 use Rattle.mars_manager.specs.Seat.{shared_view}
 use Rattle.mars_manager.specs.Rule.{Face, shown}
 use Rattle.mars_manager.proofs.Past.{after_grows, own_commits, other_commits, since_step}
-use Rattle.mars_manager.proofs.Notes.{noted_step}
+use Rattle.mars_manager.proofs.Notes.{noted_step, met_step}
 use Rattle.mars_manager.proofs.Turns.{out, some_same, Moved}
 
 refusal_none : (reply : Reply) → is_refusal reply ≡ true → is_committed reply ≡ false
@@ -67,6 +67,7 @@ module _ {C : Type 0} (f : Face C) where
     grows = subst (λ h. Grows (f.show old).state.history h) (sym s.moves.history) (after_grows (f.show old).state n reply);
     others = λ m ne. (ap (commits_of m) s.moves.history ∙ other_commits (f.show old).state n m reply ne, s.moves.others m ne);
     since = since_step f.tells setup.from n call reply (f.show setup.first) (f.show old) (f.show new) s;
+    dead = λ notes few met. met_step setup.callers (f.show old).state (f.show new).state n call reply s.moves notes few met;
     noted = λ notes few strangers since noted told.
         let step = subst (λ limits. Step limits (f.show old).state n call reply (f.show new).state) since.limits (s.step told) in
         noted_step (f.show setup.first).limits setup.callers (f.show setup.first).state.index (f.show old).state (f.show new).state n call reply step s.moves notes few (λ other le. (strangers other le).1) (since.continues told).sound.certain (noted told);

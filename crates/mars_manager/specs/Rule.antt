@@ -11,7 +11,7 @@ use Rattle.mars_manager.specs.declared.view.Known.{Known}
 use Rattle.mars_manager.specs.declared.view.Stage.TheVariants.{Vacant, Opening, Shared}
 use Rattle.mars_manager.specs.declared.view.View.{View}
 use Rattle.mars_manager.specs.declared.setup.Setup.{Setup}
-use Rattle.mars_manager.specs.Notes.{Notes, AreNoted}
+use Rattle.mars_manager.specs.Notes.{Notes, IsDeadAsMet, AreNoted}
 use Rattle.mars_manager.specs.Pass.{AllFit, known_after, hears, times, HasNoOthers}
 use Rattle.mars_manager.specs.Sharing.{Since}
 use Rattle.mars_manager.specs.Seat.{view, shared_view, opener}
@@ -85,6 +85,7 @@ module _ {C : Type 0} where
       pub enough : setup.callers ≤ (f.show setup.first).limits.callers
       pub since : Since f.tells setup.from (f.show setup.first) (f.show core)
       pub strangers : HasNoOthers setup.callers (f.show core).state
+      pub dead : IsDeadAsMet setup.callers (f.show core).state notes
       pub noted : IsTrue f.tells → AreNoted (f.show setup.first).limits setup.callers (f.show setup.first).state.index (f.show core).state notes
 
     abbrev pub Rule : Setup C → State (Option C) (View C) → Type 0

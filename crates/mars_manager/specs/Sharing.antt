@@ -14,7 +14,7 @@ use Rattle.core_face.specs.Sound.{IsSound}
 use Rattle.core_face.specs.Core.{CoreView, IsSafe, Steps, Continues}
 use Rattle.mars_manager.specs.declared.setup.Setup.{Setup}
 use Rattle.mars_manager.specs.declared.view.Known.{Known}
-use Rattle.mars_manager.specs.Notes.{Notes, AreNoted}
+use Rattle.mars_manager.specs.Notes.{Notes, IsDeadAsMet, AreNoted}
 use Rattle.mars_manager.specs.Pass.{PassView, AreSo, known_after}
 
 -- what contracts see of a shared core: its table, and how it was shared
@@ -61,10 +61,12 @@ module _ {C : Type 0} where
     pub dead : IsTrue (show old).state.is_dead → (reply ≡ Dead) × (new ≡ old)
     pub after : now ≡ known_after was (show new).state call reply
 
-  -- What these passes know is so of the core that comes back, and what their callers have asked for and met is noted.
+  -- What these passes know is so of the core that comes back, and what their callers have asked for and met is noted. On any core, the media
+  -- has failed just where a caller was told so.
   pub record AreGathered (tells : Bool) (show : C → CoreView) (setup : Setup C) (core : C) (passes : List (PassView C)) : Type 0 where
     pub notes : ℕ → Notes
     pub each : AreSo setup (show core).state notes passes
+    pub dead : IsDeadAsMet setup.callers (show core).state notes
     pub noted : IsTrue tells → AreNoted (show setup.first).limits setup.callers (show setup.first).state.index (show core).state notes
 
   -- what a pass has seen is a legal history on the records at the opening
