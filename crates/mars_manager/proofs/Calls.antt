@@ -21,7 +21,7 @@ use Rattle.atomic_table.specs.Table.{Me, rest}
 use Rattle.mars_manager.specs.declared.view.Known.{Known}
 use Rattle.mars_manager.specs.declared.view.View.{View}
 use Rattle.mars_manager.specs.declared.setup.Setup.{Setup}
-use Rattle.mars_manager.specs.Notes.{Notes}
+use Rattle.mars_manager.specs.Notes.{Notes, doubt_of}
 use Rattle.mars_manager.specs.Pass.{Fits, commits_of}
 use Rattle.mars_manager.specs.Sharing.{Since, Called, IsLegalIn, done_of, HasCommitted, Commits}
 use Rattle.mars_manager.specs.Seat.{shared_view}
@@ -74,8 +74,9 @@ module _ {C : Type 0} (f : Face C) where
   }
 
   module _ (setup : Setup C) (notes : ℕ → Notes) (old new : C) (k : Known C) (call : Call) (reply : Reply) (fit : Fits setup (f.show old).state notes k) (s : Steps f.tells k.number call (f.show old) (f.show new) reply) where
-    pub called : Since f.tells setup.from (f.show setup.first) (f.show old) → (IsTrue (f.show old).state.is_dead → (reply ≡ Dead) × (new ≡ old)) → Called f.tells f.show k call reply (shown f call reply new k)
-    called since dead = record {
+    pub called : Since f.tells setup.from (f.show setup.first) (f.show old) → (IsTrue f.tells → (n : ℕ) → (notes n).doubt ≡ doubt_of n (f.show old).state.doubt)
+        → (IsTrue (f.show old).state.is_dead → (reply ≡ Dead) × (new ≡ old)) → Called f.tells f.show k call reply (shown f call reply new k)
+    called since doubt dead = record {
       setup = setup;
       old = old;
       new = new;
@@ -84,6 +85,7 @@ module _ {C : Type 0} (f : Face C) where
       comes = since_step f.tells setup.from k.number call reply (f.show setup.first) (f.show old) (f.show new) s since;
       seen = fit.seen;
       live = sym fit.live;
+      doubt = λ told. fit.doubt ∙ doubt told k.number;
       steps = s;
       dead = dead;
       after = refl;

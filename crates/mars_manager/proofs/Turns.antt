@@ -177,6 +177,7 @@ module _ {C : Type 0} (f : Face C) (setup : Setup C) where
             now = refl;
             fit = h.fit id (shared_view (k ∷ []) None) at;
             since = h.since;
+            doubt = λ told. (h.noted told).doubt;
             few = λ n has. (let m = h.enough in let same = ap (λ (l : Limits). l.callers) h.since.limits in let l = number_below s h n id (shared_view (k ∷ []) None) at has in omega arith);
           },
           λ ne. absurd (ne free),

@@ -14,7 +14,7 @@ use Rattle.core_face.specs.Sound.{IsSound}
 use Rattle.core_face.specs.Core.{CoreView, IsSafe, Steps, Continues}
 use Rattle.mars_manager.specs.declared.setup.Setup.{Setup}
 use Rattle.mars_manager.specs.declared.view.Known.{Known}
-use Rattle.mars_manager.specs.Notes.{Notes, IsDeadAsMet, AreNoted}
+use Rattle.mars_manager.specs.Notes.{Notes, doubt_of, IsDeadAsMet, AreNoted}
 use Rattle.mars_manager.specs.Pass.{PassView, AreSo, known_after}
 
 -- what contracts see of a shared core: its table, and how it was shared
@@ -47,7 +47,8 @@ pub record Since (tells : Bool) (from : ℕ) (first core : CoreView) : Type 0 wh
 
 module _ {C : Type 0} where
   -- A call that got the turn is one step of a core that the shared one has come to. What the pass had seen begins that core's history, and
-  -- its caller's live calls were the pass's; and what the pass knows then is what is so behind the step.
+  -- its caller's live calls were the pass's, as was its transaction in doubt where the core tells its records; and what the pass knows then
+  -- is what is so behind the step.
   pub record Called (tells : Bool) (show : C → CoreView) (was : Known C) (call : Call) (reply : Reply) (now : Known C) : Type 0 where
     pub setup : Setup C
     pub old : C
@@ -57,6 +58,7 @@ module _ {C : Type 0} where
     pub comes : Since tells setup.from (show setup.first) (show new)
     pub seen : Grows was.seen (show old).state.history
     pub live : (show old).state.live was.number ≡ was.live
+    pub doubt : IsTrue tells → was.doubt ≡ doubt_of was.number (show old).state.doubt
     pub steps : Steps tells was.number call (show old) (show new) reply
     pub dead : IsTrue (show old).state.is_dead → (reply ≡ Dead) × (new ≡ old)
     pub after : now ≡ known_after was (show new).state call reply
