@@ -1,2 +1,3 @@
 pub mod Fates
 pub mod Worked
+pub mod Standing

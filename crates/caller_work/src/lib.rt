@@ -3,6 +3,13 @@
 
 mod end;
 mod gate;
+mod stop;
+mod transaction;
+mod tries;
+mod worker;
 
 pub use end::WorkEnd;
 pub use gate::{Gate, OpenGate, Place};
+pub use stop::Stop;
+pub use tries::Tries;
+pub use worker::Worker;
