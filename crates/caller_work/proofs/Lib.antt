@@ -1,0 +1,4 @@
+pub mod Fating
+pub mod Refusals
+pub mod Steps
+pub mod Asking

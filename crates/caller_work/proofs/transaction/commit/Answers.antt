@@ -1,0 +1,24 @@
+use Rattle.std.proofs.Common.{◌≡◌, ℕ, Bool, true, false, List, [], ◌∷◌, ◌++◌, Some, None, Ok, Err, refl, sym, ap, ◌∙◌, subst}
+use Rattle.core_face.specs.Fate.{is_media, is_refusal, is_committed, live_with}
+use Rattle.history.specs.declared.call.Call.TheVariants.{Begin, Commit, Abort}
+use Rattle.history.specs.declared.call.Reply.TheVariants as says
+use Rattle.caller_plans.specs.declared.plan.Plan.{Plan}
+use Rattle.caller_work.specs.Standing.{limits_of, Stands}
+use Rattle.caller_work.proofs.Steps.{same_pass, live_done, stands_done, stands_undone, not_committed, commit_puts}
+use Rattle.caller_work.proofs.transaction.commit.Goals as goal
+
+pub returns-in-Committed-clause-committed : goal.returns-in-Committed-clause-committed
+returns-in-Committed-clause-committed g c plans fates next stands =
+    let e = c.call_wait.ensures in
+    stands_done g.C.Core.tells g.C.Core.view _ _ Commit _ e.step _ plans fates stands c.in-Committed.at c.in-Committed.is e.commit (commit_puts plans) c.args.plan.now next c.requires.end c.requires.live
+
+pub returns-in_default : goal.returns-in_default
+returns-in_default g c =
+    let e = c.call_wait.ensures in record {
+      same = same_pass g.C.Core.tells g.C.Core.view _ _ Commit _ e.step e.table;
+      idle = tt;
+      committed = tt;
+      stopped = λ plans fates next stands.
+          subst (λ (b : Bool). Stands g.C.Core.tells (limits_of g.C.Core.view c.args.mars.now) plans fates b c.call_wait.new.pass.known) (sym c.stop_of.ensures.media)
+          (stands_undone g.C.Core.tells g.C.Core.view _ _ Commit _ e.step _ plans fates stands e.commit (not_committed _ (λ at e. c.in_default.not-Committed at e)) (commit_puts plans) c.args.plan.now next c.requires.end c.requires.live);
+    }
