@@ -1,6 +1,6 @@
 -- What is heard of a call between a begin and its end.
 use Rattle.std.proofs.Common.{◌≡◌, ℕ, Bool, true, false, List, [], ◌∷◌, ◌++◌, map, Option, Some, None, Result, Ok, Err, refl, sym, ap, ◌∙◌, subst}
-use Rattle.std.specs.Prelude.{IsTrue, IfOk, unwrap_or}
+use Rattle.std.specs.Prelude.{IsTrue, IsFalse, IfOk, IfErr, unwrap_or}
 use Rattle.std.proofs.lemmas.Bool.{true≢false}
 use Rattle.std.proofs.lemmas.List.{map-append}
 use Rattle.history.specs.Table.{Granted}
@@ -20,7 +20,7 @@ use Rattle.caller_work.specs.declared.stop.Stop.{Stop}
 use Rattle.caller_work.specs.declared.stop.Heard.{Heard}
 use Rattle.caller_work.specs.declared.stop.Heard.TheVariants as heard
 use Rattle.caller_work.specs.Fates.{is_of_table, MayRefuse}
-use Rattle.caller_work.specs.Standing.{heard_of, fault_of, limits_of, HasMet, IsLive, IsHeard}
+use Rattle.caller_work.specs.Standing.{heard_of, fault_of, is_busy_stop, limits_of, HasMet, IsLive, IsHeard}
 use Rattle.caller_work.proofs.Refusals.{asked_of, refused_same, may_refuse}
 use Rattle.caller_work.proofs.Steps.{live_done, met_now}
 
@@ -32,6 +32,14 @@ if_ok (Err e) P p = tt
 pub fault_heard : (reply : Reply) → fault_of (heard_of reply) ≡ is_media reply
 fault_heard says.Media = refl
 fault_heard _ = refl
+
+-- and no reply stops a call as a locked key does
+pub busy_heard : (reply : Reply) → IfErr (heard_of reply) (λ stop. IsFalse (is_busy_stop stop))
+busy_heard says.Media = refl
+busy_heard says.Dead = refl
+busy_heard says.NoMemory = refl
+busy_heard (says.Committed n) = refl
+busy_heard _ = tt
 
 pub table_commits : (call : Call) → is_of_table call ≡ true → call ≡ Commit → ⊥
 table_commits call plain e = true≢false (sym plain ∙ ap is_of_table e)

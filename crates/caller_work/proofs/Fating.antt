@@ -1,6 +1,7 @@
 -- What becomes of plans, one by one.
 use Rattle.std.proofs.Common.{◌≡◌, ◌≢◌, ℕ, suc, ◌+◌, ◌<◌, List, [], ◌∷◌, ◌++◌, length, map, take, refl, sym, ap, ◌∙◌, subst, arith, length-append, append_assoc}
-use Rattle.std.specs.Prelude.{IsTrue}
+use Rattle.std.specs.Prelude.{IsTrue, Contains}
+use Rattle.std.proofs.lemmas.List.Elements.{Contains-append_right}
 use Rattle.std.proofs.lemmas.List.{append-nil}
 use Rattle.std.proofs.Math.Seq.{take-append_seam, take-append-add}
 use Rattle.history.specs.declared.call.Call.{Call}
@@ -77,3 +78,8 @@ pub undecided_next : (plans : List Plan) (fates : List Fate) (plan : Plan) (done
     → map (λ (entry : Call × Reply). entry.0) done.calls ≡ plan.calls → IsUndecided plans fates done
 undecided_next plans fates plan done next commits calls =
     subst (λ (l : List Plan). IsUndecided l fates done) (sym next.plans_is) (undecided_at next.before fates plan next.behind done next.each commits calls)
+
+-- it is one of the plans
+pub contains_next : (plans : List Plan) (fates : List Fate) (plan : Plan) → IsNext plans fates plan → Contains plans plan
+contains_next plans fates plan next =
+    subst (λ (l : List Plan). Contains l plan) (sym next.plans_is) (Contains-append_right next.before (plan ∷ next.behind) plan (0, omega arith, refl))

@@ -2,3 +2,4 @@ pub mod Fating
 pub mod Refusals
 pub mod Steps
 pub mod Asking
+pub mod Walks

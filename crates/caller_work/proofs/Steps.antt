@@ -285,3 +285,9 @@ stands_fate tells limits plans fates known plan one stands next fated = record {
 -- a call leaves the pass of the same caller
 pub same_pass : {C : Type 0} (tells : Bool) (show : C → CoreView) (was now : PassView C) (call : Call) (reply : Reply) → Called tells show was.known call reply now.known → now.table ≡ was.table → IsSame was now
 same_pass tells show was now call reply step table = record { table = table; number = number_same tells show was.known now.known call reply step; setup = setup_same tells show was.known now.known call reply step }
+
+pub same_on : {C : Type 0} (one two three : PassView C) → IsSame one two → IsSame two three → IsSame one three
+same_on one two three a b = record { table = b.table ∙ a.table; number = b.number ∙ a.number; setup = b.setup ∙ a.setup }
+
+pub not_busy : {P : Type 0} (b : Bool) → b ≡ false → b ≡ true → P
+not_busy b none some = absurd (true≢false (sym some ∙ none))

@@ -119,22 +119,20 @@ module _ {C : Type 0} where
   AreHeard tells limits plan known (heard.Refused reply) = IsTrue tells → IsRefused limits (HasMet known.hit) plan reply
   AreHeard tells limits plan known (heard.Busy holder) = Unit {0}
 
-  -- a plan was made, and has its fate; or the worker stopped. Where a locked key stopped it, nothing is live.
+  -- a plan was made, and has its fate; or the worker stopped
   abbrev pub Comes : Bool → Limits → List Plan → List Fate → Known C → Result Fate Stop → Type 0
   Comes tells limits plans fates known (Ok fate) = Stands tells limits plans (fates ++ fate ∷ []) false known
   Comes tells limits plans fates known (Err stop) = Stands tells limits plans fates (is_media_stop stop) known
 
-  -- nothing is live, but where the worker cannot go on
+  -- nothing is live where the plan was made, or a locked key stopped it
   abbrev pub Ends : Known C → Result Fate Stop → Type 0
   Ends known (Ok fate) = known.live ≡ None
-  Ends known (Err (stop.Busy holder)) = known.live ≡ None
-  Ends known (Err _) = Unit {0}
+  Ends known (Err stop) = IsTrue (is_busy_stop stop) → known.live ≡ None
 
-  -- nothing is live, but where a worker was stopped for good
+  -- nothing is live where a worker is not stopped for good
   abbrev pub IsIdle : Known C → Option Stop → Type 0
   IsIdle known None = known.live ≡ None
-  IsIdle known (Some (stop.Busy holder)) = known.live ≡ None
-  IsIdle known (Some _) = Unit {0}
+  IsIdle known (Some stop) = IsTrue (is_busy_stop stop) → known.live ≡ None
 
   -- a worker can begin, or go on where it was stopped by a locked key
   pub record IsReady (tells : Bool) (show : C → CoreView) (mars : MarsView C) (worker : Worker C) : Type 0 where

@@ -6,6 +6,7 @@ mod gate;
 mod stop;
 mod transaction;
 mod tries;
+mod trying;
 mod worker;
 
 pub use end::WorkEnd;

@@ -1,5 +1,5 @@
 // The calls of one transaction.
-ghost use Rattle.std.specs.Prelude.{◌≡◌, List, [], ◌∷◌, ◌++◌, Some, None, All, Contains, IsTrue, OnOk, IfOk, IfErr, false};
+ghost use Rattle.std.specs.Prelude.{◌≡◌, List, [], ◌∷◌, ◌++◌, Some, None, All, Contains, IsTrue, IsFalse, OnOk, IfOk, IfErr, false};
 ghost use Rattle.history.specs.declared.call.Call.{Call};
 ghost use Rattle.history.specs.declared.call.Reply.{Reply};
 ghost use Rattle.caller_plans.specs.declared.plan.Plan.{Plan};
@@ -7,7 +7,7 @@ ghost use Rattle.caller_plans.specs.declared.plan.PlanEnd.TheVariants as end;
 ghost use Rattle.caller_plans.specs.declared.fate.Fate.{Fate};
 ghost use Rattle.caller_plans.specs.declared.fate.Fate.TheVariants as fate;
 ghost use Rattle.caller_work.specs.Fates.{is_of_table};
-ghost use Rattle.caller_work.specs.Standing.{limits_of, fault_of, is_media_stop, HasMet, IsPutIn, IsNext, IsOf, IsSame, Stands, IsLive, IsHeard, AreHeard, Comes};
+ghost use Rattle.caller_work.specs.Standing.{limits_of, fault_of, is_media_stop, is_busy_stop, HasMet, IsPutIn, IsNext, IsOf, IsSame, Stands, IsLive, IsHeard, AreHeard, Comes};
 
 use crate::gate::{Gate, Place};
 use crate::stop::{answer_of, stop_of, Heard, Stop};
@@ -31,6 +31,7 @@ pub fn begin<R: Wait, C: Core + Drop>(
 ) -> Result<(), Stop>
     requires { IsOf mars.now pass.old }
     ensures same { IsSame pass.old pass.new }
+    ensures busy { IfErr result (λ stop. IsFalse (is_busy_stop stop)) }
     ensures live { OnOk result (IsLive [] pass.new.known) }
     ensures stands { (plans : List Plan) (fates : List Fate) → Stands C.tells (limits_of C.view mars.now) plans fates false pass.old.known → Stands C.tells (limits_of C.view mars.now) plans fates (fault_of result) pass.new.known }
 {
@@ -47,6 +48,7 @@ pub fn abort<R: Wait, C: Core + Drop>(
 ) -> Result<(), Stop>
     requires { IsOf mars.now pass.old }
     ensures same { IsSame pass.old pass.new }
+    ensures busy { IfErr result (λ stop. IsFalse (is_busy_stop stop)) }
     ensures idle { OnOk result (pass.new.known.live ≡ None) }
     ensures met { (call : Call) (reply : Reply) → HasMet pass.old.known.hit call reply → HasMet pass.new.known.hit call reply }
     ensures stands { (plans : List Plan) (fates : List Fate) → Stands C.tells (limits_of C.view mars.now) plans fates false pass.old.known → Stands C.tells (limits_of C.view mars.now) plans fates (fault_of result) pass.new.known }
@@ -68,6 +70,7 @@ pub fn commit<R: Wait, C: Core + Drop>(
     requires live { IsLive plan.now.calls pass.old.known }
     requires end { plan.now.end ≡ end.Commit }
     ensures same { IsSame pass.old pass.new }
+    ensures busy { IfErr result (λ stop. IsFalse (is_busy_stop stop)) }
     ensures idle { OnOk result (pass.new.known.live ≡ None) }
     ensures committed { IfOk result (λ at. (plans : List Plan) (fates : List Fate) → IsNext plans fates plan.now → Stands C.tells (limits_of C.view mars.now) plans fates false pass.old.known → Stands C.tells (limits_of C.view mars.now) plans (fates ++ fate.Committed at ∷ []) false pass.new.known) }
     ensures stopped { IfErr result (λ stop. (plans : List Plan) (fates : List Fate) → IsNext plans fates plan.now → Stands C.tells (limits_of C.view mars.now) plans fates false pass.old.known → Stands C.tells (limits_of C.view mars.now) plans fates (is_media_stop stop) pass.new.known) }
@@ -88,6 +91,7 @@ pub fn ask<R: Wait, C: Core + Drop>(
     requires of { IsOf mars.now pass.old }
     requires plain { IsTrue (is_of_table call.now) }
     ensures same { IsSame pass.old pass.new }
+    ensures busy { IfErr result (λ stop. IsFalse (is_busy_stop stop)) }
     ensures heard { IfOk result (λ h. (before : List Call) → IsLive before pass.old.known → IsHeard C.tells (limits_of C.view mars.now) before call.now pass.new.known h) }
     ensures stands { (plans : List Plan) (fates : List Fate) (plan : Plan) → Contains plans plan → Contains plan.calls call.now → Stands C.tells (limits_of C.view mars.now) plans fates false pass.old.known → Stands C.tells (limits_of C.view mars.now) plans fates (fault_of result) pass.new.known }
 {
@@ -107,6 +111,7 @@ pub fn ask_all<R: Wait, C: Core + Drop, G: Gate>(
     requires live { IsLive [] pass.old.known }
     requires plain { All (λ call. IsTrue (is_of_table call)) plan.now.calls }
     ensures same { IsSame pass.old pass.new }
+    ensures busy { IfErr result (λ stop. IsFalse (is_busy_stop stop)) }
     ensures heard { IfOk result (λ h. AreHeard C.tells (limits_of C.view mars.now) plan.now pass.new.known h) }
     ensures stands { (plans : List Plan) (fates : List Fate) → Contains plans plan.now → Stands C.tells (limits_of C.view mars.now) plans fates false pass.old.known → Stands C.tells (limits_of C.view mars.now) plans fates (fault_of result) pass.new.known }
 {

@@ -17,6 +17,7 @@ pub returns-in_default : goal.returns-in_default
 returns-in_default g c =
     let e = c.call_wait.ensures in record {
       same = same_pass g.C.Core.tells g.C.Core.view _ _ Abort _ e.step e.table;
+      busy = c.stop_of.ensures.busy;
       idle = tt;
       met = λ call reply met. met_on g.C.Core.tells g.C.Core.view _ _ Abort _ e.step call reply met;
       stands = λ plans fates stands.

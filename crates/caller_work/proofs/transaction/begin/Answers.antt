@@ -17,6 +17,7 @@ pub returns-in_default : goal.returns-in_default
 returns-in_default g c =
     let e = c.call_wait.ensures in record {
       same = same_pass g.C.Core.tells g.C.Core.view _ _ Begin _ e.step e.table;
+      busy = c.stop_of.ensures.busy;
       live = tt;
       stands = λ plans fates stands.
           subst (λ (b : Bool). Stands g.C.Core.tells (limits_of g.C.Core.view c.args.mars.now) plans fates b c.call_wait.new.pass.known) (sym c.stop_of.ensures.media)

@@ -16,6 +16,7 @@ pub returns-in_default : goal.returns-in_default
 returns-in_default g c =
     let e = c.call_wait.ensures in record {
       same = same_pass g.C.Core.tells g.C.Core.view _ _ Commit _ e.step e.table;
+      busy = c.stop_of.ensures.busy;
       idle = tt;
       committed = tt;
       stopped = λ plans fates next stands.
