@@ -27,6 +27,7 @@ use Rattle.mars_manager.specs.Notes.{is_begin, is_noted, hits_of, is_put, has_me
 use Rattle.mars_manager.specs.Pass.{PassView}
 use Rattle.mars_manager.specs.Sharing.{MarsView, Called, Commits, HasCommitted, done_of}
 use Rattle.caller_plans.specs.declared.plan.Plan.{Plan}
+use Rattle.caller_plans.specs.declared.plan.PlanEnd.{PlanEnd}
 use Rattle.caller_plans.specs.declared.plan.PlanEnd.TheVariants as end
 use Rattle.caller_plans.specs.declared.fate.Fate.{Fate}
 use Rattle.caller_plans.specs.declared.fate.Fate.TheVariants as fate
@@ -291,3 +292,12 @@ same_on one two three a b = record { table = b.table ∙ a.table; number = b.num
 
 pub not_busy : {P : Type 0} (b : Bool) → b ≡ false → b ≡ true → P
 not_busy b none some = absurd (true≢false (sym some ∙ none))
+
+pub not_to_commit : (planned : PlanEnd) → (planned ≡ end.Abort) ⊎ (planned ≡ end.Unended) → planned ≡ end.Commit → ⊥
+not_to_commit planned one commits = ⊎_elim (λ a. apart_abort (sym a ∙ commits)) (λ u. apart_unended (sym u ∙ commits)) one
+  where
+    apart_abort : end.Abort ≡ end.Commit → ⊥
+    apart_abort e = cc
+
+    apart_unended : end.Unended ≡ end.Commit → ⊥
+    apart_unended e = cc

@@ -7,7 +7,7 @@ use Rattle.caller_plans.specs.declared.fate.Fate.{Fate}
 use Rattle.caller_plans.specs.declared.fate.Fate.TheVariants as fate
 use Rattle.caller_work.specs.Standing.{limits_of, Stands}
 use Rattle.caller_work.proofs.Fating.{contains_next, refused_weaker}
-use Rattle.caller_work.proofs.Steps.{same_on, stands_fate, not_busy}
+use Rattle.caller_work.proofs.Steps.{same_on, stands_fate, not_busy, not_to_commit}
 use Rattle.caller_work.proofs.trying.end_as_planned.Goals as goal
 
 pub returns-in_err-at-in-Commit-clause-ends : goal.returns-in_err-at-in-Commit-clause-ends
@@ -38,9 +38,9 @@ returns-in_err-abort-in-Abort-clause-comes g c plans fates next stands =
 pub returns-in_ok-abort-in-Abort : goal.returns-in_ok-abort-in-Abort
 returns-in_ok-abort-in-Abort g c =
     let e = c.in_ok-abort-in-Abort.ensures in
-    let is = c.in-Abort.is in record {
+    record {
       same = e.same;
       ends = e.idle;
       busy = tt;
-      comes = λ plans fates next stands. stands_fate g.C.Core.tells (limits_of g.C.Core.view c.args.mars.now) plans fates _ c.args.plan.now fate.Aborted (e.stands plans fates stands) next (λ told. (?, tt));
+      comes = λ plans fates next stands. stands_fate g.C.Core.tells (limits_of g.C.Core.view c.args.mars.now) plans fates _ c.args.plan.now fate.Aborted (e.stands plans fates stands) next (λ told. (not_to_commit c.args.plan.now.end c.in-Abort.is, tt));
     }
