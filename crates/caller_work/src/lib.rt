@@ -13,4 +13,4 @@ pub use end::WorkEnd;
 pub use gate::{Gate, OpenGate, Place};
 pub use stop::Stop;
 pub use tries::Tries;
-pub use worker::Worker;
+pub use worker::{caller_work, Worker};
