@@ -1,7 +1,10 @@
 //! Workers that make callers' planned transactions over one shared core.
 #![tactic(auto)]
 
+mod closing;
+mod crew;
 mod end;
+mod fates;
 mod gate;
 mod stop;
 mod transaction;
@@ -9,7 +12,9 @@ mod tries;
 mod trying;
 mod worker;
 
+pub use crew::work;
 pub use end::WorkEnd;
+pub use fates::Fates;
 pub use gate::{Gate, OpenGate, Place};
 pub use stop::Stop;
 pub use tries::Tries;
