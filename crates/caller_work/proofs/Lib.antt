@@ -3,3 +3,5 @@ pub mod Refusals
 pub mod Steps
 pub mod Asking
 pub mod Walks
+pub mod Lists
+pub mod Hiring

@@ -113,7 +113,7 @@ fn work_all<R: Threads + Wait + Sync, C: Core + Drop + Send, G: Gate + Sync>(
         threads,
         &|_number: usize, worker: &mut Worker<C>|
             requires { IsReady C.tells C.view mars.now worker.now }
-            ensures { HasWorked C.tells C.view mars.now worker.entry.now worker.exit.now }
+            ensures { HasWorked C.tells C.view mars.entry.now worker.entry.now worker.exit.now }
         { caller_work(rt, mars, worker, gate) },
     );
 }

@@ -1,4 +1,4 @@
-use Rattle.std.proofs.Common.{◌≡◌, ◌+◌, ◌⊎◌, All, take, length}
+use Rattle.std.proofs.Common.{◌≡◌, ◌+◌, ◌++◌, ◌⊎◌, List, All, length}
 use Rattle.std.specs.Prelude.{IsTrue}
 use Rattle.std.specs.Vec.{vec_capacity, vec_len}
 use Rattle.caller_work.specs.declared.worker.Worker.{Worker}
@@ -9,7 +9,7 @@ use Rattle.caller_work.proofs.closing.finish.Given as goal
 -- the workers that are left are the first ones; what the others did is told
 abbrev pub invariant-loop-worker : goal.invariant-loop-worker
 invariant-loop-worker g l = record {
-  workers : l.workers.items ≡ take (length l.workers.items) l.fn.workers.items;
+  workers : (gone : List (Worker g.row.C.Denot)) × (l.fn.workers.items ≡ l.workers.items ++ gone);
   count : length l.workers.items + length l.told.items ≡ length l.fn.workers.items;
   each : length l.passes.list ≡ length l.told.items;
   table : l.passes.table ≡ l.mars.table;
