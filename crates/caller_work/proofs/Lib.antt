@@ -5,3 +5,4 @@ pub mod Asking
 pub mod Walks
 pub mod Lists
 pub mod Hiring
+pub mod Ending
