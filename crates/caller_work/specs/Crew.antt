@@ -87,6 +87,7 @@ module _ {C : Type 0} where
   pub record IsTried (end : WorkEnd) (was now : Worker C) (next : WorkEnd) : Type 0 where
     pub plans : now.plans ≡ was.plans
     pub table : now.pass.table ≡ was.pass.table
+    pub failed : IsTrue (is_failed was.stop) → IsTrue (is_failed now.stop)
     pub bears : Bears next now.stop
     pub whole : next ≡ work.All → now.stop ≡ None
     pub same : (end ≡ work.All) ⊎ (next ≡ end)
