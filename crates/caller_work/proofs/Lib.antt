@@ -6,3 +6,5 @@ pub mod Walks
 pub mod Lists
 pub mod Hiring
 pub mod Ending
+pub mod Whole
+pub mod Manning
