@@ -1,11 +1,11 @@
 -- What becomes of the transactions that a caller plans.
-use Rattle.std.specs.Prelude.{ℕ, ◌≡◌, ◌≢◌, ◌+◌, ◌-◌, ◌<◌, ◌≤◌, Bool, true, false, IsFalse, List, [], ◌∷◌, ◌++◌, map, filter, length, take}
+use Rattle.std.specs.Prelude.{ℕ, ◌≡◌, ◌≢◌, ◌+◌, ◌-◌, ◌<◌, ◌≤◌, Bool, true, false, IsTrue, IsFalse, List, [], ◌∷◌, ◌++◌, map, filter, length, take, All}
 use Rattle.std.specs.List.{fold}
 use Rattle.std.specs.FinMap.{empty}
 use Rattle.history.specs.Table.{begun, after, has_save}
 use Rattle.history.specs.Writes.{Table}
 use Rattle.history.specs.declared.call.Call.{Call}
-use Rattle.history.specs.declared.call.Call.TheVariants.{Put, Del, Save, Back}
+use Rattle.history.specs.declared.call.Call.TheVariants.{Begin, Put, Del, Save, Back, Commit, Abort}
 use Rattle.history.specs.declared.call.Reply.{Reply}
 use Rattle.history.specs.declared.call.Reply.TheVariants.{NoSave, SavesFull, LogFull, SlotsFull, PagesFull}
 use Rattle.history.specs.declared.transaction.Done.{Done}
@@ -16,6 +16,17 @@ use Rattle.caller_plans.specs.declared.plan.PlanEnd.TheVariants as end
 use Rattle.caller_plans.specs.declared.fate.Fate.{Fate}
 use Rattle.caller_plans.specs.declared.fate.Fate.TheVariants.{Committed, Aborted, Refused}
 
+-- a call of a table: no begin, commit or abort
+abbrev pub is_of_table : Call → Bool
+is_of_table Begin = false
+is_of_table Commit = false
+is_of_table Abort = false
+is_of_table call = true
+
+-- between its begin and its end, each plan has calls of a table alone
+abbrev pub ArePlain : List Plan → Type 0
+ArePlain plans = All (λ (plan : Plan). All (λ call. IsTrue (is_of_table call)) plan.calls) plans
+
 -- the saves that calls of a transaction leave it
 abbrev pub saves_after : List Call → List Table
 saves_after calls = (fold after (begun empty) calls).saves
@@ -25,13 +36,19 @@ is_write (Put key value) = true
 is_write (Del key) = true
 is_write call = false
 
+-- a write finds no room behind these calls of its transaction
+abbrev pub LacksRoom : Limits → List Call → Reply → Type 0
+LacksRoom limits before (LogFull g h n) = (g < limits.loggers) × (1 ≤ n) × (n ≤ 4) × (limits.entries < h + n) × (h ≤ length (filter is_write before))
+LacksRoom limits before (SlotsFull n) = n ≡ limits.slots
+LacksRoom limits before (PagesFull n) = n ≡ limits.index_pages - 1
+LacksRoom limits before reply = ⊥
+
 -- why a call may be refused so behind these calls of its transaction
 abbrev pub MayRefuse : Limits → List Call → Call → Reply → Type 0
 MayRefuse limits before (Back n) (NoSave m) = (m ≡ n) × IsFalse (has_save (saves_after before) n)
 MayRefuse limits before Save SavesFull = most_saves ≤ length (saves_after before)
-MayRefuse limits before call (LogFull g h n) = (g < limits.loggers) × (1 ≤ n) × (n ≤ 4) × (limits.entries < h + n) × (h ≤ length (filter is_write before))
-MayRefuse limits before (Put key value) (SlotsFull n) = n ≡ limits.slots
-MayRefuse limits before (Put key value) (PagesFull n) = n ≡ limits.index_pages - 1
+MayRefuse limits before (Put key value) reply = LacksRoom limits before reply
+MayRefuse limits before (Del key) reply = LacksRoom limits before reply
 MayRefuse limits before call reply = ⊥
 
 -- one of the calls of a plan was refused so, and this is known of the refusal

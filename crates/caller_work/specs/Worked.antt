@@ -1,5 +1,5 @@
 -- What comes of all callers' plans over one core.
-use Rattle.std.specs.Prelude.{ℕ, ◌≡◌, ◌≤◌, ◌<◌, ◌⊎◌, Bool, true, false, IsTrue, IsFalse, List, [], length, slice_index_or, Contains, All, Option, Some, None}
+use Rattle.std.specs.Prelude.{ℕ, ◌≡◌, ◌≤◌, ◌<◌, ◌⊎◌, Bool, true, false, IsTrue, IsFalse, List, [], length, slice_index_or, Contains, All, Some, None}
 use Rattle.history.specs.declared.call.Call.{Call}
 use Rattle.history.specs.declared.call.Call.TheVariants.{Put}
 use Rattle.history.specs.declared.call.Reply.{Reply}
@@ -30,10 +30,10 @@ pub record IsPlanned (plans : List (List Plan)) (key : ℕ) : Type 0 where
   pub is_plan : Contains mine plan
   pub is_put : Contains plan.calls (Put key value)
 
--- what a refusal shows while the media has not failed: slots and pages that have run out are still lacking
+-- what a refusal shows while the media has not failed: slots, and pages for a put, that have run out are still lacking
 abbrev pub StillLacks : Limits → State → Call → Reply → Type 0
 StillLacks limits state call (SlotsFull n) = IsFalse state.is_dead → state.index.next_slot ≡ limits.slots
-StillLacks limits state call (PagesFull n) = IsFalse state.is_dead → (n ≤ state.index.next_page) ⊎ (7 ≤ state.index.level)
+StillLacks limits state (Put key value) (PagesFull n) = IsFalse state.is_dead → (n ≤ state.index.next_page) ⊎ (7 ≤ state.index.level)
 StillLacks limits state call reply = Unit {0}
 
 -- the media has failed just where the work ended so

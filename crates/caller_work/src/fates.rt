@@ -1,9 +1,10 @@
+// What becomes of a caller's plans.
 ghost use Rattle.std.specs.Prelude.{◌≡◌};
 
 use caller_plans::Fate;
 use std::marker::Model;
 
-/// What became of a caller's plans, in their order.
+/// What became of the first plans of a caller, in order.
 #[derive(Debug, Drop)]
 pub struct Fates {
     items: Vec<Fate>,
@@ -19,6 +20,12 @@ impl Model for Fates {
 }
 
 impl Fates {
+    pub(crate) fn of(items: Vec<Fate>) -> Self
+        ensures { result ≡ items.items }
+    {
+        Fates { items }
+    }
+
     pub fn items(&self) -> &[Fate]
         ensures { result.now ≡ self.now }
     {

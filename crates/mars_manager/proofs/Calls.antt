@@ -21,13 +21,13 @@ use Rattle.atomic_table.specs.Table.{Me, rest}
 use Rattle.mars_manager.specs.declared.view.Known.{Known}
 use Rattle.mars_manager.specs.declared.view.View.{View}
 use Rattle.mars_manager.specs.declared.setup.Setup.{Setup}
-use Rattle.mars_manager.specs.Notes.{Notes}
+use Rattle.mars_manager.specs.Notes.{Notes, doubt_of}
 use Rattle.mars_manager.specs.Pass.{Fits, commits_of}
 use Rattle.mars_manager.specs.Sharing.{Since, Called, IsLegalIn, done_of, HasCommitted, Commits}
 use Rattle.mars_manager.specs.Seat.{shared_view}
 use Rattle.mars_manager.specs.Rule.{Face, shown}
 use Rattle.mars_manager.proofs.Past.{after_grows, own_commits, other_commits, since_step}
-use Rattle.mars_manager.proofs.Notes.{noted_step}
+use Rattle.mars_manager.proofs.Notes.{noted_step, met_step}
 use Rattle.mars_manager.proofs.Turns.{out, some_same, Moved}
 
 refusal_none : (reply : Reply) → is_refusal reply ≡ true → is_committed reply ≡ false
@@ -67,14 +67,16 @@ module _ {C : Type 0} (f : Face C) where
     grows = subst (λ h. Grows (f.show old).state.history h) (sym s.moves.history) (after_grows (f.show old).state n reply);
     others = λ m ne. (ap (commits_of m) s.moves.history ∙ other_commits (f.show old).state n m reply ne, s.moves.others m ne);
     since = since_step f.tells n call reply (f.show setup.first) (f.show old) (f.show new) s;
+    dead = λ notes few met. met_step setup.callers (f.show old).state (f.show new).state n call reply s.moves notes few met;
     noted = λ notes few strangers since noted told.
         let step = subst (λ limits. Step limits (f.show old).state n call reply (f.show new).state) since.limits (s.step told) in
         noted_step (f.show setup.first).limits setup.callers (f.show setup.first).state.index (f.show old).state (f.show new).state n call reply step s.moves notes few (λ other le. (strangers other le).1) (since.continues told).sound.certain (noted told);
   }
 
   module _ (setup : Setup C) (notes : ℕ → Notes) (old new : C) (k : Known C) (call : Call) (reply : Reply) (fit : Fits setup (f.show old).state notes k) (s : Steps f.tells k.number call (f.show old) (f.show new) reply) where
-    pub called : Since f.tells (f.show setup.first) (f.show old) → (IsTrue (f.show old).state.is_dead → (reply ≡ Dead) × (new ≡ old)) → Called f.tells f.show k call reply (shown f call reply new k)
-    called since dead = record {
+    pub called : Since f.tells (f.show setup.first) (f.show old) → (IsTrue f.tells → (n : ℕ) → (notes n).doubt ≡ doubt_of n (f.show old).state.doubt)
+        → (IsTrue (f.show old).state.is_dead → (reply ≡ Dead) × (new ≡ old)) → Called f.tells f.show k call reply (shown f call reply new k)
+    called since doubt dead = record {
       setup = setup;
       old = old;
       new = new;
@@ -83,6 +85,7 @@ module _ {C : Type 0} (f : Face C) where
       comes = since_step f.tells k.number call reply (f.show setup.first) (f.show old) (f.show new) s since;
       seen = fit.seen;
       live = sym fit.live;
+      doubt = λ told. fit.doubt ∙ doubt told k.number;
       steps = s;
       dead = dead;
       after = refl;

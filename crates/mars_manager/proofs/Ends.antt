@@ -17,13 +17,13 @@ use Rattle.mars_manager.specs.declared.view.Stage.{Stage}
 use Rattle.mars_manager.specs.declared.view.Stage.TheVariants.{Vacant, Opening, Shared}
 use Rattle.mars_manager.specs.declared.view.View.{View}
 use Rattle.mars_manager.specs.declared.setup.Setup.{Setup}
-use Rattle.mars_manager.specs.Notes.{Notes, AreNoted}
+use Rattle.mars_manager.specs.Notes.{Notes, IsDeadAsMet, AreNoted}
 use Rattle.mars_manager.specs.Pass.{AllFit, AreSo, commits_of, times, newcomer, PassView, PassesView, AllOf, dealt, known_of, HasNoOthers}
 use Rattle.mars_manager.specs.Sharing.{CanShare, Since}
 use Rattle.mars_manager.specs.Seat.{view, shared_view, opener, newcomers, behind, front, joined, spent}
 use Rattle.mars_manager.specs.Rule.{Face, total, IsFree, IsHeld, IsKept, IsFresh, IsOpening, Rule, began, gives_turn}
 use Rattle.mars_manager.proofs.Past.{since_shared}
-use Rattle.mars_manager.proofs.Notes.{none_noted}
+use Rattle.mars_manager.proofs.Notes.{none_noted, none_met}
 use Rattle.mars_manager.proofs.Seats.{times_append, at_only, each_set, total_set, total_two, total_snoc, total_has}
 use Rattle.mars_manager.proofs.Turns.{out, some_same, some≢none, is_open, vacant≢shared, opening≢shared, vacant≢opening}
 
@@ -155,6 +155,7 @@ module _ {C : Type 0} (f : Face C) (setup : Setup C) where
           enough = can.enough;
           since = since_shared f.tells setup.callers (f.show core) can;
           strangers = λ n b. (ap (commits_of n) can.history, can.live n);
+          dead = none_met setup.callers (f.show core).state can.alive;
           noted = λ told. none_noted (f.show core).limits setup.callers (f.show core).state can.live can.alive ((can.sound told).certain can.alive);
         })),
         refl,
@@ -213,6 +214,7 @@ module _ {C : Type 0} (f : Face C) (setup : Setup C) where
         enough = h.enough;
         since = h.since;
         strangers = h.strangers;
+        dead = h.dead;
         noted = h.noted;
       }
 
@@ -266,6 +268,7 @@ module _ {C : Type 0} (f : Face C) (setup : Setup C) where
         enough = h.enough;
         since = h.since;
         strangers = h.strangers;
+        dead = h.dead;
         noted = h.noted;
       }
 
@@ -279,6 +282,7 @@ module _ {C : Type 0} (f : Face C) (setup : Setup C) where
     pub fit : AllFit setup (f.show core).state notes ks
     pub since : Since f.tells (f.show setup.first) (f.show core)
     pub strangers : HasNoOthers setup.callers (f.show core).state
+    pub dead : IsDeadAsMet setup.callers (f.show core).state notes
     pub noted : IsTrue f.tells → AreNoted (f.show setup.first).limits setup.callers (f.show setup.first).state.index (f.show core).state notes
 
   pub ends : (id : ℕ) (ks : List (Known C)) (ws : List ℕ) (xs : List (Option C)) → ((n : ℕ) → n < setup.callers → 0 < times n ks) → Final (Seen (Rule f setup) id (shared_view ks None)) ws xs
@@ -289,7 +293,7 @@ module _ {C : Type 0} (f : Face C) (setup : Setup C) where
       let v : V = shared_view ks None in
       let h : IsKept f setup s = is_open f setup s id v final.1.0 at refl in
       ⊎_elim
-      (λ (x : IsFree h.core s). (h.core, final.4 0 (Some h.core) x.home, record { notes = h.notes; fit = h.fit id v at; since = h.since; strangers = h.strangers; noted = h.noted }))
+      (λ (x : IsFree h.core s). (h.core, final.4 0 (Some h.core) x.home, record { notes = h.notes; fit = h.fit id v at; since = h.since; strangers = h.strangers; dead = h.dead; noted = h.noted }))
       (λ (x : IsHeld h.core s).
       let t = total_two (λ (v : View C). times x.number v.passes) s.views x.seat id x.holder v (not_holder s h.core x id v at refl) x.there at in
       let o = h.once x.number in

@@ -23,7 +23,7 @@ use Rattle.core_face.specs.Step.{Says, Asks, StepAt, StepIf, Step}
 use Rattle.core_face.specs.Fate.{is_media, is_refusal, Moves}
 use Rattle.core_face.proofs.Fates.{Fate, step_fate}
 use Rattle.core_face.proofs.Fates.Fate.{refused, failed, began, granted, committed, doubted, aborted}
-use Rattle.mars_manager.specs.Notes.{Notes, doubt_of, hits_of, is_noted, is_begin, names, is_put, AreAsked, Gained, LacksPages, Stands, AllStand, has_media, AreNoted}
+use Rattle.mars_manager.specs.Notes.{Notes, doubt_of, hits_of, is_noted, is_begin, names, is_put, AreAsked, Gained, LacksPages, Stands, AllStand, has_media, IsDeadAsMet, AreNoted}
 
 -- an index after a call: it has no fewer pages and levels, and the same keys or one more, which the call puts
 pub record IndexMoves (limits : Limits) (call : Call) (old new : Index) : Type 0 where
@@ -257,6 +257,56 @@ hits_media call reply e =
     let hit : hits_of call reply ≡ one = ap (λ b. if b then one else []) (or_left (is_noted reply) (is_begin call && not (is_refusal reply)) (media_noted reply e)) in
     ap has_media hit ∙ or_left (is_media reply) false e
 
+-- a reply adds a fault of the media just where it tells one
+media_hits : (call : Call) (reply : Reply) → has_media (hits_of call reply) ≡ true → is_media reply ≡ true
+media_hits call reply = go (is_noted reply || (is_begin call && not (is_refusal reply)))
+  where
+    go : (b : Bool) → has_media (if b then (call, reply) ∷ [] else []) ≡ true → is_media reply ≡ true
+    go true e = ⊎_elim (λ h. h) (λ n. absurd (true≢false (sym n))) (or_either (is_media reply) false e)
+    go false e = absurd (true≢false (sym e))
+
+module _ (callers : ℕ) (old new : State) (caller : ℕ) (call : Call) (reply : Reply) (moves : Moves old caller call reply new) (notes : ℕ → Notes) (few : caller < callers) (met : IsDeadAsMet callers old notes) where
+  abbrev note : Notes
+  note = added (notes caller) call reply (doubt_of caller new.doubt)
+
+  abbrev hits : ℕ → Granted
+  hits other = (put_note notes caller note other).hit
+
+  hits_here : hits caller ≡ (notes caller).hit ++ hits_of call reply
+  hits_here = ap (λ (n : Notes). n.hit) (note_here notes caller note)
+
+  more_media : (other : ℕ) → has_media (notes other).hit ≡ true → has_media (hits other) ≡ true
+  more_media other e = dite (ℕ_discrete other caller)
+      (λ (same : other ≡ caller). subst (λ c. has_media (hits c) ≡ true) (sym same)
+      (ap has_media hits_here ∙ any_left (λ entry. is_media entry.1) (notes caller).hit (hits_of call reply) (subst (λ c. has_media (notes c).hit ≡ true) same e)))
+      (λ (ne : other ≢ caller). ap (λ (n : Notes). has_media n.hit) (note_apart notes caller note other ne) ∙ e)
+
+  cause_now : IsTrue new.is_dead → (other : ℕ) × (other < callers) × IsTrue (has_media (hits other))
+  cause_now dead = ⊎_elim
+      (λ was. let c = met.cause was in (c.0, c.1, more_media c.0 c.2))
+      (λ media. (caller, few, ap has_media hits_here ∙ any_right (λ entry. is_media entry.1) (notes caller).hit (hits_of call reply) (hits_media call reply media)))
+      (or_either old.is_dead (is_media reply) (sym moves.dead ∙ dead))
+
+  met_now : (other : ℕ) → has_media (hits other) ≡ true → new.is_dead ≡ true
+  met_now other e = moves.dead ∙ dite (ℕ_discrete other caller)
+      (λ (same : other ≡ caller). ⊎_elim
+      (λ was. or_left old.is_dead (is_media reply) (met.met caller was))
+      (λ now. or_right old.is_dead (is_media reply) (media_hits call reply now))
+      (or_either (has_media (notes caller).hit) (has_media (hits_of call reply))
+      (sym (list_any-append (λ entry. is_media entry.1) (notes caller).hit (hits_of call reply)) ∙ sym (ap has_media hits_here) ∙ subst (λ c. has_media (hits c) ≡ true) same e)))
+      (λ (ne : other ≢ caller). or_left old.is_dead (is_media reply) (met.met other (sym (ap (λ (n : Notes). has_media n.hit) (note_apart notes caller note other ne)) ∙ e)))
+
+  -- the media has failed just where a caller was told so, also behind a step
+  pub met_step : IsDeadAsMet callers new (put_note notes caller note)
+  met_step = record { cause = cause_now; met = met_now }
+
+-- and where nobody has called
+pub none_met : (callers : ℕ) (state : State) → state.is_dead ≡ false → IsDeadAsMet callers state (λ caller. record { asked = []; hit = []; doubt = None })
+none_met callers state alive = record {
+  cause = λ dead. absurd (true≢false (sym dead ∙ alive));
+  met = λ caller e. absurd (true≢false (sym e));
+}
+
 module _ (limits : Limits) (callers : ℕ) (first : Index) (old new : State) (caller : ℕ) (call : Call) (reply : Reply) (step : Step limits old caller call reply new) (moves : Moves old caller call reply new)
     (notes : ℕ → Notes) (few : caller < callers) (others : (other : ℕ) → callers ≤ other → old.live other ≡ None) (certain : old.is_dead ≡ false → old.doubt ≡ None) (noted : AreNoted limits callers first old notes) where
   abbrev notes' : ℕ → Notes
@@ -270,12 +320,6 @@ module _ (limits : Limits) (callers : ℕ) (first : Index) (old new : State) (ca
 
   here_asked : (p : Call → Bool) → p call ≡ true → list_any p (notes' caller).asked ≡ true
   here_asked p e = ap (λ (n : Notes). list_any p n.asked) (note_here notes caller (added (notes caller) call reply (doubt_of caller new.doubt))) ∙ any_last p (notes caller).asked call e
-
-  more_media : (other : ℕ) → has_media (notes other).hit ≡ true → has_media (notes' other).hit ≡ true
-  more_media other e = dite (ℕ_discrete other caller)
-      (λ (same : other ≡ caller). subst (λ c. has_media (notes' c).hit ≡ true) (sym same)
-      (ap (λ (n : Notes). has_media n.hit) (note_here notes caller (added (notes caller) call reply (doubt_of caller new.doubt))) ∙ any_left (λ entry. is_media entry.1) (notes caller).hit (hits_of call reply) (subst (λ c. has_media (notes c).hit ≡ true) same e)))
-      (λ (ne : other ≢ caller). ap (λ (n : Notes). has_media n.hit) (note_apart notes caller (added (notes caller) call reply (doubt_of caller new.doubt)) other ne) ∙ e)
 
   more_keys : (keys : List ℕ) → AreAsked callers notes keys → AreAsked callers notes' keys
   more_keys [] a = tt
@@ -365,12 +409,6 @@ module _ (limits : Limits) (callers : ℕ) (first : Index) (old new : State) (ca
       (all_append caller (notes caller).hit (hits_of call reply) (all_on caller (notes caller).hit (noted.stand caller)) (hits_stand (is_noted reply || (is_begin call && not (is_refusal reply)))))))
       (λ (ne : other ≢ caller). subst (λ (n : Notes). AllStand limits callers new notes' other n.hit) (sym (note_apart notes caller (added (notes caller) call reply (doubt_of caller new.doubt)) other ne)) (all_on other (notes other).hit (noted.stand other)))
 
-  cause_now : IsTrue new.is_dead → (other : ℕ) × (other < callers) × IsTrue (has_media (notes' other).hit)
-  cause_now dead = ⊎_elim
-      (λ was. let c = noted.cause was in (c.0, c.1, more_media c.0 c.2))
-      (λ media. (caller, few, ap (λ (n : Notes). has_media n.hit) (note_here notes caller (added (notes caller) call reply (doubt_of caller new.doubt))) ∙ any_right (λ entry. is_media entry.1) (notes caller).hit (hits_of call reply) (hits_media call reply media)))
-      (or_either old.is_dead (is_media reply) (sym moves.dead ∙ dead))
-
   -- a transaction that a step leaves in doubt is its caller's
   doubt_at : Fate old caller call reply new → (new.doubt ≡ old.doubt) ⊎ ((done : Done) × (new.doubt ≡ Some done) × (done.caller ≡ caller))
   doubt_at (refused refusal sure index e) = inl (ap (λ (s : State). s.doubt) e)
@@ -408,7 +446,7 @@ module _ (limits : Limits) (callers : ℕ) (first : Index) (old new : State) (ca
       doubt_is
 
   pub noted_step : AreNoted limits callers first new notes'
-  noted_step = record { live = live_now; keys = keys_now; stand = stand_now; cause = cause_now; doubt = doubt_now; owner = owner_now }
+  noted_step = record { live = live_now; keys = keys_now; stand = stand_now; doubt = doubt_now; owner = owner_now }
 
 -- where nobody has called
 pub none_noted : (limits : Limits) (callers : ℕ) (state : State) → ((caller : ℕ) → state.live caller ≡ None) → state.is_dead ≡ false → state.doubt ≡ None
@@ -417,7 +455,6 @@ none_noted limits callers state none alive certain = record {
   live = λ caller stripe t. absurd (true≢false (sym t ∙ ap (λ (o : Option Granted). touched (unwrap_or o []) stripe) (none caller)));
   keys = λ still. ([], (refl, refl), tt);
   stand = λ caller. tt;
-  cause = λ dead. absurd (true≢false (sym dead ∙ alive));
   doubt = λ caller. sym (ap (doubt_of caller) certain);
   owner = λ done is. some_none done (sym is ∙ certain);
 }

@@ -18,7 +18,7 @@ use Rattle.mars_manager.specs.declared.view.Known.{Known}
 use Rattle.mars_manager.specs.declared.view.Stage.TheVariants.{Vacant, Opening, Shared}
 use Rattle.mars_manager.specs.declared.view.View.{View}
 use Rattle.mars_manager.specs.declared.setup.Setup.{Setup}
-use Rattle.mars_manager.specs.Notes.{Notes, hits_of, doubt_of, AreNoted}
+use Rattle.mars_manager.specs.Notes.{Notes, hits_of, doubt_of, IsDeadAsMet, AreNoted}
 use Rattle.mars_manager.specs.Pass.{Fits, AllFit, HasNoOthers, commits_of, times, hears}
 use Rattle.mars_manager.specs.Sharing.{Since}
 use Rattle.mars_manager.specs.Seat.{shared_view, opener}
@@ -57,6 +57,8 @@ pub record Moved {C : Type 0} (f : Face C) (setup : Setup C) (n : ℕ) (call : C
   pub grows : Grows (f.show core).state.history (f.show new).state.history
   pub others : (m : ℕ) → m ≢ n → (commits_of m (f.show new).state.history ≡ commits_of m (f.show core).state.history) × ((f.show new).state.live m ≡ (f.show core).state.live m)
   pub since : Since f.tells (f.show setup.first) (f.show core) → Since f.tells (f.show setup.first) (f.show new)
+  pub dead : (notes : ℕ → Notes) → n < setup.callers → IsDeadAsMet setup.callers (f.show core).state notes
+      → IsDeadAsMet setup.callers (f.show new).state (put_note notes n (added (notes n) call reply (doubt_of n (f.show new).state.doubt)))
   pub noted : (notes : ℕ → Notes) → n < setup.callers → HasNoOthers setup.callers (f.show core).state → Since f.tells (f.show setup.first) (f.show core)
       → (IsTrue f.tells → AreNoted (f.show setup.first).limits setup.callers (f.show setup.first).state.index (f.show core).state notes)
       → IsTrue f.tells → AreNoted (f.show setup.first).limits setup.callers (f.show setup.first).state.index (f.show new).state (put_note notes n (added (notes n) call reply (doubt_of n (f.show new).state.doubt)))
@@ -151,6 +153,7 @@ module _ {C : Type 0} (f : Face C) (setup : Setup C) where
         enough = h.enough;
         since = h.since;
         strangers = h.strangers;
+        dead = h.dead;
         noted = h.noted;
       }
 
@@ -174,6 +177,7 @@ module _ {C : Type 0} (f : Face C) (setup : Setup C) where
             now = refl;
             fit = h.fit id (shared_view (k ∷ []) None) at;
             since = h.since;
+            doubt = λ told. (h.noted told).doubt;
             few = λ n has. (let m = h.enough in let same = ap (λ (l : Limits). l.callers) h.since.limits in let l = number_below s h n id (shared_view (k ∷ []) None) at has in omega arith);
           },
           λ ne. absurd (ne free),
@@ -282,6 +286,7 @@ module _ {C : Type 0} (f : Face C) (setup : Setup C) where
         enough = h.enough;
         since = m.since h.since;
         strangers = λ n b. (let ne : n ≢ k.number = (λ e. omega arith) in let o = m.others n ne in (o.0 ∙ (h.strangers n b).0, o.1 ∙ (h.strangers n b).1));
+        dead = m.dead h.notes few h.dead;
         noted = m.noted h.notes few h.strangers h.since h.noted;
       }
 
@@ -323,6 +328,7 @@ module _ {C : Type 0} (f : Face C) (setup : Setup C) where
         enough = h.enough;
         since = h.since;
         strangers = h.strangers;
+        dead = h.dead;
         noted = h.noted;
       }
 
@@ -374,6 +380,7 @@ module _ {C : Type 0} (f : Face C) (setup : Setup C) where
         enough = h.enough;
         since = h.since;
         strangers = h.strangers;
+        dead = h.dead;
         noted = h.noted;
       }
 

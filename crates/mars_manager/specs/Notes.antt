@@ -84,13 +84,17 @@ AllStand limits callers state notes caller (entry ∷ entries) = Stands limits c
 abbrev pub has_media : Granted → Bool
 has_media hit = list_any (λ entry. is_media entry.1) hit
 
+-- The media has failed just where a caller was told so: one of so many.
+pub record IsDeadAsMet (callers : ℕ) (state : State) (notes : ℕ → Notes) : Type 0 where
+  pub cause : IsTrue state.is_dead → (caller : ℕ) × (caller < callers) × IsTrue (has_media (notes caller).hit)
+  pub met : (caller : ℕ) → IsTrue (has_media (notes caller).hit) → IsTrue state.is_dead
+
 -- What callers have asked for and met, in a state of a core with this index at the opening: what a live transaction touched, its caller
 -- has asked for; while the media has not failed, the index has just the keys of the opening and keys that were asked for; each refusal
--- stands; where the media has failed, a caller was told so; and the transaction in doubt is one of these callers'.
+-- stands; and the transaction in doubt is one of these callers'.
 pub record AreNoted (limits : Limits) (callers : ℕ) (first : Index) (state : State) (notes : ℕ → Notes) : Type 0 where
   pub live : (caller stripe : ℕ) → IsTrue (touched (calls_of state caller) stripe) → IsTrue (names (notes caller).asked stripe)
   pub keys : IsFalse state.is_dead → (keys : List ℕ) × Gained first keys state.index × AreAsked callers notes keys
   pub stand : (caller : ℕ) → AllStand limits callers state notes caller (notes caller).hit
-  pub cause : IsTrue state.is_dead → (caller : ℕ) × (caller < callers) × IsTrue (has_media (notes caller).hit)
   pub doubt : (caller : ℕ) → (notes caller).doubt ≡ doubt_of caller state.doubt
   pub owner : (done : Done) → state.doubt ≡ Some done → done.caller < callers

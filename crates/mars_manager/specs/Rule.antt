@@ -11,7 +11,7 @@ use Rattle.mars_manager.specs.declared.view.Known.{Known}
 use Rattle.mars_manager.specs.declared.view.Stage.TheVariants.{Vacant, Opening, Shared}
 use Rattle.mars_manager.specs.declared.view.View.{View}
 use Rattle.mars_manager.specs.declared.setup.Setup.{Setup}
-use Rattle.mars_manager.specs.Notes.{Notes, AreNoted}
+use Rattle.mars_manager.specs.Notes.{Notes, doubt_of, IsDeadAsMet, AreNoted}
 use Rattle.mars_manager.specs.Pass.{AllFit, known_after, hears, times, HasNoOthers}
 use Rattle.mars_manager.specs.Sharing.{Since}
 use Rattle.mars_manager.specs.Seat.{view, shared_view, opener}
@@ -85,6 +85,7 @@ module _ {C : Type 0} where
       pub enough : setup.callers ≤ (f.show setup.first).limits.callers
       pub since : Since f.tells (f.show setup.first) (f.show core)
       pub strangers : HasNoOthers setup.callers (f.show core).state
+      pub dead : IsDeadAsMet setup.callers (f.show core).state notes
       pub noted : IsTrue f.tells → AreNoted (f.show setup.first).limits setup.callers (f.show setup.first).state.index (f.show core).state notes
 
     abbrev pub Rule : Setup C → State (Option C) (View C) → Type 0
@@ -102,6 +103,7 @@ module _ {C : Type 0} where
       pub now : n ≡ (shared_view m.0.passes (Some core), (0, Some core) ∷ [])
       pub fit : AllFit setup (f.show core).state notes m.0.passes
       pub since : Since f.tells (f.show setup.first) (f.show core)
+      pub doubt : IsTrue f.tells → (n : ℕ) → (notes n).doubt ≡ doubt_of n (f.show core).state.doubt
       pub few : (k : ℕ) → 0 < times k m.0.passes → k < (f.show core).limits.callers
 
     -- What a step tells, by the step, the seat before, the number found and the seat after. Where the turn was not free, another pass had

@@ -14,7 +14,7 @@ use Rattle.core_face.specs.Sound.{IsSound}
 use Rattle.core_face.specs.Core.{CoreView, IsSafe, Steps, Continues}
 use Rattle.mars_manager.specs.declared.setup.Setup.{Setup}
 use Rattle.mars_manager.specs.declared.view.Known.{Known}
-use Rattle.mars_manager.specs.Notes.{Notes, AreNoted}
+use Rattle.mars_manager.specs.Notes.{Notes, doubt_of, IsDeadAsMet, AreNoted}
 use Rattle.mars_manager.specs.Pass.{PassView, AreSo, known_after}
 
 -- what contracts see of a shared core: its table, and how it was shared
@@ -44,7 +44,8 @@ pub record Since (tells : Bool) (first core : CoreView) : Type 0 where
 
 module _ {C : Type 0} where
   -- A call that got the turn is one step of a core that the shared one has come to. What the pass had seen begins that core's history, and
-  -- its caller's live calls were the pass's; and what the pass knows then is what is so behind the step.
+  -- its caller's live calls were the pass's, as was its transaction in doubt where the core tells its records; and what the pass knows then
+  -- is what is so behind the step.
   pub record Called (tells : Bool) (show : C → CoreView) (was : Known C) (call : Call) (reply : Reply) (now : Known C) : Type 0 where
     pub setup : Setup C
     pub old : C
@@ -54,14 +55,17 @@ module _ {C : Type 0} where
     pub comes : Since tells (show setup.first) (show new)
     pub seen : Grows was.seen (show old).state.history
     pub live : (show old).state.live was.number ≡ was.live
+    pub doubt : IsTrue tells → was.doubt ≡ doubt_of was.number (show old).state.doubt
     pub steps : Steps tells was.number call (show old) (show new) reply
     pub dead : IsTrue (show old).state.is_dead → (reply ≡ Dead) × (new ≡ old)
     pub after : now ≡ known_after was (show new).state call reply
 
-  -- What these passes know is so of the core that comes back, and what their callers have asked for and met is noted.
+  -- What these passes know is so of the core that comes back, and what their callers have asked for and met is noted. On any core, the media
+  -- has failed just where a caller was told so.
   pub record AreGathered (tells : Bool) (show : C → CoreView) (setup : Setup C) (core : C) (passes : List (PassView C)) : Type 0 where
     pub notes : ℕ → Notes
     pub each : AreSo setup (show core).state notes passes
+    pub dead : IsDeadAsMet setup.callers (show core).state notes
     pub noted : IsTrue tells → AreNoted (show setup.first).limits setup.callers (show setup.first).state.index (show core).state notes
 
   -- what a pass has seen is a legal history on the records at the opening

@@ -140,7 +140,7 @@ returns-clause-step g c =
     let after : shown f c.args.call.now c.step-reply.result c.step-reply.new.self i.0 ≡ first_of c.store.new.seat.me.0.passes = sym (ap (λ (m : Me (Option g.row.C.Denot) (View g.row.C.Denot)). first_of m.0.passes) (idle_again f _ _ i.0 c.args.call.now c.step-reply.result c.step-reply.new.self told c.store.ensures.2)) in
     let fits : Fits took.setup (g.C.Core.view took.core).state took.notes i.0 = (subst (λ (ks : List (Known g.row.C.Denot)). AllFit took.setup (g.C.Core.view took.core).state took.notes ks) (ap (λ (m : Me (Option g.row.C.Denot) (View g.row.C.Denot)). m.0.passes) i.1) took.fit).0 in
     let dead = subst (λ (x : g.row.C.Denot). IsTrue (g.C.Core.view x).state.is_dead → (c.step-reply.result ≡ Dead) × (c.step-reply.new.self ≡ x)) (sym core) c.step-reply.ensures.dead in
-    subst (λ (v : Known g.row.C.Denot × Known g.row.C.Denot). Called g.C.Core.tells g.C.Core.view v.0 c.args.call.now c.step-reply.result v.1) (λ j. (known j, after j)) (called f took.setup took.notes took.core c.step-reply.new.self i.0 c.args.call.now c.step-reply.result fits steps took.since dead)
+    subst (λ (v : Known g.row.C.Denot × Known g.row.C.Denot). Called g.C.Core.tells g.C.Core.view v.0 c.args.call.now c.step-reply.result v.1) (λ j. (known j, after j)) (called f took.setup took.notes took.core c.step-reply.new.self i.0 c.args.call.now c.step-reply.result fits steps took.since took.doubt dead)
 
 pub returns-clause-seen : goal.returns-clause-seen
 returns-clause-seen g c =

@@ -90,4 +90,4 @@ returns-clause-passes g c =
     let last = last_core f key _ (map known_of c.args.passes.list) _ _ _ c.take.result all each c.close_with-closed.ensures.values.2 c.take.ensures.value in
     let end = ended_as f key _ last.0 c.unwrap-core.result c.take.result last.1 c.unwrap-core.ensures last.2 in
     subst (λ (m : MarsView g.row.C.Denot). AreGathered g.C.Core.tells g.C.Core.view m.setup c.unwrap-core.result c.args.passes.list) c.self.view_is
-    (record { notes = end.notes; each = all_known f key c.unwrap-core.result end.notes c.args.passes.list end.fit; noted = end.noted })
+    (record { notes = end.notes; each = all_known f key c.unwrap-core.result end.notes c.args.passes.list end.fit; dead = end.dead; noted = end.noted })

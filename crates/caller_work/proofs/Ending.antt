@@ -1,0 +1,133 @@
+-- How the ends of workers come together.
+use Rattle.std.proofs.Common.{◌≡◌, ◌⊎◌, ℕ, zero, suc, inl, inr, ⊎_elim, Bool, true, List, [], ◌∷◌, ◌++◌, length, Option, Some, None, arith, refl, sym, ap, ◌∙◌, subst}
+use Rattle.std.specs.Prelude.{IsTrue, Contains}
+use Rattle.std.proofs.lemmas.Bool.{true≢false}
+use Rattle.std.proofs.lemmas.List.Elements.{Contains-append_left, Contains-push, Contains-append_cases}
+use Rattle.core_face.specs.Core.{CoreView}
+use Rattle.mars_manager.specs.Notes.{has_media}
+use Rattle.mars_manager.specs.Pass.{PassView}
+use Rattle.mars_manager.specs.Sharing.{MarsView}
+use Rattle.caller_plans.specs.declared.plan.Plan.{Plan}
+use Rattle.caller_plans.specs.declared.fate.Fate.{Fate}
+use Rattle.caller_work.specs.declared.stop.Stop.{Stop}
+use Rattle.caller_work.specs.declared.stop.Stop.TheVariants as stop
+use Rattle.caller_work.specs.declared.worker.Worker.{Worker}
+use Rattle.caller_work.specs.declared.end.WorkEnd.{WorkEnd}
+use Rattle.caller_work.specs.declared.end.WorkEnd.TheVariants as work
+use Rattle.caller_work.specs.Standing.{is_failed, IsIdle, IsReady, HasWorked}
+use Rattle.caller_work.specs.Fates.{ArePlain}
+use Rattle.caller_work.specs.Worked.{is_fault}
+use Rattle.caller_work.specs.Crew.{end_of, worse, Bears, IsCaused, HasFailed, HasMetFault, IsDone, IsLeft}
+
+fault_of_stop : (stop : Option Stop) → is_failed stop ≡ is_fault (end_of stop)
+fault_of_stop None = refl
+fault_of_stop (Some (stop.Busy holder)) = refl
+fault_of_stop (Some stop.Media) = refl
+fault_of_stop (Some stop.Dead) = refl
+fault_of_stop (Some stop.NoMemory) = refl
+
+worse_left : (one other : WorkEnd) → is_fault one ≡ true → is_fault (worse one other) ≡ true
+worse_left work.MediaFault other e = refl
+worse_left work.All other e = absurd (true≢false (sym e))
+worse_left work.NoMemory other e = absurd (true≢false (sym e))
+
+worse_right : (one other : WorkEnd) → is_fault other ≡ true → is_fault (worse one other) ≡ true
+worse_right work.MediaFault other e = refl
+worse_right work.All other e = e
+worse_right work.NoMemory work.MediaFault e = refl
+worse_right work.NoMemory work.All e = absurd (true≢false (sym e))
+worse_right work.NoMemory work.NoMemory e = absurd (true≢false (sym e))
+
+worse_all : (one other : WorkEnd) → worse one other ≡ work.All → (one ≡ work.All) × (other ≡ work.All)
+worse_all work.All other e = (refl, e)
+worse_all work.MediaFault other e = absurd (cc)
+worse_all work.NoMemory work.MediaFault e = absurd (cc)
+worse_all work.NoMemory work.All e = absurd (cc)
+worse_all work.NoMemory work.NoMemory e = absurd (cc)
+
+worse_fault : (one other : WorkEnd) → is_fault (worse one other) ≡ true → (is_fault one ≡ true) ⊎ (is_fault other ≡ true)
+worse_fault work.MediaFault other e = inl refl
+worse_fault work.All other e = inr e
+worse_fault work.NoMemory work.MediaFault e = inr refl
+worse_fault work.NoMemory work.All e = absurd (true≢false (sym e))
+worse_fault work.NoMemory work.NoMemory e = absurd (true≢false (sym e))
+
+-- what an end bears, a worse one bears too
+pub bears_more : (end other : WorkEnd) (stop : Option Stop) → Bears end stop → Bears (worse end other) stop
+bears_more end other stop bears = (λ failed. worse_left end other (bears.0 failed), λ all. bears.1 (worse_all end other all).0)
+
+-- and the end of the worker itself
+pub bears_own : (end : WorkEnd) (stop : Option Stop) → Bears (worse end (end_of stop)) stop
+bears_own end stop = (λ failed. worse_right end (end_of stop) (sym (fault_of_stop stop) ∙ failed), λ all. (worse_all end (end_of stop) all).1)
+
+-- while all has ended so, any end bears it
+pub bears_any : (end other : WorkEnd) (stop : Option Stop) → end ≡ work.All → Bears end stop → Bears other stop
+bears_any end other stop all bears = (λ failed. absurd (true≢false (sym (sym (ap is_fault all) ∙ bears.0 failed))), λ _. bears.1 all)
+
+module _ {C : Type 0} where
+  pub caused_more : (end : WorkEnd) (workers : List (Worker C)) (worker : Worker C) → IsCaused end workers → IsCaused (worse end (end_of worker.stop)) (workers ++ worker ∷ [])
+  caused_more end workers worker caused fault = ⊎_elim
+      (λ before. let w = caused before in (w.0, Contains-append_left workers (worker ∷ []) w.0 w.1, w.2))
+      (λ here. (worker, Contains-push workers worker, fault_of_stop worker.stop ∙ here))
+      (worse_fault end (end_of worker.stop) fault)
+
+  -- a worker that has worked may be left for last
+  pub left_of : (tells : Bool) (show : C → CoreView) (mars : MarsView C) (caller : ℕ) (was now : Worker C) → IsReady tells show mars was → was.pass.known.number ≡ caller → HasWorked tells show mars was now → IsLeft tells show mars caller now
+  left_of tells show mars caller was now ready number worked = record {
+    number = worked.same.number ∙ number;
+    of = (worked.same.table ∙ ready.of.0, worked.same.setup ∙ ready.of.1);
+    plain = subst ArePlain (sym worked.plans) ready.plain;
+    room = (let r = ready.room in let p = ap length worked.plans in let v = worked.room in omega arith);
+    front = worked.front;
+    stands = worked.stands;
+    idle = worked.idle;
+    whole = worked.whole;
+  }
+
+  module _ (tells : Bool) (show : C → CoreView) (mars : MarsView C) where
+    -- what is done stays so where all had ended
+    pub done_more : (end other : WorkEnd) (caller : ℕ) (plans : List Plan) (fates : List Fate) (pass : PassView C) → (end ≡ work.All) ⊎ (other ≡ end) → IsDone tells show mars end caller plans fates pass → IsDone tells show mars other caller plans fates pass
+    done_more end other caller plans fates pass (inr same) done = subst (λ e. IsDone tells show mars e caller plans fates pass) (sym same) done
+    done_more end other caller plans fates pass (inl all) done = record {
+      number = done.number;
+      failed = done.failed;
+      stands = done.stands;
+      fault = λ failed. absurd (true≢false (sym (sym (ap is_fault all) ∙ done.fault failed)));
+      whole = λ _. done.whole all;
+      idle = λ _. done.idle all;
+    }
+
+    -- a worker that is left, once it has ended
+    pub done_now : (end : WorkEnd) (caller : ℕ) (worker : Worker C) → IsLeft tells show mars caller worker → Bears end worker.stop → (end ≡ work.All → worker.stop ≡ None) → IsDone tells show mars end caller worker.plans worker.fates.items worker.pass
+    done_now end caller worker left bears whole = record {
+      number = left.number;
+      failed = is_failed worker.stop;
+      stands = left.stands;
+      fault = bears.0;
+      whole = λ all. left.whole (whole all);
+      idle = λ all. subst (λ (s : Option Stop). IsIdle worker.pass.known s) (whole all) left.idle;
+    }
+
+  -- the cause of a fault, when a worker has ended
+  pub caused_now : (end other : WorkEnd) (workers : List (Worker C)) (was now : Worker C) (passes : List (PassView C))
+      → (IsTrue (is_fault end) → HasFailed (workers ++ was ∷ []) ⊎ HasMetFault passes)
+      → (IsTrue (is_failed was.stop) → IsTrue (is_failed now.stop))
+      → has_media now.pass.known.hit ≡ is_failed now.stop
+      → (IsTrue (is_fault other) → IsTrue (is_fault end) ⊎ IsTrue (is_failed now.stop))
+      → IsTrue (is_fault other) → HasFailed workers ⊎ HasMetFault (passes ++ now.pass ∷ [])
+  caused_now end other workers was now passes before stays media cause fault =
+      let mine : IsTrue (is_failed now.stop) → HasFailed workers ⊎ HasMetFault (passes ++ now.pass ∷ []) = λ failed. inr (now.pass, Contains-push passes now.pass, media ∙ failed) in
+      ⊎_elim
+      (λ e. ⊎_elim
+      (λ w. ⊎_elim
+      (λ in_front. inl (w.0, in_front, w.2))
+      (λ last. mine (stays (subst (λ (x : Worker C). IsTrue (is_failed x.stop)) (only was w.0 last) w.2)))
+      (Contains-append_cases workers (was ∷ []) w.0 w.1))
+      (λ p. inr (p.0, Contains-append_left passes (now.pass ∷ []) p.0 p.1, p.2))
+      (before e))
+      mine
+      (cause fault)
+    where
+      only : {X : Type 0} (x y : X) → Contains (x ∷ []) y → y ≡ x
+      only x y (zero, within, is) = sym is
+      only x y (suc k, within, is) = absurd (omega arith)
