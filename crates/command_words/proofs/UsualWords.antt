@@ -75,6 +75,16 @@ module _ (s : Shape) (names : Names) (held : Held) (position : ℕ) (id : Text) 
   value_passes rest = ap (λ k. or_else k (walk_fault s names (walked s.rules names (waits held position id) word) rest)) turn_passes
       ∙ ap (λ w. walk_fault s names w rest) (value_walked s.rules names held position id a word is plain)
 
+-- what stands behind the walk of a subcommand
+abbrev behind_walk : Shape → Walk → Kinds
+behind_walk s w = or_else (settle_fault s.rules s.args_override_self w.held)
+    (or_else (defaults_fault (settled s.rules w.held).rows s.rules) (check_fault s (finished s.rules w.held) false))
+
+-- where neither its walk nor what stands behind has a fault it has none
+level_passes : (s : Shape) (words : List Text) (w : Walk) → walk_fault s [] (walk_from nothing_held) words ≡ [] → walk s.rules [] nothing_held words ≡ w
+    → behind_walk s w ≡ [] → level_fault s [] nothing_held words false [] ≡ []
+level_passes s words w passes is no_more = ap (λ k. or_else k (behind_walk s (walk s.rules [] nothing_held words))) passes ∙ ap (behind_walk s) is ∙ no_more
+
 run_taken : fault_of command_line (codes "run" ∷ []) ≡ []
 unfolding clap_on_literals
 run_taken = refl
@@ -188,22 +198,9 @@ module _ (l n e p : Text) (plain_l : IsPlain l) (plain_n : IsPlain n) (plain_e :
       ∙ value_passes format_built [] (step with_n (codes "--entries")).held 1 (codes "entries") (rule_of (codes "entries")) e refl plain_e last
       ∙ value_passes format_built [] (step with_e (codes "--pages")).held 1 (codes "pages") (rule_of (codes "pages")) p refl plain_p []
 
-  -- what stands behind the walk of the subcommand
-  abbrev behind_walk : Walk → Kinds
-  behind_walk w = or_else (settle_fault format_built.rules format_built.args_override_self w.held)
-      (or_else (defaults_fault (settled format_built.rules w.held).rows format_built.rules)
-      (check_fault format_built (finished format_built.rules w.held) false))
-
-  no_more : behind_walk with_p ≡ []
-  unfolding clap_on_literals
-  no_more = refl
-
-  inner_passes : level_fault format_built [] nothing_held (codes "--loggers" ∷ l ∷ behind) false [] ≡ []
-  inner_passes = ap (λ k. or_else k (behind_walk (walk format_built.rules [] nothing_held (codes "--loggers" ∷ l ∷ behind)))) passes ∙ ap behind_walk walk_is ∙ no_more
-
   taken : fault_of command_line (codes "format" ∷ codes "--loggers" ∷ l ∷ behind) ≡ []
   unfolding clap_on_literals
-  taken = ap (λ k. or_else k []) inner_passes
+  taken = ap (λ k. or_else k []) (level_passes format_built (codes "--loggers" ∷ l ∷ behind) with_p passes walk_is refl)
 
   met : subcommand_of command_line (codes "format" ∷ codes "--loggers" ∷ l ∷ behind) ≡ Some (codes "format", finished format_built.rules with_p.held)
   unfolding clap_on_literals
@@ -328,22 +325,9 @@ module _ (seed count : Text) (plain_seed : IsPlain seed) (plain_count : IsPlain 
   drill_passes = unnamed_passes drill_built nothing_held 1 seed plain_seed (count ∷ []) _ refl refl
       ∙ unnamed_passes drill_built with_seed.held 2 count plain_count [] _ refl refl
 
-  -- what stands behind the walk of the subcommand
-  abbrev behind_drill : Walk → Kinds
-  behind_drill w = or_else (settle_fault drill_built.rules drill_built.args_override_self w.held)
-      (or_else (defaults_fault (settled drill_built.rules w.held).rows drill_built.rules)
-      (check_fault drill_built (finished drill_built.rules w.held) false))
-
-  drill_no_more : behind_drill with_count ≡ []
-  unfolding clap_on_literals
-  drill_no_more = refl
-
-  drill_level : level_fault drill_built [] nothing_held (seed ∷ count ∷ []) false [] ≡ []
-  drill_level = ap (λ k. or_else k (behind_drill (walk drill_built.rules [] nothing_held (seed ∷ count ∷ [])))) drill_passes ∙ ap behind_drill drill_walk ∙ drill_no_more
-
   drill_taken : fault_of command_line (codes "drill" ∷ seed ∷ count ∷ []) ≡ []
   unfolding clap_on_literals
-  drill_taken = ap (λ k. or_else k []) drill_level
+  drill_taken = ap (λ k. or_else k []) (level_passes drill_built (seed ∷ count ∷ []) with_count drill_passes drill_walk refl)
 
   drill_met : subcommand_of command_line (codes "drill" ∷ seed ∷ count ∷ []) ≡ Some (codes "drill", finished drill_built.rules with_count.held)
   unfolding clap_on_literals
@@ -382,12 +366,6 @@ module _ (callers : Text) (plain_callers : IsPlain callers) where
   abbrev with_callers : Walk
   with_callers = to_positional callers_built.rules (arg_by_index callers_built.rules 1) callers (stands nothing_held 1) nothing_held
 
-  -- what stands behind the walk of the subcommand
-  abbrev behind_callers : Walk → Kinds
-  behind_callers w = or_else (settle_fault callers_built.rules callers_built.args_override_self w.held)
-      (or_else (defaults_fault (settled callers_built.rules w.held).rows callers_built.rules)
-      (check_fault callers_built (finished callers_built.rules w.held) false))
-
   callers_walk : walk callers_built.rules [] nothing_held (callers ∷ []) ≡ with_callers
   unfolding clap_on_literals
   callers_walk = unnamed_walked callers_built nothing_held 1 callers plain_callers
@@ -396,16 +374,9 @@ module _ (callers : Text) (plain_callers : IsPlain callers) where
   unfolding clap_on_literals
   callers_passes = unnamed_passes callers_built nothing_held 1 callers plain_callers [] _ refl refl
 
-  callers_no_more : behind_callers with_callers ≡ []
-  unfolding clap_on_literals
-  callers_no_more = refl
-
-  callers_level : level_fault callers_built [] nothing_held (callers ∷ []) false [] ≡ []
-  callers_level = ap (λ k. or_else k (behind_callers (walk callers_built.rules [] nothing_held (callers ∷ [])))) callers_passes ∙ ap behind_callers callers_walk ∙ callers_no_more
-
   callers_taken : fault_of command_line (codes "callers" ∷ callers ∷ []) ≡ []
   unfolding clap_on_literals
-  callers_taken = ap (λ k. or_else k []) callers_level
+  callers_taken = ap (λ k. or_else k []) (level_passes callers_built (callers ∷ []) with_callers callers_passes callers_walk refl)
 
   callers_met : subcommand_of command_line (codes "callers" ∷ callers ∷ []) ≡ Some (codes "callers", finished callers_built.rules with_callers.held)
   unfolding clap_on_literals
@@ -416,31 +387,27 @@ module _ (callers : Text) (plain_callers : IsPlain callers) where
   callers_values = (refl, refl)
 
   module _ (tries : Text) (plain_tries : IsPlain tries) where
+    abbrev tries_option : List Text
+    tries_option = codes "--tries" ∷ tries ∷ []
+
     abbrev with_tries : Walk
     with_tries = after_value (walked callers_built.rules [] with_callers (codes "--tries")).held 2 (codes "tries") tries_rule tries
 
-    tries_walk : walk callers_built.rules [] nothing_held (callers ∷ codes "--tries" ∷ tries ∷ []) ≡ with_tries
+    tries_walk : walk callers_built.rules [] nothing_held (callers ∷ tries_option) ≡ with_tries
     unfolding clap_on_literals
-    tries_walk = ap (λ w. fold (walked callers_built.rules []) w (codes "--tries" ∷ tries ∷ [])) (unnamed_walked callers_built nothing_held 1 callers plain_callers)
+    tries_walk = ap (λ w. fold (walked callers_built.rules []) w tries_option) (unnamed_walked callers_built nothing_held 1 callers plain_callers)
         ∙ value_walked callers_built.rules [] (walked callers_built.rules [] with_callers (codes "--tries")).held 2 (codes "tries") tries_rule tries refl plain_tries
 
-    tries_passes : walk_fault callers_built [] (walk_from nothing_held) (callers ∷ codes "--tries" ∷ tries ∷ []) ≡ []
+    tries_passes : walk_fault callers_built [] (walk_from nothing_held) (callers ∷ tries_option) ≡ []
     unfolding clap_on_literals
-    tries_passes = unnamed_passes callers_built nothing_held 1 callers plain_callers (codes "--tries" ∷ tries ∷ []) _ refl refl
+    tries_passes = unnamed_passes callers_built nothing_held 1 callers plain_callers tries_option _ refl refl
         ∙ value_passes callers_built [] (walked callers_built.rules [] with_callers (codes "--tries")).held 2 (codes "tries") tries_rule tries refl plain_tries []
 
-    tries_no_more : behind_callers with_tries ≡ []
+    tries_taken : fault_of command_line (codes "callers" ∷ callers ∷ tries_option) ≡ []
     unfolding clap_on_literals
-    tries_no_more = refl
+    tries_taken = ap (λ k. or_else k []) (level_passes callers_built (callers ∷ tries_option) with_tries tries_passes tries_walk refl)
 
-    tries_level : level_fault callers_built [] nothing_held (callers ∷ codes "--tries" ∷ tries ∷ []) false [] ≡ []
-    tries_level = ap (λ k. or_else k (behind_callers (walk callers_built.rules [] nothing_held (callers ∷ codes "--tries" ∷ tries ∷ [])))) tries_passes ∙ ap behind_callers tries_walk ∙ tries_no_more
-
-    tries_taken : fault_of command_line (codes "callers" ∷ callers ∷ codes "--tries" ∷ tries ∷ []) ≡ []
-    unfolding clap_on_literals
-    tries_taken = ap (λ k. or_else k []) tries_level
-
-    tries_met : subcommand_of command_line (codes "callers" ∷ callers ∷ codes "--tries" ∷ tries ∷ []) ≡ Some (codes "callers", finished callers_built.rules with_tries.held)
+    tries_met : subcommand_of command_line (codes "callers" ∷ callers ∷ tries_option) ≡ Some (codes "callers", finished callers_built.rules with_tries.held)
     unfolding clap_on_literals
     tries_met = ap (λ (w : Walk). Some (codes "callers", finished callers_built.rules w.held)) tries_walk
 
