@@ -48,7 +48,7 @@ pair_is f g None name options named has = absurd (some_is_none named)
 pair_is f g (Some x) name options named has = ap₂ (λ n o. Some (n, o)) (inner (sym named)) (inner (sym has))
 
 -- the subcommand has this name and these options
-pub met_is : (m : ArgMatches) (name : Text) (options : List Row) → Some name ≡ subcommand_name_of m → Some options ≡ option_map (λ p. p.1) (subcommand_rows_of m)
+met_is : (m : ArgMatches) (name : Text) (options : List Row) → Some name ≡ subcommand_name_of m → Some options ≡ option_map (λ p. p.1) (subcommand_rows_of m)
     → subcommand_rows_of m ≡ Some (name, options)
 met_is m name options named has = pair_is _ _ _ name options named has
 
@@ -68,6 +68,7 @@ name_of Dump = codes "dump"
 name_of (Drill numbers) = codes "drill"
 name_of (Format numbers) = codes "format"
 
+-- who says it has that name
 named : (name : Text) (options : List Row) (asked : Words) → Says name options asked → name ≡ name_of asked
 named name options Run says = says
 named name options (Callers numbers) says = says.0
@@ -89,7 +90,7 @@ pub no_format : (options : List Row) → ((numbers : FormatNumbers) → GivesNum
 no_format options none (Format numbers) says = none numbers says.1
 no_format options none asked says = apart (codes "format") (name_of asked) refl (named (codes "format") options asked says)
 
--- and so by no other way to meet the subcommand
+-- and so by whatever name and options the subcommand is met
 pub none_said : (m : ArgMatches) (word name : Text) (options : List Row) → name ≡ word → Some name ≡ subcommand_name_of m → Some options ≡ option_map (λ p. p.1) (subcommand_rows_of m)
     → ((asked : Words) → Says word options asked → ⊥) → (other : Text) (others : List Row) (asked : Words) → subcommand_rows_of m ≡ Some (other, others) → Says other others asked → ⊥
 none_said m word name options is named has none other others asked met says =

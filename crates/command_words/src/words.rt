@@ -168,7 +168,7 @@ fn read_callers(options: &ArgMatches<'_>) -> Option<CallersNumbers>
     })
 }
 
-// The number of an option, or the default where it is not given.
+// The number of an option of `format`, or the default where it is not given.
 fn short_or(options: &ArgMatches<'_>, name: &str, default: u16) -> Option<u16>
     ensures { MatchOption result ((n : ℕ) → IsNumber 0 65535 (Some default) (first_of name.now (rows_of (found_of options.now))) n → ⊥)
         (IsNumber 0 65535 (Some default) (first_of name.now (rows_of (found_of options.now)))) }
