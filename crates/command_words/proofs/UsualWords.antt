@@ -13,13 +13,14 @@ use Rattle.clap.specs.Faults.{turn_fault, walk_fault, step_fault, positional_fau
 use Rattle.clap.specs.Kinds.{Kinds, or_else}
 use Rattle.clap.specs.declared.error.ErrorKind.{ErrorKind}
 use Rattle.clap.specs.declared.error.ErrorKind.TheVariants as kind
-use Rattle.command_words.specs.Usual.{format_words, joined_words, AreSmall, drill_words, AreOfDrill}
+use Rattle.command_words.specs.Usual.{format_words, joined_words, AreSmall, drill_words, AreOfDrill, callers_words, tries_words, AreOfCallers}
+use Rattle.command_words.specs.declared.words.CallersNumbers.{CallersNumbers}
 use Rattle.command_words.specs.declared.words.DrillNumbers.{DrillNumbers}
 use Rattle.command_words.specs.declared.words.FormatNumbers.{FormatNumbers}
 use Rattle.clap.proofs.OnLiterals.{clap_on_literals}
-use Rattle.command_words.specs.CommandLine.{command_line, format_shape, drill_shape, option_of}
-use Rattle.command_words.specs.Asked.{AsksFor, AskForNothing, IsNumber, IsWithin}
-use Rattle.command_words.specs.declared.words.Words.TheVariants.{Run, Eaw, Dump, Drill, Format}
+use Rattle.command_words.specs.CommandLine.{command_line, format_shape, drill_shape, callers_shape, option_of}
+use Rattle.command_words.specs.Asked.{AsksFor, AskForNothing, IsNumber}
+use Rattle.command_words.specs.declared.words.Words.TheVariants.{Run, Callers, Eaw, Dump, Drill, Format}
 
 -- no flag
 record IsPlain (word : Text) : Type 0 where
@@ -73,6 +74,16 @@ module _ (s : Shape) (names : Names) (held : Held) (position : ℕ) (id : Text) 
   unfolding walk_fault
   value_passes rest = ap (λ k. or_else k (walk_fault s names (walked s.rules names (waits held position id) word) rest)) turn_passes
       ∙ ap (λ w. walk_fault s names w rest) (value_walked s.rules names held position id a word is plain)
+
+-- what stands behind the walk of a subcommand
+abbrev behind_walk : Shape → Walk → Kinds
+behind_walk s w = or_else (settle_fault s.rules s.args_override_self w.held)
+    (or_else (defaults_fault (settled s.rules w.held).rows s.rules) (check_fault s (finished s.rules w.held) false))
+
+-- where neither its walk nor what stands behind has a fault it has none
+level_passes : (s : Shape) (words : List Text) (w : Walk) → walk_fault s [] (walk_from nothing_held) words ≡ [] → walk s.rules [] nothing_held words ≡ w
+    → behind_walk s w ≡ [] → level_fault s [] nothing_held words false [] ≡ []
+level_passes s words w passes is no_more = ap (λ k. or_else k (behind_walk s (walk s.rules [] nothing_held words))) passes ∙ ap (behind_walk s) is ∙ no_more
 
 run_taken : fault_of command_line (codes "run" ∷ []) ≡ []
 unfolding clap_on_literals
@@ -187,22 +198,9 @@ module _ (l n e p : Text) (plain_l : IsPlain l) (plain_n : IsPlain n) (plain_e :
       ∙ value_passes format_built [] (step with_n (codes "--entries")).held 1 (codes "entries") (rule_of (codes "entries")) e refl plain_e last
       ∙ value_passes format_built [] (step with_e (codes "--pages")).held 1 (codes "pages") (rule_of (codes "pages")) p refl plain_p []
 
-  -- what stands behind the walk of the subcommand
-  abbrev behind_walk : Walk → Kinds
-  behind_walk w = or_else (settle_fault format_built.rules format_built.args_override_self w.held)
-      (or_else (defaults_fault (settled format_built.rules w.held).rows format_built.rules)
-      (check_fault format_built (finished format_built.rules w.held) false))
-
-  no_more : behind_walk with_p ≡ []
-  unfolding clap_on_literals
-  no_more = refl
-
-  inner_passes : level_fault format_built [] nothing_held (codes "--loggers" ∷ l ∷ behind) false [] ≡ []
-  inner_passes = ap (λ k. or_else k (behind_walk (walk format_built.rules [] nothing_held (codes "--loggers" ∷ l ∷ behind)))) passes ∙ ap behind_walk walk_is ∙ no_more
-
   taken : fault_of command_line (codes "format" ∷ codes "--loggers" ∷ l ∷ behind) ≡ []
   unfolding clap_on_literals
-  taken = ap (λ k. or_else k []) inner_passes
+  taken = ap (λ k. or_else k []) (level_passes format_built (codes "--loggers" ∷ l ∷ behind) with_p passes walk_is refl)
 
   met : subcommand_of command_line (codes "format" ∷ codes "--loggers" ∷ l ∷ behind) ≡ Some (codes "format", finished format_built.rules with_p.held)
   unfolding clap_on_literals
@@ -214,8 +212,8 @@ module _ (l n e p : Text) (plain_l : IsPlain l) (plain_n : IsPlain n) (plain_e :
   unfolding clap_on_literals
   values = (refl, refl, refl, refl)
 
-given : (default number : ℕ) (first : Option Text) → first ≡ Some (decimal number) → number < 2 ^ 16 → IsNumber default first number
-given default number first is small = rw is (small, refl)
+given : (least most number : ℕ) (default : Option ℕ) (first : Option Text) → first ≡ Some (decimal number) → least ≤ number → number ≤ most → IsNumber least most default first number
+given least most number default first is above below = rw is (above, below, refl)
 
 pub format_asks : (numbers : FormatNumbers) → AreSmall numbers → AsksFor (format_words numbers) (Format numbers)
 format_asks numbers small =
@@ -231,10 +229,10 @@ format_asks numbers small =
       (
         refl,
         record {
-          loggers = given _ _ _ found.0 small.small_loggers;
-          numbers = given _ _ _ found.1 small.small_numbers;
-          entries = given _ _ _ found.2 small.small_entries;
-          pages = given _ _ _ found.3 small.small_pages;
+          loggers = given 0 65535 _ _ _ found.0 (omega arith) (omega (arith, small.small_loggers));
+          numbers = given 0 65535 _ _ _ found.1 (omega arith) (omega (arith, small.small_numbers));
+          entries = given 0 65535 _ _ _ found.2 (omega arith) (omega (arith, small.small_entries));
+          pages = given 0 65535 _ _ _ found.3 (omega arith) (omega (arith, small.small_pages));
         },
       ),
     )
@@ -266,10 +264,10 @@ joined_asks numbers small =
       (
         refl,
         record {
-          loggers = given _ _ _ found.0 small.small_loggers;
-          numbers = given _ _ _ found.1 small.small_numbers;
-          entries = given _ _ _ found.2 small.small_entries;
-          pages = given _ _ _ found.3 small.small_pages;
+          loggers = given 0 65535 _ _ _ found.0 (omega arith) (omega (arith, small.small_loggers));
+          numbers = given 0 65535 _ _ _ found.1 (omega arith) (omega (arith, small.small_numbers));
+          entries = given 0 65535 _ _ _ found.2 (omega arith) (omega (arith, small.small_entries));
+          pages = given 0 65535 _ _ _ found.3 (omega arith) (omega (arith, small.small_pages));
         },
       ),
     )
@@ -327,22 +325,9 @@ module _ (seed count : Text) (plain_seed : IsPlain seed) (plain_count : IsPlain 
   drill_passes = unnamed_passes drill_built nothing_held 1 seed plain_seed (count ∷ []) _ refl refl
       ∙ unnamed_passes drill_built with_seed.held 2 count plain_count [] _ refl refl
 
-  -- what stands behind the walk of the subcommand
-  abbrev behind_drill : Walk → Kinds
-  behind_drill w = or_else (settle_fault drill_built.rules drill_built.args_override_self w.held)
-      (or_else (defaults_fault (settled drill_built.rules w.held).rows drill_built.rules)
-      (check_fault drill_built (finished drill_built.rules w.held) false))
-
-  drill_no_more : behind_drill with_count ≡ []
-  unfolding clap_on_literals
-  drill_no_more = refl
-
-  drill_level : level_fault drill_built [] nothing_held (seed ∷ count ∷ []) false [] ≡ []
-  drill_level = ap (λ k. or_else k (behind_drill (walk drill_built.rules [] nothing_held (seed ∷ count ∷ [])))) drill_passes ∙ ap behind_drill drill_walk ∙ drill_no_more
-
   drill_taken : fault_of command_line (codes "drill" ∷ seed ∷ count ∷ []) ≡ []
   unfolding clap_on_literals
-  drill_taken = ap (λ k. or_else k []) drill_level
+  drill_taken = ap (λ k. or_else k []) (level_passes drill_built (seed ∷ count ∷ []) with_count drill_passes drill_walk refl)
 
   drill_met : subcommand_of command_line (codes "drill" ∷ seed ∷ count ∷ []) ≡ Some (codes "drill", finished drill_built.rules with_count.held)
   unfolding clap_on_literals
@@ -351,9 +336,6 @@ module _ (seed count : Text) (plain_seed : IsPlain seed) (plain_count : IsPlain 
   drill_values : (first_of (codes "seed") (finished drill_built.rules with_count.held) ≡ Some seed) × (first_of (codes "count") (finished drill_built.rules with_count.held) ≡ Some count)
   unfolding clap_on_literals
   drill_values = (refl, refl)
-
-within : (least most number : ℕ) (first : Option Text) → first ≡ Some (decimal number) → least ≤ number → number ≤ most → IsWithin least most first number
-within least most number first is above below = rw is (above, below, refl)
 
 pub drill_asks : (numbers : DrillNumbers) → AreOfDrill numbers → AsksFor (drill_words numbers) (Drill numbers)
 drill_asks numbers are =
@@ -367,8 +349,106 @@ drill_asks numbers are =
       (
         refl,
         record {
-          seed = within 0 2147483647 _ _ found.0 (omega arith) are.seed;
-          count = within 1 100000 _ _ found.1 are.some are.few;
+          seed = given 0 2147483647 _ None _ found.0 (omega arith) are.seed;
+          count = given 1 100000 _ None _ found.1 are.some are.few;
+        },
+      ),
+    )
+
+-- `callers` as it is built
+abbrev callers_built : Shape
+callers_built = unwrap_or (slice_get (built command_line).subs 5) callers_shape
+
+abbrev tries_rule : Rule
+tries_rule = unwrap_or (arg_by_id callers_built.rules (codes "tries")) (option_of (codes "tries"))
+
+module _ (callers : Text) (plain_callers : IsPlain callers) where
+  abbrev with_callers : Walk
+  with_callers = to_positional callers_built.rules (arg_by_index callers_built.rules 1) callers (stands nothing_held 1) nothing_held
+
+  callers_walk : walk callers_built.rules [] nothing_held (callers ∷ []) ≡ with_callers
+  unfolding clap_on_literals
+  callers_walk = unnamed_walked callers_built nothing_held 1 callers plain_callers
+
+  callers_passes : walk_fault callers_built [] (walk_from nothing_held) (callers ∷ []) ≡ []
+  unfolding clap_on_literals
+  callers_passes = unnamed_passes callers_built nothing_held 1 callers plain_callers [] _ refl refl
+
+  callers_taken : fault_of command_line (codes "callers" ∷ callers ∷ []) ≡ []
+  unfolding clap_on_literals
+  callers_taken = ap (λ k. or_else k []) (level_passes callers_built (callers ∷ []) with_callers callers_passes callers_walk refl)
+
+  callers_met : subcommand_of command_line (codes "callers" ∷ callers ∷ []) ≡ Some (codes "callers", finished callers_built.rules with_callers.held)
+  unfolding clap_on_literals
+  callers_met = ap (λ (w : Walk). Some (codes "callers", finished callers_built.rules w.held)) callers_walk
+
+  callers_values : (first_of (codes "callers") (finished callers_built.rules with_callers.held) ≡ Some callers) × (first_of (codes "tries") (finished callers_built.rules with_callers.held) ≡ None)
+  unfolding clap_on_literals
+  callers_values = (refl, refl)
+
+  module _ (tries : Text) (plain_tries : IsPlain tries) where
+    abbrev tries_option : List Text
+    tries_option = codes "--tries" ∷ tries ∷ []
+
+    abbrev with_tries : Walk
+    with_tries = after_value (walked callers_built.rules [] with_callers (codes "--tries")).held 2 (codes "tries") tries_rule tries
+
+    tries_walk : walk callers_built.rules [] nothing_held (callers ∷ tries_option) ≡ with_tries
+    unfolding clap_on_literals
+    tries_walk = ap (λ w. fold (walked callers_built.rules []) w tries_option) (unnamed_walked callers_built nothing_held 1 callers plain_callers)
+        ∙ value_walked callers_built.rules [] (walked callers_built.rules [] with_callers (codes "--tries")).held 2 (codes "tries") tries_rule tries refl plain_tries
+
+    tries_passes : walk_fault callers_built [] (walk_from nothing_held) (callers ∷ tries_option) ≡ []
+    unfolding clap_on_literals
+    tries_passes = unnamed_passes callers_built nothing_held 1 callers plain_callers tries_option _ refl refl
+        ∙ value_passes callers_built [] (walked callers_built.rules [] with_callers (codes "--tries")).held 2 (codes "tries") tries_rule tries refl plain_tries []
+
+    tries_taken : fault_of command_line (codes "callers" ∷ callers ∷ tries_option) ≡ []
+    unfolding clap_on_literals
+    tries_taken = ap (λ k. or_else k []) (level_passes callers_built (callers ∷ tries_option) with_tries tries_passes tries_walk refl)
+
+    tries_met : subcommand_of command_line (codes "callers" ∷ callers ∷ tries_option) ≡ Some (codes "callers", finished callers_built.rules with_tries.held)
+    unfolding clap_on_literals
+    tries_met = ap (λ (w : Walk). Some (codes "callers", finished callers_built.rules w.held)) tries_walk
+
+    tries_values : (first_of (codes "callers") (finished callers_built.rules with_tries.held) ≡ Some callers) × (first_of (codes "tries") (finished callers_built.rules with_tries.held) ≡ Some tries)
+    unfolding clap_on_literals
+    tries_values = (refl, refl)
+
+left : (least most number : ℕ) (first : Option Text) → first ≡ None → IsNumber least most (Some number) first number
+left least most number first is = rw is refl
+
+pub callers_asks : (numbers : CallersNumbers) → AreOfCallers numbers → numbers.tries ≡ 100 → AsksFor (callers_words numbers) (Callers numbers)
+callers_asks numbers are default =
+    let plain_callers = plain_decimal numbers.callers (omega (arith, are.few)) in
+    let found = callers_values (decimal numbers.callers) plain_callers in (
+      callers_taken (decimal numbers.callers) plain_callers,
+      codes "callers",
+      _,
+      callers_met (decimal numbers.callers) plain_callers,
+      (
+        refl,
+        record {
+          callers = given 1 64 _ None _ found.0 are.some are.few;
+          tries = rw default (left 1 1000000 100 _ found.1);
+        },
+      ),
+    )
+
+pub tries_asks : (numbers : CallersNumbers) → AreOfCallers numbers → AsksFor (tries_words numbers) (Callers numbers)
+tries_asks numbers are =
+    let plain_callers = plain_decimal numbers.callers (omega (arith, are.few)) in
+    let plain_tries = plain_decimal numbers.tries (omega (arith, are.bounded)) in
+    let found = tries_values (decimal numbers.callers) plain_callers (decimal numbers.tries) plain_tries in (
+      tries_taken (decimal numbers.callers) plain_callers (decimal numbers.tries) plain_tries,
+      codes "callers",
+      _,
+      tries_met (decimal numbers.callers) plain_callers (decimal numbers.tries) plain_tries,
+      (
+        refl,
+        record {
+          callers = given 1 64 _ None _ found.0 are.some are.few;
+          tries = given 1 1000000 _ _ _ found.1 are.once are.bounded;
         },
       ),
     )

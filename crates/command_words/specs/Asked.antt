@@ -1,38 +1,40 @@
 -- What words ask for.
-use Rattle.std.specs.Prelude.{ℕ, ◌≡◌, ◌<◌, ◌≤◌, ◌^◌, List, [], Option, Some, None, codes}
+use Rattle.std.specs.Prelude.{ℕ, ◌≡◌, ◌≤◌, List, [], Option, Some, None, codes}
 use Rattle.std.specs.Fmt.{decimal}
 use Rattle.clap.specs.Words.{Text, Row, fault_of, subcommand_of, first_of}
 use Rattle.command_words.specs.CommandLine.{command_line}
 use Rattle.command_words.specs.declared.words.FormatNumbers.{FormatNumbers}
 use Rattle.command_words.specs.declared.words.DrillNumbers.{DrillNumbers}
+use Rattle.command_words.specs.declared.words.CallersNumbers.{CallersNumbers}
 use Rattle.command_words.specs.declared.words.Words.{Words}
-use Rattle.command_words.specs.declared.words.Words.TheVariants.{Run, Eaw, Dump, Drill, Format}
+use Rattle.command_words.specs.declared.words.Words.TheVariants.{Run, Callers, Eaw, Dump, Drill, Format}
 
--- the number that an option's value is written as, in decimal; without the option it is the default
-abbrev pub IsNumber : ℕ → Option Text → ℕ → Type 0
-IsNumber default None number = number ≡ default
-IsNumber default (Some value) number = (number < 2 ^ 16) × (value ≡ decimal number)
+-- the number, from the least to the most, that a value is written as, in decimal; without the value it is the default, where there is one
+abbrev pub IsNumber : ℕ → ℕ → Option ℕ → Option Text → ℕ → Type 0
+IsNumber least most default None number = default ≡ Some number
+IsNumber least most default (Some value) number = (least ≤ number) × (number ≤ most) × (value ≡ decimal number)
 
 -- the numbers that the options of `format` give, and for the others those of the default array
 pub record GivesNumbers (options : List Row) (given : FormatNumbers) : Type 0 where
-  pub loggers : IsNumber 4 (first_of (codes "loggers") options) given.loggers
-  pub numbers : IsNumber 8 (first_of (codes "numbers") options) given.numbers
-  pub entries : IsNumber 16 (first_of (codes "entries") options) given.entries
-  pub pages : IsNumber 64 (first_of (codes "pages") options) given.pages
-
--- the number, from the least to the most, that a value is written as, in decimal; without the value there is none
-abbrev pub IsWithin : ℕ → ℕ → Option Text → ℕ → Type 0
-IsWithin least most None number = ⊥
-IsWithin least most (Some value) number = (least ≤ number) × (number ≤ most) × (value ≡ decimal number)
+  pub loggers : IsNumber 0 65535 (Some 4) (first_of (codes "loggers") options) given.loggers
+  pub numbers : IsNumber 0 65535 (Some 8) (first_of (codes "numbers") options) given.numbers
+  pub entries : IsNumber 0 65535 (Some 16) (first_of (codes "entries") options) given.entries
+  pub pages : IsNumber 0 65535 (Some 64) (first_of (codes "pages") options) given.pages
 
 -- the numbers that the two values of `drill` give
 pub record GivesDrill (values : List Row) (given : DrillNumbers) : Type 0 where
-  pub seed : IsWithin 0 2147483647 (first_of (codes "seed") values) given.seed
-  pub count : IsWithin 1 100000 (first_of (codes "count") values) given.count
+  pub seed : IsNumber 0 2147483647 None (first_of (codes "seed") values) given.seed
+  pub count : IsNumber 1 100000 None (first_of (codes "count") values) given.count
+
+-- the numbers that the value of `callers` and its option give
+pub record GivesCallers (options : List Row) (given : CallersNumbers) : Type 0 where
+  pub callers : IsNumber 1 64 None (first_of (codes "callers") options) given.callers
+  pub tries : IsNumber 1 1000000 (Some 100) (first_of (codes "tries") options) given.tries
 
 -- the subcommand of this name, with its options, asks for that
 abbrev pub Says : Text → List Row → Words → Type 0
 Says name options Run = name ≡ codes "run"
+Says name options (Callers numbers) = (name ≡ codes "callers") × GivesCallers options numbers
 Says name options Eaw = name ≡ codes "eaw"
 Says name options Dump = name ≡ codes "dump"
 Says name options (Drill numbers) = (name ≡ codes "drill") × GivesDrill options numbers

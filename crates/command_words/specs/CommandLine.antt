@@ -16,13 +16,17 @@ format_shape =
 abbrev pub drill_shape : Shape
 drill_shape = record (new_shape (codes "drill")) { rules = map new_rule (codes "seed" ∷ codes "count" ∷ []) }
 
+-- `callers`, with one word that no option names, and one option
+abbrev pub callers_shape : Shape
+callers_shape = record (new_shape (codes "callers")) { rules = new_rule (codes "callers") ∷ option_of (codes "tries") ∷ [] }
+
 -- the program: a subcommand has to stand there
 abbrev pub mars_shape : Shape
 mars_shape = record (new_shape (codes "mars")) { is_leaf = false; no_binary_name = true; subcommand_required = true }
 
--- it is one of five, and there is no help
+-- it is one of six, and there is no help
 abbrev pub command_line : App
 command_line = record {
   top = record mars_shape { disable_help_flag = true; disable_help_subcommand = true };
-  subs = new_shape (codes "run") ∷ new_shape (codes "eaw") ∷ new_shape (codes "dump") ∷ format_shape ∷ drill_shape ∷ [];
+  subs = new_shape (codes "run") ∷ new_shape (codes "eaw") ∷ new_shape (codes "dump") ∷ format_shape ∷ drill_shape ∷ callers_shape ∷ [];
 }

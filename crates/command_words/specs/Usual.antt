@@ -2,6 +2,7 @@
 use Rattle.std.specs.Prelude.{◌<◌, ◌≤◌, ◌^◌, [], ◌∷◌, ◌++◌, List, codes}
 use Rattle.std.specs.Fmt.{decimal}
 use Rattle.clap.specs.Words.{Text}
+use Rattle.command_words.specs.declared.words.CallersNumbers.{CallersNumbers}
 use Rattle.command_words.specs.declared.words.DrillNumbers.{DrillNumbers}
 use Rattle.command_words.specs.declared.words.FormatNumbers.{FormatNumbers}
 
@@ -31,3 +32,18 @@ pub record AreOfDrill (numbers : DrillNumbers) : Type 0 where
   pub seed : numbers.seed ≤ 2147483647
   pub some : 1 ≤ numbers.count
   pub few : numbers.count ≤ 100000
+
+-- `callers`, with its value alone
+abbrev pub callers_words : CallersNumbers → List Text
+callers_words numbers = codes "callers" ∷ decimal numbers.callers ∷ []
+
+-- the same with its option behind
+abbrev pub tries_words : CallersNumbers → List Text
+tries_words numbers = codes "callers" ∷ decimal numbers.callers ∷ codes "--tries" ∷ decimal numbers.tries ∷ []
+
+-- the numbers are within their ranges
+pub record AreOfCallers (numbers : CallersNumbers) : Type 0 where
+  pub some : 1 ≤ numbers.callers
+  pub few : numbers.callers ≤ 64
+  pub once : 1 ≤ numbers.tries
+  pub bounded : numbers.tries ≤ 1000000

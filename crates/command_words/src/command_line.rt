@@ -2,7 +2,7 @@
 ghost use Rattle.std.specs.Prelude.{◌≡◌, IfOk, false};
 ghost use Rattle.clap.specs.Words.{app_of, shape_of, rule_of};
 ghost use Rattle.clap.specs.declared.builder.Command.TheViews.{out-Command};
-ghost use Rattle.command_words.specs.CommandLine.{command_line, format_shape, drill_shape, option_of};
+ghost use Rattle.command_words.specs.CommandLine.{command_line, format_shape, drill_shape, callers_shape, option_of};
 
 use clap::{Arg, Command};
 use std::alloc::{AllocError, Global};
@@ -20,7 +20,8 @@ pub fn command_line<'a>(alloc: Global) -> Result<Command<'a>, AllocError>
         .subcommand(Command::new(alloc, "eaw"))?
         .subcommand(Command::new(alloc, "dump"))?
         .subcommand(format_command(alloc)?)?
-        .subcommand(drill_command(alloc)?)
+        .subcommand(drill_command(alloc)?)?
+        .subcommand(callers_command(alloc)?)
 }
 
 fn format_command<'a>(alloc: Global) -> Result<Command<'a>, AllocError>
@@ -41,6 +42,15 @@ fn drill_command<'a>(alloc: Global) -> Result<Command<'a>, AllocError>
     Command::new(alloc, "drill")
         .arg(Arg::new(alloc, "seed"))?
         .arg(Arg::new(alloc, "count"))
+}
+
+fn callers_command<'a>(alloc: Global) -> Result<Command<'a>, AllocError>
+    ensures shape { IfOk result (λ command. shape_of command ≡ callers_shape) }
+    ensures local { IfOk result (λ command. (out-Command command).has_globals ≡ false) }
+{
+    Command::new(alloc, "callers")
+        .arg(Arg::new(alloc, "callers"))?
+        .arg(option(alloc, "tries"))
 }
 
 // An option with one value.

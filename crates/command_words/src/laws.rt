@@ -2,10 +2,11 @@
 ghost use Rattle.std.specs.Prelude.{◌≡◌, List, [], ◌∷◌, codes};
 ghost use Rattle.clap.specs.Words.{Text};
 ghost use Rattle.command_words.specs.declared.words.Words.{Words};
+ghost use Rattle.command_words.specs.declared.words.CallersNumbers.{CallersNumbers};
 ghost use Rattle.command_words.specs.declared.words.DrillNumbers.{DrillNumbers};
 ghost use Rattle.command_words.specs.declared.words.FormatNumbers.{FormatNumbers};
 ghost use Rattle.command_words.specs.Asked.{AsksFor, AskForNothing};
-ghost use Rattle.command_words.specs.Usual.{format_words, joined_words, AreSmall, drill_words, AreOfDrill};
+ghost use Rattle.command_words.specs.Usual.{format_words, joined_words, AreSmall, drill_words, AreOfDrill, callers_words, tries_words, AreOfCallers};
 
 /// Words ask for one thing at most.
 pub fn one_command()
@@ -15,6 +16,8 @@ pub fn one_command()
 /// What is asked for by usual words, and by none.
 pub fn usual_words()
     ensures run { AsksFor (codes "run" ∷ []) Words.Run }
+    ensures callers { (numbers : CallersNumbers) → AreOfCallers numbers → numbers.tries ≡ 100 → AsksFor (callers_words numbers) (Words.Callers numbers) }
+    ensures tries { (numbers : CallersNumbers) → AreOfCallers numbers → AsksFor (tries_words numbers) (Words.Callers numbers) }
     ensures eaw { AsksFor (codes "eaw" ∷ []) Words.Eaw }
     ensures dump { AsksFor (codes "dump" ∷ []) Words.Dump }
     ensures format { (numbers : FormatNumbers) → AreSmall numbers → AsksFor (format_words numbers) (Words.Format numbers) }

@@ -7,4 +7,4 @@ mod number;
 mod words;
 
 pub use laws::{one_command, usual_words};
-pub use words::{DrillNumbers, FormatNumbers, Words, WordsFault, read_words};
+pub use words::{CallersNumbers, DrillNumbers, FormatNumbers, Words, WordsFault, read_words};

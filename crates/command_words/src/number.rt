@@ -1,4 +1,4 @@
-ghost use Rattle.std.specs.Prelude.{◌^◌, ◌<◌};
+ghost use Rattle.std.specs.Prelude.{◌^◌, ◌<◌, ◌≤◌};
 ghost use Rattle.std.specs.Fmt.{decimal};
 ghost use Rattle.command_words.specs.Reads.{Reads};
 
@@ -17,13 +17,16 @@ pub fn read_number(text: &str) -> Option<u32>
     }
 }
 
-/// The same of 16 bits.
-pub fn read_short(text: &str) -> Option<u16>
-    ensures { Reads (λ n. n < 2 ^ 16) decimal text.now result }
+/// The same from the least to the most.
+pub fn read_within(text: &str, least: u32, most: u32) -> Option<u32>
+    ensures { Reads (λ n. (least ≤ n) × (n ≤ most)) decimal text.now result }
 {
     let number = read_number(text)?;
-    match u16::try_from(number) {
-        Ok(short) => Some(short),
-        Err(_) => None,
+    if number < least {
+        return None;
     }
+    if number > most {
+        return None;
+    }
+    Some(number)
 }

@@ -1,10 +1,9 @@
-ghost use Rattle.std.specs.Prelude.{◌≡◌, ◌<◌, ◌^◌, ℕ, List, Some, map, string_bytes, MatchOption, IfOk, IfErr};
-ghost use Rattle.std.specs.Fmt.{decimal};
+ghost use Rattle.std.specs.Prelude.{◌≡◌, ℕ, List, Some, map, string_bytes, MatchOption, IfOk, IfErr};
 ghost use Rattle.clap.specs.Words.{Text, Row, found_of, rows_of, first_of, subcommand_rows_of};
-ghost use Rattle.command_words.specs.Asked.{AsksFor, AskForNothing, Says, GivesNumbers, IsNumber, GivesDrill, IsWithin};
+ghost use Rattle.command_words.specs.Asked.{AsksFor, AskForNothing, Says, GivesNumbers, GivesDrill, GivesCallers, IsNumber};
 
 use crate::command_line::command_line;
-use crate::number::{read_number, read_short};
+use crate::number::read_within;
 use array_shape::Shape;
 use clap::ArgMatches;
 use clap::error::ErrorKind;
@@ -16,6 +15,8 @@ use thiserror::Error;
 pub enum Words {
     /// To answer the lines of callers.
     Run,
+    /// To make the transactions of callers beside each other, and to write what came of them.
+    Callers(CallersNumbers),
     /// To answer raw commands.
     Eaw,
     /// To write the records.
@@ -48,9 +49,26 @@ pub struct DrillNumbers {
     pub count: u32,
 }
 
+/// Who works beside each other, and how often.
+#[derive(Clone, Copy, Debug, PartialEq, Eq)]
+pub struct CallersNumbers {
+    /// Callers, 1 to 64.
+    pub callers: u8,
+    /// How often a transaction is tried that finds a key locked, 1 to 1,000,000.
+    pub tries: u32,
+}
+
+const SHORT_MOST: u32 = 65_535;
+
 const SEED_MOST: u32 = 2_147_483_647;
 
 const COUNT_MOST: u32 = 100_000;
+
+const CALLERS_MOST: u32 = 64;
+
+const TRIES_MOST: u32 = 1_000_000;
+
+const TRIES_DEFAULT: u32 = 100;
 
 /// Why words were not read.
 #[derive(Clone, Copy, Debug, PartialEq, Eq, Error)]
@@ -62,8 +80,8 @@ pub enum WordsFault {
     NoMemory,
 }
 
-/// Reads the words behind the image's: `run`, `eaw`, `dump`, `drill` with a seed and a count, or `format` with its options in any order,
-/// each given once at most.
+/// Reads the words behind the image's: `run`, `eaw`, `dump`, `callers` with their number and the option `tries`, `drill` with a seed and a
+/// count, or `format` with its options in any order, each option given once at most.
 pub fn read_words(alloc: Global, words: &[String]) -> Result<Words, WordsFault>
     ensures asked { IfOk result (AsksFor (map string_bytes words.now)) }
     ensures refused { IfErr result (λ fault. fault ≡ WordsFault.NoCommand → AskForNothing (map string_bytes words.now)) }
@@ -91,6 +109,10 @@ fn asked(matches: &ArgMatches<'_>) -> Option<Words>
     let (name, options) = matches.subcommand()?;
     match name {
         "run" => Some(Words::Run),
+        "callers" => {
+            let numbers = read_callers(options)?;
+            Some(Words::Callers(numbers))
+        }
         "eaw" => Some(Words::Eaw),
         "dump" => Some(Words::Dump),
         "drill" => {
@@ -111,10 +133,10 @@ fn read_numbers(options: &ArgMatches<'_>) -> Option<FormatNumbers>
         (GivesNumbers (rows_of (found_of options.now))) }
 {
     let default = Shape::default();
-    let loggers = number_or(options, "loggers", u16::from(default.loggers))?;
-    let numbers = number_or(options, "numbers", u16::from(default.numbers))?;
-    let entries = number_or(options, "entries", default.entries)?;
-    let pages = number_or(options, "pages", default.pages as u16)?;
+    let loggers = short_or(options, "loggers", u16::from(default.loggers))?;
+    let numbers = short_or(options, "numbers", u16::from(default.numbers))?;
+    let entries = short_or(options, "entries", default.entries)?;
+    let pages = short_or(options, "pages", default.pages as u16)?;
     Some(FormatNumbers {
         loggers,
         numbers,
@@ -123,41 +145,51 @@ fn read_numbers(options: &ArgMatches<'_>) -> Option<FormatNumbers>
     })
 }
 
-// The number of an option, or the default where it is not given.
-fn number_or(options: &ArgMatches<'_>, name: &str, default: u16) -> Option<u16>
-    ensures { MatchOption result ((n : ℕ) → IsNumber default (first_of name.now (rows_of (found_of options.now))) n → ⊥)
-        (IsNumber default (first_of name.now (rows_of (found_of options.now)))) }
-{
-    match options.get_str(name) {
-        Some(value) => read_short(value),
-        None => Some(default),
-    }
-}
-
 // The numbers of `drill`.
 fn read_drill(values: &ArgMatches<'_>) -> Option<DrillNumbers>
     ensures { MatchOption result ((numbers : DrillNumbers) → GivesDrill (rows_of (found_of values.now)) numbers → ⊥)
         (GivesDrill (rows_of (found_of values.now))) }
 {
-    let seed = number_within(values, "seed", 0, SEED_MOST)?;
-    let count = number_within(values, "count", 1, COUNT_MOST)?;
+    let seed = number_of(values, "seed", 0, SEED_MOST, None)?;
+    let count = number_of(values, "count", 1, COUNT_MOST, None)?;
     Some(DrillNumbers { seed, count })
 }
 
-// The number of a value, from the least to the most.
-fn number_within(values: &ArgMatches<'_>, name: &str, least: u32, most: u32) -> Option<u32>
-    ensures { MatchOption result ((n : ℕ) → IsWithin least most (first_of name.now (rows_of (found_of values.now))) n → ⊥)
-        (IsWithin least most (first_of name.now (rows_of (found_of values.now)))) }
+// The numbers of `callers`.
+fn read_callers(options: &ArgMatches<'_>) -> Option<CallersNumbers>
+    ensures { MatchOption result ((numbers : CallersNumbers) → GivesCallers (rows_of (found_of options.now)) numbers → ⊥)
+        (GivesCallers (rows_of (found_of options.now))) }
 {
-    let number = match values.get_str(name) {
-        Some(value) => read_number(value)?,
-        None => return None,
-    };
-    if number < least {
-        return None;
+    let callers = number_of(options, "callers", 1, CALLERS_MOST, None)?;
+    let tries = number_of(options, "tries", 1, TRIES_MOST, Some(TRIES_DEFAULT))?;
+    Some(CallersNumbers {
+        callers: callers as u8,
+        tries,
+    })
+}
+
+// The number of an option of `format`, or the default where it is not given.
+fn short_or(options: &ArgMatches<'_>, name: &str, default: u16) -> Option<u16>
+    ensures { MatchOption result ((n : ℕ) → IsNumber 0 65535 (Some default) (first_of name.now (rows_of (found_of options.now))) n → ⊥)
+        (IsNumber 0 65535 (Some default) (first_of name.now (rows_of (found_of options.now)))) }
+{
+    let number = number_of(options, name, 0, SHORT_MOST, Some(u32::from(default)))?;
+    Some(number as u16)
+}
+
+// The number of a value, from the least to the most; without the value the default, where there is one.
+fn number_of(
+    values: &ArgMatches<'_>,
+    name: &str,
+    least: u32,
+    most: u32,
+    default: Option<u32>,
+) -> Option<u32>
+    ensures { MatchOption result ((n : ℕ) → IsNumber least most default (first_of name.now (rows_of (found_of values.now))) n → ⊥)
+        (IsNumber least most default (first_of name.now (rows_of (found_of values.now)))) }
+{
+    match values.get_str(name) {
+        Some(value) => read_within(value, least, most),
+        None => default,
     }
-    if number > most {
-        return None;
-    }
-    Some(number)
 }

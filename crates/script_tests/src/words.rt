@@ -1,4 +1,4 @@
-use command_words::{DrillNumbers, FormatNumbers, Words, WordsFault, read_words};
+use command_words::{CallersNumbers, DrillNumbers, FormatNumbers, Words, WordsFault, read_words};
 use std::alloc::{AllocError, Global};
 use std::test::Fail;
 
@@ -24,9 +24,13 @@ fn drill(seed: u32, count: u32) -> Words {
     Words::Drill(DrillNumbers { seed, count })
 }
 
+fn callers(callers: u8, tries: u32) -> Words {
+    Words::Callers(CallersNumbers { callers, tries })
+}
+
 #[test]
 fn words_are_read(rt: HostRuntime) -> Result<(), Fail> {
-    let rows: [(&[&str], Words); 17] = [
+    let rows: [(&[&str], Words); 25] = [
         (&["run"], Words::Run),
         (&["run", "--"], Words::Run),
         (&["format", "--pages=8", "--"], format(4, 8, 16, 8)),
@@ -40,6 +44,14 @@ fn words_are_read(rt: HostRuntime) -> Result<(), Fail> {
             drill(2_147_483_647, 100_000),
         ),
         (&["drill", "--", "7", "200"], drill(7, 200)),
+        (&["callers", "1"], callers(1, 100)),
+        (&["callers", "64"], callers(64, 100)),
+        (&["callers", "--", "8"], callers(8, 100)),
+        (&["callers", "8", "--tries", "1"], callers(8, 1)),
+        (&["callers", "8", "--tries=1000000"], callers(8, 1_000_000)),
+        (&["callers", "--tries", "7", "8"], callers(8, 7)),
+        (&["callers", "--tries=7", "8"], callers(8, 7)),
+        (&["callers", "--tries=7", "--", "8"], callers(8, 7)),
         (&["format"], format(4, 8, 16, 64)),
         (&["format", "--loggers", "2"], format(2, 8, 16, 64)),
         (&["format", "--numbers=0"], format(4, 0, 16, 64)),
@@ -78,7 +90,7 @@ fn words_are_read(rt: HostRuntime) -> Result<(), Fail> {
 
 #[test]
 fn other_words_are_none(rt: HostRuntime) -> Result<(), Fail> {
-    let rows: [&[&str]; 46] = [
+    let rows: [&[&str]; 73] = [
         &[],
         &[""],
         &["walk"],
@@ -110,6 +122,33 @@ fn other_words_are_none(rt: HostRuntime) -> Result<(), Fail> {
         &["drill", "", "2"],
         &["drill", "--seed=1", "2"],
         &["drill", "--help"],
+        &["callers"],
+        &["callers", "0"],
+        &["callers", "65"],
+        &["callers", "257"],
+        &["callers", "4294967297"],
+        &["callers", "08"],
+        &["callers", "+8"],
+        &["callers", "-8"],
+        &["callers", ""],
+        &["callers", "8 "],
+        &["callers", "8", "8"],
+        &["callers", "8", "9", "--tries=7"],
+        &["callers", "--tries", "7"],
+        &["callers", "--tries=7"],
+        &["callers", "8", "--tries"],
+        &["callers", "8", "--tries="],
+        &["callers", "8", "--tries=0"],
+        &["callers", "8", "--tries=1000001"],
+        &["callers", "8", "--tries=4294967297"],
+        &["callers", "8", "--tries=07"],
+        &["callers", "8", "--tries=+7"],
+        &["callers", "8", "--tries", "7", "--tries", "7"],
+        &["callers", "--tries=7", "8", "--tries=7"],
+        &["callers", "8", "--", "--tries=7"],
+        &["callers", "--callers=8"],
+        &["callers", "8", "--try=7"],
+        &["callers", "--help"],
         &["format", "--help"],
         &["format", "-h"],
         &["format", "--", "--pages=4"],
