@@ -24,3 +24,4 @@ pub mod GrowData
 pub mod Going
 pub mod Left
 pub mod Walking
+pub mod Joining
