@@ -34,7 +34,7 @@ use Rattle.btree_pages.specs.Node.{kind_for, node_bytes}
 use Rattle.btree_pages.specs.OnWay.{IsOnWay}
 use Rattle.btree_pages.specs.Tree.{IsTree, IsUnder, IsSoundTree, pairs_of_tree, next_low}
 use Rattle.btree_pages.specs.Writes.{IsRead, cutting_parts}
-use Rattle.btree_pages.specs.Index.{tree, half_for, actions_below}
+use Rattle.btree_pages.specs.Index.{tree, half_for, half_pairs, actions_below}
 use Rattle.btree_pages.proofs.Actions.{under_self, way_same, half_actions}
 use Rattle.btree_pages.proofs.Belonging.{split_stays, half_named, under_way}
 use Rattle.btree_pages.proofs.Apart.{tree_level, start_of, sub_of}
@@ -414,6 +414,13 @@ module _ (shape : Shape) (old : List ℕ) (half : ℕ) (long : length old ≡ da
     | inr h ↦
         let b : nat_lt key (key_at (page_pairs old page) 15) ≡ false = h.0 in
         rw b (sym (length-page_pairs cut front.next_page) ∙ ap (λ (ps : List Pair). length ps) upper_half.pairs_are ∙ (let e : length (drop 15 (page_pairs old page)) ≡ 15 = omega (arith, length-drop 15 (page_pairs old page), is_cut.full) in e))
+  ]
+
+  pub half_says : page_pairs (applied (cutting_parts front page level pairs parent entries) old) (half_for (page_pairs old page) page front.next_page key) ≡ half_pairs (page_pairs old page) key
+  unfolding cut
+  half_says = elim (leb_tells (suc key) (key_at (page_pairs old page) 15)) [
+    | inl h ↦ let b : nat_lt key (key_at (page_pairs old page) 15) ≡ true = h.0 in rw b lower_half.pairs_are
+    | inr h ↦ let b : nat_lt key (key_at (page_pairs old page) 15) ≡ false = h.0 in rw b upper_half.pairs_are
   ]
 
   -- what was to be done behind the cut is what is to be done from that half on

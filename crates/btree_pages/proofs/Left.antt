@@ -53,14 +53,14 @@ module _ (old now : StoreView) (t : ℕ) (shape : now.shape ≡ old.shape) (rang
 
   pub all_fit_same : (left : ℕ) (actions : List Action) → AllFit now t left actions → AllFit old t left actions
   all_fit_same left [] fit = tt
-  all_fit_same left (a ∷ as) fit = ((fit.0.0, fits_same a.pages fit.0.1), all_fit_same (left - a.takes) as fit.1)
+  all_fit_same left (a ∷ later) fit = ((fit.0.0, fits_same a.pages fit.0.1), all_fit_same (left - a.takes) later fit.1)
 
   pub lack_pages_same : (left : ℕ) (actions : List Action) → LackPages now t left actions → LackPages old t left actions
   lack_pages_same left [] lack = absurd lack
-  lack_pages_same left (a ∷ as) (inl few) = inl few
-  lack_pages_same left (a ∷ as) (inr lack) = inr ((lack.0.0, fits_same a.pages lack.0.1), lack_pages_same (left - a.takes) as lack.1)
+  lack_pages_same left (a ∷ later) (inl few) = inl few
+  lack_pages_same left (a ∷ later) (inr lack) = inr ((lack.0.0, fits_same a.pages lack.0.1), lack_pages_same (left - a.takes) later lack.1)
 
   pub lack_room_same : (g h n left : ℕ) (actions : List Action) → LackRoom now t g h n left actions → LackRoom old t g h n left actions
   lack_room_same g h n left [] lack = absurd lack
-  lack_room_same g h n left (a ∷ as) (inl here) = inl (here.0, lacks_same a.pages g h n here.1)
-  lack_room_same g h n left (a ∷ as) (inr lack) = inr ((lack.0.0, fits_same a.pages lack.0.1), lack_room_same g h n (left - a.takes) as lack.1)
+  lack_room_same g h n left (a ∷ later) (inl here) = inl (here.0, lacks_same a.pages g h n here.1)
+  lack_room_same g h n left (a ∷ later) (inr lack) = inr ((lack.0.0, fits_same a.pages lack.0.1), lack_room_same g h n (left - a.takes) later lack.1)

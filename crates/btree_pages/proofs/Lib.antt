@@ -25,3 +25,5 @@ pub mod Going
 pub mod Left
 pub mod Walking
 pub mod Joining
+pub mod Children
+pub mod Below

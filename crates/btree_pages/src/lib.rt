@@ -2,7 +2,6 @@
 #![tactic(auto)]
 
 mod checking;
-mod index;
 mod insertion;
 mod laws;
 mod look;
@@ -10,8 +9,10 @@ mod node;
 mod page;
 mod write;
 
-pub use index::BTreePages;
+pub use checking::check;
+pub use insertion::insert;
 pub use laws::{
     damage_is_first, descent_finds, fresh_is_sound, slots_leave_the_tree, tree_changes_keep,
     tree_rises,
 };
+pub use look::{find, next};

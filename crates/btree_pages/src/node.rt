@@ -73,10 +73,11 @@ pub fn fetch_child<S: EawStore>(
     node: &Node,
     key: u64,
 ) -> Result<Node, PageFault>
-    requires some { 1 ≤ length node.now.pairs.items }
-    requires sound { IsTrue S.tells → IsAlive (S.view pages.old.store) → IsSoundTree (S.view pages.old.store).state.bytes }
-    requires reached { IsTrue S.tells → IsAlive (S.view pages.old.store) → IsReached (S.view pages.old.store).state.bytes key node.now.page node.now.level node.now.pairs.items }
+    requires alive { IsAlive (S.view pages.old.store) }
+    requires sound { IsTrue S.tells → IsSoundTree (S.view pages.old.store).state.bytes }
+    requires reached { IsTrue S.tells → IsReached (S.view pages.old.store).state.bytes key node.now.page node.now.level node.now.pairs.items }
     requires inner { node.now.level ≢ 0 }
+    requires some { 1 ≤ length node.now.pairs.items }
     ensures looks { Looks S.tells (S.opens (S.view pages.old.store).shape) (is_failed result)
         (pages_of (S.view pages.old.store) pages.old) (pages_of (S.view pages.new.store) pages.new) }
     ensures cause { LookCause S.tells (S.view pages.old.store) result }
@@ -85,7 +86,7 @@ pub fn fetch_child<S: EawStore>(
     ensures some { IfOk result (λ child. child.level ≢ 0 → 1 ≤ length child.pairs.items) }
     ensures level { IfOk result (λ child. child.level + 1 ≡ node.now.level) }
     ensures pairs { IsTrue S.tells → IfOk result (λ child. child.pairs.items ≡ page_pairs (S.view pages.old.store).state.bytes child.page) }
-    ensures dead { IsErrOf result PageFault.Dead → pages.new ≡ pages.old }
+    ensures dead { IsErrOf result PageFault.Dead → ⊥ }
 {
     let count = index_page_count(pages);
     let page = child_of(node.pairs.as_slice(), key);
