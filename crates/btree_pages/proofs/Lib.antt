@@ -27,3 +27,5 @@ pub mod Walking
 pub mod Joining
 pub mod Children
 pub mod Below
+pub mod Lifting
+pub mod Whole
