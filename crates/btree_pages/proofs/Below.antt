@@ -1,20 +1,20 @@
 -- What is left of an insertion from a page on, and its ends.
-use Rattle.std.proofs.Common.{◌≡◌, ◌≢◌, ℕ, zero, suc, ◌+◌, ◌-◌, ◌*◌, ◌/◌, ◌^◌, ◌<◌, ◌≤◌, Bool, true, false, nat_lt, inl, inr, List, [], ◌∷◌, length, take, drop, Option, None, Result, Ok, Err, refl, sym, ◌∙◌, ap, subst, arith}
+use Rattle.std.proofs.Common.{◌≡◌, ◌≢◌, ℕ, suc, ◌+◌, ◌-◌, ◌/◌, ◌^◌, ◌<◌, ◌≤◌, Bool, true, false, nat_lt, inl, inr, List, [], ◌∷◌, length, take, drop, None, Result, Ok, Err, refl, sym, ◌∙◌, ap, subst, arith}
 use Rattle.std.specs.Prelude.{IsTrue}
 use Rattle.std.proofs.lemmas.Bool.Decides.{leb_tells}
 use Rattle.std.proofs.lemmas.List.{length-take-le, length-drop}
 use Rattle.array_shape.specs.declared.shape.Shape.{Shape}
 use Rattle.array_shape.specs.Places.{data_len, page_count}
 use Rattle.array_shape.specs.Logged.{applied}
-use Rattle.eaw_face.specs.State.{State, listed}
+use Rattle.eaw_face.specs.State.{State}
 use Rattle.eaw_face.specs.Causes.{IsAlive}
 use Rattle.record_slots.specs.Places.{next_slot, next_page, slot_page}
 use Rattle.record_slots.specs.declared.super_page.Super.{Super}
 use Rattle.page_store.specs.Fits.{FitAll, IsFirstLacking}
-use Rattle.page_store.specs.Index.{Action, Grows, Rests, Gains, slots_of, index_pages_of}
+use Rattle.page_store.specs.Index.{Grows, Rests, Gains, slots_of, index_pages_of}
 use Rattle.page_store.specs.Inserts.{ActionFits, MayBecome, Inserts}
 use Rattle.page_store.specs.Looks.{Looks, LookCause, is_failed}
-use Rattle.page_store.specs.Pairs.{Pair, found, inserted}
+use Rattle.page_store.specs.Pairs.{Pair, found}
 use Rattle.page_store.specs.Shown.{PagesView}
 use Rattle.page_store.specs.declared.fault.PageFault.{PageFault}
 use Rattle.page_store.specs.declared.index_fault.IndexFault.{IndexFault}
@@ -23,7 +23,7 @@ use Rattle.index_pages.specs.Acts.{Acts}
 use Rattle.index_pages.specs.Faults.{as_index}
 use Rattle.index_pages.specs.Fetched.{IsFront}
 use Rattle.index_pages.specs.Keys.{key_at}
-use Rattle.index_pages.specs.Page.{page_pairs, count_of, level_of}
+use Rattle.index_pages.specs.Page.{page_pairs, count_of}
 use Rattle.index_pages.specs.Written.{AreSmall}
 use Rattle.index_pages.proofs.Looking.{looks_none}
 use Rattle.index_pages.proofs.PageFacts.{length-page_pairs}

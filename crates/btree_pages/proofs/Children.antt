@@ -1,18 +1,19 @@
 -- The child that a key lies in, of a page on its way.
-use Rattle.std.proofs.Common.{◌≡◌, ◌≢◌, ℕ, zero, suc, ◌+◌, ◌<◌, ◌≤◌, List, length, sym, ◌∙◌, ap, subst, arith}
+use Rattle.std.proofs.Common.{◌≡◌, ◌≢◌, ℕ, zero, suc, ◌+◌, ◌<◌, ◌≤◌, List, length, sym, ap, subst, arith}
 use Rattle.record_slots.specs.Places.{page_bytes, next_page}
 use Rattle.page_store.specs.Pairs.{Pair}
 use Rattle.index_pages.specs.Chain.{key_end}
 use Rattle.index_pages.specs.Page.{page_pairs, level_of}
-use Rattle.index_pages.specs.Ways.{above, IsOwn}
+use Rattle.index_pages.specs.Ways.{above}
 use Rattle.index_pages.proofs.PageFacts.{length-page_pairs}
-use Rattle.btree_pages.specs.Descent.{child_for, page_for}
+use Rattle.btree_pages.specs.Descent.{child_for}
 use Rattle.btree_pages.specs.Node.{IsNode}
 use Rattle.btree_pages.specs.OnWay.{IsReached}
 use Rattle.btree_pages.specs.Tree.{IsTree, IsSoundTree, next_low}
-use Rattle.btree_pages.proofs.Apart.{tree_level, start_of}
+use Rattle.btree_pages.proofs.Apart.{start_of}
 use Rattle.btree_pages.proofs.Descending.{child_step, node_of}
 use Rattle.btree_pages.proofs.Ways.{Way, way_of, child_given, above-le}
+use Rattle.btree_pages.specs.TreeFacts.{tree_level}
 
 -- it was given, and stands one level down
 pub record IsChild (bytes : List ℕ) (child level : ℕ) : Type 0 where

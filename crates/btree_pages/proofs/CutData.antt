@@ -37,13 +37,14 @@ use Rattle.btree_pages.specs.Writes.{IsRead, cutting_parts}
 use Rattle.btree_pages.specs.Index.{tree, half_for, half_pairs, actions_below}
 use Rattle.btree_pages.proofs.Actions.{under_self, way_same, half_actions}
 use Rattle.btree_pages.proofs.Belonging.{split_stays, half_named, under_way}
-use Rattle.btree_pages.proofs.Apart.{tree_level, start_of, sub_of}
+use Rattle.btree_pages.proofs.Apart.{start_of, sub_of}
 use Rattle.btree_pages.proofs.Descending.{Child, child_step}
 use Rattle.btree_pages.proofs.Entries.{with_inserted, entry_child, page_for_last}
 use Rattle.btree_pages.proofs.NodeBytes.{node_kind, node_level, node_link, node_pairs, length-node_bytes}
 use Rattle.btree_pages.proofs.Puts.{AllApart, Stand, applied_long, applied_away, applied_stand}
 use Rattle.btree_pages.proofs.Splitting.{halves, sound_tree_splits}
-use Rattle.btree_pages.proofs.Ways.{Way, way_of, way_own, under_own, child_given}
+use Rattle.btree_pages.proofs.Ways.{Way, way_of, way_own, child_given}
+use Rattle.btree_pages.specs.TreeFacts.{tree_level, under_own}
 
 -- the slots of a pair carry its key where they are as they were
 pub carries_on : (old new : List ℕ) (p : Pair) → slot_of new p.1 ≡ slot_of old p.1 → Carries old p → Carries new p

@@ -16,8 +16,9 @@ use Rattle.btree_pages.specs.Descent.{child_for, page_for, leaf_for}
 use Rattle.btree_pages.specs.Leaf.{bound_in, from_bound, IsBegin, AtLeaf}
 use Rattle.btree_pages.specs.Node.{IsNode}
 use Rattle.btree_pages.specs.Tree.{AreChildren, next_low, AreSound, IsTree, pieces_with, pairs_under, IsSoundTree, pairs_of_tree}
-use Rattle.btree_pages.proofs.Apart.{tree_level, tree_some, child_facts, entries_tile, start_of}
+use Rattle.btree_pages.proofs.Apart.{tree_some, child_facts, entries_tile, start_of}
 use Rattle.btree_pages.proofs.Ways.{found_on_way, child_given}
+use Rattle.btree_pages.specs.TreeFacts.{tree_level}
 
 -- the entries behind that of a key's child, which ends at their bound, and the pairs below them
 abbrev pub Behind : ℕ → List ℕ → List Pair → ℕ → ℕ → ℕ → ℕ → Option ℕ → Type 0

@@ -36,7 +36,7 @@ use Rattle.btree_pages.proofs.CutData.{carries_on, small_at, tree_kind}
 use Rattle.btree_pages.proofs.NodeBytes.{node_kind, node_level, node_link, node_pairs, length-node_bytes}
 use Rattle.btree_pages.proofs.Puts.{AllApart, Stand, applied_long, applied_away, applied_stand}
 use Rattle.btree_pages.proofs.Splitting.{sound_tree_grows}
-use Rattle.btree_pages.proofs.Ways.{under_own}
+use Rattle.btree_pages.specs.TreeFacts.{under_own}
 
 module _ (shape : Shape) (old : List ℕ) (half : ℕ) (long : length old ≡ data_len shape) (half_is : half ≡ index_pages_of shape) (all : half + half ≡ array.page_count shape) (few : half ≤ 16384)
     (front : Super) (key level : ℕ) (pairs : List Pair) (fits : key < 2 ^ 64) (front_is : IsFront shape front) (read : IsRead shape 1 level pairs)

@@ -1,5 +1,5 @@
 -- Data along an insertion: what the steps make of it together.
-use Rattle.std.proofs.Common.{◌≡◌, ℕ, suc, ◌+◌, ◌≤◌, inl, inr, List, sym, ◌∙◌, ap, subst, arith}
+use Rattle.std.proofs.Common.{ℕ, suc, ◌+◌, ◌≤◌, inl, inr, List, sym, ◌∙◌, ap, arith}
 use Rattle.std.proofs.lemmas.Bool.Decides.{leb_tells}
 use Rattle.record_slots.specs.Places.{next_slot, next_page, slot_of}
 use Rattle.page_store.specs.Index.{Grows, Rests, Gains}

@@ -1,18 +1,18 @@
 -- An insertion from the root on.
-use Rattle.std.proofs.Common.{◌≡◌, ◌≢◌, ℕ, suc, ◌+◌, ◌-◌, ◌*◌, ◌^◌, ◌<◌, ◌≤◌, ◌⊎◌, Bool, false, inl, inr, List, [], ◌∷◌, length, Option, None, Result, Ok, Err, refl, sym, ◌∙◌, ap, subst, arith}
+use Rattle.std.proofs.Common.{◌≡◌, ◌≢◌, ℕ, suc, ◌+◌, ◌-◌, ◌*◌, ◌^◌, ◌<◌, ◌≤◌, ◌⊎◌, Bool, false, inl, inr, List, [], ◌∷◌, length, None, Result, Ok, Err, refl, sym, ◌∙◌, ap, subst, arith}
 use Rattle.std.specs.Prelude.{IsTrue}
 use Rattle.array_shape.specs.declared.shape.Shape.{Shape}
 use Rattle.array_shape.specs.Places.{data_len, page_count}
 use Rattle.array_shape.specs.Logged.{applied}
 use Rattle.eaw_face.specs.State.{State}
 use Rattle.eaw_face.specs.Causes.{IsAlive}
-use Rattle.record_slots.specs.Places.{page_bytes, next_slot, next_page, first_slot_page}
+use Rattle.record_slots.specs.Places.{page_bytes, next_slot, next_page}
 use Rattle.record_slots.specs.Super.{SaysSuper}
 use Rattle.record_slots.specs.declared.super_page.Super.{Super}
 use Rattle.page_store.specs.Fits.{FitAll, IsFirstLacking}
 use Rattle.page_store.specs.Index.{Action, Grows, Rests, slots_of, index_pages_of}
 use Rattle.page_store.specs.Inserts.{ActionFits, LackPages, MayBecome, Inserts}
-use Rattle.page_store.specs.Looks.{Looks, LookCause, is_failed}
+use Rattle.page_store.specs.Looks.{Looks, is_failed}
 use Rattle.page_store.specs.Pairs.{Pair, found}
 use Rattle.page_store.specs.Shown.{PagesView}
 use Rattle.page_store.specs.declared.fault.PageFault.{PageFault}

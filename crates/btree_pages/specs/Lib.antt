@@ -9,3 +9,7 @@ pub mod Writes
 pub mod Checked
 pub mod Index
 pub mod Props
+pub mod TreeFacts
+pub mod Frames
+pub mod Resting
+pub mod FailingFacts

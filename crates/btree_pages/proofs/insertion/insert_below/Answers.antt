@@ -4,7 +4,7 @@ use Rattle.page_store.specs.Inserts.{Inserts}
 use Rattle.page_store.specs.Shown.{pages_of}
 use Rattle.page_store.specs.declared.index_fault.IndexFault.{IndexFault}
 use Rattle.btree_pages.specs.Index.{tree_below}
-use Rattle.btree_pages.proofs.Below.{stands_first, sound_now, reached_now, living, child_err, stands_down, pages_full, cut_err, stands_cut, add_done, add_err}
+use Rattle.btree_pages.proofs.Below.{stands_down, pages_full, cut_err, stands_cut, add_done, add_err}
 use Rattle.btree_pages.proofs.insertion.insert_below.Goals as goal
 
 pub loop-node-preserved-then-len-lt-PAIRS_MAX : goal.loop-node-preserved-then-len-lt-PAIRS_MAX
