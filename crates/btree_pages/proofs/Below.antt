@@ -93,7 +93,6 @@ module _ (tells : Bool) (E : Shape → List ℕ → List ℕ → Type 0) (t key 
   module _ (half : ℕ) (half_is : half ≡ index_pages_of v0.store.shape) (all : half + half ≡ page_count v0.store.shape) (few : half ≤ 16384) (fits : key < 2 ^ 64)
       (sound : IsTrue tells → IsSoundTree v0.store.state.bytes) (absent : IsTrue tells → found (pairs_of_tree v0.store.state.bytes) key ≡ None) (long : IsTrue tells → length v0.store.state.bytes ≡ data_len v0.store.shape)
       (alive : IsAlive v0.store) (limit : IsTrue tells → most ≤ next_page v0.store.state.bytes + 9) (slot_less : slot0 < slots_of v0.store.shape) where
-
     -- it begins
     pub stands_first : (front : Super) (pairs : List Pair) → IsFront v0.store.shape front → front.next_slot ≡ slot0 → IsRead v0.store.shape page0 level0 pairs → (level0 ≢ 0 → 1 ≤ length pairs) → length pairs < 30
         → (IsTrue tells → IsFrontOf v0.store.state.bytes front) → (IsTrue tells → IsReached v0.store.state.bytes key page0 level0 pairs) → most ≡ front.next_page + level0 → Stands v0 front page0 level0 pairs
@@ -189,21 +188,20 @@ module _ (tells : Bool) (E : Shape → List ℕ → List ℕ → Type 0) (t key 
 
           -- no page is left
           pub pages_full : front.next_page ≡ half → (let r : Result ℕ IndexFault = Err (index.PagesFull (half - 1)) in Inserts tells (E v0.store.shape) (tree_below page0 level0 most) t key v0 v' r)
-          pages_full none = inserts_refused (tree_below page0 level0 most) tells (E v0.store.shape) t key v0 v' going1 (index.PagesFull (half - 1))
-              (
-                refl,
-                (
-                  alive,
-                  ap (λ (n : ℕ). n - 1) half_is,
-                  λ told. (
-                    slot_left told,
-                    pages_lack v0.store t (index_pages_of v0.store.shape - next_page v0.store.state.bytes) (actions_below level0 v0.store.state.bytes page0 page0 (next_page v0.store.state.bytes) key)
-                        (index_pages_of v0.store.shape - next_page v'.store.state.bytes) (cutting child (next_page v'.store.state.bytes) page)
-                        (actions_below m v'.store.state.bytes child (half_for (page_pairs v'.store.state.bytes child) child (next_page v'.store.state.bytes) key) (suc (next_page v'.store.state.bytes)) key)
-                        (due told) (omega (arith, none, half_is, (counts1 told).pages)),
-                  ),
-                ),
-              )
+          pages_full none = inserts_refused (tree_below page0 level0 most) tells (E v0.store.shape) t key v0 v' going1 (index.PagesFull (half - 1)) (
+            refl,
+            (
+              alive,
+              ap (λ (n : ℕ). n - 1) half_is,
+              λ told. (
+                slot_left told,
+                pages_lack v0.store t (index_pages_of v0.store.shape - next_page v0.store.state.bytes) (actions_below level0 v0.store.state.bytes page0 page0 (next_page v0.store.state.bytes) key)
+                    (index_pages_of v0.store.shape - next_page v'.store.state.bytes) (cutting child (next_page v'.store.state.bytes) page)
+                    (actions_below m v'.store.state.bytes child (half_for (page_pairs v'.store.state.bytes child) child (next_page v'.store.state.bytes) key) (suc (next_page v'.store.state.bytes)) key)
+                    (due told) (omega (arith, none, half_is, (counts1 told).pages)),
+              ),
+            ),
+          )
               (λ n e told running. let e' : half - 1 ≡ n = cc in inl (omega (arith, none, (counts1 told).pages, e')))
 
           module _ (left : front.next_page ≢ half) where

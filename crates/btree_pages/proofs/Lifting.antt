@@ -19,7 +19,7 @@ use Rattle.btree_pages.proofs.Left.{DecidesAll, all_fit_same, lack_pages_same, l
 module _ (tells : Bool) (E : Shape → List ℕ → List ℕ → Type 0) (t key : ℕ) (v0 v v' : PagesView) (page level most : ℕ) (going : Going tree tells (E v0.store.shape) t key v0 v) (alive : IsAlive v0.store)
     (limit : IsTrue tells → most ≤ next_page v0.store.state.bytes + 9)
     (decides : IsTrue tells → DecidesAll v0.store t (index_pages_of v0.store.shape - next_page v0.store.state.bytes) (tree_actions v0.store.state.bytes key) (index_pages_of v0.store.shape - next_page v.store.state.bytes)
-        (actions_below level v.store.state.bytes page page (next_page v.store.state.bytes) key)) where
+    (actions_below level v.store.state.bytes page page (next_page v.store.state.bytes) key)) where
   pages_same : index_pages_of v.store.shape ≡ index_pages_of v0.store.shape
   pages_same = ap index_pages_of going.shape
 
