@@ -59,8 +59,8 @@ IsPageOfTree bytes page = IsUnder (level_of bytes 1) bytes page 1
 abbrev pub tree : Index
 tree = record { sound = IsSoundTree; fails = IsFirstDamagedOfTree; pairs = pairs_of_tree; level = λ bytes. level_of bytes 1; has_page = IsPageOfTree; actions = tree_actions }
 
--- The same from a page on, so many levels above the leaves, which has room: what is left of an insertion there takes this many pages at
--- most.
+-- The index for what is left of an insertion behind a page on its way, which has room and stands so many levels above the leaves: its
+-- actions are those from there on, and of sound data no more than this many pages are given.
 abbrev pub tree_below : ℕ → ℕ → ℕ → Index
 tree_below page level most = record {
   sound = λ bytes. IsSoundTree bytes × (next_page bytes ≤ most);
