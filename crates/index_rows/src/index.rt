@@ -100,3 +100,23 @@ pub fn write<S: EawStore>(
         Err(fault) => Err(RowFault::Page(fault)),
     }
 }
+
+/// Reads bytes of a page.
+pub fn read<S: EawStore>(
+    pages: &mut Pages<S>,
+    page: u32,
+    at: u32,
+    bytes: &mut [u8],
+) -> Result<(), RowFault> {
+    let shape = pages.shape();
+    if u64::from(page) >= shape.page_count() {
+        return Err(RowFault::Shape);
+    }
+    if at > 512 || bytes.len() as u64 > 512 - u64::from(at) {
+        return Err(RowFault::Shape);
+    }
+    match pages.read(page, at, bytes) {
+        Ok(()) => Ok(()),
+        Err(fault) => Err(RowFault::Page(fault)),
+    }
+}

@@ -2,6 +2,7 @@
 //! pages with power lost at each call of the media, and pages that were damaged by hand.
 #![tactic(auto)]
 
+mod cut_root;
 mod damage;
 mod drawn;
 mod fault;
@@ -31,6 +32,9 @@ fn main(rt: HostRuntime) -> Result<()> {
     play::<KeyList>(&rt, CHAIN, &OF_CHAIN)?;
     println!(rt; "tree")?;
     play::<BTreePages>(&rt, TREE, &OF_TREE)?;
+    cut_root::play(rt.alloc())?;
+    cut_root::play_with_no_room(rt.alloc())?;
+    println!(rt; "a cut root: its pages, and no room for it")?;
     let insertion = Insertion {
         form: TREE,
         pages: 64,
