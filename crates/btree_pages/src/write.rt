@@ -224,6 +224,7 @@ pub fn half_of(node: &Node, left: u32, right: u32, key: u64) -> Node
     }
 }
 
+// The pairs of a half on their own.
 fn copy_of(pairs: &[(u64, u64)]) -> Pairs
     requires { length pairs.now ≤ 30 }
     ensures { result.items ≡ pairs.now }
