@@ -15,9 +15,10 @@ use Rattle.btree_pages.specs.Changes.{IsCut}
 use Rattle.btree_pages.specs.Descent.{child_for, page_for}
 use Rattle.btree_pages.specs.Index.{adding, cutting, half_for, actions_below}
 use Rattle.btree_pages.specs.Tree.{IsTree, IsUnder, IsUnderSome}
-use Rattle.btree_pages.proofs.Apart.{tree_level, sub_of, start_of}
+use Rattle.btree_pages.proofs.Apart.{sub_of, start_of}
 use Rattle.btree_pages.proofs.Descending.{child_step}
 use Rattle.btree_pages.proofs.Ways.{above-le, child_given}
+use Rattle.btree_pages.specs.TreeFacts.{tree_level}
 
 -- the child of a key is one of the children
 pub child_some : (P : ℕ → Type 0) (es : List Pair) (key : ℕ) → 1 ≤ length es → P (child_for es key) → IsUnderSome P es

@@ -248,3 +248,7 @@ module _ (shape : Shape) (old : List ℕ) (half : ℕ) (long : length old ≡ da
       fresh = subst (λ (s : ℕ). slot_of added s ≡ slot_bytes (Absent key)) says.slots slot_new;
     },
   )
+
+  pub adding_takes_none : next_page (applied (adding_parts half front leaf pairs key) old) ≡ next_page old
+  unfolding added
+  adding_takes_none = page_now ∙ says.pages

@@ -1,11 +1,11 @@
 -- No page comes twice in a sound tree.
 use Rattle.std.proofs.Common.{◌≡◌, ◌≢◌, ℕ, zero, suc, ◌<◌, ◌≤◌, inl, inr, List, [], ◌∷◌, length, length-append, sym, ◌∙◌, subst, arith}
-use Rattle.btree_pages.proofs.TreeFacts.{children_tile, tree_rises, tree_wide}
+use Rattle.btree_pages.specs.TreeFacts.{children_tile, tree_rises, tree_wide, tree_level}
 use Rattle.btree_pages.specs.Tree.{IsTreeLeaf, AreChildren, next_low, AreSound, IsTree, pieces_with, pairs_under, IsUnder, IsUnderSome}
 use Rattle.index_pages.proofs.PageFacts.{length-page_pairs}
 use Rattle.index_pages.proofs.Rising.{key_at-bounds}
 use Rattle.index_pages.proofs.Tiling.{tile_bounds}
-use Rattle.index_pages.specs.Page.{page_pairs, level_of}
+use Rattle.index_pages.specs.Page.{page_pairs}
 use Rattle.index_pages.specs.Pieces.{joined, Tile}
 use Rattle.page_store.specs.Pairs.{Pair, Rise}
 
@@ -18,10 +18,6 @@ pub record Sub (bytes : List ℕ) (q l low high : ℕ) : Type 0 where
   pub above : low ≤ from
   pub below : to ≤ high
   pub most : m ≤ l
-
-pub tree_level : (m : ℕ) (bytes : List ℕ) (q low high : ℕ) → IsTree m bytes q low high → level_of bytes q ≡ m
-tree_level zero bytes q low high t = t.level
-tree_level (suc m) bytes q low high t = t.0.level_is
 
 first_some : (f : ℕ → List Pair) (P : ℕ → ℕ → ℕ → Type 0) → ((page low high : ℕ) → 2 ≤ page → P page low high → 1 ≤ length (f page))
     → (bytes : List ℕ) (es : List Pair) (high : ℕ) → 1 ≤ length es → AreChildren bytes es → AreSound P es high → 1 ≤ length (joined (pieces_with f es))

@@ -10,8 +10,9 @@ use Rattle.btree_pages.specs.Changes.{middle, with_entry, SplitsChild, SplitsRoo
 use Rattle.btree_pages.specs.Descent.{child_for, page_for}
 use Rattle.btree_pages.specs.Tree.{AreChildren, AreSound, next_low, IsTree, IsUnder, IsUnderSome}
 use Rattle.btree_pages.proofs.Actions.{child_some, under_self}
-use Rattle.btree_pages.proofs.Apart.{tree_level, sub_of, sub_below, start_of}
+use Rattle.btree_pages.proofs.Apart.{sub_of, sub_below, start_of}
 use Rattle.btree_pages.proofs.Descending.{child_step}
+use Rattle.btree_pages.specs.TreeFacts.{tree_level}
 
 some_with : (P : ℕ → Type 0) (es : List Pair) (key : ℕ) (p : Pair) → IsUnderSome P es → IsUnderSome P (with_entry es key p)
 some_with P [] key p u = absurd u

@@ -34,16 +34,17 @@ use Rattle.btree_pages.specs.Node.{kind_for, node_bytes}
 use Rattle.btree_pages.specs.OnWay.{IsOnWay}
 use Rattle.btree_pages.specs.Tree.{IsTree, IsUnder, IsSoundTree, pairs_of_tree, next_low}
 use Rattle.btree_pages.specs.Writes.{IsRead, cutting_parts}
-use Rattle.btree_pages.specs.Index.{tree, half_for, actions_below}
+use Rattle.btree_pages.specs.Index.{tree, half_for, half_pairs, actions_below}
 use Rattle.btree_pages.proofs.Actions.{under_self, way_same, half_actions}
 use Rattle.btree_pages.proofs.Belonging.{split_stays, half_named, under_way}
-use Rattle.btree_pages.proofs.Apart.{tree_level, start_of, sub_of}
+use Rattle.btree_pages.proofs.Apart.{start_of, sub_of}
 use Rattle.btree_pages.proofs.Descending.{Child, child_step}
 use Rattle.btree_pages.proofs.Entries.{with_inserted, entry_child, page_for_last}
 use Rattle.btree_pages.proofs.NodeBytes.{node_kind, node_level, node_link, node_pairs, length-node_bytes}
 use Rattle.btree_pages.proofs.Puts.{AllApart, Stand, applied_long, applied_away, applied_stand}
 use Rattle.btree_pages.proofs.Splitting.{halves, sound_tree_splits}
-use Rattle.btree_pages.proofs.Ways.{Way, way_of, way_own, under_own, child_given}
+use Rattle.btree_pages.proofs.Ways.{Way, way_of, way_own, child_given}
+use Rattle.btree_pages.specs.TreeFacts.{tree_level, under_own}
 
 -- the slots of a pair carry its key where they are as they were
 pub carries_on : (old new : List ℕ) (p : Pair) → slot_of new p.1 ≡ slot_of old p.1 → Carries old p → Carries new p
@@ -414,6 +415,13 @@ module _ (shape : Shape) (old : List ℕ) (half : ℕ) (long : length old ≡ da
     | inr h ↦
         let b : nat_lt key (key_at (page_pairs old page) 15) ≡ false = h.0 in
         rw b (sym (length-page_pairs cut front.next_page) ∙ ap (λ (ps : List Pair). length ps) upper_half.pairs_are ∙ (let e : length (drop 15 (page_pairs old page)) ≡ 15 = omega (arith, length-drop 15 (page_pairs old page), is_cut.full) in e))
+  ]
+
+  pub half_says : page_pairs (applied (cutting_parts front page level pairs parent entries) old) (half_for (page_pairs old page) page front.next_page key) ≡ half_pairs (page_pairs old page) key
+  unfolding cut
+  half_says = elim (leb_tells (suc key) (key_at (page_pairs old page) 15)) [
+    | inl h ↦ let b : nat_lt key (key_at (page_pairs old page) 15) ≡ true = h.0 in rw b lower_half.pairs_are
+    | inr h ↦ let b : nat_lt key (key_at (page_pairs old page) 15) ≡ false = h.0 in rw b upper_half.pairs_are
   ]
 
   -- what was to be done behind the cut is what is to be done from that half on

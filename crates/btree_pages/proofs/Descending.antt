@@ -16,8 +16,9 @@ use Rattle.btree_pages.specs.Descent.{child_for, page_for, leaf_for}
 use Rattle.btree_pages.specs.Leaf.{bound_in, from_bound, IsBegin, AtLeaf}
 use Rattle.btree_pages.specs.Node.{IsNode}
 use Rattle.btree_pages.specs.Tree.{AreChildren, next_low, AreSound, IsTree, pieces_with, pairs_under, IsSoundTree, pairs_of_tree}
-use Rattle.btree_pages.proofs.Apart.{tree_level, tree_some, child_facts, entries_tile, start_of}
+use Rattle.btree_pages.proofs.Apart.{tree_some, child_facts, entries_tile, start_of}
 use Rattle.btree_pages.proofs.Ways.{found_on_way, child_given}
+use Rattle.btree_pages.specs.TreeFacts.{tree_level}
 
 -- the entries behind that of a key's child, which ends at their bound, and the pairs below them
 abbrev pub Behind : ℕ → List ℕ → List Pair → ℕ → ℕ → ℕ → ℕ → Option ℕ → Type 0
@@ -272,7 +273,7 @@ pub down_step : (bytes : List ℕ) (key steps page : ℕ) (bound : Option ℕ) �
     → Down bytes key (steps + 1) (child_for (page_pairs bytes page) key) (option_or (bound_in (page_pairs bytes page) key) bound)
 down_step bytes key steps page bound d inner = on d.m bytes key steps page bound d refl (omega (arith, inner, down_level bytes key steps page bound d))
 
-node_of : (m : ℕ) (bytes : List ℕ) (page low high : ℕ) → m ≤ 7 → IsTree m bytes page low high → IsNode (page_bytes bytes page)
+pub node_of : (m : ℕ) (bytes : List ℕ) (page low high : ℕ) → m ≤ 7 → IsTree m bytes page low high → IsNode (page_bytes bytes page)
 node_of zero bytes page low high most t = record { form = inl (t.kind, t.level); link = t.link; most = t.most }
 node_of (suc m) bytes page low high most t = record {
   form = inr (t.0.kind, omega (arith, t.0.level_is), omega (arith, t.0.level_is), t.0.some);

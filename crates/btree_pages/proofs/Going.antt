@@ -1,5 +1,5 @@
 -- An insertion on its way, and its ends.
-use Rattle.std.proofs.Common.{◌≡◌, ◌≢◌, ℕ, ◌+◌, ◌≤◌, ◌⊎◌, Bool, true, false, inl, inr, List, Option, Result, Ok, Err, refl, sym, ◌∙◌, ap, subst, arith}
+use Rattle.std.proofs.Common.{◌≡◌, ◌≢◌, ℕ, ◌≤◌, ◌⊎◌, Bool, true, false, inl, inr, List, Option, Result, Ok, Err, refl, sym, ◌∙◌, ap, subst, arith}
 use Rattle.std.specs.Prelude.{IsTrue}
 use Rattle.std.proofs.lemmas.Bool.{false≢true}
 use Rattle.counted.specs.Causes.{Rose}
@@ -10,7 +10,7 @@ use Rattle.eaw_face.specs.StoreView.{LeavesOnly}
 use Rattle.eaw_face.specs.Causes.{IsAlive}
 use Rattle.record_slots.specs.Places.{next_slot, next_page}
 use Rattle.page_store.specs.Fits.{IsFirstLacking}
-use Rattle.page_store.specs.Index.{Grows, Rests, Gains}
+use Rattle.page_store.specs.Index.{Index, Grows, Rests, Gains}
 use Rattle.page_store.specs.Inserts.{KeepsLogs, MayBecome, Made, InsertCause, Inserts, is_insert_failed}
 use Rattle.page_store.specs.Looks.{Looks, LookCause, is_failed}
 use Rattle.page_store.specs.Shown.{PagesView}
@@ -19,14 +19,10 @@ use Rattle.page_store.specs.declared.fault.PageFault.TheVariants as page
 use Rattle.page_store.specs.declared.index_fault.IndexFault.{IndexFault}
 use Rattle.page_store.specs.declared.index_fault.IndexFault.TheVariants as index
 use Rattle.index_pages.specs.Acts.{Acts}
-use Rattle.btree_pages.specs.Tree.{IsSoundTree}
-use Rattle.btree_pages.specs.Index.{tree}
 use Rattle.index_pages.specs.Faults.{as_index}
-use Rattle.std.proofs.lemmas.Bool.Decides.{leb_tells}
-use Rattle.index_pages.specs.Page.{level_of}
 
-pub nothing_grows : (bytes : List ℕ) → IsSoundTree bytes → Grows tree bytes bytes × Rests tree bytes bytes
-nothing_grows bytes sound = (
+pub nothing_grows : (ix : Index) (bytes : List ℕ) → ix.sound bytes → Grows ix bytes bytes × Rests ix bytes bytes
+nothing_grows ix bytes sound = (
   record {
     sound = sound;
     size = refl;
@@ -40,23 +36,7 @@ nothing_grows bytes sound = (
   record { pairs = refl; slots = refl },
 )
 
--- one action behind another, with nine new pages at most
-pub grows_then : (a b c : List ℕ) → Grows tree a b → Rests tree a b → Grows tree b c → Rests tree b c → next_page c ≤ next_page a + 9 → Grows tree a c × Rests tree a c
-grows_then a b c first still second still' few = (
-  record {
-    sound = second.sound;
-    size = second.size ∙ first.size;
-    slots = λ j lt. second.slots j (omega (arith, lt, still.slots)) ∙ first.slots j lt;
-    later = omega (arith, first.later, second.later);
-    few = few;
-    named = λ x from to. elim (leb_tells (next_page b) x) [ inl late ↦ second.named x late.1 to | inr early ↦ second.kept x (first.named x from (omega (arith, early.1))) ];
-    kept = λ x on. second.kept x (first.kept x on);
-    levels = omega (arith, first.levels, second.levels);
-  },
-  record { pairs = still'.pairs ∙ still.pairs; slots = still'.slots ∙ still.slots },
-)
-
-logs_then : (tells : Bool) (a b c : PagesView) → KeepsLogs tells a b → KeepsLogs tells b c → KeepsLogs tells a c
+pub logs_then : (tells : Bool) (a b c : PagesView) → KeepsLogs tells a b → KeepsLogs tells b c → KeepsLogs tells a c
 logs_then tells a b c first second = record {
   dead = second.dead ∙ first.dead;
   faults = second.faults ∙ first.faults;
@@ -76,17 +56,17 @@ looks_logs tells Opens old now looks =
       logs = λ told u. ap (λ (s : State). listed (s.logs u)) (still.state told);
     }
 
-module _ (tells : Bool) (Opens : List ℕ → List ℕ → Type 0) (t key : ℕ) where
+module _ (ix : Index) (tells : Bool) (Opens : List ℕ → List ℕ → Type 0) (t key : ℕ) where
   -- So far logs and saves are as they were, and the data has grown at most.
   pub record Going (old now : PagesView) : Type 0 where
     pub shape : now.store.shape ≡ old.store.shape
     pub saves : now.counts ≡ old.counts
     pub others : (u : ℕ) → u ≢ t → now.store.ranges u ≡ old.store.ranges u
     pub logs : KeepsLogs tells old now
-    pub made : IsTrue tells → IsAlive old.store → Grows tree old.store.state.bytes now.store.state.bytes × Rests tree old.store.state.bytes now.store.state.bytes
-    pub time : IsTrue tells → IsAlive old.store → LeavesOnly (λ image. (bytes : List ℕ) × Opens image bytes × MayBecome tree key old.store.state.bytes bytes) old.store now.store
+    pub made : IsTrue tells → IsAlive old.store → Grows ix old.store.state.bytes now.store.state.bytes × Rests ix old.store.state.bytes now.store.state.bytes
+    pub time : IsTrue tells → IsAlive old.store → LeavesOnly (λ image. (bytes : List ℕ) × Opens image bytes × MayBecome ix key old.store.state.bytes bytes) old.store now.store
 
-  pub going_looks : (old now : PagesView) → (IsTrue tells → IsAlive old.store → IsSoundTree old.store.state.bytes) → Looks tells Opens false old now → Going old now
+  pub going_looks : (old now : PagesView) → (IsTrue tells → IsAlive old.store → ix.sound old.store.state.bytes) → Looks tells Opens false old now → Going old now
   going_looks old now sound looks =
       let still = looks.still refl in
       record {
@@ -94,16 +74,16 @@ module _ (tells : Bool) (Opens : List ℕ → List ℕ → Type 0) (t key : ℕ)
         saves = looks.saves;
         others = λ u ne. ap (λ (f : ℕ → Option (List (ℕ × ℕ))). f u) looks.ranges;
         logs = looks_logs tells Opens old now looks;
-        made = λ told alive. subst (λ (s : State). Grows tree old.store.state.bytes s.bytes × Rests tree old.store.state.bytes s.bytes) (sym (still.state told)) (nothing_grows old.store.state.bytes (sound told alive));
-        time = λ told alive. let grown = nothing_grows old.store.state.bytes (sound told alive) in weaker (λ image opens. (old.store.state.bytes, opens, (grown.0, inl grown.1))) (looks.time told alive);
+        made = λ told alive. subst (λ (s : State). Grows ix old.store.state.bytes s.bytes × Rests ix old.store.state.bytes s.bytes) (sym (still.state told)) (nothing_grows ix old.store.state.bytes (sound told alive));
+        time = λ told alive. let grown = nothing_grows ix old.store.state.bytes (sound told alive) in weaker (λ image opens. (old.store.state.bytes, opens, (grown.0, inl grown.1))) (looks.time told alive);
       }
 
-  alive_now : (old now : PagesView) → Going old now → IsAlive old.store → IsAlive now.store
+  pub alive_now : (old now : PagesView) → Going old now → IsAlive old.store → IsAlive now.store
   alive_now old now going alive = going.logs.dead ∙ alive
 
   -- what a look at the data leaves
   time_looks : (failed : Bool) (old mid now : PagesView) → Going old mid → Looks tells Opens failed mid now → IsTrue tells → IsAlive old.store
-      → LeavesOnly (λ image. (bytes : List ℕ) × Opens image bytes × MayBecome tree key old.store.state.bytes bytes) old.store now.store
+      → LeavesOnly (λ image. (bytes : List ℕ) × Opens image bytes × MayBecome ix key old.store.state.bytes bytes) old.store now.store
   time_looks failed old mid now going looks told alive =
       let grown = going.made told alive in
       (then) (going.time told alive) (weaker (λ image opens. (mid.store.state.bytes, opens, (grown.0, inl grown.1))) (looks.time told (alive_now old mid going alive)))
@@ -116,15 +96,15 @@ module _ (tells : Bool) (Opens : List ℕ → List ℕ → Type 0) (t key : ℕ)
         saves = looks.saves ∙ going.saves;
         others = λ u ne. ap (λ (f : ℕ → Option (List (ℕ × ℕ))). f u) looks.ranges ∙ going.others u ne;
         logs = logs_then tells old mid now going.logs (looks_logs tells Opens mid now looks);
-        made = λ told alive. subst (λ (s : State). Grows tree old.store.state.bytes s.bytes × Rests tree old.store.state.bytes s.bytes) (sym (still.state told)) (going.made told alive);
+        made = λ told alive. subst (λ (s : State). Grows ix old.store.state.bytes s.bytes × Rests ix old.store.state.bytes s.bytes) (sym (still.state told)) (going.made told alive);
         time = λ told alive. time_looks false old mid now going looks told alive;
       }
 
   module _ (old mid now : PagesView) (going : Going old mid) (pages : List ℕ) (parts : List Part)
-      (may : IsTrue tells → IsAlive old.store → MayBecome tree key old.store.state.bytes (applied parts mid.store.state.bytes)) where
+      (may : IsTrue tells → IsAlive old.store → MayBecome ix key old.store.state.bytes (applied parts mid.store.state.bytes)) where
     -- what an action leaves
     time_acts : (r : Result (Unit {0}) PageFault) → Acts tells Opens t pages parts mid now r → IsTrue tells → IsAlive old.store
-        → LeavesOnly (λ image. (bytes : List ℕ) × Opens image bytes × MayBecome tree key old.store.state.bytes bytes) old.store now.store
+        → LeavesOnly (λ image. (bytes : List ℕ) × Opens image bytes × MayBecome ix key old.store.state.bytes bytes) old.store now.store
     time_acts r acts told alive =
         let grown = going.made told alive in
         (then) (going.time told alive)
@@ -135,13 +115,13 @@ module _ (tells : Bool) (Opens : List ℕ → List ℕ → Type 0) (t key : ℕ)
 
     -- one that was done, and leaves the pairs
     pub going_act : (let r : Result (Unit {0}) PageFault = Ok tt in Acts tells Opens t pages parts mid now r)
-        → (IsTrue tells → IsAlive old.store → Grows tree old.store.state.bytes (applied parts mid.store.state.bytes) × Rests tree old.store.state.bytes (applied parts mid.store.state.bytes)) → Going old now
+        → (IsTrue tells → IsAlive old.store → Grows ix old.store.state.bytes (applied parts mid.store.state.bytes) × Rests ix old.store.state.bytes (applied parts mid.store.state.bytes)) → Going old now
     going_act acts grown = record {
       shape = acts.shape ∙ going.shape;
       saves = acts.saves ∙ going.saves;
       others = λ u ne. acts.others u ne ∙ going.others u ne;
       logs = logs_then tells old mid now going.logs (acts.kept refl);
-      made = λ told alive. subst (λ (b : List ℕ). Grows tree old.store.state.bytes b × Rests tree old.store.state.bytes b) (sym (acts.made told (alive_now old mid going alive))) (grown told alive);
+      made = λ told alive. subst (λ (b : List ℕ). Grows ix old.store.state.bytes b × Rests ix old.store.state.bytes b) (sym (acts.made told (alive_now old mid going alive))) (grown told alive);
       time = λ told alive. (let r : Result (Unit {0}) PageFault = Ok tt in time_acts r acts told alive);
     }
 
@@ -152,14 +132,14 @@ module _ (tells : Bool) (Opens : List ℕ → List ℕ → Type 0) (t key : ℕ)
       saves = acts.saves ∙ going.saves;
       others = λ u ne. acts.others u ne ∙ going.others u ne;
       logs = logs_then tells old mid now going.logs (acts.kept refl);
-      made = λ told alive. subst (λ (b : List ℕ). Grows tree old.store.state.bytes b × Rests tree old.store.state.bytes b) (sym (acts.made told (alive_now old mid going alive))) (going.made told alive);
+      made = λ told alive. subst (λ (b : List ℕ). Grows ix old.store.state.bytes b × Rests ix old.store.state.bytes b) (sym (acts.made told (alive_now old mid going alive))) (going.made told alive);
       time = λ told alive. (let r : Result (Unit {0}) PageFault = Err (page.LogFull g h n) in time_acts r acts told alive);
     }
 
     -- it ends with the pair
     pub inserts_done : (slot : ℕ) → (let r : Result (Unit {0}) PageFault = Ok tt in Acts tells Opens t pages parts mid now r)
-        → (IsTrue tells → IsAlive old.store → (slot ≡ next_slot old.store.state.bytes) × Grows tree old.store.state.bytes (applied parts mid.store.state.bytes) × Gains tree key old.store.state.bytes (applied parts mid.store.state.bytes))
-        → (let s : Result ℕ IndexFault = Ok slot in InsertCause tells tree t key old.store s) → (let s : Result ℕ IndexFault = Ok slot in Inserts tells Opens tree t key old now s)
+        → (IsTrue tells → IsAlive old.store → (slot ≡ next_slot old.store.state.bytes) × Grows ix old.store.state.bytes (applied parts mid.store.state.bytes) × Gains ix key old.store.state.bytes (applied parts mid.store.state.bytes))
+        → (let s : Result ℕ IndexFault = Ok slot in InsertCause tells ix t key old.store s) → (let s : Result ℕ IndexFault = Ok slot in Inserts tells Opens ix t key old now s)
     inserts_done slot acts data' cause = record {
       shape = acts.shape ∙ going.shape;
       cause = cause;
@@ -167,14 +147,14 @@ module _ (tells : Bool) (Opens : List ℕ → List ℕ → Type 0) (t key : ℕ)
       others = λ u ne. acts.others u ne ∙ going.others u ne;
       kept = λ well. logs_then tells old mid now going.logs (acts.kept refl);
       made = λ told alive.
-          subst (λ (b : List ℕ). (slot ≡ next_slot old.store.state.bytes) × Grows tree old.store.state.bytes b × Gains tree key old.store.state.bytes b) (sym (acts.made told (alive_now old mid going alive))) (data' told alive);
+          subst (λ (b : List ℕ). (slot ≡ next_slot old.store.state.bytes) × Grows ix old.store.state.bytes b × Gains ix key old.store.state.bytes b) (sym (acts.made told (alive_now old mid going alive))) (data' told alive);
       dies = λ failed. absurd (false≢true failed);
       time = λ told alive. (let r : Result (Unit {0}) PageFault = Ok tt in time_acts r acts told alive);
     }
 
   -- it ends without the pair
-  pub inserts_refused : (old now : PagesView) → Going old now → (fault : IndexFault) → (let s : Result ℕ IndexFault = Err fault in (is_insert_failed s ≡ false) × InsertCause tells tree t key old.store s)
-      → ((n : ℕ) → fault ≡ index.PagesFull n → IsTrue tells → IsAlive old.store → (n ≤ next_page now.store.state.bytes) ⊎ (7 ≤ level_of now.store.state.bytes 1)) → (let s : Result ℕ IndexFault = Err fault in Inserts tells Opens tree t key old now s)
+  pub inserts_refused : (old now : PagesView) → Going old now → (fault : IndexFault) → (let s : Result ℕ IndexFault = Err fault in (is_insert_failed s ≡ false) × InsertCause tells ix t key old.store s)
+      → ((n : ℕ) → fault ≡ index.PagesFull n → IsTrue tells → IsAlive old.store → (n ≤ next_page now.store.state.bytes) ⊎ (7 ≤ ix.level now.store.state.bytes)) → (let s : Result ℕ IndexFault = Err fault in Inserts tells Opens ix t key old now s)
   inserts_refused old now going fault cause full = record {
     shape = going.shape;
     cause = cause.1;
@@ -186,8 +166,8 @@ module _ (tells : Bool) (Opens : List ℕ → List ℕ → Type 0) (t key : ℕ)
     time = going.time;
   }
     where
-      made_of : (fault : IndexFault) → (let s : Result ℕ IndexFault = Err fault in is_insert_failed s ≡ false) → ((n : ℕ) → fault ≡ index.PagesFull n → IsTrue tells → IsAlive old.store → (n ≤ next_page now.store.state.bytes) ⊎ (7 ≤ level_of now.store.state.bytes 1))
-          → IsTrue tells → IsAlive old.store → (let s : Result ℕ IndexFault = Err fault in Made tree key old.store.state.bytes now.store.state.bytes s)
+      made_of : (fault : IndexFault) → (let s : Result ℕ IndexFault = Err fault in is_insert_failed s ≡ false) → ((n : ℕ) → fault ≡ index.PagesFull n → IsTrue tells → IsAlive old.store → (n ≤ next_page now.store.state.bytes) ⊎ (7 ≤ ix.level now.store.state.bytes))
+          → IsTrue tells → IsAlive old.store → (let s : Result ℕ IndexFault = Err fault in Made ix key old.store.state.bytes now.store.state.bytes s)
       made_of (index.SlotsFull n) well full told alive = going.made told alive
       made_of (index.PagesFull n) well full told alive = let grown = going.made told alive in (grown.0, grown.1, full n refl told alive)
       made_of (index.LogFull g h n) well full told alive = going.made told alive
@@ -196,7 +176,7 @@ module _ (tells : Bool) (Opens : List ℕ → List ℕ → Type 0) (t key : ℕ)
       made_of (index.Damaged bad) well full told alive = going.made told alive
 
   -- the media failed
-  inserts_look_media : (old mid now : PagesView) → Going old mid → Looks tells Opens true mid now → IsAlive old.store → (let s : Result ℕ IndexFault = Err index.Media in Inserts tells Opens tree t key old now s)
+  inserts_look_media : (old mid now : PagesView) → Going old mid → Looks tells Opens true mid now → IsAlive old.store → (let s : Result ℕ IndexFault = Err index.Media in Inserts tells Opens ix t key old now s)
   inserts_look_media old mid now going looks alive =
       let dies = looks.dies refl in
       record {
@@ -211,7 +191,7 @@ module _ (tells : Bool) (Opens : List ℕ → List ℕ → Type 0) (t key : ℕ)
       }
 
   pub inserts_look_err : (T : Type 0) (old mid now : PagesView) → Going old mid → (fault : PageFault) → (let r : Result T PageFault = Err fault in Looks tells Opens (is_failed r) mid now × LookCause tells mid.store r)
-      → (let s : Result ℕ IndexFault = Err (as_index fault) in Inserts tells Opens tree t key old now s)
+      → (let s : Result ℕ IndexFault = Err (as_index fault) in Inserts tells Opens ix t key old now s)
   inserts_look_err T old mid now going page.Media looks = inserts_look_media old mid now going looks.0 (sym going.logs.dead ∙ looks.1)
   inserts_look_err T old mid now going page.Dead looks = inserts_refused old now (going_more old mid now going looks.0) index.Dead (refl, sym going.logs.dead ∙ looks.1) (λ n e. absurd (cc))
   inserts_look_err T old mid now going (page.Damaged bad) looks = inserts_refused old now (going_more old mid now going looks.0) (index.Damaged bad) (refl, (sym going.logs.dead ∙ looks.1.0, looks.1.1)) (λ n e. absurd (cc))
@@ -219,9 +199,9 @@ module _ (tells : Bool) (Opens : List ℕ → List ℕ → Type 0) (t key : ℕ)
   inserts_look_err T old mid now going page.SavesFull looks = absurd looks.1
 
   pub inserts_act_err : (old mid now : PagesView) → (going : Going old mid) → (pages : List ℕ) (parts : List Part)
-      → (may : IsTrue tells → IsAlive old.store → MayBecome tree key old.store.state.bytes (applied parts mid.store.state.bytes)) → IsAlive old.store
-      → ((g h n : ℕ) → IsFirstLacking mid.store t pages g h n → (let s : Result ℕ IndexFault = Err (index.LogFull g h n) in InsertCause tells tree t key old.store s))
-      → (fault : PageFault) → (let r : Result (Unit {0}) PageFault = Err fault in Acts tells Opens t pages parts mid now r) → (let s : Result ℕ IndexFault = Err (as_index fault) in Inserts tells Opens tree t key old now s)
+      → (may : IsTrue tells → IsAlive old.store → MayBecome ix key old.store.state.bytes (applied parts mid.store.state.bytes)) → IsAlive old.store
+      → ((g h n : ℕ) → IsFirstLacking mid.store t pages g h n → (let s : Result ℕ IndexFault = Err (index.LogFull g h n) in InsertCause tells ix t key old.store s))
+      → (fault : PageFault) → (let r : Result (Unit {0}) PageFault = Err fault in Acts tells Opens t pages parts mid now r) → (let s : Result ℕ IndexFault = Err (as_index fault) in Inserts tells Opens ix t key old now s)
   inserts_act_err old mid now going pages parts may alive cause page.Media acts =
       let dies = acts.dies refl in
       record {

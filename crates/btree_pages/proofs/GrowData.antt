@@ -26,7 +26,7 @@ use Rattle.index_pages.proofs.Writing.{small_take}
 use Rattle.btree_pages.specs.Changes.{IsHalf, IsCut, middle, SplitsRoot}
 use Rattle.btree_pages.specs.Checked.{IsFrontOf}
 use Rattle.btree_pages.specs.Descent.{child_for, page_for}
-use Rattle.btree_pages.specs.Index.{tree, half_for, actions_below}
+use Rattle.btree_pages.specs.Index.{tree, half_for, half_pairs, actions_below}
 use Rattle.btree_pages.specs.Node.{kind_for, node_bytes}
 use Rattle.btree_pages.specs.Tree.{IsTree, IsUnder, IsSoundTree, pairs_of_tree}
 use Rattle.btree_pages.specs.Writes.{IsRead, growing_parts}
@@ -36,7 +36,7 @@ use Rattle.btree_pages.proofs.CutData.{carries_on, small_at, tree_kind}
 use Rattle.btree_pages.proofs.NodeBytes.{node_kind, node_level, node_link, node_pairs, length-node_bytes}
 use Rattle.btree_pages.proofs.Puts.{AllApart, Stand, applied_long, applied_away, applied_stand}
 use Rattle.btree_pages.proofs.Splitting.{sound_tree_grows}
-use Rattle.btree_pages.proofs.Ways.{under_own}
+use Rattle.btree_pages.specs.TreeFacts.{under_own}
 
 module _ (shape : Shape) (old : List ℕ) (half : ℕ) (long : length old ≡ data_len shape) (half_is : half ≡ index_pages_of shape) (all : half + half ≡ array.page_count shape) (few : half ≤ 16384)
     (front : Super) (key level : ℕ) (pairs : List Pair) (fits : key < 2 ^ 64) (front_is : IsFront shape front) (read : IsRead shape 1 level pairs)
@@ -294,6 +294,13 @@ module _ (shape : Shape) (old : List ℕ) (half : ℕ) (long : length old ≡ da
         let b : nat_lt key (key_at (page_pairs old 1) 15) ≡ false = h.0 in
         rw b (sym (length-page_pairs grown (front.next_page + 1)) ∙ ap (λ (ps : List Pair). length ps) upper_half.pairs_are
         ∙ (let e : length (drop 15 (page_pairs old 1)) ≡ 15 = omega (arith, length-drop 15 (page_pairs old 1), is_cut.full) in e))
+  ]
+
+  pub grown_says : page_pairs (applied (growing_parts front level pairs) old) (half_for (page_pairs old 1) front.next_page (front.next_page + 1) key) ≡ half_pairs (page_pairs old 1) key
+  unfolding grown
+  grown_says = elim (leb_tells (suc key) (key_at (page_pairs old 1) 15)) [
+    | inl h ↦ let b : nat_lt key (key_at (page_pairs old 1) 15) ≡ true = h.0 in rw b lower_half.pairs_are
+    | inr h ↦ let b : nat_lt key (key_at (page_pairs old 1) 15) ≡ false = h.0 in rw b upper_half.pairs_are
   ]
 
   pub grown_left : actions_below level (applied (growing_parts front level pairs) old) (half_for (page_pairs old 1) front.next_page (front.next_page + 1) key)

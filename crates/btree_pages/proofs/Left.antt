@@ -1,5 +1,5 @@
 -- What is left to be done of an insertion decides on all of it.
-use Rattle.std.proofs.Common.{◌≡◌, ℕ, ◌+◌, ◌-◌, ◌<◌, ◌≤◌, inl, inr, List, ◌∷◌, length, ◌∙◌, ap, arith}
+use Rattle.std.proofs.Common.{◌≡◌, ℕ, ◌+◌, ◌-◌, ◌<◌, ◌≤◌, inl, inr, List, [], ◌∷◌, length, ◌∙◌, ap, arith}
 use Rattle.std.specs.Prelude.{filter}
 use Rattle.eaw_face.specs.State.{listed, count_on}
 use Rattle.eaw_face.specs.StoreView.{StoreView}
@@ -50,3 +50,17 @@ module _ (old now : StoreView) (t : ℕ) (shape : now.shape ≡ old.shape) (rang
     full = omega (arith, lacks.full, ap (λ (s : Shape). s.entries) shape);
     before = λ k lt. omega (arith, lacks.before k lt, held_same pages k, ap (λ (s : Shape). s.entries) shape);
   }
+
+  pub all_fit_same : (left : ℕ) (actions : List Action) → AllFit now t left actions → AllFit old t left actions
+  all_fit_same left [] fit = tt
+  all_fit_same left (a ∷ later) fit = ((fit.0.0, fits_same a.pages fit.0.1), all_fit_same (left - a.takes) later fit.1)
+
+  pub lack_pages_same : (left : ℕ) (actions : List Action) → LackPages now t left actions → LackPages old t left actions
+  lack_pages_same left [] lack = absurd lack
+  lack_pages_same left (a ∷ later) (inl few) = inl few
+  lack_pages_same left (a ∷ later) (inr lack) = inr ((lack.0.0, fits_same a.pages lack.0.1), lack_pages_same (left - a.takes) later lack.1)
+
+  pub lack_room_same : (g h n left : ℕ) (actions : List Action) → LackRoom now t g h n left actions → LackRoom old t g h n left actions
+  lack_room_same g h n left [] lack = absurd lack
+  lack_room_same g h n left (a ∷ later) (inl here) = inl (here.0, lacks_same a.pages g h n here.1)
+  lack_room_same g h n left (a ∷ later) (inr lack) = inr ((lack.0.0, fits_same a.pages lack.0.1), lack_room_same g h n (left - a.takes) later lack.1)

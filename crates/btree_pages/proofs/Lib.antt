@@ -1,11 +1,7 @@
-pub mod TreeFacts
 pub mod Apart
-pub mod Frames
 pub mod Ways
 pub mod Taking
 pub mod Splitting
-pub mod Resting
-pub mod FailingFacts
 pub mod Fresh
 pub mod Nodes
 pub mod Causing
@@ -24,3 +20,8 @@ pub mod GrowData
 pub mod Going
 pub mod Left
 pub mod Walking
+pub mod Joining
+pub mod Children
+pub mod Below
+pub mod Lifting
+pub mod Whole

@@ -2,10 +2,10 @@
 use Rattle.std.proofs.Common.{◌≡◌, ◌≢◌, ℕ, zero, suc, ◌<◌, ◌≤◌, true, false, nat_lt, inl, inr, List, [], ◌∷◌, ◌++◌, length, take, drop, refl, sym, ◌∙◌, ap, subst, arith, append_assoc}
 use Rattle.std.proofs.lemmas.Bool.Decides.{leb_tells}
 use Rattle.std.proofs.lemmas.List.{append-nil, take-append-drop, length-drop, length-take-le}
-use Rattle.btree_pages.proofs.Apart.{tree_level, entries_tile, sub_of, sub_below, subs_apart, start_of}
-use Rattle.btree_pages.proofs.Frames.{children_kept, tree_kept, below_kept}
-use Rattle.btree_pages.proofs.TreeFacts.{length-pieces, tile_wide}
-use Rattle.btree_pages.proofs.Ways.{graft, under_own, way_own, way_of}
+use Rattle.btree_pages.proofs.Apart.{entries_tile, sub_of, sub_below, subs_apart, start_of}
+use Rattle.btree_pages.specs.Frames.{children_kept, tree_kept, below_kept}
+use Rattle.btree_pages.specs.TreeFacts.{length-pieces, tile_wide, tree_level, under_own}
+use Rattle.btree_pages.proofs.Ways.{graft, way_own, way_of}
 use Rattle.btree_pages.specs.Changes.{IsHalf, IsCut, middle, with_entry, SplitsChild, SplitsRoot}
 use Rattle.btree_pages.specs.Descent.{page_for, child_for}
 use Rattle.btree_pages.specs.Tree.{IsTreeLeaf, IsInner, AreChildren, AreSound, next_low, IsTree, pieces_with, pairs_under, IsUnder, IsUnderSome, IsSoundTree, pairs_of_tree}

@@ -1,7 +1,6 @@
 -- What an insertion makes of a tree.
 use Rattle.std.proofs.Common.{◌≡◌, ◌≢◌, ℕ, suc, ◌<◌, ◌≤◌, List, length, None, refl, sym, ◌∙◌, ap, subst, arith}
-use Rattle.btree_pages.proofs.Apart.{tree_level}
-use Rattle.btree_pages.proofs.Ways.{graft, found_on_way, under_own}
+use Rattle.btree_pages.proofs.Ways.{graft, found_on_way}
 use Rattle.btree_pages.specs.Changes.{TakesPair}
 use Rattle.btree_pages.specs.Descent.{page_for}
 use Rattle.btree_pages.specs.Tree.{IsTreeLeaf, IsTree, pairs_under, IsUnder, IsSoundTree, pairs_of_tree}
@@ -14,6 +13,7 @@ use Rattle.index_pages.specs.Ways.{above, Keeps}
 use Rattle.page_store.specs.Pairs.{Pair, Rise, found, inserted}
 use Rattle.record_slots.specs.Places.{page_bytes, AreGiven, next_page, IsSuper}
 use Rattle.index_pages.proofs.Given.{inserted_local, given_inserted, above_zero}
+use Rattle.btree_pages.specs.TreeFacts.{tree_level, under_own}
 
 leaf_takes : (old new : List ℕ) → Keeps old new → (leaf key to low high : ℕ) → TakesPair old new leaf key to → IsTreeLeaf old leaf low high → low ≤ key → key < high
     → found (page_pairs old leaf) key ≡ None → IsTreeLeaf new leaf low high

@@ -2,18 +2,21 @@
 use Rattle.std.proofs.Common.{◌≡◌, ℕ, zero, suc, ◌<◌, ◌≤◌, true, false, nat_lt, inl, inr, List, [], ◌∷◌, ◌++◌, length, refl, sym, ◌∙◌, ap, subst, arith}
 use Rattle.std.proofs.lemmas.Bool.Decides.{leb_tells}
 use Rattle.std.proofs.lemmas.List.{append-nil}
-use Rattle.btree_pages.proofs.Apart.{tree_level, child_facts, entries_tile, sub_below, sub_of, subs_apart, start_of}
-use Rattle.btree_pages.proofs.Frames.{inner_kept, tree_kept, below_kept}
-use Rattle.btree_pages.specs.Descent.{child_for, page_for}
-use Rattle.btree_pages.specs.Tree.{AreChildren, next_low, AreSound, IsTree, pieces_with, pairs_under, IsUnder, IsUnderSome}
+use Rattle.btree_pages.proofs.Apart.{child_facts, entries_tile, sub_below, sub_of, subs_apart, start_of}
+use Rattle.btree_pages.specs.Frames.{inner_kept, tree_kept, below_kept}
+use Rattle.btree_pages.specs.Descent.{child_for, page_for, leaf_for}
+use Rattle.btree_pages.specs.Tree.{AreChildren, next_low, AreSound, IsTree, pieces_with, pairs_under, IsUnder, IsUnderSome, IsSoundTree, pairs_of_tree}
+use Rattle.index_pages.proofs.Given.{above_zero}
 use Rattle.index_pages.proofs.PageFacts.{length-page_pairs}
 use Rattle.index_pages.proofs.Rising.{found-left, found-right}
 use Rattle.index_pages.proofs.Tiling.{tile_bounds, joined_rises}
-use Rattle.index_pages.specs.Page.{page_pairs, pairs_said}
+use Rattle.index_pages.specs.Chain.{key_end}
+use Rattle.index_pages.specs.Page.{page_pairs, pairs_said, level_of}
 use Rattle.index_pages.specs.Pieces.{joined, Tile}
 use Rattle.index_pages.specs.Ways.{above, Keeps, IsLocal, IsOwn}
 use Rattle.page_store.specs.Pairs.{Pair, found}
 use Rattle.record_slots.specs.Places.{page_bytes, next_page}
+use Rattle.btree_pages.specs.TreeFacts.{tree_level}
 
 -- a page on a key's way has a tree of its level, within bounds that have the key between them
 pub record Way (bytes : List ℕ) (m q key low high : ℕ) : Type 0 where
@@ -180,17 +183,6 @@ child_given bytes (e ∷ f ∷ es) key some are =
       | inr h ↦ let b : nat_lt key f.0 ≡ false = h.0 in rw b (child_given bytes (f ∷ es) key (omega arith) are.2)
     ]
 
-under_some_own : (l : ℕ) (bytes : List ℕ) (q : ℕ) → ((page low high : ℕ) → IsOwn bytes page → IsTree l bytes page low high → IsUnder l bytes q page → IsOwn bytes q)
-    → (es : List Pair) (high : ℕ) → AreChildren bytes es → AreSound (IsTree l bytes) es high → IsUnderSome (IsUnder l bytes q) es → IsOwn bytes q
-under_some_own l bytes q ih [] high are sound u = absurd u
-under_some_own l bytes q ih (e ∷ es) high are sound (inl u) = ih e.1 e.0 (next_low es high) (omega (arith, are.0), are.1) sound.0 u
-under_some_own l bytes q ih (e ∷ es) high are sound (inr u) = under_some_own l bytes q ih es high are.2 sound.1 u
-
-pub under_own : (l : ℕ) (bytes : List ℕ) (q page low high : ℕ) → IsOwn bytes page → IsTree l bytes page low high → IsUnder l bytes q page → IsOwn bytes q
-under_own zero bytes q page low high own t u = (omega (arith, own.0), omega (arith, own.1))
-under_own (suc l) bytes q page low high own t (inl e) = (omega (arith, own.0), omega (arith, own.1))
-under_own (suc l) bytes q page low high own t (inr u) = under_some_own l bytes q (under_own l bytes q) (page_pairs bytes page) high t.0.children t.1 u
-
 pub way_own : (d m : ℕ) (bytes : List ℕ) (key page low high : ℕ) → IsOwn bytes page → IsTree (above d m) bytes page low high → low ≤ key → key < high → IsOwn bytes (page_for d bytes page key)
 way_own zero m bytes key page low high own t le lt = own
 way_own (suc d) m bytes key page low high own t le lt =
@@ -199,3 +191,11 @@ way_own (suc d) m bytes key page low high own t le lt =
     let given = child_given bytes (page_pairs bytes page) key some t.0.children in
     let w = way_below zero (above d m) bytes key (way_of zero (above d m) bytes key) (page_pairs bytes page) high some t.0.children t.1 (omega arith) lt in
     way_own d m bytes key (child_for (page_pairs bytes page) key) w.from w.to (omega (arith, given.0), given.1) w.tree w.from_key w.key_to
+
+-- a look-up goes to the leaf of its key
+pub sound_tree_finds : (bytes : List ℕ) (key : ℕ) → IsSoundTree bytes → key < key_end → found (pairs_of_tree bytes) key ≡ found (page_pairs bytes (leaf_for bytes key)) key
+unfolding pairs_of_tree
+sound_tree_finds bytes key sound lt =
+    let e = above_zero (level_of bytes 1) in
+    ap (λ (n : ℕ). found (pairs_under n bytes 1) key) (sym e)
+    ∙ found_on_way (level_of bytes 1) 0 bytes key 1 0 key_end (subst (λ (n : ℕ). IsTree n bytes 1 0 key_end) (sym e) sound.pages) (omega arith) lt

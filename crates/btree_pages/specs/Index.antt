@@ -1,5 +1,5 @@
 -- The tree as an index: its pages, and what an insertion makes.
-use Rattle.std.specs.Prelude.{ℕ, zero, suc, nat_lt, if◌then◌else◌, List, [], ◌∷◌}
+use Rattle.std.specs.Prelude.{ℕ, zero, suc, ◌≤◌, nat_lt, if◌then◌else◌, List, [], ◌∷◌, take, drop}
 use Rattle.record_slots.specs.Places.{next_slot, next_page, first_slot_page, slot_page}
 use Rattle.page_store.specs.Index.{Action, Index}
 use Rattle.page_store.specs.Pairs.{Pair}
@@ -29,6 +29,10 @@ growing bytes = record {
 abbrev pub half_for : List Pair → ℕ → ℕ → ℕ → ℕ
 half_for pairs left right key = if nat_lt key (key_at pairs 15) then left else right
 
+-- and the pairs of that half
+abbrev pub half_pairs : List Pair → ℕ → List Pair
+half_pairs pairs key = if nat_lt key (key_at pairs 15) then take 15 pairs else drop 15 pairs
+
 -- The actions on the way down to a key, from behind a page so many levels above the leaves that has room. What this page said before
 -- the insertion stands under the number now, and the next page to be given is next.
 abbrev pub actions_below : ℕ → List ℕ → ℕ → ℕ → ℕ → ℕ → List Action
@@ -54,3 +58,15 @@ IsPageOfTree bytes page = IsUnder (level_of bytes 1) bytes page 1
 
 abbrev pub tree : Index
 tree = record { sound = IsSoundTree; fails = IsFirstDamagedOfTree; pairs = pairs_of_tree; level = λ bytes. level_of bytes 1; has_page = IsPageOfTree; actions = tree_actions }
+
+-- The index for what is left of an insertion behind a page on its way, which has room and stands so many levels above the leaves: its
+-- actions are those from there on, and of sound data no more than this many pages are given.
+abbrev pub tree_below : ℕ → ℕ → ℕ → Index
+tree_below page level most = record {
+  sound = λ bytes. IsSoundTree bytes × (next_page bytes ≤ most);
+  fails = IsFirstDamagedOfTree;
+  pairs = pairs_of_tree;
+  level = λ bytes. level_of bytes 1;
+  has_page = IsPageOfTree;
+  actions = λ bytes key. actions_below level bytes page page (next_page bytes) key;
+}

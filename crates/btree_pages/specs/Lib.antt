@@ -9,3 +9,8 @@ pub mod Writes
 pub mod Checked
 pub mod Index
 pub mod Props
+-- lemmas, which the laws of the index cite
+pub mod TreeFacts
+pub mod Frames
+pub mod Resting
+pub mod FailingFacts

@@ -10,3 +10,7 @@ pub record IsOnWay (bytes : List ℕ) (key d page level : ℕ) (pairs : List Pai
   pub page_is : page ≡ page_for d bytes 1 key
   pub level_is : level_of bytes 1 ≡ above d level
   pub pairs_are : pairs ≡ page_pairs bytes page
+
+-- it is on the way
+abbrev pub IsReached : List ℕ → ℕ → ℕ → ℕ → List Pair → Type 0
+IsReached bytes key page level pairs = (d : ℕ) × IsOnWay bytes key d page level pairs

@@ -1,18 +1,21 @@
 // Pages of the tree as an insertion reads them.
-ghost use Rattle.std.specs.Prelude.{◌≡◌, ◌≢◌, ◌<◌, ◌≤◌, IfOk, IsErrOf, IsTrue, length};
+ghost use Rattle.std.specs.Prelude.{◌≡◌, ◌≢◌, ◌+◌, ◌<◌, ◌≤◌, IfOk, IsErrOf, IsTrue, length};
+ghost use Rattle.eaw_face.specs.Causes.{IsAlive};
 ghost use Rattle.record_slots.specs.Places.{page_bytes};
 ghost use Rattle.page_store.specs.Index.{index_pages_of};
-ghost use Rattle.page_store.specs.Looks.{Looks, is_failed};
+ghost use Rattle.page_store.specs.Looks.{Looks, LookCause, is_failed};
 ghost use Rattle.page_store.specs.Shown.{pages_of};
 ghost use Rattle.index_pages.specs.Fetched.{TestCause};
 ghost use Rattle.index_pages.specs.Page.{level_of, page_pairs};
 ghost use Rattle.btree_pages.specs.Descent.{child_for};
 ghost use Rattle.btree_pages.specs.Node.{IsNode};
+ghost use Rattle.btree_pages.specs.OnWay.{IsReached};
+ghost use Rattle.btree_pages.specs.Tree.{IsSoundTree};
 ghost use Rattle.btree_pages.specs.Writes.{IsRead};
 
 use crate::look::read_node;
 use eaw_face::EawStore;
-use index_pages::{PAGE_LEN, Pairs, read_pairs};
+use index_pages::{PAGE_LEN, Pairs, index_page_count, read_pairs};
 use page_store::{PageFault, Pages};
 
 /// A page as it was read.
@@ -62,4 +65,43 @@ pub fn child_of(pairs: &[(u64, u64)], key: u64) -> u64
         child = pairs[i].1;
     }
     child
+}
+
+// Reads the child of an inner page that has a key in its range.
+pub fn fetch_child<S: EawStore>(
+    pages: &mut Pages<S>,
+    node: &Node,
+    key: u64,
+) -> Result<Node, PageFault>
+    requires alive { IsAlive (S.view pages.old.store) }
+    requires sound { IsTrue S.tells → IsSoundTree (S.view pages.old.store).state.bytes }
+    requires reached { IsTrue S.tells → IsReached (S.view pages.old.store).state.bytes key node.now.page node.now.level node.now.pairs.items }
+    requires inner { node.now.level ≢ 0 }
+    requires some { 1 ≤ length node.now.pairs.items }
+    ensures looks { Looks S.tells (S.opens (S.view pages.old.store).shape) (is_failed result)
+        (pages_of (S.view pages.old.store) pages.old) (pages_of (S.view pages.new.store) pages.new) }
+    ensures cause { LookCause S.tells (S.view pages.old.store) result }
+    ensures child { IfOk result (λ child. child.page ≡ child_for node.now.pairs.items key) }
+    ensures read { IfOk result (λ child. IsRead (S.view pages.old.store).shape child.page child.level child.pairs.items) }
+    ensures some { IfOk result (λ child. child.level ≢ 0 → 1 ≤ length child.pairs.items) }
+    ensures level { IfOk result (λ child. child.level + 1 ≡ node.now.level) }
+    ensures pairs { IsTrue S.tells → IfOk result (λ child. child.pairs.items ≡ page_pairs (S.view pages.old.store).state.bytes child.page) }
+    ensures dead { IsErrOf result PageFault.Dead → ⊥ }
+{
+    let count = index_page_count(pages);
+    let page = child_of(node.pairs.as_slice(), key);
+    if page == 0 {
+        return Err(PageFault::Damaged { page: node.page });
+    }
+    if page >= u64::from(count) {
+        return Err(PageFault::Damaged { page: node.page });
+    }
+    let child = match fetch_node(pages, page as u32) {
+        Ok(child) => child,
+        Err(fault) => return Err(fault),
+    };
+    if child.level + 1 != node.level {
+        return Err(PageFault::Damaged { page: child.page });
+    }
+    Ok(child)
 }

@@ -7,7 +7,7 @@ ghost use Rattle.page_store.specs.Shown.{pages_of, top_in};
 ghost use Rattle.index_pages.specs.Acts.{Acts};
 ghost use Rattle.index_pages.specs.Fetched.{IsFront};
 ghost use Rattle.index_pages.specs.Keys.{key_at};
-ghost use Rattle.btree_pages.specs.Index.{half_for};
+ghost use Rattle.btree_pages.specs.Index.{half_for, half_pairs};
 ghost use Rattle.btree_pages.specs.Node.{node_bytes};
 ghost use Rattle.btree_pages.specs.Writes.{IsRead, adding_pages, adding_parts, cutting_pages, cutting_parts, growing_pages, growing_parts};
 
@@ -201,14 +201,37 @@ pub fn grow_root<S: EawStore>(
     act_all(pages, tid, &parts)
 }
 
-// Which of the halves of a full page has a key in its range.
-pub fn half_of(node: &Node, left: u32, right: u32, key: u64) -> u32
+// The half of a full page that has a key in its range: the lower half is in the left page now, the upper one in the right page.
+pub fn half_of(node: &Node, left: u32, right: u32, key: u64) -> Node
     requires { length node.now.pairs.items ≡ 30 }
-    ensures { result ≡ half_for node.now.pairs.items left right key }
+    ensures page { result.page ≡ half_for node.now.pairs.items left right key }
+    ensures level { result.level ≡ node.now.level }
+    ensures pairs { result.pairs.items ≡ half_pairs node.now.pairs.items key }
 {
+    let pairs = node.pairs.as_slice();
     if key < middle_of(&node.pairs) {
-        left
+        Node {
+            page: left,
+            level: node.level,
+            pairs: copy_of(&pairs[..HALF]),
+        }
     } else {
-        right
+        Node {
+            page: right,
+            level: node.level,
+            pairs: copy_of(&pairs[HALF..]),
+        }
     }
+}
+
+// The pairs of a half on their own.
+fn copy_of(pairs: &[(u64, u64)]) -> Pairs
+    requires { length pairs.now ≤ 30 }
+    ensures { result.items ≡ pairs.now }
+{
+    let mut copy = Pairs::new();
+    for pair in pairs {
+        copy.push(*pair);
+    }
+    copy
 }

@@ -3,16 +3,15 @@ use crate::fault::RowFault;
 use crate::index::{Added, add, lay_empty, next_pair};
 use crate::stores::plain_pages;
 use eaw_face::EawStore;
-use key_list::KeyList;
 use memory_eaw::MemoryEaw;
-use page_store::{IndexFault, Pages};
+use page_store::{IndexFault, KeyIndex, Pages};
 use std::alloc::Global;
 use std::collections::BTreeMap;
 
 /// Inserts so many keys, some of them twice, and gives how many the index has then.
-pub fn play(alloc: Global, seed: u64, draws: u64) -> Result<u64, RowFault> {
+pub fn play<K: KeyIndex>(alloc: Global, form: u8, seed: u64, draws: u64) -> Result<u64, RowFault> {
     let mut pages = plain_pages(alloc)?;
-    lay_empty(&mut pages, 2)?;
+    lay_empty(&mut pages, form, 2)?;
     let mut map: BTreeMap<u64, u32> = BTreeMap::new(alloc);
     let mut state = seed;
     for _draw in 0..draws {
@@ -20,14 +19,14 @@ pub fn play(alloc: Global, seed: u64, draws: u64) -> Result<u64, RowFault> {
             .wrapping_mul(6_364_136_223_846_793_005)
             .wrapping_add(1);
         let key = (state >> 33) % 120;
-        take(&mut pages, &mut map, key)?;
+        take::<K>(&mut pages, &mut map, key)?;
     }
-    compare(&mut pages, &map)?;
+    compare::<K>(&mut pages, &map)?;
     Ok(map.len() as u64)
 }
 
 // Inserts one key into both, and compares the answers.
-fn take(
+fn take<K: KeyIndex>(
     pages: &mut Pages<MemoryEaw>,
     map: &mut BTreeMap<u64, u32>,
     key: u64,
@@ -37,7 +36,7 @@ fn take(
     }
     let known = map.get(&key).copied();
     let count = map.len() as u64;
-    match add::<MemoryEaw, KeyList>(pages, 1, key)? {
+    match add::<MemoryEaw, K>(pages, 1, key)? {
         Added::There { slot } => {
             if known == Some(slot) {
                 Ok(())
@@ -63,31 +62,34 @@ fn take(
 }
 
 // All pairs in order are those of the map.
-fn compare(pages: &mut Pages<MemoryEaw>, map: &BTreeMap<u64, u32>) -> Result<(), RowFault> {
+fn compare<K: KeyIndex>(
+    pages: &mut Pages<MemoryEaw>,
+    map: &BTreeMap<u64, u32>,
+) -> Result<(), RowFault> {
     let mut from = 0u64;
     for (key, slot) in map {
-        match next_pair::<MemoryEaw, KeyList>(pages, from)? {
+        match next_pair::<MemoryEaw, K>(pages, from)? {
             Some((found, at)) if found == *key && at == *slot => {}
             _ => return Err(RowFault::Map),
         }
         from = key.saturating_add(1);
     }
-    match next_pair::<MemoryEaw, KeyList>(pages, from)? {
+    match next_pair::<MemoryEaw, K>(pages, from)? {
         None => Ok(()),
         Some(_) => Err(RowFault::Map),
     }
 }
 
 /// With no page left, 30 keys go into the one page; the next is refused.
-pub fn play_with_no_page(alloc: Global) -> Result<u64, RowFault> {
+pub fn play_with_no_page<K: KeyIndex>(alloc: Global, form: u8) -> Result<u64, RowFault> {
     let mut pages = plain_pages(alloc)?;
-    lay_empty(&mut pages, 8)?;
+    lay_empty(&mut pages, form, 8)?;
     let mut keys = 0u64;
     for key in 0..40u64 {
         if pages.shape().numbers < 2 {
             return Err(RowFault::Shape);
         }
-        match add::<MemoryEaw, KeyList>(&mut pages, 1, key)? {
+        match add::<MemoryEaw, K>(&mut pages, 1, key)? {
             Added::New { .. } => keys = keys.saturating_add(1),
             Added::There { .. } => return Err(RowFault::Map),
             Added::Refused { fault } => {

@@ -19,6 +19,10 @@ pub enum RowFault {
     Map,
     #[error("damage was not refused")]
     Damage,
+    #[error("a page has other bytes")]
+    Bytes,
+    #[error("a log without room was not refused")]
+    Room,
     #[error("a loss of power left other pairs")]
     Left,
     #[error("the image can't be opened")]

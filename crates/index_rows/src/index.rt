@@ -55,10 +55,15 @@ pub fn next_pair<S: EawStore, K: KeyIndex>(
     }
 }
 
-/// Lays an empty chain into the pages of a fresh array, as number 0.
-pub fn lay_empty<S: EawStore>(pages: &mut Pages<S>, next_page: u32) -> Result<(), RowFault> {
+/// Lays an empty index of this form into the pages of a fresh array, as number 0.
+pub fn lay_empty<S: EawStore>(
+    pages: &mut Pages<S>,
+    form: u8,
+    next_page: u32,
+) -> Result<(), RowFault> {
     let mut front = [0; 16];
     front[..5].copy_from_slice(b"MREC\x01");
+    front[5] = form;
     let mut counts = [0; 8];
     write_super_counts(0, next_page, &mut counts);
     front[COUNTS_AT..].copy_from_slice(&counts);
@@ -91,6 +96,26 @@ pub fn write<S: EawStore>(
         return Err(RowFault::Map);
     }
     match pages.end(0, true) {
+        Ok(()) => Ok(()),
+        Err(fault) => Err(RowFault::Page(fault)),
+    }
+}
+
+/// Reads bytes of a page.
+pub fn read<S: EawStore>(
+    pages: &mut Pages<S>,
+    page: u32,
+    at: u32,
+    bytes: &mut [u8],
+) -> Result<(), RowFault> {
+    let shape = pages.shape();
+    if u64::from(page) >= shape.page_count() {
+        return Err(RowFault::Shape);
+    }
+    if at > 512 || bytes.len() as u64 > 512 - u64::from(at) {
+        return Err(RowFault::Shape);
+    }
+    match pages.read(page, at, bytes) {
         Ok(()) => Ok(()),
         Err(fault) => Err(RowFault::Page(fault)),
     }

@@ -19,21 +19,21 @@ const CHANGES: u64 = 2048;
 /// An array over a media in memory, behind a fuse.
 pub type Device = Eaw<FusedMedia<MemoryMedia>>;
 
-/// Two loggers with eight pages each: eight index pages and 64 slots.
-pub fn small_shape() -> Result<Shape, RowFault> {
-    Ok(Shape::new(2, 2, 8, 8)?)
+/// Two loggers with so many pages each: as many are for the index, and there are eight slots for each of these.
+pub fn shape_of(pages: u32) -> Result<Shape, RowFault> {
+    Ok(Shape::new(2, 2, 8, pages)?)
 }
 
-/// Pages over plain memory, all zeros.
+/// Pages over plain memory, all zeros: eight are for the index, with 64 slots.
 pub fn plain_pages(alloc: Global) -> Result<Pages<MemoryEaw>, RowFault> {
-    let shape = small_shape()?;
+    let shape = shape_of(8)?;
     let data = vec![in alloc; 0; shape.data_len() as usize]?;
     over(alloc, MemoryEaw::new(alloc, shape, &data, CHANGES)?)
 }
 
-/// The image of a fresh array.
-pub fn fresh_image(alloc: Global) -> Result<MemoryMedia, RowFault> {
-    let shape = small_shape()?;
+/// The image of a fresh array, whose loggers have so many pages each.
+pub fn fresh_image(alloc: Global, pages: u32) -> Result<MemoryMedia, RowFault> {
+    let shape = shape_of(pages)?;
     let zeros = vec![in alloc; 0; shape.media_len() as usize]?;
     let mut media = MemoryMedia::new(alloc, &zeros, CALLS, WRITTEN)?;
     match format(&mut media, &shape) {

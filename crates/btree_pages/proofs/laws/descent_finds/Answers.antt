@@ -1,5 +1,4 @@
-use Rattle.btree_pages.proofs.Resting.{sound_tree_finds}
-use Rattle.btree_pages.proofs.Ways.{found_on_way}
+use Rattle.btree_pages.proofs.Ways.{found_on_way, sound_tree_finds}
 use Rattle.btree_pages.proofs.laws.descent_finds.Goals as goal
 
 pub returns-clause-leaf : goal.returns-clause-leaf

@@ -1,4 +1,4 @@
-use Rattle.btree_pages.proofs.Resting.{sound_tree_rests}
+use Rattle.btree_pages.specs.Resting.{sound_tree_rests}
 use Rattle.btree_pages.proofs.laws.slots_leave_the_tree.Goals as goal
 
 pub returns : goal.returns

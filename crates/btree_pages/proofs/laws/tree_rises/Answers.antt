@@ -1,5 +1,5 @@
-use Rattle.btree_pages.proofs.TreeFacts.{tree_tiles, sound_tree_rises}
-use Rattle.btree_pages.proofs.Resting.{sound_tree_given}
+use Rattle.btree_pages.specs.TreeFacts.{tree_tiles, sound_tree_rises}
+use Rattle.btree_pages.specs.Resting.{sound_tree_given}
 use Rattle.btree_pages.proofs.laws.tree_rises.Goals as goal
 
 pub returns-clause-tiles : goal.returns-clause-tiles

@@ -1,19 +1,16 @@
--- A tree whose pages are as they were, and whose slots carry their keys still; and a look-up in its leaf.
-use Rattle.std.proofs.Common.{◌≡◌, ℕ, zero, suc, ◌<◌, List, [], ◌∷◌, ◌++◌, sym, ◌∙◌, ap, subst, arith}
+-- A tree whose pages are as they were, and whose slots carry their keys still.
+use Rattle.std.proofs.Common.{◌≡◌, ℕ, zero, suc, List, [], ◌∷◌, ◌++◌, sym, ◌∙◌, ap, subst, arith}
 use Rattle.record_slots.specs.Super.{HasSuperMark, form_said, next_slot_said, next_page_said}
 use Rattle.record_slots.specs.Places.{page_bytes, next_slot, next_page, AreGiven, page_count}
 use Rattle.page_store.specs.Index.{KeepsIndex, HasCounts}
-use Rattle.page_store.specs.Pairs.{Pair, found}
-use Rattle.index_pages.proofs.Given.{above_zero}
+use Rattle.page_store.specs.Pairs.{Pair}
 use Rattle.index_pages.specs.Chain.{key_end}
 use Rattle.index_pages.specs.Page.{page_pairs, level_of}
 use Rattle.index_pages.specs.Pieces.{joined}
 use Rattle.index_pages.specs.Ways.{Keeps}
-use Rattle.btree_pages.proofs.Apart.{tree_level}
-use Rattle.btree_pages.proofs.Frames.{tree_kept}
-use Rattle.btree_pages.proofs.Ways.{under_own, found_on_way}
-use Rattle.btree_pages.specs.Descent.{leaf_for}
+use Rattle.btree_pages.specs.Frames.{tree_kept}
 use Rattle.btree_pages.specs.Tree.{IsTree, AreSound, next_low, pieces_with, pairs_under, IsSoundTree, pairs_of_tree}
+use Rattle.btree_pages.specs.TreeFacts.{tree_level, under_own}
 
 -- what is written into slots leaves a sound tree as it is
 pub sound_tree_rests : (old new : List ℕ) → IsSoundTree old → KeepsIndex old new → IsSoundTree new × (pairs_of_tree new ≡ pairs_of_tree old) × (level_of new 1 ≡ level_of old 1)
@@ -63,10 +60,3 @@ sound_tree_given bytes sound = tree_given (level_of bytes 1) bytes 1 0 key_end s
 
 pub sound_tree_counts : (bytes : List ℕ) → IsSoundTree bytes → HasCounts bytes
 sound_tree_counts bytes sound = record { slots = sound.front.slots; some = sound.front.some_pages; pages = sound.front.pages }
-
-pub sound_tree_finds : (bytes : List ℕ) (key : ℕ) → IsSoundTree bytes → key < key_end → found (pairs_of_tree bytes) key ≡ found (page_pairs bytes (leaf_for bytes key)) key
-unfolding pairs_of_tree
-sound_tree_finds bytes key sound lt =
-    let e = above_zero (level_of bytes 1) in
-    ap (λ (n : ℕ). found (pairs_under n bytes 1) key) (sym e)
-    ∙ found_on_way (level_of bytes 1) 0 bytes key 1 0 key_end (subst (λ (n : ℕ). IsTree n bytes 1 0 key_end) (sym e) sound.pages) (omega arith) lt

@@ -1,10 +1,11 @@
 -- What a sound tree's pairs are.
-use Rattle.std.proofs.Common.{◌≡◌, ◌≢◌, ℕ, zero, suc, ◌<◌, ◌≤◌, List, [], ◌∷◌, length, refl, ap, subst, arith}
-use Rattle.btree_pages.specs.Tree.{AreChildren, next_low, AreSound, IsTree, pieces_with, pairs_under, pieces_under, IsSoundTree, pairs_of_tree}
+use Rattle.std.proofs.Common.{◌≡◌, ◌≢◌, ℕ, zero, suc, ◌<◌, ◌≤◌, inl, inr, List, [], ◌∷◌, length, refl, ap, subst, arith}
+use Rattle.btree_pages.specs.Tree.{AreChildren, next_low, AreSound, IsTree, pieces_with, pairs_under, pieces_under, IsSoundTree, pairs_of_tree, IsUnder, IsUnderSome}
 use Rattle.index_pages.proofs.Tiling.{tile_bounds, joined_rises}
 use Rattle.index_pages.specs.Chain.{key_end}
-use Rattle.index_pages.specs.Page.{page_pairs}
+use Rattle.index_pages.specs.Page.{page_pairs, level_of}
 use Rattle.index_pages.specs.Pieces.{Piece, low_of, Tile}
+use Rattle.index_pages.specs.Ways.{IsOwn}
 use Rattle.page_store.specs.Pairs.{Pair, Rise}
 use Rattle.index_pages.proofs.PageFacts.{length-page_pairs, rise_wide}
 
@@ -71,3 +72,20 @@ tree_wide l bytes page low high t = (tree_facts l bytes page low high t).1
 pub sound_tree_rises : (bytes : List ℕ) → IsSoundTree bytes → Rise 0 key_end (pairs_of_tree bytes)
 unfolding pairs_of_tree
 sound_tree_rises bytes sound = tree_rises _ bytes 1 0 key_end sound.pages
+
+-- the root of a tree says its level
+pub tree_level : (m : ℕ) (bytes : List ℕ) (q low high : ℕ) → IsTree m bytes q low high → level_of bytes q ≡ m
+tree_level zero bytes q low high t = t.level
+tree_level (suc m) bytes q low high t = t.0.level_is
+
+-- its pages were given, or it is page 1
+under_some_own : (l : ℕ) (bytes : List ℕ) (q : ℕ) → ((page low high : ℕ) → IsOwn bytes page → IsTree l bytes page low high → IsUnder l bytes q page → IsOwn bytes q)
+    → (es : List Pair) (high : ℕ) → AreChildren bytes es → AreSound (IsTree l bytes) es high → IsUnderSome (IsUnder l bytes q) es → IsOwn bytes q
+under_some_own l bytes q ih [] high are sound u = absurd u
+under_some_own l bytes q ih (e ∷ es) high are sound (inl u) = ih e.1 e.0 (next_low es high) (omega (arith, are.0), are.1) sound.0 u
+under_some_own l bytes q ih (e ∷ es) high are sound (inr u) = under_some_own l bytes q ih es high are.2 sound.1 u
+
+pub under_own : (l : ℕ) (bytes : List ℕ) (q page low high : ℕ) → IsOwn bytes page → IsTree l bytes page low high → IsUnder l bytes q page → IsOwn bytes q
+under_own zero bytes q page low high own t u = (omega (arith, own.0), omega (arith, own.1))
+under_own (suc l) bytes q page low high own t (inl e) = (omega (arith, own.0), omega (arith, own.1))
+under_own (suc l) bytes q page low high own t (inr u) = under_some_own l bytes q (under_own l bytes q) (page_pairs bytes page) high t.0.children t.1 u
