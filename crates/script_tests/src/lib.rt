@@ -6,6 +6,8 @@ mod answers;
 #[cfg(test)]
 mod lines;
 #[cfg(test)]
+mod plans;
+#[cfg(test)]
 mod raw_lines;
 #[cfg(test)]
 mod replies;
@@ -17,3 +19,5 @@ mod slots;
 mod transactions;
 #[cfg(test)]
 mod words;
+#[cfg(test)]
+mod work_texts;
