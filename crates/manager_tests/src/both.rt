@@ -38,13 +38,13 @@ pub fn both_commit<C: Core + Drop + Send, R: Threads + Wait + Sync>(
     alloc: Global,
     core: C,
 ) -> Option<C>
-    requires { CanShare C.tells 2 0 (C.view core) }
+    requires { CanShare C.tells 2 (C.view core) }
     ensures first { IfSome result (λ end. OneMore 0 [] (commits_of 0 (C.view end).state.history)) }
     ensures second { IfSome result (λ end. OneMore 1 [] (commits_of 1 (C.view end).state.history)) }
     ensures legal { IfSome result (λ end. IsTrue C.tells → IsLegal (C.view core).state.base (C.view end).state.history) }
     ensures safe { IfSome result (λ end. IsTrue C.tells → IsSafe (C.view end) (C.view end).moment (length (C.view end).state.history)) }
 {
-    let Ok((mars, mut passes)) = Mars::share(alloc, core, 2, 0) else {
+    let Ok((mars, mut passes)) = Mars::share(alloc, core, 2) else {
         return None;
     };
     let one = passes.take()?;

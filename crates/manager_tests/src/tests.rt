@@ -12,7 +12,7 @@ use std::thread::Threads;
 
 // Pass 0 commits, and pass 1 looks, before and behind it.
 fn looked(alloc: Global) -> Option<(u64, Reply, u64, u64)> {
-    let Ok((mars, mut passes)) = Mars::share(alloc, EmptyCore::new(alloc), 2, 0) else {
+    let Ok((mars, mut passes)) = Mars::share(alloc, EmptyCore::new(alloc), 2) else {
         return None;
     };
     let mut one = passes.take()?;
@@ -65,7 +65,7 @@ fn many_commit<R: Threads + Wait + Sync>(
     alloc: Global,
     times: u64,
 ) -> Option<(u64, u64, u64)> {
-    let Ok((mars, mut passes)) = Mars::share(alloc, EmptyCore::new(alloc), 2, 0) else {
+    let Ok((mars, mut passes)) = Mars::share(alloc, EmptyCore::new(alloc), 2) else {
         return None;
     };
     let one = passes.take()?;

@@ -30,6 +30,7 @@ use std::marker::Model;
 
 /// Callers that take turns on records over a store, under an index. Each call locks the stripe of its key (of 64), and a scan all
 /// stripes, until its transaction ends.
+#[derive(Drop)]
 pub struct Core<S: EawStore, K: KeyIndex> {
     alloc: Global,
     records: Records<S, K>,

@@ -66,21 +66,21 @@ module _ {C : Type 0} (f : Face C) where
   moved setup n call reply old new s = record {
     grows = subst (λ h. Grows (f.show old).state.history h) (sym s.moves.history) (after_grows (f.show old).state n reply);
     others = λ m ne. (ap (commits_of m) s.moves.history ∙ other_commits (f.show old).state n m reply ne, s.moves.others m ne);
-    since = since_step f.tells setup.from n call reply (f.show setup.first) (f.show old) (f.show new) s;
+    since = since_step f.tells n call reply (f.show setup.first) (f.show old) (f.show new) s;
     noted = λ notes few strangers since noted told.
         let step = subst (λ limits. Step limits (f.show old).state n call reply (f.show new).state) since.limits (s.step told) in
         noted_step (f.show setup.first).limits setup.callers (f.show setup.first).state.index (f.show old).state (f.show new).state n call reply step s.moves notes few (λ other le. (strangers other le).1) (since.continues told).sound.certain (noted told);
   }
 
   module _ (setup : Setup C) (notes : ℕ → Notes) (old new : C) (k : Known C) (call : Call) (reply : Reply) (fit : Fits setup (f.show old).state notes k) (s : Steps f.tells k.number call (f.show old) (f.show new) reply) where
-    pub called : Since f.tells setup.from (f.show setup.first) (f.show old) → (IsTrue (f.show old).state.is_dead → (reply ≡ Dead) × (new ≡ old)) → Called f.tells f.show k call reply (shown f call reply new k)
+    pub called : Since f.tells (f.show setup.first) (f.show old) → (IsTrue (f.show old).state.is_dead → (reply ≡ Dead) × (new ≡ old)) → Called f.tells f.show k call reply (shown f call reply new k)
     called since dead = record {
       setup = setup;
       old = old;
       new = new;
       setup_is = fit.setup_is;
       since = since;
-      comes = since_step f.tells setup.from k.number call reply (f.show setup.first) (f.show old) (f.show new) s since;
+      comes = since_step f.tells k.number call reply (f.show setup.first) (f.show old) (f.show new) s since;
       seen = fit.seen;
       live = sym fit.live;
       steps = s;
@@ -92,9 +92,9 @@ module _ {C : Type 0} (f : Face C) where
     seen_grows = grows_on k.seen (f.show old).state.history (f.show new).state.history fit.seen
         (subst (λ h. Grows (f.show old).state.history h) (sym s.moves.history) (after_grows (f.show old).state k.number reply))
 
-    pub legal_now : Since f.tells setup.from (f.show setup.first) (f.show old) → IsTrue f.tells → IsLegalIn f.show (shown f call reply new k)
+    pub legal_now : Since f.tells (f.show setup.first) (f.show old) → IsTrue f.tells → IsLegalIn f.show (shown f call reply new k)
     legal_now since told given is =
-        let comes = since_step f.tells setup.from k.number call reply (f.show setup.first) (f.show old) (f.show new) s since in
+        let comes = since_step f.tells k.number call reply (f.show setup.first) (f.show old) (f.show new) s since in
         let same : setup ≡ given = some_same setup given (sym fit.setup_is ∙ is) in
         subst (λ (g : Setup C). IsLegal (f.show g.first).state.base (f.show new).state.history) same
         (subst (λ b. IsLegal b (f.show new).state.history) comes.base (comes.continues told).sound.legal)

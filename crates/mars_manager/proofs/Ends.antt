@@ -124,7 +124,7 @@ module _ {C : Type 0} (f : Face C) (setup : Setup C) where
     fresh_fit state (suc m) n none_done none_live,
   )
 
-  pub opens_keeps : (slots id : ℕ) → CanShare f.tells setup.callers setup.from (f.show setup.first) → setup.callers < 256
+  pub opens_keeps : (slots id : ℕ) → CanShare f.tells setup.callers (f.show setup.first) → setup.callers < 256
       → Allows (Rule f setup) slots id (opener Opening setup, (0, Some setup.first) ∷ []) 0 (λ _. 0) (λ _. gives_turn (step slots 0 0 0 none) (opener Opening setup, (0, Some setup.first) ∷ []) 0)
   opens_keeps slots id can few s rule wide at _ =
       let core = setup.first in
@@ -153,7 +153,7 @@ module _ {C : Type 0} (f : Face C) (setup : Setup C) where
           below = λ n b. (let t : count n (set s.views id w) ≡ times n w.passes + 0 = ap (count n) views in let o = none_above setup n 0 setup.callers (omega arith) in omega arith);
           few = few;
           enough = can.enough;
-          since = since_shared f.tells setup.callers setup.from (f.show core) can;
+          since = since_shared f.tells setup.callers (f.show core) can;
           strangers = λ n b. (ap (commits_of n) can.history, can.live n);
           noted = λ told. none_noted (f.show core).limits setup.callers (f.show core).state can.live can.alive ((can.sound told).certain can.alive);
         })),
@@ -277,7 +277,7 @@ module _ {C : Type 0} (f : Face C) (setup : Setup C) where
   pub record Ended (ks : List (Known C)) (core : C) : Type 0 where
     pub notes : ℕ → Notes
     pub fit : AllFit setup (f.show core).state notes ks
-    pub since : Since f.tells setup.from (f.show setup.first) (f.show core)
+    pub since : Since f.tells (f.show setup.first) (f.show core)
     pub strangers : HasNoOthers setup.callers (f.show core).state
     pub noted : IsTrue f.tells → AreNoted (f.show setup.first).limits setup.callers (f.show setup.first).state.index (f.show core).state notes
 
@@ -303,12 +303,12 @@ module _ {C : Type 0} (f : Face C) (setup : Setup C) where
   pub begins_as : (slots id : ℕ) (m : Sat) → m ≡ (opener Vacant setup, []) → Allows (Rule f setup) slots id m 0 (λ _. 1) (λ _. began (step slots 0 1 0 none) m 1)
   begins_as slots id m e = subst (λ (m : Sat). Allows (Rule f setup) slots id m 0 (λ _. 1) (λ _. began (step slots 0 1 0 none) m 1)) (sym e) (begins_keeps slots id)
 
-  pub opens_as : (slots id : ℕ) (core : C) (m : Sat) → m ≡ (opener Opening setup, out core) → core ≡ setup.first → CanShare f.tells setup.callers setup.from (f.show core) → setup.callers < 256
+  pub opens_as : (slots id : ℕ) (core : C) (m : Sat) → m ≡ (opener Opening setup, out core) → core ≡ setup.first → CanShare f.tells setup.callers (f.show core) → setup.callers < 256
       → Allows (Rule f setup) slots id m 0 (λ _. 0) (λ _. gives_turn (step slots 0 0 0 none) m 0)
   opens_as slots id core m e same can few =
       let now : C → Sat = λ c. (opener Opening setup, out c) in
       subst (λ (m : Sat). Allows (Rule f setup) slots id m 0 (λ _. 0) (λ _. gives_turn (step slots 0 0 0 none) m 0)) (sym (e ∙ ap now same))
-      (opens_keeps slots id (subst (λ c. CanShare f.tells setup.callers setup.from (f.show c)) same can) few)
+      (opens_keeps slots id (subst (λ c. CanShare f.tells setup.callers (f.show c)) same can) few)
 
   pub deals_as : (id : ℕ) (k : Known C) (ks : List (Known C)) (v : V) → v ≡ shared_view (k ∷ ks) None → Splits (Rule f setup) id v (view v.stage (behind v.passes) v.held) (view v.stage (front v.passes) None)
   deals_as id k ks v e = subst (λ (v : V). Splits (Rule f setup) id v (view v.stage (behind v.passes) v.held) (view v.stage (front v.passes) None)) (sym e) (deals_keeps id k ks)

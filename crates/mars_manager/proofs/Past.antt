@@ -11,7 +11,7 @@ use Rattle.core_face.specs.State.{State, calls_of, done_by}
 use Rattle.core_face.specs.Fate.{is_committed, is_media, history_after}
 use Rattle.core_face.specs.Prefix.{Grows}
 use Rattle.core_face.specs.Core.{CoreView, IsSafe, Steps}
-use Rattle.core_face.proofs.Continuing.{grows_none, continues_none, continues_step, continues_on, safe_on}
+use Rattle.core_face.proofs.Continuing.{grows_none, continues_none, continues_step, continues_on}
 use Rattle.mars_manager.specs.Pass.{commits_of}
 use Rattle.mars_manager.specs.Sharing.{CanShare, Since}
 
@@ -48,15 +48,13 @@ other_commits old caller other reply apart = go (is_committed reply)
     go false = refl
 
 -- A core that can be shared is one that it has come to,
-pub since_shared : (tells : Bool) (callers from : ℕ) (core : CoreView) → CanShare tells callers from core → Since tells from core core
-since_shared tells callers from core can = record {
+pub since_shared : (tells : Bool) (callers : ℕ) (core : CoreView) → CanShare tells callers core → Since tells core core
+since_shared tells callers core can = record {
   limits = refl;
   base = refl;
   opens = λ image table opens. opens;
   faults = subst (λ b. MatchBool b (Rose core.faults core.faults) (core.faults ≡ core.faults)) (sym can.alive) refl;
   continues = λ told. continues_none core (can.sound told) (subst (λ n. IsSafe core core.moment n) (sym (ap length can.history)) (can.now told));
-  past = can.past;
-  safe = can.safe;
 }
 
 rises_on : (first mid last : ℕ) → Rose first mid → Rose mid last → Rose first last
@@ -70,8 +68,8 @@ faults_on false true first old new was rose same = subst (λ n. Rose n new) was 
 faults_on false false first old new was rose same = same refl ∙ was
 
 -- and it comes to another by a step.
-pub since_step : (tells : Bool) (from caller : ℕ) (call : Call) (reply : Reply) (first old new : CoreView) → Steps tells caller call old new reply → Since tells from first old → Since tells from first new
-since_step tells from caller call reply first old new steps since =
+pub since_step : (tells : Bool) (caller : ℕ) (call : Call) (reply : Reply) (first old new : CoreView) → Steps tells caller call old new reply → Since tells first old → Since tells first new
+since_step tells caller call reply first old new steps since =
     let on = λ (told : IsTrue tells). continues_step tells caller call old new reply (since.continues told).sound steps told in record {
       limits = steps.limits ∙ since.limits;
       base = steps.moves.base ∙ since.base;
@@ -79,6 +77,4 @@ since_step tells from caller call reply first old new steps since =
       faults = subst (λ b. MatchBool b (Rose first.faults new.faults) (new.faults ≡ first.faults)) (sym steps.moves.dead)
           (faults_on old.state.is_dead (is_media reply) first.faults old.faults new.faults since.faults steps.failed steps.kept);
       continues = λ told. continues_on first old new (since.continues told) (on told);
-      past = λ told. omega (arith, since.past told, (steps.time told).later);
-      safe = λ told. safe_on old new from 0 (on told) (since.past told) (omega arith) (since.safe told);
     }

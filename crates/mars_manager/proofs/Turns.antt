@@ -56,8 +56,8 @@ carried_same {A} a b e = let top : Some a ≡ Some b = ap (λ (l : List (ℕ × 
 pub record Moved {C : Type 0} (f : Face C) (setup : Setup C) (n : ℕ) (call : Call) (reply : Reply) (core new : C) : Type 0 where
   pub grows : Grows (f.show core).state.history (f.show new).state.history
   pub others : (m : ℕ) → m ≢ n → (commits_of m (f.show new).state.history ≡ commits_of m (f.show core).state.history) × ((f.show new).state.live m ≡ (f.show core).state.live m)
-  pub since : Since f.tells setup.from (f.show setup.first) (f.show core) → Since f.tells setup.from (f.show setup.first) (f.show new)
-  pub noted : (notes : ℕ → Notes) → n < setup.callers → HasNoOthers setup.callers (f.show core).state → Since f.tells setup.from (f.show setup.first) (f.show core)
+  pub since : Since f.tells (f.show setup.first) (f.show core) → Since f.tells (f.show setup.first) (f.show new)
+  pub noted : (notes : ℕ → Notes) → n < setup.callers → HasNoOthers setup.callers (f.show core).state → Since f.tells (f.show setup.first) (f.show core)
       → (IsTrue f.tells → AreNoted (f.show setup.first).limits setup.callers (f.show setup.first).state.index (f.show core).state notes)
       → IsTrue f.tells → AreNoted (f.show setup.first).limits setup.callers (f.show setup.first).state.index (f.show new).state (put_note notes n (added (notes n) call reply (doubt_of n (f.show new).state.doubt)))
 

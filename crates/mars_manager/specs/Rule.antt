@@ -83,7 +83,7 @@ module _ {C : Type 0} where
       pub below : (n : ℕ) → setup.callers ≤ n → total (λ v. times n v.passes) s.views ≡ 0
       pub few : setup.callers < 256
       pub enough : setup.callers ≤ (f.show setup.first).limits.callers
-      pub since : Since f.tells setup.from (f.show setup.first) (f.show core)
+      pub since : Since f.tells (f.show setup.first) (f.show core)
       pub strangers : HasNoOthers setup.callers (f.show core).state
       pub noted : IsTrue f.tells → AreNoted (f.show setup.first).limits setup.callers (f.show setup.first).state.index (f.show core).state notes
 
@@ -101,7 +101,7 @@ module _ {C : Type 0} where
       pub notes : ℕ → Notes
       pub now : n ≡ (shared_view m.0.passes (Some core), (0, Some core) ∷ [])
       pub fit : AllFit setup (f.show core).state notes m.0.passes
-      pub since : Since f.tells setup.from (f.show setup.first) (f.show core)
+      pub since : Since f.tells (f.show setup.first) (f.show core)
       pub few : (k : ℕ) → 0 < times k m.0.passes → k < (f.show core).limits.callers
 
     -- What a step tells, by the step, the seat before, the number found and the seat after. Where the turn was not free, another pass had

@@ -22,28 +22,25 @@ pub record MarsView (C : Type 0) : Type 0 where
   pub table : TableId
   pub setup : Setup C
 
--- A core that can be shared among so many callers: it has not failed, nothing was done on it, and where it tells its records, the prefix
--- law holds from a moment on and from now on.
-pub record CanShare (tells : Bool) (callers from : ℕ) (core : CoreView) : Type 0 where
+-- A core that can be shared among so many callers: it has not failed, nothing was done on it, and where it tells its records, they
+-- are sound, and what a loss of power may leave now opens with them.
+pub record CanShare (tells : Bool) (callers : ℕ) (core : CoreView) : Type 0 where
   pub alive : core.state.is_dead ≡ false
   pub history : core.state.history ≡ []
   pub live : (caller : ℕ) → core.state.live caller ≡ None
   pub enough : callers ≤ core.limits.callers
   pub sound : IsTrue tells → IsSound core.state
-  pub past : IsTrue tells → from ≤ core.moment
-  pub safe : IsTrue tells → IsSafe core from 0
   pub now : IsTrue tells → IsSafe core core.moment 0
 
 -- From the core that was shared to a later one: it has the same limits and the same records at the opening, its media has failed just
--- where it is dead, and where it tells its records, it continues that one, and the prefix law still holds from that moment on.
-pub record Since (tells : Bool) (from : ℕ) (first core : CoreView) : Type 0 where
+-- where it is dead, and where it tells its records, it continues that one: so the prefix law holds of it from each moment from which it
+-- held before.
+pub record Since (tells : Bool) (first core : CoreView) : Type 0 where
   pub limits : core.limits ≡ first.limits
   pub base : core.state.base ≡ first.state.base
   pub opens : (image : List ℕ) (table : Table) → first.opens image table → core.opens image table
   pub faults : MatchBool core.state.is_dead (Rose first.faults core.faults) (core.faults ≡ first.faults)
   pub continues : IsTrue tells → Continues first core
-  pub past : IsTrue tells → from ≤ core.moment
-  pub safe : IsTrue tells → IsSafe core from 0
 
 module _ {C : Type 0} where
   -- A call that got the turn is one step of a core that the shared one has come to. What the pass had seen begins that core's history, and
@@ -53,8 +50,8 @@ module _ {C : Type 0} where
     pub old : C
     pub new : C
     pub setup_is : was.setup ≡ Some setup
-    pub since : Since tells setup.from (show setup.first) (show old)
-    pub comes : Since tells setup.from (show setup.first) (show new)
+    pub since : Since tells (show setup.first) (show old)
+    pub comes : Since tells (show setup.first) (show new)
     pub seen : Grows was.seen (show old).state.history
     pub live : (show old).state.live was.number ≡ was.live
     pub steps : Steps tells was.number call (show old) (show new) reply

@@ -56,16 +56,10 @@ const TOLD: usize = 1;
 const CORE: usize = 0;
 
 impl<C: Core + Drop> Mars<C> {
-    /// Shares a core among the callers 0 to `callers` - 1. `from` is a moment from which the prefix law holds of the core. Without memory
-    /// the core comes back.
-    pub fn share(
-        alloc: Global,
-        core: C,
-        callers: u8,
-        from: u64,
-    ) -> Result<(Mars<C>, Passes<C>), (NoMemory, C)>
-        requires { CanShare C.tells callers from (C.view core) }
-        ensures shared { IfOk result (λ r. r.0 ≡ record { table = r.1.table; setup = record { callers = callers; from = from; first = core } }) }
+    /// Shares a core among the callers 0 to `callers` - 1. Without memory the core comes back.
+    pub fn share(alloc: Global, core: C, callers: u8) -> Result<(Mars<C>, Passes<C>), (NoMemory, C)>
+        requires { CanShare C.tells callers (C.view core) }
+        ensures shared { IfOk result (λ r. r.0 ≡ record { table = r.1.table; setup = record { callers = callers; first = core } }) }
         ensures passes { IfOk result (λ r. (r.1.list ≡ dealt r.1.table r.0.setup callers) × (callers ≤ r.1.room)) }
         ensures given_back { IfErr result (λ e. e.1 ≡ core) }
     {
@@ -74,13 +68,11 @@ impl<C: Core + Drop> Mars<C> {
         };
         let setup = Setup {
             callers,
-            from,
             first: core,
         };
         let vacant = Table::vacant(alloc, &[0, 0], 1, &setup);
         let Setup {
             callers: _,
-            from: _,
             first: core,
         } = setup;
         let Ok((table, seat)) = vacant else {
@@ -104,7 +96,7 @@ impl<C: Core + Drop> Mars<C> {
         requires core { core ≡ self.now.setup.first }
         requires first { seat.me ≡ (opener Vacant self.now.setup, []) }
         requires list { (list.items ≡ []) × (vec_len list ≡ 0) × (callers ≤ vec_capacity list) }
-        requires ready { CanShare C.tells self.now.setup.callers self.now.setup.from (C.view core) }
+        requires ready { CanShare C.tells self.now.setup.callers (C.view core) }
         ensures { (result.table ≡ seat.table_id) × (result.list ≡ dealt seat.table_id self.now.setup callers) × (result.room ≡ vec_capacity list) }
     {
         let shared = &self.table.shared;
@@ -180,7 +172,7 @@ impl<C: Core + Drop> Mars<C> {
     pub fn close(self, passes: Passes<C>) -> C
         requires own { passes.table ≡ self.table }
         requires all { HasEach self.setup.callers passes.list }
-        ensures since { Since C.tells self.setup.from (C.view self.setup.first) (C.view result) }
+        ensures since { Since C.tells (C.view self.setup.first) (C.view result) }
         ensures passes { AreGathered C.tells C.view self.setup result passes.list }
         ensures others { HasNoOthers self.setup.callers (C.view result).state }
     {

@@ -31,6 +31,7 @@ use std::marker::{Model, PhantomData};
 /// Each call is one of the model's (`Does`): what it makes of the table, of writes and of saves, when each refusal comes, and what a
 /// loss of power within it may leave. After a refusal other than `Media` these are as they were. After `Media` each call that can be
 /// refused answers `Dead`.
+#[derive(Drop)]
 pub struct Records<S: EawStore, K: KeyIndex> {
     pages: Pages<S>,
     index: PhantomData<K>,

@@ -65,7 +65,7 @@ returns-clause-since g c =
     let each : (n : ℕ) → n < key.callers → 0 < times n (map known_of c.args.passes.list) = subst (λ (m : MarsView g.row.C.Denot). HasEach m.setup.callers c.args.passes.list) (sym c.self.view_is) c.requires.all in
     let last = last_core f key _ (map known_of c.args.passes.list) _ _ _ c.take.result all each c.close_with-closed.ensures.values.2 c.take.ensures.value in
     let end = ended_as f key _ last.0 c.unwrap-core.result c.take.result last.1 c.unwrap-core.ensures last.2 in
-    subst (λ (m : MarsView g.row.C.Denot). Since g.C.Core.tells m.setup.from (g.C.Core.view m.setup.first) (g.C.Core.view c.unwrap-core.result)) c.self.view_is end.since
+    subst (λ (m : MarsView g.row.C.Denot). Since g.C.Core.tells (g.C.Core.view m.setup.first) (g.C.Core.view c.unwrap-core.result)) c.self.view_is end.since
 
 pub returns-clause-others : goal.returns-clause-others
 returns-clause-others g c =
