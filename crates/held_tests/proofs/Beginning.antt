@@ -1,5 +1,5 @@
 -- A core that begins over a store can be shared.
-use Rattle.std.proofs.Common.{◌≡◌, ℕ, ◌≤◌, List, length, Bool, refl, sym, ap, subst, ◌∙◌, arith}
+use Rattle.std.proofs.Common.{ℕ, ◌≤◌, List, Bool, sym, ap, subst, ◌∙◌, arith}
 use Rattle.std.specs.Prelude.{IsTrue}
 use Rattle.array_shape.specs.declared.shape.Shape.{Shape}
 use Rattle.eaw_face.specs.StoreView.{StoreView}
@@ -8,7 +8,7 @@ use Rattle.record_table.specs.Shown.{table_of, keys_of}
 use Rattle.history.specs.Legal.{records}
 use Rattle.core_face.specs.Room.{Limits}
 use Rattle.core_face.specs.Sound.{IsSound}
-use Rattle.core_face.specs.Core.{CoreView, IsSafe}
+use Rattle.core_face.specs.Core.{CoreView}
 use Rattle.core_face.proofs.Sound.{opened_sound}
 use Rattle.mars_core.specs.Over.{limits_of, index_of, Begins}
 use Rattle.mars_manager.specs.Sharing.{CanShare}

@@ -10,7 +10,7 @@ use std::sync::atomic::{AtomicBool, Ordering};
 use std::thread;
 
 // How often a flag is looked at. Behind that the wait for it is given up, so that a test ends.
-const LOOKS: u64 = 100_000_000;
+const LOOKS: u64 = 20_000_000;
 
 // Waits for a flag, but not for ever.
 fn wait_for(flag: &AtomicBool) {
@@ -50,7 +50,7 @@ impl Hold {
         self.may_read.store(true, Ordering::SeqCst);
     }
 
-    /// Waits until a read has begun since the last call of `hold`.
+    /// Waits until a read has begun since the last call of `hold`. In the end it gives up.
     pub fn wait_for_read(&self) {
         wait_for(&self.is_reading);
     }
@@ -80,13 +80,6 @@ impl<M> HeldMedia<M> {
         ensures { result ≡ inner }
     {
         HeldMedia { inner, hold }
-    }
-
-    pub fn into_inner(self) -> M
-        ensures { result ≡ self }
-    {
-        let HeldMedia { inner, hold: _ } = self;
-        inner
     }
 }
 

@@ -22,7 +22,8 @@ pub fn share_two<S: EawStore + Drop>(
     requires alive { IsAlive (S.view store) }
     requires free { (t : ℕ) → (S.view store).ranges t ≡ None }
     requires enough { 2 ≤ (S.view store).shape.numbers }
-    ensures table { IfSome result (λ r. r.0.table ≡ r.1.table) }
+    ensures table { IfSome result (λ r. r.1.table ≡ r.0.table) }
+    ensures callers { IfSome result (λ r. r.0.setup.callers ≡ 2) }
     ensures passes { IfSome result (λ r. r.1.list ≡ dealt r.1.table r.0.setup 2) }
 {
     let Ok(room) = SaveRoom::new(alloc) else {

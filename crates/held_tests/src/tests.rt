@@ -1,5 +1,6 @@
 ghost use Rattle.std.specs.Prelude.{◌≡◌, ◌≤◌, ℕ, None, IfSome};
 ghost use Rattle.eaw_face.specs.Causes.{IsAlive};
+ghost use Rattle.mars_manager.specs.Pass.{dealt};
 
 use super::*;
 use array_shape::Shape;
@@ -7,7 +8,7 @@ use core_face::Core;
 use eaw_device::{Eaw, format};
 use eaw_face::EawStore;
 use history::{Call, Reply};
-use mars_manager::{Again, Mars, Pass};
+use mars_manager::{Again, Mars, Pass, Passes};
 use pcm_media::MemoryMedia;
 use std::alloc::Global;
 use std::sync::Arc;
@@ -79,25 +80,29 @@ struct Beside {
     told: u64,
 }
 
-fn one_beside_a_read<R: Threads + Sync>(rt: &R, alloc: Global) -> Option<Beside> {
-    let hold = Hold::released(alloc).ok()?;
-    let store = fresh(alloc, Arc::try_clone(&hold).ok()?)?;
-    let (mars, mut passes) = share_two(alloc, store)?;
+fn beside_a_read<C: Core + Drop + Send, R: Threads + Sync>(
+    rt: &R,
+    mars: Mars<C>,
+    mut passes: Passes<C>,
+    hold: &Hold,
+) -> Option<Beside>
+    requires table { passes.table ≡ mars.table }
+    requires callers { mars.setup.callers ≡ 2 }
+    requires passes { passes.list ≡ dealt passes.table mars.setup 2 }
+{
     let one = passes.take()?;
     let zero = passes.take()?;
     let shared = &mars;
-    let flags: &Hold = &hold;
-    flags.hold();
     let ((zero, found), (one, answer, told)) = thread::join(
         rt,
-        move || -> (Pass<Callers<Store>>, Option<Reply>)
+        move || -> (Pass<C>, Option<Reply>)
             requires { zero.table ≡ shared.now.table }
             ensures { (result.0.table ≡ zero.table) × (result.0.known.number ≡ zero.known.number) }
         { get_one(shared, zero) },
-        move || -> (Pass<Callers<Store>>, Result<Reply, Again>, u64)
+        move || -> (Pass<C>, Result<Reply, Again>, u64)
             requires { one.table ≡ shared.now.table }
             ensures { (result.0.table ≡ one.table) × (result.0.known.number ≡ one.known.number) }
-        { call_beside(shared, one, flags) },
+        { call_beside(shared, one, hold) },
     );
     passes.put_back(zero);
     passes.put_back(one);
@@ -109,9 +114,17 @@ fn one_beside_a_read<R: Threads + Sync>(rt: &R, alloc: Global) -> Option<Beside>
     })
 }
 
+fn records_beside_a_read<R: Threads + Sync>(rt: &R, alloc: Global) -> Option<Beside> {
+    let hold = Hold::released(alloc).ok()?;
+    let store = fresh(alloc, Arc::try_clone(&hold).ok()?)?;
+    let (mars, passes) = share_two(alloc, store)?;
+    hold.hold();
+    beside_a_read(rt, mars, passes, &hold)
+}
+
 #[test]
 fn callers_are_answered_beside_a_read(rt: HostRuntime) -> Result<(), Fail> {
-    let Some(beside) = one_beside_a_read(&rt, rt.alloc()) else {
+    let Some(beside) = records_beside_a_read(&rt, rt.alloc()) else {
         panic!(rt; "no memory")
     };
     assert!(rt; beside.answer == Err(Again { holder: 0 }));
