@@ -1,5 +1,10 @@
 // What becomes of what a script says.
+ghost use Rattle.std.specs.Prelude.{◌≡◌, [], ◌∷◌, ◌++◌, OnOk, OnErr};
+
+use counted::NoMemory;
 use history::Reply;
+use std::alloc::Global;
+use std::marker::Model;
 
 /// What became of a planned transaction.
 #[derive(Debug, Drop)]
@@ -19,4 +24,43 @@ pub enum LineFault {
     Bad { line: u64 },
     /// Its caller is not within a transaction; or it is a begin, and its caller is.
     Stray { line: u64 },
+}
+
+/// Lines that are passed over, by rising number.
+#[derive(Debug, Drop)]
+pub struct LineFaults {
+    items: Vec<LineFault>,
+}
+
+impl Model for LineFaults {
+    ghost use Rattle.std.specs.Prelude.{List};
+    ghost use Rattle.caller_plans.specs.declared.fate.LineFault.{LineFault};
+
+    ghost Value = { List LineFault };
+
+    ghost view = { λ f. f.items.items };
+}
+
+impl LineFaults {
+    pub fn new(alloc: Global) -> Self
+        ensures { result ≡ [] }
+    {
+        LineFaults {
+            items: Vec::new(alloc),
+        }
+    }
+
+    pub fn push(&mut self, fault: LineFault) -> Result<(), NoMemory>
+        ensures ok { OnOk result (self.new ≡ self.old ++ fault ∷ []) }
+        ensures err { OnErr result (self.new ≡ self.old) }
+    {
+        self.items.push(fault)?;
+        Ok(())
+    }
+
+    pub fn items(&self) -> &[LineFault]
+        ensures { result.now ≡ self.now }
+    {
+        &self.items
+    }
 }

@@ -1,10 +1,11 @@
 //! The transactions that each caller of a script plans, and how they end.
 #![tactic(auto)]
 
+mod draft;
 mod fate;
 mod plan;
-mod reading;
+mod script;
 
-pub use fate::{Fate, LineFault};
+pub use fate::{Fate, LineFault, LineFaults};
 pub use plan::{Asked, Plan, PlanEnd, Plans};
-pub use reading::{Script, read_script};
+pub use script::{Script, read_script};

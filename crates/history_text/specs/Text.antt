@@ -2,7 +2,6 @@
 use Rattle.std.specs.Prelude.{ℕ, suc, List, [], ◌∷◌, ◌++◌, codes}
 use Rattle.std.specs.List.{flat_map}
 use Rattle.std.specs.Fmt.{decimal}
-use Rattle.history.specs.Table.{Granted}
 use Rattle.history.specs.declared.transaction.Done.{Done}
 use Rattle.script_text.specs.Replies.{reply_text, reply_line, told_line, bad_line}
 use Rattle.caller_plans.specs.declared.fate.Fate.{Fate}

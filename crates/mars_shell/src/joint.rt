@@ -59,9 +59,9 @@ pub fn serve_jointly<R: Threads + Wait + Sync, K: Sink, S: EawStore + Drop + Sen
         Ok(core) => core,
         Err((fault, store)) => return (Err(fault), store),
     };
-    match work(rt, alloc, core, plans, tries, gate) {
+    match work(rt, alloc, core, plans, u64::from(tries), gate) {
         Ok((core, fates, end)) => {
-            let ended = tell_end(alloc, sink, &faults, core.history(), core.base(), &fates, end);
+            let ended = tell_end(alloc, sink, faults.items(), core.history(), core.base(), &fates, end);
             (Ok(ended), core.into_store())
         }
         Err((NoMemory, core)) => (Err(CoreFault::NoMemory), core.into_store()),

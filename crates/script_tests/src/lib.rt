@@ -8,6 +8,8 @@ mod drill;
 #[cfg(test)]
 mod lines;
 #[cfg(test)]
+mod plans;
+#[cfg(test)]
 mod raw_lines;
 #[cfg(test)]
 mod replies;
@@ -19,3 +21,5 @@ mod slots;
 mod transactions;
 #[cfg(test)]
 mod words;
+#[cfg(test)]
+mod work_texts;

@@ -1,12 +1,11 @@
 -- Pieces that are a reply's line.
-use Rattle.std.proofs.Common.{◌≡◌, ℕ, ◌+◌, ◌≤◌, List, [], ◌∷◌, ◌++◌, length, take, refl, sym, ◌∙◌, ap, subst, append_assoc}
-use Rattle.std.specs.Prelude.{codes, Result, OnOk}
-use Rattle.std.specs.List.{flat_map}
+use Rattle.std.proofs.Common.{◌≡◌, ℕ, ◌+◌, List, [], ◌∷◌, ◌++◌, length, take, refl, sym, ◌∙◌, ap, append_assoc}
+use Rattle.std.specs.Prelude.{codes}
 use Rattle.std.specs.Fmt.{decimal}
-use Rattle.std.proofs.lemmas.List.{append-nil, take_all, take_at, length-append}
+use Rattle.std.proofs.lemmas.List.{append-nil, take_at, length-append}
 use Rattle.history.specs.declared.call.Reply.{Reply}
 use Rattle.history.specs.declared.call.Reply.TheVariants.{Listed, LogFull, Media}
-use Rattle.script_text.specs.Replies.{reply_text, told_line, row_line, row_lines, reply_line, bad_line}
+use Rattle.script_text.specs.Replies.{reply_text, told_line, row_lines, reply_line, bad_line}
 
 -- the caller's number, and what stands behind it
 told_is : (caller : ℕ) (words number rest : List ℕ) → number ≡ decimal caller → rest ≡ 32 ∷ (words ++ 10 ∷ []) → number ++ rest ≡ told_line caller words
@@ -19,17 +18,16 @@ unfolding reply_line
 line_is caller reply number rest none first behind =
     told_is caller (reply_text reply) number rest first behind ∙ rw none (sym (append-nil (told_line caller (reply_text reply))))
 
--- what was appended is the line
-pub line_appended : {T E : Type 0} (caller : ℕ) (now reply : Reply) (number rest old new : List ℕ) (result : Result T E) → row_lines caller reply ≡ []
-    → number ≡ decimal caller → now ≡ reply → rest ≡ 32 ∷ (reply_text reply ++ 10 ∷ []) → OnOk result (new ≡ old ++ (number ++ rest)) → OnOk result (new ≡ old ++ reply_line caller now)
-line_appended caller now reply number rest old new result none first is behind ok =
-    subst (λ (line : List ℕ). OnOk result (new ≡ old ++ line)) (line_is caller reply number rest none first behind ∙ ap (reply_line caller) (sym is)) ok
-
--- the line that counts rows, and those of all of them
-pub listed_is : (caller i : ℕ) (rows : List (ℕ × List ℕ)) (old new : List ℕ) → length rows ≤ i
-    → new ≡ old ++ (told_line caller (codes "rows " ++ decimal (length rows)) ++ flat_map (row_line caller) (take i rows)) → new ≡ old ++ reply_line caller (Listed rows)
+-- what was appended, part by part, is the reply's line and those of its rows
+pub lines_appended : (caller : ℕ) (reply : Reply) (old number words line new : List ℕ) → number ≡ old ++ (decimal caller ++ 32 ∷ []) → words ≡ number ++ reply_text reply
+    → line ≡ words ++ 10 ∷ [] → new ≡ line ++ row_lines caller reply → new ≡ old ++ reply_line caller reply
 unfolding reply_line
-listed_is caller i rows old new all is = is ∙ rw (take_all i rows all) refl
+lines_appended caller reply old number words line new first second third last = rw (last, third, second, first) (simp append_assoc)
+
+-- a reply that lists nothing has no lines of rows
+pub no_rows : (caller : ℕ) (reply : Reply) → ((rows : List (ℕ × List ℕ)) → reply ≡ Listed rows → ⊥) → row_lines caller reply ≡ []
+no_rows caller (Listed rows) other = absurd (other rows refl)
+no_rows caller reply other = refl
 
 -- the three numbers of a full log
 pub log_full_text : (logger held needed : ℕ)

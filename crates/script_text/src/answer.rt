@@ -6,7 +6,7 @@ ghost use Rattle.script_text.specs.AnswerLines.{answer_line};
 use crate::append::append;
 use crate::hex_text::append_hex;
 use crate::lent::Lent;
-use crate::reply::{append_log_full, append_number};
+use crate::reply::append_number;
 use counted::NoMemory;
 use itoa::Buffer;
 
@@ -56,6 +56,37 @@ pub fn write_answer(out: &mut Vec<u8>, number: u8, answer: &Answer<'_>) -> Resul
             needed,
         } => append_log_full(out, text, *logger, *held, *needed),
     }
+}
+
+fn append_log_full(
+    out: &mut Vec<u8>,
+    number: &[u8],
+    logger: u8,
+    held: u16,
+    needed: u16,
+) -> Result<(), NoMemory>
+    ensures ok { OnOk result (out.new.items ≡ out.old.items ++ (number.now ++ (codes " log full " ++ (decimal logger ++ 32 ∷ (decimal held ++ 32 ∷ (decimal needed ++ 10 ∷ [])))))) }
+    ensures err { OnErr result (out.new.items ≡ out.old.items) }
+{
+    let mut first = Buffer::new();
+    let mut second = Buffer::new();
+    let mut third = Buffer::new();
+    let logger = first.format(logger).as_bytes();
+    let held = second.format(held).as_bytes();
+    let needed = third.format(needed).as_bytes();
+    append(
+        out,
+        &[
+            number,
+            b" log full ",
+            logger,
+            b" ",
+            held,
+            b" ",
+            needed,
+            b"\n",
+        ],
+    )
 }
 
 fn append_part(out: &mut Vec<u8>, number: &[u8], addr: u64, bytes: &[u8]) -> Result<(), NoMemory>

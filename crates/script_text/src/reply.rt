@@ -1,5 +1,6 @@
-ghost use Rattle.std.specs.Prelude.{◌≡◌, ℕ, List, [], ◌∷◌, ◌++◌, codes, decimal, OnOk, OnErr};
-ghost use Rattle.script_text.specs.Replies.{reply_line, row_line, bad_line};
+ghost use Rattle.std.specs.Prelude.{◌≡◌, ℕ, List, [], ◌∷◌, ◌++◌, decimal, OnOk, OnErr};
+ghost use Rattle.std.specs.List.{flat_map};
+ghost use Rattle.script_text.specs.Replies.{reply_text, reply_line, row_line, bad_line};
 
 use crate::append::append;
 use counted::NoMemory;
@@ -12,31 +13,42 @@ pub fn write_reply(out: &mut Vec<u8>, caller: u8, reply: &Reply) -> Result<(), N
     ensures ok { OnOk result (out.new.items ≡ out.old.items ++ reply_line caller reply.now) }
     ensures err { OnErr result (out.new.items ≡ out.old.items) }
 {
-    let mut buffer = Buffer::new();
-    let number = buffer.format(caller).as_bytes();
+    let start = out.len();
+    let answer = append_lines(out, caller, reply);
+    if answer.is_err() {
+        out.truncate(start);
+    }
+    answer
+}
+
+/// Appends the words of a reply.
+pub fn write_reply_text(out: &mut Vec<u8>, reply: &Reply) -> Result<(), NoMemory>
+    ensures ok { OnOk result (out.new.items ≡ out.old.items ++ reply_text reply.now) }
+    ensures err { OnErr result (out.new.items ≡ out.old.items) }
+{
     match reply {
-        Reply::Fine => append(out, &[number, b" ok\n"]),
-        Reply::Found(value) => append(out, &[number, b" val ", value.as_bytes(), b"\n"]),
-        Reply::Absent => append(out, &[number, b" none\n"]),
-        Reply::Listed(rows) => append_listed(out, caller, rows.as_slice()),
-        Reply::Saved(n) => append_number(out, number, b" saved ", u64::from(*n)),
-        Reply::Committed(n) => append_number(out, number, b" committed ", *n),
-        Reply::NoTransaction => append(out, &[number, b" no transaction\n"]),
-        Reply::Already => append(out, &[number, b" already\n"]),
-        Reply::NoSave { save } => append_number(out, number, b" no save ", u64::from(*save)),
-        Reply::SavesFull => append(out, &[number, b" saves full 32\n"]),
-        Reply::Busy { holder } => append_number(out, number, b" busy ", u64::from(*holder)),
+        Reply::Fine => append(out, &[b"ok"]),
+        Reply::Found(value) => append(out, &[b"val ", value.as_bytes()]),
+        Reply::Absent => append(out, &[b"none"]),
+        Reply::Listed(rows) => append_count(out, b"rows ", rows.as_slice().len() as u64),
+        Reply::Saved(n) => append_count(out, b"saved ", u64::from(*n)),
+        Reply::Committed(n) => append_count(out, b"committed ", *n),
+        Reply::NoTransaction => append(out, &[b"no transaction"]),
+        Reply::Already => append(out, &[b"already"]),
+        Reply::NoSave { save } => append_count(out, b"no save ", u64::from(*save)),
+        Reply::SavesFull => append(out, &[b"saves full 32"]),
+        Reply::Busy { holder } => append_count(out, b"busy ", u64::from(*holder)),
         Reply::LogFull {
             logger,
             held,
             needed,
-        } => append_log_full(out, number, *logger, *held, *needed),
-        Reply::SlotsFull { slots: n } => append_number(out, number, b" slots full ", u64::from(*n)),
-        Reply::PagesFull { pages: n } => append_number(out, number, b" pages full ", u64::from(*n)),
-        Reply::Media => append(out, &[number, b" media fault\n"]),
-        Reply::Dead => append(out, &[number, b" dead\n"]),
-        Reply::NoMemory => append(out, &[number, b" no memory\n"]),
-        Reply::Damaged { page } => append_number(out, number, b" damaged ", u64::from(*page)),
+        } => append_log_full(out, *logger, *held, *needed),
+        Reply::SlotsFull { slots: n } => append_count(out, b"slots full ", u64::from(*n)),
+        Reply::PagesFull { pages: n } => append_count(out, b"pages full ", u64::from(*n)),
+        Reply::Media => append(out, &[b"media fault"]),
+        Reply::Dead => append(out, &[b"dead"]),
+        Reply::NoMemory => append(out, &[b"no memory"]),
+        Reply::Damaged { page } => append_count(out, b"damaged ", u64::from(*page)),
     }
 }
 
@@ -57,14 +69,17 @@ pub fn append_number(out: &mut Vec<u8>, front: &[u8], words: &[u8], n: u64) -> R
     append(out, &[front, words, buffer.format(n).as_bytes(), b"\n"])
 }
 
-pub fn append_log_full(
-    out: &mut Vec<u8>,
-    caller: &[u8],
-    logger: u8,
-    held: u16,
-    needed: u16,
-) -> Result<(), NoMemory>
-    ensures ok { OnOk result (out.new.items ≡ out.old.items ++ (caller.now ++ (codes " log full " ++ (decimal logger ++ 32 ∷ (decimal held ++ 32 ∷ (decimal needed ++ 10 ∷ [])))))) }
+// Appends words that end with a number.
+fn append_count(out: &mut Vec<u8>, words: &[u8], n: u64) -> Result<(), NoMemory>
+    ensures ok { OnOk result (out.new.items ≡ out.old.items ++ (words.now ++ decimal n)) }
+    ensures err { OnErr result (out.new.items ≡ out.old.items) }
+{
+    let mut buffer = Buffer::new();
+    append(out, &[words, buffer.format(n).as_bytes()])
+}
+
+fn append_log_full(out: &mut Vec<u8>, logger: u8, held: u16, needed: u16) -> Result<(), NoMemory>
+    ensures ok { OnOk result (out.new.items ≡ out.old.items ++ reply_text (Reply.LogFull logger held needed)) }
     ensures err { OnErr result (out.new.items ≡ out.old.items) }
 {
     let mut first = Buffer::new();
@@ -73,46 +88,29 @@ pub fn append_log_full(
     let logger = first.format(logger).as_bytes();
     let held = second.format(held).as_bytes();
     let needed = third.format(needed).as_bytes();
-    append(
-        out,
-        &[
-            caller,
-            b" log full ",
-            logger,
-            b" ",
-            held,
-            b" ",
-            needed,
-            b"\n",
-        ],
-    )
+    append(out, &[b"log full ", logger, b" ", held, b" ", needed])
 }
 
-// Appends the line that counts rows, and a line for each.
-fn append_listed(out: &mut Vec<u8>, caller: u8, rows: &[(u64, Value)]) -> Result<(), NoMemory>
-    ensures ok { OnOk result (out.new.items ≡ out.old.items ++ reply_line caller (Reply.Listed rows.now)) }
-    ensures err { OnErr result (out.new.items ≡ out.old.items) }
-{
-    let start = out.len();
-    let answer = append_some_rows(out, caller, rows);
-    if answer.is_err() {
-        out.truncate(start);
-    }
-    answer
-}
-
-// The same; where memory is short, some of the lines may stand there.
-fn append_some_rows(out: &mut Vec<u8>, caller: u8, rows: &[(u64, Value)]) -> Result<(), NoMemory>
-    ensures ok { OnOk result (out.new.items ≡ out.old.items ++ reply_line caller (Reply.Listed rows.now)) }
+// Appends the lines of a reply; where memory is short, some of them may stand there.
+fn append_lines(out: &mut Vec<u8>, caller: u8, reply: &Reply) -> Result<(), NoMemory>
+    ensures ok { OnOk result (out.new.items ≡ out.old.items ++ reply_line caller reply.now) }
     ensures err { OnErr result ((rest : List ℕ) × (out.new.items ≡ out.old.items ++ rest)) }
 {
     let mut buffer = Buffer::new();
-    append_number(
-        out,
-        buffer.format(caller).as_bytes(),
-        b" rows ",
-        rows.len() as u64,
-    )?;
+    append(out, &[buffer.format(caller).as_bytes(), b" "])?;
+    write_reply_text(out, reply)?;
+    append(out, &[b"\n"])?;
+    match reply {
+        Reply::Listed(rows) => append_rows(out, caller, rows.as_slice()),
+        _ => Ok(()),
+    }
+}
+
+// Appends a line for each row; where memory is short, some of them may stand there.
+fn append_rows(out: &mut Vec<u8>, caller: u8, rows: &[(u64, Value)]) -> Result<(), NoMemory>
+    ensures ok { OnOk result (out.new.items ≡ out.old.items ++ flat_map (row_line caller) rows.now) }
+    ensures err { OnErr result ((rest : List ℕ) × (out.new.items ≡ out.old.items ++ rest)) }
+{
     for row in rows {
         append_row(out, caller, row.0, &row.1)?;
     }

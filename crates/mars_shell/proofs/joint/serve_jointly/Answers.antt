@@ -6,7 +6,7 @@ use Rattle.mars_core.specs.Over.{IsOver, limits_of}
 use Rattle.mars_manager.specs.Sharing.{CanShare}
 use Rattle.mars_shell.specs.Joint.{JointWork}
 use Rattle.mars_shell.specs.Served.{Served}
-use Rattle.mars_shell.proofs.Joining.{as_many, can_share, untold, retold, joint_work, living, unbroken}
+use Rattle.mars_shell.proofs.Joining.{as_many, all_plain, can_share, untold, retold, joint_work, living, unbroken}
 use Rattle.mars_shell.proofs.Serving.{served}
 use Rattle.mars_shell.proofs.joint.serve_jointly.Goals as goal
 
@@ -15,6 +15,11 @@ work-requires-clause-few g c κs within =
     let read = c.in-Ok.ensures in
     let counted : length c.in-Ok.script.plans.items ≡ c.args.callers = ap length read.3 ∙ as_many 0 c.args.callers read.0 in
     omega (arith, counted, c.ranges.callers.fits)
+
+pub work-requires-clause-plain : goal.work-requires-clause-plain
+work-requires-clause-plain g c κs within =
+    let read = c.in-Ok.ensures in
+    subst (All ArePlain) (sym read.3) (all_plain 0 c.args.callers read.0)
 
 pub work-requires-clause-ready : goal.work-requires-clause-ready
 work-requires-clause-ready g c κs within =
@@ -28,7 +33,7 @@ work-requires-clause-ready g c κs within =
 pub tell_end-ended-requires : goal.tell_end-ended-requires
 tell_end-ended-requires g c =
     let read = c.in-Ok.ensures in
-    let counted : length c.deref-in-Ok-work.result.now ≡ c.args.callers = ap length c.deref-in-Ok-work.ensures.value ∙ c.in-Ok-work.ensures.worked.each ∙ ap length read.3 ∙ as_many 0 c.args.callers read.0 in
+    let counted : length c.deref.result.now ≡ c.args.callers = ap length c.deref.ensures.value ∙ c.in-Ok-work.ensures.worked.each ∙ ap length read.3 ∙ as_many 0 c.args.callers read.0 in
     record { few = omega (arith, counted, c.ranges.callers.fits) }
 
 pub returns-in-Ok-work-clause-joined : goal.returns-in-Ok-work-clause-joined
@@ -51,7 +56,7 @@ returns-in-Ok-work-clause-joined g c =
           (served s.tells s.opens (s.view c.args.store) (s.view store) _ begins tells (s.view core.records.store) _ over (worked.since.continues tells) (JointWork c.args.callers c.args.input.now c.tell_end-ended.result told.cut told.text) c.tell_end-ended.result
           (joint_work s.tells tells _ _ c.args.callers c.args.input.now read.0 read.1 c.in-Ok.script.plans.items read.3 c.in-Ok-work.fates.items c.in-Ok-work.end worked enough
           c.tell_end-ended.result told.cut told.text c.tell_end-ended.ensures.whole
-          (retold c.tell_end-ended.result told.cut told.text _ _ _ _ _ _ _ _ (c.deref.ensures.value ∙ read.2) c.history.ensures c.base.ensures.base c.deref-in-Ok-work.ensures.value told.holds))
+          (retold c.tell_end-ended.result told.cut told.text _ _ _ _ _ _ _ _ (c.items.ensures ∙ read.2) c.history.ensures c.base.ensures.base c.deref.ensures.value told.holds))
           (λ all. living s.tells tells _ _ c.args.callers c.args.input.now read.0 read.1 c.in-Ok.script.plans.items read.3 c.in-Ok-work.fates.items c.in-Ok-work.end worked enough (c.tell_end-ended.ensures.whole (unbroken c.tell_end-ended.result all))));
     }
 

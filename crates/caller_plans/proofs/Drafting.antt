@@ -1,0 +1,172 @@
+-- What one more line changes of what callers plan.
+use Rattle.std.proofs.Common.{ℕ, zero, suc, ◌≡◌, ◌<◌, ◌+◌, Bool, true, false, nat_eq, if◌then◌else◌, List, [], ◌∷◌, ◌++◌, length, set, map, replicate, slice_get, Option, Some, None, is_some, inl, inr, refl, sym, ap, ◌∙◌, arith}
+use Rattle.std.proofs.Math.Path.{fun_ext}
+use Rattle.std.proofs.lemmas.Bool.{cases_eq, cond-true, cond-false, eq-eqb}
+use Rattle.std.proofs.lemmas.Bool.Decides.{nat_tests}
+use Rattle.std.proofs.lemmas.List.{append_assoc, length-set}
+use Rattle.std.proofs.lemmas.Option.{slice_get_within}
+use Rattle.history.specs.declared.call.Call.{Call}
+use Rattle.history.specs.declared.call.Call.TheVariants.{Begin}
+use Rattle.script_text.specs.declared.line.Line.{Line}
+use Rattle.script_text.specs.declared.line.Line.TheVariants.{Nothing, Told, Bad}
+use Rattle.caller_plans.specs.declared.fate.LineFault.{LineFault}
+use Rattle.caller_plans.specs.declared.fate.LineFault.TheVariants as fault
+use Rattle.caller_plans.specs.declared.plan.Plan.{Plan}
+use Rattle.caller_plans.specs.declared.draft.Draft.{Draft}
+use Rattle.caller_plans.specs.declared.script.Reading.{Reading}
+use Rattle.caller_plans.specs.Plans.{planned, is_stray, within_after, calls_by, faults_from, plans_from}
+use Rattle.caller_plans.specs.Drafts.{empty_draft, is_within, one_within, are_within, drafted, all_drafted, Takes}
+
+-- a stray call begins and ends nothing, and no plan has it
+pub stray_within : (was : Bool) (call : Call) → is_stray was call ≡ true → within_after was call ≡ was
+stray_within true Begin stray = refl
+stray_within true call stray = cc
+stray_within false Begin stray = cc
+stray_within false call stray = refl
+
+pub stray_planned : (made : Option (List Call)) (call : Call) (calls : List Call) → is_stray (is_some made) call ≡ true → planned made (call ∷ calls) ≡ planned made calls
+stray_planned None Begin calls stray = cc
+stray_planned None call calls stray = refl
+stray_planned (Some made) Begin calls stray = refl
+stray_planned (Some made) call calls stray = cc
+
+-- one draft is set: it says whether its caller is within a transaction, and the others are as they were
+within-here : (drafts : List Draft) (i : ℕ) (draft : Draft) → i < length drafts → are_within (set drafts i draft) i ≡ is_within draft
+within-here [] i draft lt = absurd (omega (arith, lt))
+within-here (was ∷ drafts) zero draft lt = refl
+within-here (was ∷ drafts) (suc i) draft lt = within-here drafts i draft (omega (arith, lt))
+
+within-apart : (drafts : List Draft) (i k : ℕ) (draft : Draft) → (k ≡ i → ⊥) → are_within (set drafts i draft) k ≡ are_within drafts k
+within-apart [] i k draft ne = refl
+within-apart (was ∷ drafts) zero zero draft ne = absurd (ne refl)
+within-apart (was ∷ drafts) zero (suc k) draft ne = refl
+within-apart (was ∷ drafts) (suc i) zero draft ne = refl
+within-apart (was ∷ drafts) (suc i) (suc k) draft ne = within-apart drafts i k draft (λ e. ne (ap suc e))
+
+apart : (a b : ℕ) → (a ≡ b → ⊥) → nat_eq a b ≡ false
+apart a b ne = grind (arith, nat_tests)
+
+pub within-set : (drafts : List Draft) (i : ℕ) (draft : Draft) (now : Bool) → i < length drafts → is_within draft ≡ now
+    → are_within (set drafts i draft) ≡ (λ other. if nat_eq other i then now else are_within drafts other)
+within-set drafts i draft now lt is = fun_ext (λ k. elim (cases_eq k i) [
+  | inl e ↦ ap (are_within (set drafts i draft)) e ∙ (within-here drafts i draft lt ∙ (is ∙ sym (cond-true (nat_eq k i) now (are_within drafts k) (eq-eqb k i e))))
+  | inr ne ↦ within-apart drafts i k draft ne ∙ sym (cond-false (nat_eq k i) now (are_within drafts k) (apart k i ne))
+])
+
+-- what a caller is given that it has changes nothing
+pub within_same : (within : ℕ → Bool) (i : ℕ) (now : Bool) → now ≡ within i → within ≡ (λ other. if nat_eq other i then now else within other)
+within_same within i now is = fun_ext (λ k. elim (cases_eq k i) [
+  | inl e ↦ ap within e ∙ (sym is ∙ sym (cond-true (nat_eq k i) now (within k) (eq-eqb k i e)))
+  | inr ne ↦ sym (cond-false (nat_eq k i) now (within k) (apart k i ne))
+])
+
+set_same : (drafts : List Draft) (i : ℕ) (was : Draft) → slice_get drafts i ≡ Some was → set drafts i was ≡ drafts
+set_same [] i was at = refl
+set_same (draft ∷ drafts) zero was at = ap (λ (d : Draft). d ∷ drafts) (let same : was ≡ draft = cc in same)
+set_same (draft ∷ drafts) (suc i) was at = ap (λ (others : List Draft). draft ∷ others) (set_same drafts i was at)
+
+-- callers behind the one that calls make no call
+drafted_past : (first caller : ℕ) (call : Call) (drafts : List Draft) (lines : List Line) → caller < first → all_drafted first drafts (Told caller call ∷ lines) ≡ all_drafted first drafts lines
+drafted_past first caller call [] lines lt = refl
+drafted_past first caller call (draft ∷ drafts) lines lt =
+    ap (λ (calls : List Call). drafted draft calls ∷ all_drafted (suc first) drafts (Told caller call ∷ lines)) (cond-false (nat_eq caller first) (call ∷ calls_by first lines) (calls_by first lines) (apart caller first (λ e. omega (arith, e, lt))))
+    ∙ ap (λ (others : List (List Plan)). drafted draft (calls_by first lines) ∷ others) (drafted_past (suc first) caller call drafts lines (omega (arith, lt)))
+
+-- a draft that makes the call: its caller has the plans that it had with the call before the rest, and the others have theirs
+pub drafted-set : (first i caller : ℕ) (call : Call) (drafts : List Draft) (was draft : Draft) (lines : List Line) → slice_get drafts i ≡ Some was → caller ≡ first + i
+    → ((calls : List Call) → drafted draft calls ≡ drafted was (call ∷ calls))
+    → all_drafted first (set drafts i draft) lines ≡ all_drafted first drafts (Told caller call ∷ lines)
+drafted-set first i caller call [] was draft lines at is makes = cc
+drafted-set first zero caller call (one ∷ drafts) was draft lines at is makes =
+    let same : one ≡ was = cc in
+    ap (λ (plans : List Plan). plans ∷ all_drafted (suc first) drafts lines) (makes (calls_by first lines) ∙ ap (λ (d : Draft). drafted d (call ∷ calls_by first lines)) (sym same))
+    ∙ (ap (λ (calls : List Call). drafted one calls ∷ all_drafted (suc first) drafts lines) (sym (cond-true (nat_eq caller first) (call ∷ calls_by first lines) (calls_by first lines) (eq-eqb caller first (omega (arith, is)))))
+    ∙ ap (λ (others : List (List Plan)). drafted one (calls_by first (Told caller call ∷ lines)) ∷ others) (sym (drafted_past (suc first) caller call drafts lines (omega (arith, is)))))
+drafted-set first (suc i) caller call (one ∷ drafts) was draft lines at is makes =
+    ap (λ (others : List (List Plan)). drafted one (calls_by first lines) ∷ others) (drafted-set (suc first) i caller call drafts was draft lines at (omega (arith, is)) makes)
+    ∙ ap (λ (calls : List Call). drafted one calls ∷ all_drafted (suc first) drafts (Told caller call ∷ lines)) (sym (cond-false (nat_eq caller first) (call ∷ calls_by first lines) (calls_by first lines) (apart caller first (λ e. omega (arith, e, is)))))
+
+-- a line of no call leaves what callers plan
+drafted_silent : (first : ℕ) (drafts : List Draft) (line : Line) (lines : List Line) → ((caller : ℕ) → calls_by caller (line ∷ lines) ≡ calls_by caller lines)
+    → all_drafted first drafts lines ≡ all_drafted first drafts (line ∷ lines)
+drafted_silent first [] line lines silent = refl
+drafted_silent first (draft ∷ drafts) line lines silent =
+    ap (λ (calls : List Call). drafted draft calls ∷ all_drafted (suc first) drafts lines) (sym (silent first))
+    ∙ ap (λ (others : List (List Plan)). drafted draft (calls_by first (line ∷ lines)) ∷ others) (drafted_silent (suc first) drafts line lines silent)
+
+pub takes_nothing : (n : ℕ) (old : Reading) → Takes n Nothing old old
+takes_nothing n old = record {
+  count = refl;
+  faults = λ lines. refl;
+  plans = λ lines. drafted_silent 0 old.drafts.items Nothing lines (λ caller. refl);
+}
+
+pub takes_bad : (n : ℕ) (old new : Reading) → new.faults ≡ old.faults ++ fault.Bad n ∷ [] → new.drafts.items ≡ old.drafts.items → Takes n Bad old new
+takes_bad n old new faults drafts = record {
+  count = ap length drafts;
+  faults = λ lines.
+      ap (λ (ds : List Draft). new.faults ++ faults_from (suc n) (are_within ds) lines) drafts
+      ∙ (ap (λ (fs : List LineFault). fs ++ faults_from (suc n) (are_within old.drafts.items) lines) faults
+      ∙ append_assoc old.faults (fault.Bad n ∷ []) (faults_from (suc n) (are_within old.drafts.items) lines));
+  plans = λ lines. ap (λ (ds : List Draft). all_drafted 0 ds lines) drafts ∙ drafted_silent 0 old.drafts.items Bad lines (λ caller. refl);
+}
+
+module _ (n caller : ℕ) (call : Call) (old new : Reading) (was : Draft) (at : slice_get old.drafts.items caller ≡ Some was) where
+  within_is : are_within old.drafts.items caller ≡ is_within was
+  within_is = ap one_within at
+
+  -- the line of a stray call
+  pub takes_stray : is_stray (is_within was) call ≡ true → new.faults ≡ old.faults ++ fault.Stray n ∷ [] → new.drafts.items ≡ old.drafts.items
+      → Takes n (Told caller call) old new
+  takes_stray stray faults drafts =
+      let within = are_within old.drafts.items in
+      let strays : is_stray (within caller) call ≡ true = ap (λ (w : Bool). is_stray w call) within_is ∙ stray in
+      let behind = λ (other : ℕ). if nat_eq other caller then within_after (within caller) call else within other in
+      let same : are_within new.drafts.items ≡ behind = ap are_within drafts ∙ within_same within caller (within_after (within caller) call) (stray_within (within caller) call strays) in
+      record {
+        count = ap length drafts;
+        faults = λ lines.
+            ap (λ (fs : List LineFault). fs ++ faults_from (suc n) (are_within new.drafts.items) lines) faults
+            ∙ (ap (λ (w : ℕ → Bool). (old.faults ++ fault.Stray n ∷ []) ++ faults_from (suc n) w lines) same
+            ∙ (append_assoc old.faults (fault.Stray n ∷ []) (faults_from (suc n) behind lines)
+            ∙ ap (λ (fs : List LineFault). old.faults ++ (fs ++ faults_from (suc n) behind lines)) (sym (cond-true (is_stray (within caller) call) (fault.Stray n ∷ []) [] strays))));
+        plans = λ lines.
+            ap (λ (ds : List Draft). all_drafted 0 ds lines) (drafts ∙ sym (set_same old.drafts.items caller was at))
+            ∙ drafted-set 0 caller caller call old.drafts.items was was lines at (omega arith) (λ calls. ap (λ (ps : List Plan). was.plans ++ ps) (sym (stray_planned was.begun call calls stray)));
+      }
+
+  -- the line of another call, which the draft has then
+  pub takes_added : (draft : Draft) → is_stray (is_within was) call ≡ false → new.faults ≡ old.faults → new.drafts.items ≡ set old.drafts.items caller draft
+      → ((calls : List Call) → drafted draft calls ≡ drafted was (call ∷ calls)) → is_within draft ≡ within_after (is_within was) call → Takes n (Told caller call) old new
+  takes_added draft proper faults drafts makes goes =
+      let within = are_within old.drafts.items in
+      let stays : is_stray (within caller) call ≡ false = ap (λ (w : Bool). is_stray w call) within_is ∙ proper in
+      let behind = λ (other : ℕ). if nat_eq other caller then within_after (within caller) call else within other in
+      let same : are_within new.drafts.items ≡ behind =
+      ap are_within drafts ∙ within-set old.drafts.items caller draft (within_after (within caller) call) (slice_get_within old.drafts.items caller was at) (goes ∙ ap (λ (w : Bool). within_after w call) (sym within_is)) in
+      record {
+        count = ap length drafts ∙ length-set old.drafts.items caller draft;
+        faults = λ lines.
+            ap (λ (fs : List LineFault). fs ++ faults_from (suc n) (are_within new.drafts.items) lines) faults
+            ∙ (ap (λ (w : ℕ → Bool). old.faults ++ faults_from (suc n) w lines) same
+            ∙ ap (λ (fs : List LineFault). old.faults ++ (fs ++ faults_from (suc n) behind lines)) (sym (cond-false (is_stray (within caller) call) (fault.Stray n ∷ []) [] stays)));
+        plans = λ lines. ap (λ (ds : List Draft). all_drafted 0 ds lines) drafts ∙ drafted-set 0 caller caller call old.drafts.items was draft lines at (omega arith) makes;
+      }
+
+-- callers that have made no call: none is within a transaction, and all their plans are those of the lines
+none_within : (n caller : ℕ) → are_within (replicate n empty_draft) caller ≡ false
+none_within zero caller = refl
+none_within (suc n) zero = refl
+none_within (suc n) (suc caller) = none_within n caller
+
+pub first_within : (n : ℕ) → are_within (replicate n empty_draft) ≡ (λ caller. false)
+first_within n = fun_ext (none_within n)
+
+pub first_drafted : (first n : ℕ) (lines : List Line) → all_drafted first (replicate n empty_draft) lines ≡ plans_from first n lines
+first_drafted first zero lines = refl
+first_drafted first (suc n) lines = ap (λ (others : List (List Plan)). planned None (calls_by first lines) ∷ others) (first_drafted (suc first) n lines)
+
+-- the plans where no line is left
+pub drafted_last : (first : ℕ) (drafts : List Draft) → all_drafted first drafts [] ≡ map (λ (draft : Draft). drafted draft []) drafts
+drafted_last first [] = refl
+drafted_last first (draft ∷ drafts) = ap (λ (others : List (List Plan)). drafted draft [] ∷ others) (drafted_last (suc first) drafts)

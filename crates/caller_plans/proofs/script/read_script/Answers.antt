@@ -1,0 +1,58 @@
+use Rattle.std.proofs.Common.{ℕ, Bool, ◌≡◌, ◌+◌, [], ◌∷◌, List, length, suc, sym, ap, subst, ◌∙◌, arith}
+use Rattle.std.specs.Prelude.{Result, Ok, Err, IfOk}
+use Rattle.std.proofs.lemmas.List.{append-nil, length-replicate}
+use Rattle.script_io.specs.Lines.{lines_of}
+use Rattle.caller_plans.specs.declared.draft.Draft.{Draft}
+use Rattle.caller_plans.specs.declared.fate.LineFault.{LineFault}
+use Rattle.caller_plans.specs.Plans.{AllSay, faults_from}
+use Rattle.caller_plans.specs.Drafts.{empty_draft, are_within, all_drafted, all_faults}
+use Rattle.caller_plans.proofs.Drafting.{first_within, first_drafted}
+use Rattle.caller_plans.proofs.script.read_script.Goals as goal
+
+pub loop-line-init : goal.loop-line-init
+loop-line-init c =
+    let drafts = c.in_ok-reading.ensures.drafts in
+    record {
+      reads = λ rest says. (
+        rest,
+        says,
+        ap (λ (fs : List LineFault). all_faults 1 (record { faults = fs; drafts = c.in_ok-reading.reading.drafts }) rest) c.in_ok-reading.ensures.faults
+            ∙ ap (λ (w : ℕ → Bool). faults_from 1 w rest) (ap are_within drafts ∙ first_within c.args.callers),
+        ap (λ (ds : List Draft). all_drafted 0 ds rest) drafts ∙ first_drafted 0 c.args.callers rest,
+      );
+      count = ap length drafts ∙ length-replicate c.args.callers empty_draft;
+      number = omega arith;
+    }
+
+pub loop-line-preserved : goal.loop-line-preserved
+loop-line-preserved c =
+    let takes = c.in_ok-take.ensures in
+    record {
+      reads = λ rest says.
+          let all = c.loop-line.invariant.reads (c.read_line.result ∷ rest) (subst (λ (lines : List (List ℕ)). AllSay c.args.callers lines (c.read_line.result ∷ rest)) (sym c.in-Some.ensures.0) (c.read_line.ensures, says)) in (
+            all.0,
+            all.1,
+            ap (λ (n : ℕ). all_faults n c.take.new.self rest) (let next : c.loop-line.number + 1 ≡ suc c.loop-line.number = omega arith in next) ∙ (takes.faults rest ∙ all.2),
+            takes.plans rest ∙ all.3,
+          );
+      count = takes.count ∙ c.loop-line.invariant.count;
+      number = omega (arith, c.in-Some.ensures.1, c.loop-line.invariant.number);
+    }
+
+both : {T E : Type 0} {P Q R : T → Type 0} (r : Result T E) → ((x : T) → P x → Q x → R x) → IfOk r P → IfOk r Q → IfOk r R
+both (Ok x) makes p q = makes x p q
+both (Err e) makes p q = p
+
+pub returns : goal.returns
+returns c =
+    let reading = c.loop-line.reading in
+    let none : lines_of c.loop-line.rest.now ≡ [] = ap lines_of c.in_default.ensures in
+    let all = c.loop-line.invariant.reads [] (subst (λ (lines : List (List ℕ)). AllSay c.args.callers lines []) (sym none) tt) in
+    both c.ended.result
+    (λ script faults plans. (
+      all.0,
+      all.1,
+      faults ∙ (sym (append-nil reading.faults) ∙ all.2),
+      plans ∙ all.3,
+    ))
+    c.ended.ensures.faults c.ended.ensures.plans

@@ -1,0 +1,19 @@
+use Rattle.std.proofs.Common.{◌≡◌, ◌≤◌, ◌+◌, false, List, length}
+use Rattle.script_io.specs.Lines.{lines_of}
+use Rattle.script_text.specs.declared.line.Line.{Line}
+use Rattle.caller_plans.specs.Plans.{AllSay, faults_from, plans_from}
+use Rattle.caller_plans.specs.Drafts.{all_faults, all_drafted}
+use Rattle.caller_plans.proofs.script.read_script.Given as goal
+
+-- Whatever the lines say that are left: with what all lines say, the faults and the plans are those of what was read and of these lines.
+abbrev pub invariant-loop-line : goal.invariant-loop-line
+invariant-loop-line l = record {
+  reads : (rest : List Line) → AllSay l.callers (lines_of l.rest) rest
+      → (said : List Line) × AllSay l.callers (lines_of l.input) said
+      × (all_faults l.number l.reading rest ≡ faults_from 1 (λ caller. false) said) × (all_drafted 0 l.reading.drafts.items rest ≡ plans_from 0 l.callers said);
+  count : length l.reading.drafts.items ≡ l.callers;
+  number : l.number + length l.rest ≤ length l.input + 1;
+}
+
+abbrev pub decreases-loop-line : goal.decreases-loop-line
+decreases-loop-line l = length l.rest

@@ -1,0 +1,90 @@
+// What a caller plans, as far as its calls were read.
+ghost use Rattle.std.specs.Prelude.{◌≡◌, List, [], ◌∷◌, ◌++◌, Some, None, IfOk, OnOk, option_map, false};
+ghost use Rattle.history.specs.declared.call.Call.{Call};
+ghost use Rattle.caller_plans.specs.Plans.{is_stray, within_after};
+ghost use Rattle.caller_plans.specs.Drafts.{empty_draft, drafted, is_within, plan_ended};
+
+use crate::plan::{Asked, Plan, PlanEnd, Plans};
+use counted::NoMemory;
+use history::Call;
+use std::alloc::Global;
+
+/// A caller's plans, and the calls of the transaction that it is within.
+#[derive(Drop)]
+pub struct Draft {
+    pub plans: Plans,
+    pub begun: Option<Asked>,
+}
+
+impl Draft {
+    pub fn new(alloc: Global) -> Draft
+        ensures { result ≡ empty_draft }
+    {
+        Draft {
+            plans: Plans::new(alloc),
+            begun: None,
+        }
+    }
+
+    /// Whether the call is outside of a transaction, or a begin within one.
+    pub fn is_stray(&self, call: &Call) -> bool
+        ensures { result ≡ is_stray (is_within self.now) call.now }
+    {
+        match call {
+            Call::Begin => self.begun.is_some(),
+            _ => self.begun.is_none(),
+        }
+    }
+
+    /// Adds a call that is not stray.
+    pub fn add(&mut self, alloc: Global, call: &Call) -> Result<(), NoMemory>
+        requires { is_stray (is_within self.old) call.now ≡ false }
+        ensures planned { OnOk result ((calls : List Call) → drafted self.new calls ≡ drafted self.old (call.now ∷ calls)) }
+        ensures within { OnOk result (is_within self.new ≡ within_after (is_within self.old) call.now) }
+    {
+        match call {
+            Call::Begin => self.begin(alloc),
+            Call::Commit => self.end(PlanEnd::Commit),
+            Call::Abort => self.end(PlanEnd::Abort),
+            _ => self.ask(call),
+        }
+    }
+
+    fn begin(&mut self, alloc: Global) -> Result<(), NoMemory>
+        ensures plans { self.new.plans ≡ self.old.plans }
+        ensures begun { self.new.begun ≡ Some [] }
+    {
+        self.begun = Some(Asked::new(alloc));
+        Ok(())
+    }
+
+    fn ask(&mut self, call: &Call) -> Result<(), NoMemory>
+        ensures plans { self.new.plans ≡ self.old.plans }
+        ensures begun { OnOk result (self.new.begun ≡ option_map (λ made. made ++ call.now ∷ []) self.old.begun) }
+    {
+        if let Some(calls) = &mut self.begun {
+            calls.push(*call)?;
+        }
+        Ok(())
+    }
+
+    fn end(&mut self, end: PlanEnd) -> Result<(), NoMemory>
+        ensures plans { OnOk result (self.new.plans ≡ self.old.plans ++ plan_ended self.old.begun end) }
+        ensures begun { self.new.begun ≡ None }
+    {
+        if let Some(calls) = self.begun.take() {
+            if self.plans.push(Plan { calls, end }).is_err() {
+                return Err(NoMemory);
+            }
+        }
+        Ok(())
+    }
+
+    /// The plans of the caller, where it makes no more calls.
+    pub fn ended(mut self) -> Result<Plans, NoMemory>
+        ensures { IfOk result (λ plans. plans ≡ drafted self []) }
+    {
+        self.end(PlanEnd::Unended)?;
+        Ok(self.plans)
+    }
+}

@@ -1,0 +1,52 @@
+// What became of a caller's plans that are not in the history.
+ghost use Rattle.std.specs.Prelude.{◌≡◌, ◌++◌, OnOk};
+ghost use Rattle.caller_plans.specs.declared.fate.Fate.TheVariants.{Aborted, Refused};
+ghost use Rattle.history_text.specs.Text.{fate_line, fate_lines};
+
+use crate::number::write_number;
+use caller_plans::Fate;
+use counted::NoMemory;
+use history::Reply;
+use script_text::write_reply_text;
+
+/// Appends a line for each of the caller's plans that was aborted or refused. At `Err` some of them may stand there.
+pub fn write_fates(text: &mut Vec<u8>, caller: u8, fates: &[Fate]) -> Result<(), NoMemory>
+    ensures { OnOk result (text.new.items ≡ text.old.items ++ fate_lines caller 1 fates.now) }
+{
+    for (i, fate) in fates.iter().enumerate() {
+        write_fate(text, caller, i as u64 + 1, fate)?;
+    }
+    Ok(())
+}
+
+fn write_fate(text: &mut Vec<u8>, caller: u8, n: u64, fate: &Fate) -> Result<(), NoMemory>
+    ensures { OnOk result (text.new.items ≡ text.old.items ++ fate_line caller n fate.now) }
+{
+    match fate {
+        Fate::Committed { .. } => Ok(()),
+        Fate::Aborted => write_aborted(text, caller, n),
+        Fate::Refused { reply } => write_refused(text, caller, n, reply),
+    }
+}
+
+fn write_aborted(text: &mut Vec<u8>, caller: u8, n: u64) -> Result<(), NoMemory>
+    ensures { OnOk result (text.new.items ≡ text.old.items ++ fate_line caller n Aborted) }
+{
+    write_number(text, u64::from(caller))?;
+    text.extend_from_slice(b" aborted ")?;
+    write_number(text, n)?;
+    text.extend_from_slice(b"\n")?;
+    Ok(())
+}
+
+fn write_refused(text: &mut Vec<u8>, caller: u8, n: u64, reply: &Reply) -> Result<(), NoMemory>
+    ensures { OnOk result (text.new.items ≡ text.old.items ++ fate_line caller n (Refused reply.now)) }
+{
+    write_number(text, u64::from(caller))?;
+    text.extend_from_slice(b" refused ")?;
+    write_number(text, n)?;
+    text.extend_from_slice(b" ")?;
+    write_reply_text(text, reply)?;
+    text.extend_from_slice(b"\n")?;
+    Ok(())
+}

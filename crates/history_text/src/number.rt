@@ -1,0 +1,13 @@
+ghost use Rattle.std.specs.Prelude.{◌≡◌, ◌++◌, decimal, OnOk};
+
+use counted::NoMemory;
+use itoa::Buffer;
+
+/// Appends a number.
+pub fn write_number(text: &mut Vec<u8>, n: u64) -> Result<(), NoMemory>
+    ensures { OnOk result (text.new.items ≡ text.old.items ++ decimal n) }
+{
+    let mut buffer = Buffer::new();
+    text.extend_from_slice(buffer.format(n).as_bytes())?;
+    Ok(())
+}
