@@ -1,5 +1,5 @@
 -- Callers' work beside each other over the records of a store, from what a core makes of it.
-use Rattle.std.proofs.Common.{◌≡◌, ℕ, zero, suc, ◌≤◌, List, [], ◌∷◌, ◌++◌, Some, None, length, Bool, false, Result, Ok, Err, refl, sym, ap, subst, ◌∙◌, arith}
+use Rattle.std.proofs.Common.{◌≡◌, ℕ, zero, suc, ◌≤◌, List, [], ◌∷◌, ◌++◌, Option, Some, None, length, Bool, false, Result, Ok, Err, refl, sym, ap, subst, ◌∙◌, arith}
 use Rattle.std.specs.Prelude.{IsTrue, All}
 use Rattle.std.specs.FinMap.{entries}
 use Rattle.std.specs.List.{flat_map}
@@ -77,33 +77,36 @@ module _ where
   plan_more : (plan : Plan) (plans : List Plan) → IsPlainPlan plan → All IsPlainPlan plans → All IsPlainPlan (plan ∷ plans)
   plan_more plan plans plain all = All-append IsPlainPlan (plan ∷ []) plans (All-from_recursion IsPlainPlan (plan ∷ []) (plain, tt)) all
 
-  outside_plain : (calls : List Call) → All IsPlainPlan (planned None calls)
-  inside_plain : (made : List Call) → All IsPlainCall made → (calls : List Call) → All IsPlainPlan (planned (Some made) calls)
-  outside_plain [] = All-nil IsPlainPlan
-  outside_plain (call.Begin ∷ calls) = inside_plain [] (All-nil IsPlainCall) calls
-  outside_plain (call.Get key ∷ calls) = outside_plain calls
-  outside_plain (call.Put key value ∷ calls) = outside_plain calls
-  outside_plain (call.Del key ∷ calls) = outside_plain calls
-  outside_plain (call.Scan low high ∷ calls) = outside_plain calls
-  outside_plain (call.Save ∷ calls) = outside_plain calls
-  outside_plain (call.Back n ∷ calls) = outside_plain calls
-  outside_plain (call.Commit ∷ calls) = outside_plain calls
-  outside_plain (call.Abort ∷ calls) = outside_plain calls
-  inside_plain made all [] = plan_more (plan_of made end.Unended) [] all (All-nil IsPlainPlan)
-  inside_plain made all (call.Begin ∷ calls) = inside_plain made all calls
-  inside_plain made all (call.Commit ∷ calls) = plan_more (plan_of made end.Commit) (planned None calls) all (outside_plain calls)
-  inside_plain made all (call.Abort ∷ calls) = plan_more (plan_of made end.Abort) (planned None calls) all (outside_plain calls)
-  inside_plain made all (call.Get key ∷ calls) = inside_plain (made ++ call.Get key ∷ []) (one_plain made (call.Get key) refl all) calls
-  inside_plain made all (call.Put key value ∷ calls) = inside_plain (made ++ call.Put key value ∷ []) (one_plain made (call.Put key value) refl all) calls
-  inside_plain made all (call.Del key ∷ calls) = inside_plain (made ++ call.Del key ∷ []) (one_plain made (call.Del key) refl all) calls
-  inside_plain made all (call.Scan low high ∷ calls) = inside_plain (made ++ call.Scan low high ∷ []) (one_plain made (call.Scan low high) refl all) calls
-  inside_plain made all (call.Save ∷ calls) = inside_plain (made ++ call.Save ∷ []) (one_plain made call.Save refl all) calls
-  inside_plain made all (call.Back n ∷ calls) = inside_plain (made ++ call.Back n ∷ []) (one_plain made (call.Back n) refl all) calls
+  abbrev IsPlainDraft : Option (List Call) → Type 0
+  IsPlainDraft None = Unit {0}
+  IsPlainDraft (Some made) = All IsPlainCall made
+
+  planned_plain : (draft : Option (List Call)) → IsPlainDraft draft → (calls : List Call) → All IsPlainPlan (planned draft calls)
+  planned_plain None all [] = All-nil IsPlainPlan
+  planned_plain None all (call.Begin ∷ calls) = planned_plain (Some []) (All-nil IsPlainCall) calls
+  planned_plain None all (call.Get key ∷ calls) = planned_plain None all calls
+  planned_plain None all (call.Put key value ∷ calls) = planned_plain None all calls
+  planned_plain None all (call.Del key ∷ calls) = planned_plain None all calls
+  planned_plain None all (call.Scan low high ∷ calls) = planned_plain None all calls
+  planned_plain None all (call.Save ∷ calls) = planned_plain None all calls
+  planned_plain None all (call.Back n ∷ calls) = planned_plain None all calls
+  planned_plain None all (call.Commit ∷ calls) = planned_plain None all calls
+  planned_plain None all (call.Abort ∷ calls) = planned_plain None all calls
+  planned_plain (Some made) all [] = plan_more (plan_of made end.Unended) [] all (All-nil IsPlainPlan)
+  planned_plain (Some made) all (call.Begin ∷ calls) = planned_plain (Some made) all calls
+  planned_plain (Some made) all (call.Commit ∷ calls) = plan_more (plan_of made end.Commit) (planned None calls) all (planned_plain None tt calls)
+  planned_plain (Some made) all (call.Abort ∷ calls) = plan_more (plan_of made end.Abort) (planned None calls) all (planned_plain None tt calls)
+  planned_plain (Some made) all (call.Get key ∷ calls) = planned_plain (Some (made ++ call.Get key ∷ [])) (one_plain made (call.Get key) refl all) calls
+  planned_plain (Some made) all (call.Put key value ∷ calls) = planned_plain (Some (made ++ call.Put key value ∷ [])) (one_plain made (call.Put key value) refl all) calls
+  planned_plain (Some made) all (call.Del key ∷ calls) = planned_plain (Some (made ++ call.Del key ∷ [])) (one_plain made (call.Del key) refl all) calls
+  planned_plain (Some made) all (call.Scan low high ∷ calls) = planned_plain (Some (made ++ call.Scan low high ∷ [])) (one_plain made (call.Scan low high) refl all) calls
+  planned_plain (Some made) all (call.Save ∷ calls) = planned_plain (Some (made ++ call.Save ∷ [])) (one_plain made call.Save refl all) calls
+  planned_plain (Some made) all (call.Back n ∷ calls) = planned_plain (Some (made ++ call.Back n ∷ [])) (one_plain made (call.Back n) refl all) calls
 
   pub all_plain : (caller n : ℕ) (said : List Line) → All ArePlain (plans_from caller n said)
   all_plain caller zero said = All-nil ArePlain
   all_plain caller (suc n) said = All-append ArePlain (planned None (calls_by caller said) ∷ []) (plans_from (suc caller) n said)
-      (All-from_recursion ArePlain (planned None (calls_by caller said) ∷ []) (outside_plain (calls_by caller said), tt)) (all_plain (suc caller) n said)
+      (All-from_recursion ArePlain (planned None (calls_by caller said) ∷ []) (planned_plain None tt (calls_by caller said), tt)) (all_plain (suc caller) n said)
 
 module _ (tells : Bool) (Opens : Shape → List ℕ → List ℕ → Type 0) (old mid : StoreView) (core : CoreView) (begins : Begins tells (Opens old.shape) chain old mid core) where
   -- the core can be shared

@@ -1,4 +1,4 @@
-use Rattle.std.proofs.Common.{◌≤◌, ◌≡◌, ℕ, [], false, length, refl, sym, subst, ap, ◌∙◌, arith}
+use Rattle.std.proofs.Common.{All, ◌≤◌, ◌≡◌, ℕ, [], false, length, refl, sym, subst, ap, ◌∙◌, arith}
 use Rattle.std.proofs.lemmas.List.{append-nil}
 use Rattle.key_list.specs.Index.{chain}
 use Rattle.mars_core.specs.Held.{core_of}
@@ -6,6 +6,7 @@ use Rattle.mars_core.specs.Over.{IsOver, limits_of}
 use Rattle.mars_manager.specs.Sharing.{CanShare}
 use Rattle.mars_shell.specs.Joint.{JointWork}
 use Rattle.mars_shell.specs.Served.{Served}
+use Rattle.caller_work.specs.Fates.{ArePlain}
 use Rattle.mars_shell.proofs.Joining.{as_many, all_plain, can_share, untold, retold, joint_work, living, unbroken}
 use Rattle.mars_shell.proofs.Serving.{served}
 use Rattle.mars_shell.proofs.joint.serve_jointly.Goals as goal
