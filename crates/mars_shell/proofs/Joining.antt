@@ -32,16 +32,12 @@ use Rattle.script_io.specs.Lines.{lines_of}
 use Rattle.script_text.specs.declared.line.Line.{Line}
 use Rattle.script_run.specs.declared.ended.Ended.{Ended}
 use Rattle.script_run.specs.declared.ended.Ended.TheVariants as ends
-use Rattle.mars_shell.specs.Joint.{TellsWork, IsBrokenOff, JointWork, JointOutcome}
+use Rattle.mars_shell.specs.Joint.{TellsWork, IsBrokenOff, JointWork}
 use Rattle.mars_shell.specs.Opening.{IsUnopened}
-use Rattle.mars_shell.specs.Outcome.{OutcomeOf}
-use Rattle.mars_shell.specs.Run.{TakesTurns, IsDamaged}
 use Rattle.mars_shell.specs.Statuses.{served_status}
 use Rattle.mars_shell.specs.declared.status.Status.{Status}
 use Rattle.mars_shell.specs.declared.status.Status.TheVariants as says
 use Rattle.mars_core.specs.declared.fault.CoreFault.{CoreFault}
-use Rattle.pcm_media.specs.View.{View}
-use Rattle.eaw_device.specs.Opens.{HoldsArray}
 use Rattle.mars_shell.specs.Served.{Untaken}
 use Rattle.mars_shell.proofs.Serving.{stands}
 

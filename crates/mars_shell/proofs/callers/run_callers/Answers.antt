@@ -1,7 +1,7 @@
 use Rattle.std.proofs.Common.{[], false, inl, refl, sym, subst, ap, arith}
 use Rattle.std.proofs.lemmas.List.{append-nil}
 use Rattle.eaw_device.specs.Opens.{HoldsArray}
-use Rattle.mars_shell.specs.Joint.{JointWork, JointOutcome, Exceeds}
+use Rattle.mars_shell.specs.Joint.{JointWork, JointOutcome}
 use Rattle.mars_shell.specs.Run.{TakesTurns, IsDamaged}
 use Rattle.mars_shell.specs.declared.status.Status.{Status}
 use Rattle.mars_shell.proofs.Joining.{never_usage, not_usage}

@@ -1,13 +1,14 @@
 use Rattle.std.proofs.Common.{[], inl, refl, arith}
 use Rattle.std.specs.Prelude.{map, string_bytes}
-use Rattle.command_words.specs.declared.words.Words.TheVariants.{Run, Eaw, Dump, Drill, Format}
+use Rattle.command_words.specs.declared.words.Words.TheVariants.{Run, Callers, Eaw, Dump, Drill, Format}
 use Rattle.eaw_device.specs.Opens.{HoldsArray}
 use Rattle.mars_shell.specs.Commands.{Obeys}
 use Rattle.mars_shell.specs.Drill.{Drills}
 use Rattle.mars_shell.specs.Dump.{Dumps}
 use Rattle.mars_shell.proofs.FormatLemmas.{no_usage}
+use Rattle.mars_shell.specs.Joint.{JointWork}
 use Rattle.mars_shell.specs.Run.{TakesTurns, Answers, IsDamaged}
-use Rattle.mars_shell.proofs.Completing.{words_say, no_damage, no_rise, nothing_read, complete_of}
+use Rattle.mars_shell.proofs.Completing.{words_say, callers_say, no_excess, no_damage, no_rise, nothing_read, complete_of}
 use Rattle.mars_shell.proofs.whole.run.Goals as goal
 
 pub returns-in-Err-NoCommand-clause-words : goal.returns-in-Err-NoCommand-clause-words
@@ -95,3 +96,36 @@ returns-in-Ok-Drill-clause-ran g c =
     let given = g.S.Source.left c.args.source.now in
     words_say (map string_bytes c.args.words.now) c.run_drill.result.0 _ _ (Drill c.in-Ok-Drill.numbers) c.run_drill.ensures.no_usage (rw c.in-Ok-Drill.field-0-is at c.in-Ok-Drill.ensures.asked)
     (record { cut = ran.cut; text = ran.text; wrote = ran.wrote; counts = ran.counts; holds = (given, (λ _. refl), ran.holds given) })
+
+pub returns-in-Ok-Run-clause-usage : goal.returns-in-Ok-Run-clause-usage
+returns-in-Ok-Run-clause-usage g c = λ nothing. absurd (nothing Run (rw c.in-Ok-Run.field-0-is at c.in-Ok-Run.ensures.asked))
+
+pub returns-in-Ok-Callers-clause-usage : goal.returns-in-Ok-Callers-clause-usage
+returns-in-Ok-Callers-clause-usage g c = λ nothing. absurd (nothing (Callers c.in-Ok-Callers.numbers) (rw c.in-Ok-Callers.field-0-is at c.in-Ok-Callers.ensures.asked))
+
+pub returns-in-Ok-Eaw-clause-usage : goal.returns-in-Ok-Eaw-clause-usage
+returns-in-Ok-Eaw-clause-usage g c = λ nothing. absurd (nothing Eaw (rw c.in-Ok-Eaw.field-0-is at c.in-Ok-Eaw.ensures.asked))
+
+pub returns-in-Ok-Dump-clause-usage : goal.returns-in-Ok-Dump-clause-usage
+returns-in-Ok-Dump-clause-usage g c = λ nothing. absurd (nothing Dump (rw c.in-Ok-Dump.field-0-is at c.in-Ok-Dump.ensures.asked))
+
+pub returns-in-Ok-Drill-clause-usage : goal.returns-in-Ok-Drill-clause-usage
+returns-in-Ok-Drill-clause-usage g c = λ nothing. absurd (nothing (Drill c.in-Ok-Drill.numbers) (rw c.in-Ok-Drill.field-0-is at c.in-Ok-Drill.ensures.asked))
+
+pub returns-in-Ok-Format-clause-usage : goal.returns-in-Ok-Format-clause-usage
+returns-in-Ok-Format-clause-usage g c = λ nothing. absurd (nothing (Format c.in-Ok-Format.numbers) (rw c.in-Ok-Format.field-0-is at c.in-Ok-Format.ensures.asked))
+
+pub returns-in-Ok-Callers-clause-complete : goal.returns-in-Ok-Callers-clause-complete
+returns-in-Ok-Callers-clause-complete g c =
+    let old = g.M.Media.view c.args.media in
+    let new = g.M.Media.view c.run_callers.result.1 in
+    let given = g.S.Source.left c.args.source.now in
+    let numbers = c.in-Ok-Callers.numbers in
+    let said = c.run_callers.ensures in
+    callers_say (map string_bytes c.args.words.now) c.run_callers.result.0 (Unit {0}) _ numbers (rw c.in-Ok-Callers.field-0-is at c.in-Ok-Callers.ensures.asked)
+    (λ fit no_source no_sink no_media.
+    let input = said.ran.holds.0 in
+    let outcome = said.ran.holds.2 fit.1 in
+    complete_of (λ ended. TakesTurns (JointWork numbers.callers input ended said.ran.cut said.ran.text) old ended new) (IsDamaged old) (HoldsArray old) old new said.ran.cut said.ran.text given _ _ _ _ _ _ _
+    fit.0.1 fit.2.0 fit.2.1.array (λ page is. no_damage old fit.2.0 page fit.2.1 is) no_source no_sink no_media c.run_callers.result.0
+    (λ is. no_excess old fit.2.0 numbers.callers fit.2.1.array fit.2.2 (outcome.1 is)) said.counts (said.input fit.0.0) outcome.0)
