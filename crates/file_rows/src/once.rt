@@ -8,6 +8,8 @@ use outside::{MemorySink, MemorySource};
 use pcm_media::{FusedMedia, Media, MemoryMedia};
 use row_files::{Run, TroubleKind};
 use std::alloc::Global;
+use std::sync::Wait;
+use std::thread::Threads;
 
 // Room for most answers; past it the sink grows.
 const TEXT: u64 = 4096;
@@ -24,7 +26,7 @@ pub struct Ran {
 }
 
 /// Makes a run over a file with these bytes, whose calls are answered in this way, but that the `nth` may fail.
-pub fn run_over_file<R: AllocGlobal>(
+pub fn run_over_file<R: AllocGlobal + Threads + Wait + Sync>(
     rt: &R,
     asked: &Run,
     image: &[u8],
@@ -48,7 +50,7 @@ pub fn run_over_file<R: AllocGlobal>(
 }
 
 /// Makes the same run over a media in memory none of whose calls fails.
-pub fn run_over_memory<R: AllocGlobal>(
+pub fn run_over_memory<R: AllocGlobal + Threads + Wait + Sync>(
     rt: &R,
     asked: &Run,
     image: &[u8],
@@ -69,7 +71,7 @@ fn passes(asked: &Run, nth: u64) -> u64 {
     }
 }
 
-fn run_fused<R: AllocGlobal, M: Media + Drop>(
+fn run_fused<R: AllocGlobal + Threads + Wait + Sync, M: Media + Drop + Send>(
     rt: &R,
     asked: &Run,
     passes: u64,

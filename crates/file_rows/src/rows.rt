@@ -6,9 +6,11 @@ use crate::once::{run_over_file, run_over_memory};
 use crate::way::Way;
 use pcm_media::MemoryMedia;
 use row_files::{Row, Run, TroubleKind};
+use std::sync::Wait;
+use std::thread::Threads;
 
 /// Makes the runs of a row over files whose calls are answered in this way, up to one that does not come to what the row says.
-pub fn run_row<R: AllocGlobal>(
+pub fn run_row<R: AllocGlobal + Threads + Wait + Sync>(
     rt: &R,
     row: &Row,
     way: Way,
@@ -20,7 +22,7 @@ pub fn run_row<R: AllocGlobal>(
 
 // Makes the first of these runs over what was left, once for each choice of what is not sure and for each call that is to fail,
 // and over what each of these leaves the others.
-fn follow<R: AllocGlobal>(
+fn follow<R: AllocGlobal + Threads + Wait + Sync>(
     rt: &R,
     runs: &[Run],
     left: &MemoryMedia,
@@ -38,7 +40,7 @@ fn follow<R: AllocGlobal>(
 }
 
 // The images over which a run is made, and which of its calls is the one that fails.
-fn trials_of<R: AllocGlobal>(
+fn trials_of<R: AllocGlobal + Threads + Wait + Sync>(
     rt: &R,
     run: &Run,
     left: &MemoryMedia,
@@ -50,7 +52,7 @@ fn trials_of<R: AllocGlobal>(
     Ok(trials)
 }
 
-fn push_trials<R: AllocGlobal>(
+fn push_trials<R: AllocGlobal + Threads + Wait + Sync>(
     rt: &R,
     trials: &mut Vec<(Vec<u8>, u64)>,
     run: &Run,
@@ -64,7 +66,7 @@ fn push_trials<R: AllocGlobal>(
 }
 
 // Makes a run, compares what it came to, and gives what it left. Where no call fails, it does just what it does in memory.
-fn make_trial<R: AllocGlobal>(
+fn make_trial<R: AllocGlobal + Threads + Wait + Sync>(
     rt: &R,
     run: &Run,
     image: &[u8],

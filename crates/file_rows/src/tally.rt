@@ -6,6 +6,8 @@ use anyhow::Result;
 use row_files::{Row, read_rows};
 use std::fs;
 use std::rt::Files;
+use std::sync::Wait;
+use std::thread::Threads;
 
 /// How many rows came to what they say, how many did not, and how many runs it took.
 #[derive(Clone, Copy)]
@@ -18,7 +20,7 @@ pub struct Tally {
 /// Runs the rows of a file, and tells of each that does not come to what it says.
 pub fn run_file<R>(rt: &R, path: &str, tally: &mut Tally) -> Result<()>
 where
-    R: AllocGlobal + Files + Print,
+    R: AllocGlobal + Threads + Wait + Sync + Files + Print,
 {
     let text = fs::read_to_string(rt, path)?;
     for row in &read_rows(rt.alloc(), path, text.as_str())? {
@@ -34,7 +36,11 @@ where
 }
 
 // Runs a row in each way. A wrong row passes where it is refused for what it says.
-fn run_ways<R: AllocGlobal>(rt: &R, row: &Row, runs: &mut u64) -> Result<(), RowFault> {
+fn run_ways<R: AllocGlobal + Threads + Wait + Sync>(
+    rt: &R,
+    row: &Row,
+    runs: &mut u64,
+) -> Result<(), RowFault> {
     for way in WAYS {
         match (&row.wrong, run_row(rt, row, way, runs)) {
             (None, ended) => ended?,

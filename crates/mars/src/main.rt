@@ -61,7 +61,7 @@ fn run_in_memory(
     }
 }
 
-fn run_over<M: Media + Drop>(rt: &HostRuntime, words: &[String], media: M) -> Status {
+fn run_over<M: Media + Drop + Send>(rt: &HostRuntime, words: &[String], media: M) -> Status {
     let mut source = StdSource::new(rt.reader());
     let mut sink = StdSink::new(io::writer(rt));
     run(rt, words, &mut source, &mut sink, media, &OpenGate).0

@@ -6,6 +6,8 @@ use outside::{MemorySink, MemorySource};
 use pcm_media::{FusedMedia, MemoryMedia};
 use row_files::{Run, TroubleKind};
 use std::alloc::Global;
+use std::sync::Wait;
+use std::thread::Threads;
 
 // Room for most answers; past it the sink grows.
 const TEXT: u64 = 4096;
@@ -21,7 +23,7 @@ pub struct Ran {
 }
 
 /// Makes a run over an image. Where calls of it are to fail, the `nth` does.
-pub fn run_once<R: AllocGlobal>(
+pub fn run_once<R: AllocGlobal + Threads + Wait + Sync>(
     rt: &R,
     asked: &Run,
     image: &[u8],
@@ -77,7 +79,7 @@ fn failing_media(
     Ok(FusedMedia::new(media, passes))
 }
 
-fn run_over<R: AllocGlobal>(
+fn run_over<R: AllocGlobal + Threads + Wait + Sync>(
     rt: &R,
     words: &[String],
     source: &mut MemorySource,

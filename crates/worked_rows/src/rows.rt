@@ -7,6 +7,8 @@ use crate::plain::{compare_plain, has_twin};
 use pcm_media::MemoryMedia;
 use row_files::{Row, Run};
 use std::alloc::Global;
+use std::sync::Wait;
+use std::thread::Threads;
 
 /// One way to make a run: what stands where nothing is sure, and which of its calls is the one that fails.
 #[derive(Clone, Copy)]
@@ -38,13 +40,17 @@ impl Progress {
 }
 
 /// Makes the runs of a row in all its trials, up to one that does not come to what the row says.
-pub fn run_row<R: AllocGlobal>(rt: &R, row: &Row, progress: &mut Progress) -> Result<(), RowFault> {
+pub fn run_row<R: AllocGlobal + Threads + Wait + Sync>(
+    rt: &R,
+    row: &Row,
+    progress: &mut Progress,
+) -> Result<(), RowFault> {
     let media = first_media(rt.alloc(), row.image)?;
     follow(rt, &row.runs, &media, progress)
 }
 
 // Makes the first of these runs over what was left, and over what each of its trials leaves the others.
-fn follow<R: AllocGlobal>(
+fn follow<R: AllocGlobal + Threads + Wait + Sync>(
     rt: &R,
     runs: &[Run],
     left: &MemoryMedia,
@@ -63,7 +69,7 @@ fn follow<R: AllocGlobal>(
 }
 
 // Makes a run in one of its trials, compares what it came to, and gives what it left.
-fn make_trial<R: AllocGlobal>(
+fn make_trial<R: AllocGlobal + Threads + Wait + Sync>(
     rt: &R,
     run: &Run,
     left: &MemoryMedia,

@@ -5,6 +5,8 @@ use anyhow::Result;
 use row_files::{Row, read_rows};
 use std::fs;
 use std::rt::Files;
+use std::sync::Wait;
+use std::thread::Threads;
 
 /// How many rows came to what they say, how many did not, and how many runs it took.
 #[derive(Clone, Copy)]
@@ -19,7 +21,7 @@ pub struct Tally {
 /// Runs the rows of each file of a folder whose name ends in `.rows`, in the order of the names.
 pub fn run_folder<R>(rt: &R, folder: &str) -> Result<Tally>
 where
-    R: AllocGlobal + Files + Print + Clone + Drop,
+    R: AllocGlobal + Threads + Wait + Sync + Files + Print + Clone + Drop,
 {
     let mut tally = Tally {
         passed: 0,
@@ -35,7 +37,7 @@ where
 
 fn paths_in<R>(rt: &R, folder: &str) -> Result<Vec<String>>
 where
-    R: AllocGlobal + Files + Clone + Drop,
+    R: AllocGlobal + Threads + Wait + Sync + Files + Clone + Drop,
 {
     let mut paths = Vec::new(rt.alloc());
     for entry in fs::read_dir(rt, folder)? {
@@ -54,7 +56,7 @@ where
 
 fn run_file<R>(rt: &R, path: &str, tally: &mut Tally) -> Result<()>
 where
-    R: AllocGlobal + Files + Print,
+    R: AllocGlobal + Threads + Wait + Sync + Files + Print,
 {
     for row in &rows_in(rt, path)? {
         let mut progress = Progress::new(rt.alloc());
@@ -73,7 +75,7 @@ where
 
 fn rows_in<R>(rt: &R, path: &str) -> Result<Vec<Row>>
 where
-    R: AllocGlobal + Files,
+    R: AllocGlobal + Threads + Wait + Sync + Files,
 {
     let text = fs::read_to_string(rt, path)?;
     Ok(read_rows(rt.alloc(), path, text.as_str())?)
