@@ -13,8 +13,12 @@ use mars_shell::{OpenGate, Status, run};
 use media_file::FileMedia;
 use outside::{StdSink, StdSource};
 use pcm_media::{Media, MemoryMedia};
-use std::io::ErrorKind;
+use std::fs::File;
+use std::io::{ErrorKind, Input};
 use std::process::ExitCode;
+use std::rt::{Env, Files};
+use std::sync::Wait;
+use std::thread::Threads;
 use std::{env, io};
 
 fn main(rt: HostRuntime) -> ExitCode {
@@ -24,7 +28,10 @@ fn main(rt: HostRuntime) -> ExitCode {
 }
 
 // The words are looked at before an image is.
-fn whole(rt: &HostRuntime) -> Status {
+fn whole<R>(rt: &R) -> Status
+where
+    R: AllocGlobal + Env + Files<File = File> + Input + Print + Threads + Wait + Sync,
+{
     let args = match env::args(rt) {
         Ok(args) => args,
         Err(error) if error.kind() == ErrorKind::OutOfMemory => return Status::NoMemory,
@@ -41,7 +48,10 @@ fn whole(rt: &HostRuntime) -> Status {
 }
 
 // A run over a file. One that is not there, and is not to be made, is an image of no bytes.
-fn run_on_file(rt: &HostRuntime, words: &[String], path: &str, least: u64) -> Status {
+fn run_on_file<R>(rt: &R, words: &[String], path: &str, least: u64) -> Status
+where
+    R: AllocGlobal + Files<File = File> + Input + Print + Threads + Wait + Sync,
+{
     match FileMedia::attach(rt, path, least) {
         Ok(Some(media)) => run_over(rt, words, media),
         Ok(None) => run_in_memory(rt, words, no_image(rt.alloc())),
@@ -50,18 +60,20 @@ fn run_on_file(rt: &HostRuntime, words: &[String], path: &str, least: u64) -> St
 }
 
 // A run over an image that nobody keeps.
-fn run_in_memory(
-    rt: &HostRuntime,
-    words: &[String],
-    image: Result<MemoryMedia, NoMemory>,
-) -> Status {
+fn run_in_memory<R>(rt: &R, words: &[String], image: Result<MemoryMedia, NoMemory>) -> Status
+where
+    R: AllocGlobal + Input + Print + Threads + Wait + Sync,
+{
     match image {
         Ok(media) => run_over(rt, words, media),
         Err(_) => Status::NoMemory,
     }
 }
 
-fn run_over<M: Media + Drop + Send>(rt: &HostRuntime, words: &[String], media: M) -> Status {
+fn run_over<R, M: Media + Drop + Send>(rt: &R, words: &[String], media: M) -> Status
+where
+    R: AllocGlobal + Input + Print + Threads + Wait + Sync,
+{
     let mut source = StdSource::new(rt.reader());
     let mut sink = StdSink::new(io::writer(rt));
     run(rt, words, &mut source, &mut sink, media, &OpenGate).0
