@@ -41,9 +41,9 @@ pub record HasAll (bytes : List ℕ) (state : State) : Type 0 where
   pub table : table_of chain bytes ≡ records state.base state.history
   pub index : state.index ≡ index_of (keys_of chain bytes)
 
--- Callers took turns over an array whose records are sound: these are the base of each state, and what they did and was told of it is said
--- of their limits, their first state and their last one. The history is legal on the base, also with the transaction in doubt, and it is
--- the one that the prefix law speaks of. At the end of all turns the data has just the records of the history.
+-- Callers took turns over an array whose records are sound. These are the base of each state. Says tells what was done and written, of the
+-- limits of the array, of the first state and of the last one. The history is legal on the base, also with the transaction in doubt, and it
+-- is the one that the prefix law speaks of. At the end of all turns the data has just the records of the history.
 pub record TakesTurns (Says : Limits → State → State → Type 0) (old : View) (ended : Ended) (new : View) : Type 0 where
   pub shape : Shape
   pub holds : HoldsRecords shape old

@@ -14,7 +14,7 @@ fn room_for(alloc: Global, words: &[&str]) -> Result<Result<u64, NoMemory>, Allo
 
 #[test]
 fn only_a_format_needs_room(rt: HostRuntime) -> Result<(), Fail> {
-    let rows: [(&[&str], u64); 11] = [
+    let rows: [(&[&str], u64); 12] = [
         (&["format"], 402_432),
         (&["format", "--loggers", "2", "--pages", "8"], 144_128),
         (&["format", "--pages=8", "--loggers=2"], 144_128),
@@ -24,6 +24,7 @@ fn only_a_format_needs_room(rt: HostRuntime) -> Result<(), Fail> {
         (&["run"], 0),
         (&["eaw"], 0),
         (&["dump"], 0),
+        (&["drill", "1", "2"], 0),
         (&["walk"], 0),
         (&[], 0),
     ];
