@@ -1,11 +1,11 @@
 -- What is heard of a call between a begin and its end.
-use Rattle.std.proofs.Common.{◌≡◌, ℕ, Bool, true, false, List, [], ◌∷◌, ◌++◌, map, Option, Some, None, Result, Ok, Err, refl, sym, ap, ◌∙◌, subst}
-use Rattle.std.specs.Prelude.{IsTrue, IsFalse, IfOk, IfErr, unwrap_or}
+use Rattle.std.proofs.Common.{◌≡◌, Bool, true, false, List, [], ◌∷◌, ◌++◌, Option, Some, Result, Ok, Err, refl, sym, ap, ◌∙◌, subst}
+use Rattle.std.specs.Prelude.{IsFalse, IfOk, IfErr, unwrap_or}
 use Rattle.std.proofs.lemmas.Bool.{true≢false}
 use Rattle.std.proofs.lemmas.List.{map-append}
 use Rattle.history.specs.Table.{Granted}
 use Rattle.history.specs.declared.call.Call.{Call}
-use Rattle.history.specs.declared.call.Call.TheVariants.{Begin, Get, Put, Del, Scan, Save, Back, Commit, Abort}
+use Rattle.history.specs.declared.call.Call.TheVariants.{Begin, Commit, Abort}
 use Rattle.history.specs.declared.call.Reply.{Reply}
 use Rattle.history.specs.declared.call.Reply.TheVariants as says
 use Rattle.core_face.specs.Room.{Limits}
@@ -16,12 +16,11 @@ use Rattle.mars_manager.specs.declared.view.Known.{Known}
 use Rattle.mars_manager.specs.declared.setup.Setup.{Setup}
 use Rattle.mars_manager.specs.Notes.{is_noted}
 use Rattle.mars_manager.specs.Sharing.{MarsView, Called}
-use Rattle.caller_work.specs.declared.stop.Stop.{Stop}
 use Rattle.caller_work.specs.declared.stop.Heard.{Heard}
 use Rattle.caller_work.specs.declared.stop.Heard.TheVariants as heard
 use Rattle.caller_work.specs.Fates.{is_of_table, MayRefuse}
 use Rattle.caller_work.specs.Standing.{heard_of, fault_of, is_busy_stop, limits_of, HasMet, IsLive, IsHeard}
-use Rattle.caller_work.proofs.Refusals.{asked_of, refused_same, may_refuse}
+use Rattle.caller_work.proofs.Refusals.{refused_same, may_refuse}
 use Rattle.caller_work.proofs.Steps.{live_done, met_now}
 
 pub if_ok : {X E : Type 0} (r : Result X E) (P : X → Type 0) → ((x : X) → r ≡ Ok x → P x) → IfOk r P

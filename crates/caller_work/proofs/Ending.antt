@@ -1,7 +1,6 @@
 -- How the ends of workers come together.
-use Rattle.std.proofs.Common.{◌≡◌, ◌⊎◌, ℕ, zero, suc, ◌≤◌, ◌+◌, ◌-◌, ◌<◌, inl, inr, ⊎_elim, Bool, true, false, List, [], ◌∷◌, ◌++◌, get_or, length, Option, Some, None, arith, refl, sym, ap, ◌∙◌, subst}
-use Rattle.std.specs.Prelude.{IsTrue, IsFalse, Contains}
-use Rattle.std.specs.Vec.{vec_capacity}
+use Rattle.std.proofs.Common.{◌≡◌, ◌⊎◌, ℕ, zero, suc, inl, inr, ⊎_elim, Bool, true, List, [], ◌∷◌, ◌++◌, length, Option, Some, None, arith, refl, sym, ap, ◌∙◌, subst}
+use Rattle.std.specs.Prelude.{IsTrue, Contains}
 use Rattle.std.proofs.lemmas.Bool.{true≢false}
 use Rattle.std.proofs.lemmas.List.Elements.{Contains-append_left, Contains-push, Contains-append_cases}
 use Rattle.core_face.specs.Core.{CoreView}
@@ -15,7 +14,7 @@ use Rattle.caller_work.specs.declared.stop.Stop.TheVariants as stop
 use Rattle.caller_work.specs.declared.worker.Worker.{Worker}
 use Rattle.caller_work.specs.declared.end.WorkEnd.{WorkEnd}
 use Rattle.caller_work.specs.declared.end.WorkEnd.TheVariants as work
-use Rattle.caller_work.specs.Standing.{is_failed, Stands, IsIdle, IsReady, HasWorked}
+use Rattle.caller_work.specs.Standing.{is_failed, IsIdle, IsReady, HasWorked}
 use Rattle.caller_work.specs.Fates.{ArePlain}
 use Rattle.caller_work.specs.Worked.{is_fault}
 use Rattle.caller_work.specs.Crew.{end_of, worse, Bears, IsCaused, HasFailed, HasMetFault, IsDone, IsLeft}

@@ -1,7 +1,6 @@
 -- Workers before their work.
-use Rattle.std.proofs.Common.{◌≡◌, ℕ, zero, suc, ◌+◌, ◌-◌, ◌<◌, ◌≤◌, List, [], ◌∷◌, ◌++◌, get_or, length, map, length-append, Option, Some, None, Bool, false, take, arith, refl, sym, ap, ◌∙◌, subst}
-use Rattle.std.specs.Prelude.{IsSome, IfSome, IfNone, IsTrue}
-use Rattle.std.specs.Vec.{vec_capacity}
+use Rattle.std.proofs.Common.{◌≡◌, ℕ, zero, suc, ◌+◌, List, [], ◌∷◌, ◌++◌, length, length-append, Option, Some, None, Bool, false, arith, refl, sym, ap, ◌∙◌, subst}
+use Rattle.std.specs.Prelude.{IsSome, IfNone}
 use Rattle.std.proofs.lemmas.Bool.{true≢false}
 use Rattle.core_face.specs.Core.{CoreView}
 use Rattle.core_face.specs.Room.{Limits}
@@ -12,7 +11,7 @@ use Rattle.caller_plans.specs.declared.plan.Plan.{Plan}
 use Rattle.caller_plans.specs.declared.fate.Fate.{Fate}
 use Rattle.caller_work.specs.declared.worker.Worker.{Worker}
 use Rattle.caller_work.specs.Fates.{ArePlain}
-use Rattle.caller_work.specs.Standing.{limits_of, IsOf, Stands, IsReady}
+use Rattle.caller_work.specs.Standing.{limits_of, Stands, IsReady}
 use Rattle.caller_work.specs.Crew.{IsHired}
 use Rattle.caller_work.proofs.Lists.{same_ends}
 
@@ -35,11 +34,11 @@ module _ {C : Type 0} where
   fresh : (tells : Bool) (limits : Limits) (plans : List Plan) (fates : List Fate) (setup : Setup C) (caller : ℕ) → fates ≡ [] → Stands tells limits plans fates false (newcomer setup caller)
   fresh tells limits plans fates setup caller none =
       subst (λ (l : List Fate). Stands tells limits plans l false (newcomer setup caller)) (sym none) (record {
-      fated = λ told. tt;
-      asked = λ key e. absurd (true≢false (sym e));
-      failed_is = refl;
-      doubt = λ told done e. absurd (cc);
-    })
+        fated = λ told. tt;
+        asked = λ key e. absurd (true≢false (sym e));
+        failed_is = refl;
+        doubt = λ told done e. absurd (cc);
+      })
 
   -- a worker that has done nothing yet can begin
   pub ready : (tells : Bool) (show : C → CoreView) (mars : MarsView C) (caller : ℕ) (plans : List Plan) (worker : Worker C) → ArePlain plans → IsHired mars caller plans worker → IsReady tells show mars worker

@@ -1,5 +1,5 @@
 -- The workers of all callers, from their jobs to the end of their work.
-use Rattle.std.proofs.Common.{◌≡◌, ℕ, ◌+◌, ◌-◌, ◌<◌, ◌≤◌, All, List, [], ◌∷◌, map, get_or, length, arith, refl, sym, ap, ◌∙◌, subst, Bool}
+use Rattle.std.proofs.Common.{◌≡◌, ℕ, ◌+◌, ◌-◌, ◌<◌, All, List, [], ◌∷◌, map, get_or, length, arith, refl, sym, ap, ◌∙◌, subst, Bool}
 use Rattle.std.proofs.lemmas.List.{get_or-map}
 use Rattle.core_face.specs.Core.{CoreView}
 use Rattle.mars_manager.specs.Pass.{PassView}

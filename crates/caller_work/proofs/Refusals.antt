@@ -1,11 +1,11 @@
 -- Why a call is refused, from the step that refuses it.
-use Rattle.std.proofs.Common.{◌≡◌, ℕ, zero, suc, ◌+◌, ◌-◌, ◌<◌, ◌≤◌, inl, inr, Bool, true, false, ◌&&◌, List, [], ◌∷◌, ◌++◌, length, map, filter, take, drop, cond, Option, Some, None, Result, Ok, Err, refl, sym, ap, ◌∙◌, subst, arith, length-append, length-take, length-drop}
-use Rattle.std.specs.Prelude.{nat_lt, nat_le, IsTrue, IsFalse, unwrap_or, slice_index_or, if◌then◌else◌, not}
+use Rattle.std.proofs.Common.{◌≡◌, ℕ, zero, suc, ◌+◌, ◌-◌, ◌≤◌, inl, inr, Bool, true, false, ◌&&◌, List, [], ◌∷◌, ◌++◌, length, map, filter, take, drop, Option, Some, None, Ok, Err, refl, sym, ap, ◌∙◌, subst, arith, length-append, length-take, length-drop}
+use Rattle.std.specs.Prelude.{nat_lt, nat_le, unwrap_or, slice_index_or, if◌then◌else◌, not}
 use Rattle.std.specs.List.{fold, list_any}
 use Rattle.std.specs.FinMap.{get, empty}
 use Rattle.std.proofs.lemmas.Bool.{true≢false}
 use Rattle.history.specs.Table.{Granted, Work, begun, after, worked, Answers, found, removed, has_save}
-use Rattle.history.specs.Writes.{Write, replaced, with_write, is_of, Table}
+use Rattle.history.specs.Writes.{Write, replaced, with_write, is_of}
 use Rattle.history.specs.Log.{Log, log_of, log_after, save_at, floor_of, written}
 use Rattle.history.specs.declared.call.Call.{Call}
 use Rattle.history.specs.declared.call.Call.TheVariants.{Begin, Get, Put, Del, Scan, Save, Back, Commit, Abort}
@@ -16,7 +16,6 @@ use Rattle.core_face.specs.Room.{Limits, LacksAt, Lacks, IsFull, held_on, is_wri
 use Rattle.core_face.specs.Step.{most_saves, Asks, StepAt, StepIf, Step}
 use Rattle.caller_work.specs.declared.stop.Stop.{Stop}
 use Rattle.caller_work.specs.declared.stop.Stop.TheVariants as stop
-use Rattle.caller_work.specs.declared.stop.Heard.{Heard}
 use Rattle.caller_work.specs.declared.stop.Heard.TheVariants as heard
 use Rattle.caller_work.specs.Fates.{is_of_table, saves_after, is_write, LacksRoom, MayRefuse}
 use Rattle.caller_work.specs.Standing.{heard_of}

@@ -1,9 +1,7 @@
 -- What a call of a pass does to what its worker knows.
 use Rattle.std.proofs.Common.{◌≡◌, ◌⊎◌, ℕ, ◌+◌, inl, inr, ⊎_elim, arith, Bool, true, false, ◌||◌, List, [], ◌∷◌, ◌++◌, length, map, Option, Some, None, refl, sym, ap, ◌∙◌, subst, eq-eqb, eqb-true}
-use Rattle.std.specs.Prelude.{nat_eq, IsTrue, IsFalse, MatchBool, Contains, unwrap_or, if◌then◌else◌, not, ◌&&◌}
+use Rattle.std.specs.Prelude.{IsTrue, MatchBool, Contains, unwrap_or, if◌then◌else◌, not, ◌&&◌}
 use Rattle.std.specs.List.{list_any}
-use Rattle.std.specs.Map.{update}
-use Rattle.std.proofs.lemmas.Map.{update_here}
 use Rattle.std.proofs.lemmas.Bool.{true≢false}
 use Rattle.std.proofs.lemmas.List.Folds.{list_any-append}
 use Rattle.std.proofs.lemmas.List.Elements.{Contains-append_left, Contains-append_right}
@@ -14,24 +12,21 @@ use Rattle.history.specs.declared.call.Call.TheVariants.{Begin, Get, Put, Del, S
 use Rattle.history.specs.declared.call.Reply.{Reply}
 use Rattle.history.specs.declared.call.Reply.TheVariants as says
 use Rattle.history.specs.declared.transaction.Done.{Done}
-use Rattle.core_face.specs.State.{State, calls_of, done_by}
+use Rattle.core_face.specs.State.{State}
 use Rattle.core_face.specs.Room.{Limits}
-use Rattle.core_face.specs.Step.{Step}
 use Rattle.core_face.specs.Fate.{is_media, is_refusal, is_committed, live_with}
 use Rattle.core_face.specs.Core.{CoreView}
 use Rattle.core_face.proofs.Fates.{Fate as Moved, step_fate}
 use Rattle.core_face.proofs.Fates.Fate.{refused, failed, began, granted, committed, doubted, aborted}
 use Rattle.mars_manager.specs.declared.view.Known.{Known}
-use Rattle.mars_manager.specs.declared.setup.Setup.{Setup}
 use Rattle.mars_manager.specs.Notes.{is_begin, is_noted, hits_of, is_put, has_media, doubt_of}
 use Rattle.mars_manager.specs.Pass.{PassView}
-use Rattle.mars_manager.specs.Sharing.{MarsView, Called, Commits, HasCommitted, done_of}
+use Rattle.mars_manager.specs.Sharing.{Called, Commits, HasCommitted, done_of}
 use Rattle.caller_plans.specs.declared.plan.Plan.{Plan}
 use Rattle.caller_plans.specs.declared.plan.PlanEnd.{PlanEnd}
 use Rattle.caller_plans.specs.declared.plan.PlanEnd.TheVariants as end
 use Rattle.caller_plans.specs.declared.fate.Fate.{Fate}
 use Rattle.caller_plans.specs.declared.fate.Fate.TheVariants as fate
-use Rattle.caller_work.specs.declared.stop.Stop.{Stop}
 use Rattle.caller_work.specs.Fates.{AreFated, IsUndecided, IsDoneAs, Fated}
 use Rattle.caller_work.specs.Standing.{HasMet, IsPutIn, IsNext, IsSame, Stands, IsLive}
 use Rattle.caller_work.proofs.Fating.{fated_weaker, fated_next, fated_same, undecided_next}
@@ -193,8 +188,13 @@ module _ {C : Type 0} (tells : Bool) (show : C → CoreView) (was now : Known C)
   doubt_at told (aborted c r e) = inl (doubt_same told (ap (λ (s : State). s.doubt) e))
   doubt_at told (doubted calls c r l index e) =
       let done : Done = record { caller = was.number; calls = calls; at = length (show step.old).state.history + 1 } in
-      inr (calls, c, r, sym step.live ∙ l,
-      ap (λ (k : Known C). k.doubt) step.after ∙ ap (λ (s : State). doubt_of was.number s.doubt) e ∙ ap (λ (b : Bool). if b then Some done else None) (eq-eqb was.number was.number refl))
+      inr (
+        calls,
+        c,
+        r,
+        sym step.live ∙ l,
+        ap (λ (k : Known C). k.doubt) step.after ∙ ap (λ (s : State). doubt_of was.number s.doubt) e ∙ ap (λ (b : Bool). if b then Some done else None) (eq-eqb was.number was.number refl),
+      )
 
   commits_none : (call ≡ Commit → ⊥) → Moved (show step.old).state was.number call reply (show step.new).state → is_committed reply ≡ false
   commits_none other (refused refusal sure index e) = refusal_none reply refusal

@@ -1,24 +1,22 @@
 -- What all callers' work comes to, from what each pass has come to and from the core that is given back.
-use Rattle.std.proofs.Common.{◌≡◌, ◌⊎◌, ◌||◌, ℕ, zero, suc, ◌+◌, ◌-◌, ◌<◌, ◌≤◌, eqb, inl, inr, Bool, true, false, All, List, [], ◌∷◌, ◌++◌, get_or, take, drop, length, length-append, map, Option, Some, None, arith, refl, sym, ap, ◌∙◌, subst, eq-eqb}
-use Rattle.std.specs.Prelude.{IsTrue, IsFalse, Contains, if◌then◌else◌}
+use Rattle.std.proofs.Common.{◌≡◌, ℕ, zero, suc, ◌+◌, ◌<◌, ◌≤◌, eqb, Bool, true, false, All, List, [], ◌∷◌, ◌++◌, get_or, take, drop, length, map, Some, None, arith, refl, sym, ap, ◌∙◌, subst, eq-eqb}
+use Rattle.std.specs.Prelude.{IsTrue, if◌then◌else◌}
 use Rattle.std.specs.List.{list_any}
 use mathlib.Core.Logic.{dite}
 use native.Mathlib.Decide.{dec_le}
-use Rattle.std.proofs.lemmas.Bool.{true≢false}
-use Rattle.std.proofs.lemmas.List.{get_or_default, get_or-map, append-nil, take_all}
+use Rattle.std.proofs.lemmas.List.{get_or_default, append-nil, take_all}
 use Rattle.std.proofs.lemmas.List.Elements.{All-nil, All-cons}
 use Rattle.history.specs.Table.{Granted}
 use Rattle.history.specs.declared.call.Call.{Call}
-use Rattle.history.specs.declared.call.Call.TheVariants.{Begin, Get, Put, Del, Scan, Save, Back, Commit, Abort}
+use Rattle.history.specs.declared.call.Call.TheVariants.{Put}
 use Rattle.history.specs.declared.call.Reply.{Reply}
 use Rattle.history.specs.declared.call.Reply.TheVariants.{SlotsFull, PagesFull}
 use Rattle.history.specs.declared.transaction.Done.{Done}
 use Rattle.core_face.specs.State.{State}
 use Rattle.core_face.specs.Room.{Limits}
 use Rattle.core_face.specs.Core.{CoreView}
-use Rattle.mars_manager.specs.declared.view.Known.{Known}
 use Rattle.mars_manager.specs.declared.setup.Setup.{Setup}
-use Rattle.mars_manager.specs.Notes.{Notes, AllStand, Stands as MetStands, AreAsked, Gained, doubt_of, is_put, has_media}
+use Rattle.mars_manager.specs.Notes.{Notes, AllStand, Stands as MetStands, AreAsked, doubt_of, is_put, has_media}
 use Rattle.mars_manager.specs.Pass.{PassView, Fits, AreSo, HasNoOthers, commits_of, known_of, times, newcomer}
 use Rattle.mars_manager.specs.Sharing.{MarsView, Since, AreGathered}
 use Rattle.caller_plans.specs.declared.plan.Plan.{Plan}
@@ -124,8 +122,8 @@ module _ {C : Type 0} where
         let f = fits caller within in
         let noted = gathered.noted tell in
         let stands : (call : Call) (reply : Reply) → HasMet (pass_of caller).known.hit call reply → StillLacks (limits_of show mars) (show last).state call reply = λ call reply met.
-            still (limits_of show mars) mars.setup.callers (show last).state gathered.notes caller call reply
-            (stand_at (limits_of show mars) mars.setup.callers (show last).state gathered.notes caller (gathered.notes caller).hit call reply (noted.stand caller) (subst (λ (hit : Granted). HasMet hit call reply) (hit_of caller within) met)) in
+        still (limits_of show mars) mars.setup.callers (show last).state gathered.notes caller call reply
+        (stand_at (limits_of show mars) mars.setup.callers (show last).state gathered.notes caller (gathered.notes caller).hit call reply (noted.stand caller) (subst (λ (hit : Granted). HasMet hit call reply) (hit_of caller within) met)) in
         let weak = fated_weaker (limits_of show mars) (HasMet (pass_of caller).known.hit) (StillLacks (limits_of show mars) (show last).state) (pass_of caller).known.number stands _ (of_caller told caller) (pass_of caller).known.mine (d.stands.fated tell) in
         let mine : (pass_of caller).known.mine ≡ commits_of caller (show last).state.history = f.mine ∙ ap (λ (n : ℕ). commits_of n (show last).state.history) d.number in
         subst (λ (x : Limits × ℕ × List Done). AreFated x.0 (StillLacks x.0 (show last).state) x.1 (of_caller plans caller) (of_caller told caller) x.2) (λ k. (limits_are k, d.number k, mine k)) weak

@@ -1,7 +1,6 @@
 -- The workers of all callers, and what they leave.
-use Rattle.std.specs.Prelude.{ℕ, ◌≡◌, ◌+◌, ◌-◌, ◌≤◌, ◌<◌, ◌⊎◌, Bool, true, false, IsTrue, IsFalse, List, [], length, slice_index_or, Contains, Option, Some, None, vec_capacity}
+use Rattle.std.specs.Prelude.{ℕ, ◌≡◌, ◌+◌, ◌-◌, ◌≤◌, ◌<◌, ◌⊎◌, Bool, IsTrue, List, [], length, slice_index_or, Contains, Option, Some, None, vec_capacity}
 use Rattle.core_face.specs.Core.{CoreView}
-use Rattle.mars_manager.specs.declared.setup.Setup.{Setup}
 use Rattle.mars_manager.specs.Notes.{has_media}
 use Rattle.mars_manager.specs.Pass.{PassView, newcomer}
 use Rattle.mars_manager.specs.Sharing.{MarsView}

@@ -1,5 +1,5 @@
 -- What a worker knows while it makes its caller's plans.
-use Rattle.std.specs.Prelude.{ℕ, ◌≡◌, ◌≤◌, Bool, true, false, IsTrue, IsFalse, List, [], ◌∷◌, ◌++◌, map, length, Contains, Option, Some, None, Result, Ok, Err, vec_capacity}
+use Rattle.std.specs.Prelude.{ℕ, ◌≡◌, ◌≤◌, Bool, true, false, IsTrue, List, [], ◌∷◌, ◌++◌, map, length, Contains, Option, Some, None, Result, Ok, Err, vec_capacity}
 use Rattle.std.specs.List.{list_any}
 use Rattle.history.specs.Table.{Granted}
 use Rattle.history.specs.declared.call.Call.{Call}

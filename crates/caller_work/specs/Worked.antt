@@ -1,5 +1,5 @@
 -- What comes of all callers' plans over one core.
-use Rattle.std.specs.Prelude.{ℕ, ◌≡◌, ◌≤◌, ◌<◌, ◌⊎◌, Bool, true, false, IsTrue, IsFalse, List, [], length, slice_index_or, Contains, All, Option, Some, None}
+use Rattle.std.specs.Prelude.{ℕ, ◌≡◌, ◌≤◌, ◌<◌, ◌⊎◌, Bool, true, false, IsTrue, IsFalse, List, [], length, slice_index_or, Contains, All, Some, None}
 use Rattle.history.specs.declared.call.Call.{Call}
 use Rattle.history.specs.declared.call.Call.TheVariants.{Put}
 use Rattle.history.specs.declared.call.Reply.{Reply}

@@ -13,12 +13,12 @@ ghost use Rattle.caller_work.specs.Standing.{IsReady, HasWorked};
 ghost use Rattle.caller_work.specs.Crew.{IsBlank, IsHired, IsLeft, Bears, IsCaused, IsCausedBy, IsTried, AreDone};
 ghost use Rattle.caller_work.specs.Worked.{Worked};
 
+use crate::closing::finish;
 use crate::end::WorkEnd;
 use crate::fates::Fates;
-use crate::closing::finish;
 use crate::gate::Gate;
 use crate::tries::Tries;
-use crate::worker::{caller_work, Worker};
+use crate::worker::{Worker, caller_work};
 use caller_plans::{Fate, Plans};
 use core_face::Core;
 use counted::NoMemory;

@@ -1,4 +1,4 @@
-use Rattle.std.proofs.Common.{◌≡◌, ◌++◌, List, All, map, length}
+use Rattle.std.proofs.Common.{◌≡◌, ◌++◌, All, map, length}
 use Rattle.std.specs.Vec.{vec_capacity}
 use Rattle.caller_work.specs.declared.crew.Job.{Job}
 use Rattle.caller_work.specs.Crew.{IsBlank}

@@ -1,15 +1,11 @@
-use Rattle.std.proofs.Common.{◌≡◌, ◌+◌, ◌-◌, ◌<◌, ◌≤◌, ℕ, All, List, [], ◌∷◌, ◌++◌, map, get_or, take, drop, length, arith, refl, sym, ap, ◌∙◌, subst}
-use Rattle.core_face.specs.Core.{CoreView}
+use Rattle.std.proofs.Common.{◌≡◌, ◌+◌, ◌-◌, ◌<◌, ℕ, List, map, get_or, length, arith, sym, ap, ◌∙◌, subst}
 use Rattle.mars_manager.specs.declared.setup.Setup.{Setup}
 use Rattle.mars_manager.specs.Pass.{PassView, known_of, times, newcomer}
 use Rattle.mars_manager.specs.Sharing.{MarsView}
-use Rattle.caller_plans.specs.declared.plan.Plan.{Plan}
-use Rattle.caller_plans.specs.declared.fate.Fate.{Fate}
-use Rattle.caller_work.specs.declared.crew.Job.{Job}
 use Rattle.caller_work.specs.declared.worker.Worker.{Worker}
 use Rattle.caller_work.specs.Standing.{IsReady, HasWorked}
-use Rattle.caller_work.specs.Crew.{IsLeft, IsDone, AreDone}
-use Rattle.caller_work.specs.Worked.{of_caller, Worked}
+use Rattle.caller_work.specs.Crew.{IsLeft}
+use Rattle.caller_work.specs.Worked.{Worked}
 use Rattle.caller_work.proofs.Whole.{written_back, times_at, whole}
 use Rattle.caller_work.proofs.Manning.{jobs_length, ready_at, left_at, all_done}
 use Rattle.caller_work.proofs.crew.work.Goals as goal

@@ -1,10 +1,8 @@
-use Rattle.std.proofs.Common.{◌≡◌, ℕ, Bool, true, false, List, [], ◌∷◌, ◌++◌, Some, None, Ok, Err, refl, sym, ap, ◌∙◌, subst}
-use Rattle.core_face.specs.Fate.{is_media, is_refusal, is_committed, live_with}
-use Rattle.history.specs.declared.call.Call.TheVariants.{Begin, Commit, Abort}
-use Rattle.history.specs.declared.call.Reply.TheVariants as says
-use Rattle.caller_plans.specs.declared.plan.Plan.{Plan}
+use Rattle.std.proofs.Common.{Bool, sym, ap, subst}
+use Rattle.core_face.specs.Fate.{is_media}
+use Rattle.history.specs.declared.call.Call.TheVariants.{Abort}
 use Rattle.caller_work.specs.Standing.{limits_of, Stands}
-use Rattle.caller_work.proofs.Steps.{same_pass, met_on, live_done, stands_on, abort_commits, abort_puts}
+use Rattle.caller_work.proofs.Steps.{same_pass, met_on, stands_on, abort_commits, abort_puts}
 use Rattle.caller_work.proofs.transaction.abort.Goals as goal
 
 pub returns-in-Fine-clause-stands : goal.returns-in-Fine-clause-stands

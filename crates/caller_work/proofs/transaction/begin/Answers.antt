@@ -1,8 +1,6 @@
-use Rattle.std.proofs.Common.{◌≡◌, ℕ, Bool, true, false, List, [], ◌∷◌, ◌++◌, Some, None, Ok, Err, refl, sym, ap, ◌∙◌, subst}
-use Rattle.core_face.specs.Fate.{is_media, is_refusal, is_committed, live_with}
-use Rattle.history.specs.declared.call.Call.TheVariants.{Begin, Commit, Abort}
-use Rattle.history.specs.declared.call.Reply.TheVariants as says
-use Rattle.caller_plans.specs.declared.plan.Plan.{Plan}
+use Rattle.std.proofs.Common.{Bool, sym, ap, subst}
+use Rattle.core_face.specs.Fate.{is_media}
+use Rattle.history.specs.declared.call.Call.TheVariants.{Begin}
 use Rattle.caller_work.specs.Standing.{limits_of, Stands}
 use Rattle.caller_work.proofs.Steps.{same_pass, stands_on, begin_commits, begin_puts}
 use Rattle.caller_work.proofs.transaction.begin.Goals as goal

@@ -1,10 +1,7 @@
-use Rattle.std.proofs.Common.{◌≡◌, ℕ, Bool, true, false, List, [], ◌∷◌, ◌++◌, Some, None, Ok, Err, refl, sym, ap, ◌∙◌, subst}
-use Rattle.core_face.specs.Fate.{is_media, is_refusal, is_committed, live_with}
-use Rattle.history.specs.declared.call.Call.TheVariants.{Begin, Commit, Abort}
-use Rattle.history.specs.declared.call.Reply.TheVariants as says
-use Rattle.caller_plans.specs.declared.plan.Plan.{Plan}
+use Rattle.std.proofs.Common.{Bool, sym, subst}
+use Rattle.history.specs.declared.call.Call.TheVariants.{Commit}
 use Rattle.caller_work.specs.Standing.{limits_of, Stands}
-use Rattle.caller_work.proofs.Steps.{same_pass, live_done, stands_done, stands_undone, not_committed, commit_puts}
+use Rattle.caller_work.proofs.Steps.{same_pass, stands_done, stands_undone, not_committed, commit_puts}
 use Rattle.caller_work.proofs.transaction.commit.Goals as goal
 
 pub returns-in-Committed-clause-committed : goal.returns-in-Committed-clause-committed

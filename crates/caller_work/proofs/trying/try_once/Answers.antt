@@ -1,5 +1,4 @@
-
-use Rattle.std.proofs.Common.{◌≡◌, List, [], ◌∷◌, sym, subst}
+use Rattle.std.proofs.Common.{subst}
 use Rattle.caller_plans.specs.declared.fate.Fate.TheVariants as fate
 use Rattle.caller_work.specs.declared.stop.Heard.{Heard}
 use Rattle.caller_work.specs.Standing.{limits_of, HasMet, AreHeard}
