@@ -118,8 +118,9 @@ fn work_all<R: Threads + Wait + Sync, C: Core + Drop + Send, G: Gate + Sync>(
     );
 }
 
-/// Makes the planned transactions of all callers, each caller's by a worker of its own, and gives the core back. `from` is a moment from
-/// which the prefix law holds of the core. Without memory to begin with, the core comes back as it was.
+/// Makes the planned transactions of all callers, each caller's by a worker of its own, and gives the core back with what became of each
+/// caller's plans. A transaction is tried so often where it finds a key locked, and then done last. `from` is a moment from which the prefix
+/// law holds of the core. Without memory to begin with, the core comes back as it was, and nothing was done.
 pub fn work<R: Threads + Wait + Sync, C: Core + Drop + Send, G: Gate + Sync>(
     rt: &R,
     alloc: Global,

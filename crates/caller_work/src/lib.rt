@@ -1,4 +1,8 @@
 //! Workers that make callers' planned transactions over one shared core.
+//!
+//! `work` gives each caller a worker in a thread of its own. A transaction that finds a key locked is tried again, up to so many tries; then
+//! its worker stops, and the transaction and the caller's later ones are done last, caller by caller, in one thread. `caller_work` is one
+//! worker's whole work, for who shares a core by hand.
 #![tactic(auto)]
 
 mod closing;
