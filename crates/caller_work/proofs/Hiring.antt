@@ -34,11 +34,11 @@ module _ {C : Type 0} where
   fresh : (tells : Bool) (limits : Limits) (plans : List Plan) (fates : List Fate) (setup : Setup C) (caller : ℕ) → fates ≡ [] → Stands tells limits plans fates false (newcomer setup caller)
   fresh tells limits plans fates setup caller none =
       subst (λ (l : List Fate). Stands tells limits plans l false (newcomer setup caller)) (sym none) (record {
-      fated = λ told. tt;
-      asked = λ key e. absurd (true≢false (sym e));
-      failed_is = refl;
-      doubt = λ told done e. absurd (cc);
-    })
+        fated = λ told. tt;
+        asked = λ key e. absurd (true≢false (sym e));
+        failed_is = refl;
+        doubt = λ told done e. absurd (cc);
+      })
 
   -- a worker that has done nothing yet can begin
   pub ready : (tells : Bool) (show : C → CoreView) (mars : MarsView C) (caller : ℕ) (plans : List Plan) (worker : Worker C) → ArePlain plans → IsHired mars caller plans worker → IsReady tells show mars worker

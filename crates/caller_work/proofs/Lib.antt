@@ -8,3 +8,4 @@ pub mod Hiring
 pub mod Ending
 pub mod Whole
 pub mod Manning
+pub mod Plain

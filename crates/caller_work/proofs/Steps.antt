@@ -188,8 +188,13 @@ module _ {C : Type 0} (tells : Bool) (show : C → CoreView) (was now : Known C)
   doubt_at told (aborted c r e) = inl (doubt_same told (ap (λ (s : State). s.doubt) e))
   doubt_at told (doubted calls c r l index e) =
       let done : Done = record { caller = was.number; calls = calls; at = length (show step.old).state.history + 1 } in
-      inr (calls, c, r, sym step.live ∙ l,
-      ap (λ (k : Known C). k.doubt) step.after ∙ ap (λ (s : State). doubt_of was.number s.doubt) e ∙ ap (λ (b : Bool). if b then Some done else None) (eq-eqb was.number was.number refl))
+      inr (
+        calls,
+        c,
+        r,
+        sym step.live ∙ l,
+        ap (λ (k : Known C). k.doubt) step.after ∙ ap (λ (s : State). doubt_of was.number s.doubt) e ∙ ap (λ (b : Bool). if b then Some done else None) (eq-eqb was.number was.number refl),
+      )
 
   commits_none : (call ≡ Commit → ⊥) → Moved (show step.old).state was.number call reply (show step.new).state → is_committed reply ≡ false
   commits_none other (refused refusal sure index e) = refusal_none reply refusal

@@ -122,8 +122,8 @@ module _ {C : Type 0} where
         let f = fits caller within in
         let noted = gathered.noted tell in
         let stands : (call : Call) (reply : Reply) → HasMet (pass_of caller).known.hit call reply → StillLacks (limits_of show mars) (show last).state call reply = λ call reply met.
-            still (limits_of show mars) mars.setup.callers (show last).state gathered.notes caller call reply
-            (stand_at (limits_of show mars) mars.setup.callers (show last).state gathered.notes caller (gathered.notes caller).hit call reply (noted.stand caller) (subst (λ (hit : Granted). HasMet hit call reply) (hit_of caller within) met)) in
+        still (limits_of show mars) mars.setup.callers (show last).state gathered.notes caller call reply
+        (stand_at (limits_of show mars) mars.setup.callers (show last).state gathered.notes caller (gathered.notes caller).hit call reply (noted.stand caller) (subst (λ (hit : Granted). HasMet hit call reply) (hit_of caller within) met)) in
         let weak = fated_weaker (limits_of show mars) (HasMet (pass_of caller).known.hit) (StillLacks (limits_of show mars) (show last).state) (pass_of caller).known.number stands _ (of_caller told caller) (pass_of caller).known.mine (d.stands.fated tell) in
         let mine : (pass_of caller).known.mine ≡ commits_of caller (show last).state.history = f.mine ∙ ap (λ (n : ℕ). commits_of n (show last).state.history) d.number in
         subst (λ (x : Limits × ℕ × List Done). AreFated x.0 (StillLacks x.0 (show last).state) x.1 (of_caller plans caller) (of_caller told caller) x.2) (λ k. (limits_are k, d.number k, mine k)) weak

@@ -8,7 +8,7 @@ use crate::end::WorkEnd;
 use crate::fates::Fates;
 use crate::gate::OpenGate;
 use crate::tries::Tries;
-use crate::worker::{caller_work, Worker};
+use crate::worker::{Worker, caller_work};
 use core_face::Core;
 use mars_manager::{Mars, Passes};
 use std::sync::Wait;

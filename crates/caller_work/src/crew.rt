@@ -13,12 +13,12 @@ ghost use Rattle.caller_work.specs.Standing.{IsReady, HasWorked};
 ghost use Rattle.caller_work.specs.Crew.{IsBlank, IsHired, IsLeft, Bears, IsCaused, IsCausedBy, IsTried, AreDone};
 ghost use Rattle.caller_work.specs.Worked.{Worked};
 
+use crate::closing::finish;
 use crate::end::WorkEnd;
 use crate::fates::Fates;
-use crate::closing::finish;
 use crate::gate::Gate;
 use crate::tries::Tries;
-use crate::worker::{caller_work, Worker};
+use crate::worker::{Worker, caller_work};
 use caller_plans::{Fate, Plans};
 use core_face::Core;
 use counted::NoMemory;
@@ -118,8 +118,9 @@ fn work_all<R: Threads + Wait + Sync, C: Core + Drop + Send, G: Gate + Sync>(
     );
 }
 
-/// Makes the planned transactions of all callers, each caller's by a worker of its own, and gives the core back. Without memory to begin with, the core
-/// comes back as it was.
+/// Makes the planned transactions of all callers, each caller's by a worker of its own, and gives the core back with what became of each
+/// caller's plans. A transaction is tried so often where it finds a key locked, and then done last. Without memory to begin
+/// with, the core comes back as it was, and nothing was done.
 pub fn work<R: Threads + Wait + Sync, C: Core + Drop + Send, G: Gate + Sync>(
     rt: &R,
     alloc: Global,

@@ -17,7 +17,7 @@ pub enum WorkEnd {
 
 impl WorkEnd {
     // How a worker's work ended. What was left for last is no end.
-    pub fn by(stop: Option<Stop>) -> WorkEnd
+    pub(crate) fn by(stop: Option<Stop>) -> WorkEnd
         ensures { result ≡ end_of stop }
     {
         match stop {
@@ -28,7 +28,7 @@ impl WorkEnd {
     }
 
     // The end of both.
-    pub fn worse(self, other: WorkEnd) -> WorkEnd
+    pub(crate) fn worse(self, other: WorkEnd) -> WorkEnd
         ensures { result ≡ worse self other }
     {
         match (self, other) {

@@ -42,11 +42,9 @@ pub fn answer_of(reply: Reply) -> Result<Heard, Stop>
     ensures { result ≡ heard_of reply }
 {
     match reply {
-        Reply::Fine
-        | Reply::Found(_)
-        | Reply::Absent
-        | Reply::Listed(_)
-        | Reply::Saved(_) => Ok(Heard::Granted),
+        Reply::Fine | Reply::Found(_) | Reply::Absent | Reply::Listed(_) | Reply::Saved(_) => Ok(
+            Heard::Granted,
+        ),
         Reply::Busy { holder } => Ok(Heard::Busy { holder }),
         Reply::Media => Err(Stop::Media),
         Reply::NoMemory => Err(Stop::NoMemory),

@@ -10,7 +10,7 @@ ghost use Rattle.caller_work.specs.Fates.{is_of_table};
 ghost use Rattle.caller_work.specs.Standing.{limits_of, fault_of, is_media_stop, is_busy_stop, HasMet, IsPutIn, IsNext, IsOf, IsSame, Stands, IsLive, IsHeard, AreHeard, Comes};
 
 use crate::gate::{Gate, Place};
-use crate::stop::{answer_of, stop_of, Heard, Stop};
+use crate::stop::{Heard, Stop, answer_of, stop_of};
 use caller_plans::Plan;
 use core_face::Core;
 use history::{Call, Reply};

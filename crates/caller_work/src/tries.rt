@@ -12,7 +12,7 @@ pub enum Tries {
 
 impl Tries {
     // What is left behind a try.
-    pub fn after_one(self) -> Option<Tries>
+    pub(crate) fn after_one(self) -> Option<Tries>
         ensures { self ≡ NoLimit → result ≡ Some NoLimit }
     {
         match self {

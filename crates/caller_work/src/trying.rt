@@ -8,7 +8,7 @@ ghost use Rattle.caller_work.specs.Standing.{limits_of, is_busy_stop, IsNext, Is
 
 use crate::gate::{Gate, Place};
 use crate::stop::{Heard, Stop};
-use crate::transaction::{abort, ask_all, begin, commit, Spot};
+use crate::transaction::{Spot, abort, ask_all, begin, commit};
 use crate::tries::Tries;
 use caller_plans::{Fate, Plan, PlanEnd};
 use core_face::Core;

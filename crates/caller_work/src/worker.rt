@@ -13,7 +13,7 @@ use core_face::Core;
 use mars_manager::{Mars, Pass};
 use std::sync::Wait;
 
-/// Makes its caller's plans in order. There must be room for each one's fate before it begins.
+/// Makes its caller's plans in order. There must be room for each one's fate before it begins, so that none is lost for want of memory.
 #[derive(Drop)]
 pub struct Worker<C> {
     pub caller: u8,
@@ -25,7 +25,8 @@ pub struct Worker<C> {
     pub stop: Option<Stop>,
 }
 
-/// Makes the plans that have no fate yet, up to the end or to a stop. It takes no memory, and calls the gate between calls alone.
+/// Makes the plans that have no fate yet, up to the end or to a stop. A worker that a locked key stopped may go on by another call of this.
+/// It takes no memory for itself, and calls the gate between calls of the core alone.
 pub fn caller_work<R: Wait, C: Core + Drop, G: Gate>(
     rt: &R,
     mars: &Mars<C>,

@@ -1,4 +1,3 @@
-
 use Rattle.std.proofs.Common.{subst}
 use Rattle.caller_plans.specs.declared.fate.Fate.TheVariants as fate
 use Rattle.caller_work.specs.declared.stop.Heard.{Heard}
