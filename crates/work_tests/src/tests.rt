@@ -70,8 +70,7 @@ fn each_plan_of_two_callers_commits_once(rt: HostRuntime) -> Result<(), Fail> {
     let Ok(plans) = both_commit(alloc, 3, 2) else {
         panic!(rt; "no memory")
     };
-    let Ok((core, told, end)) = work(&rt, alloc, DoorCore::new(alloc), plans, 1, 0, &OpenGate)
-    else {
+    let Ok((core, told, end)) = work(&rt, alloc, DoorCore::new(alloc), plans, 1, &OpenGate) else {
         panic!(rt; "no memory")
     };
     assert!(rt; end == WorkEnd::All && core.told() == 5 && told.len() == 2);
@@ -176,7 +175,7 @@ fn what_finds_a_key_locked_is_done_last(rt: HostRuntime) -> Result<(), Fail> {
         left: AtomicBool::new(false),
         tried: AtomicU64::new(0),
     };
-    let Ok((core, told, end)) = work(&rt, alloc, DoorCore::new(alloc), plans, 2, 0, &gate) else {
+    let Ok((core, told, end)) = work(&rt, alloc, DoorCore::new(alloc), plans, 2, &gate) else {
         panic!(rt; "no memory")
     };
     assert!(rt; gate.tried.load(Ordering::SeqCst) == 2);
