@@ -1,5 +1,5 @@
 -- Callers' work beside each other over the records of a store, from what a core makes of it.
-use Rattle.std.proofs.Common.{◌≡◌, ℕ, zero, suc, ◌≤◌, List, [], ◌∷◌, ◌++◌, Option, Some, None, length, Bool, false, Result, Ok, Err, refl, sym, ap, subst, ◌∙◌, arith}
+use Rattle.std.proofs.Common.{◌≡◌, ℕ, zero, suc, ◌≤◌, List, [], ◌∷◌, None, length, Bool, false, Result, Ok, Err, refl, sym, ap, subst, ◌∙◌, arith}
 use Rattle.std.specs.Prelude.{IsTrue, All}
 use Rattle.std.specs.FinMap.{entries}
 use Rattle.std.specs.List.{flat_map}
@@ -18,14 +18,12 @@ use Rattle.mars_manager.specs.Sharing.{CanShare}
 use Rattle.caller_plans.specs.declared.plan.Plan.{Plan}
 use Rattle.caller_plans.specs.declared.fate.Fate.{Fate}
 use Rattle.caller_plans.specs.declared.fate.LineFault.{LineFault}
-use Rattle.caller_plans.specs.Plans.{AllSay, plan_of, planned, calls_by, faults_from, plans_from}
-use Rattle.caller_plans.specs.declared.plan.PlanEnd.TheVariants as end
-use Rattle.history.specs.declared.call.Call.{Call}
-use Rattle.history.specs.declared.call.Call.TheVariants as call
+use Rattle.caller_plans.specs.Plans.{AllSay, planned, calls_by, faults_from, plans_from}
 use Rattle.std.proofs.lemmas.List.Elements.{All-from_recursion, All-append, All-nil}
 use Rattle.caller_work.specs.declared.end.WorkEnd.{WorkEnd}
 use Rattle.caller_work.specs.declared.end.WorkEnd.TheVariants as work
-use Rattle.caller_work.specs.Fates.{AreFated, IsUndecided, ArePlain, is_of_table}
+use Rattle.caller_work.specs.Fates.{AreFated, IsUndecided, ArePlain}
+use Rattle.caller_work.proofs.Plain.{outside}
 use Rattle.caller_work.specs.Worked.{Worked, StillLacks, is_fault, of_caller, IsPlanned}
 use Rattle.history_text.specs.Text.{done_lines, work_text}
 use Rattle.script_io.specs.Lines.{lines_of}
@@ -60,49 +58,10 @@ retold ended cut text faults faults' history history' base base' fates fates' f 
     (subst (λ (whole : List ℕ). TellsWork ended cut text whole (flat_map done_lines history)) (λ i. work_text (f i) (h i) (t i) (entries (records (rows.table_of (b i)) (h i)))) tells)
 
 -- no plan has a begin, a commit or an abort among its calls
-module _ where
-  abbrev IsPlainCall : Call → Type 0
-  IsPlainCall call = IsTrue (is_of_table call)
-
-  one_plain : (made : List Call) (call : Call) → IsPlainCall call → All IsPlainCall made → All IsPlainCall (made ++ call ∷ [])
-  one_plain made call plain all = All-append IsPlainCall made (call ∷ []) all (All-from_recursion IsPlainCall (call ∷ []) (plain, tt))
-
-  abbrev IsPlainPlan : Plan → Type 0
-  IsPlainPlan plan = All IsPlainCall plan.calls
-
-  plan_more : (plan : Plan) (plans : List Plan) → IsPlainPlan plan → All IsPlainPlan plans → All IsPlainPlan (plan ∷ plans)
-  plan_more plan plans plain all = All-append IsPlainPlan (plan ∷ []) plans (All-from_recursion IsPlainPlan (plan ∷ []) (plain, tt)) all
-
-  abbrev IsPlainDraft : Option (List Call) → Type 0
-  IsPlainDraft None = Unit {0}
-  IsPlainDraft (Some made) = All IsPlainCall made
-
-  planned_plain : (draft : Option (List Call)) → IsPlainDraft draft → (calls : List Call) → All IsPlainPlan (planned draft calls)
-  planned_plain None all [] = All-nil IsPlainPlan
-  planned_plain None all (call.Begin ∷ calls) = planned_plain (Some []) (All-nil IsPlainCall) calls
-  planned_plain None all (call.Get key ∷ calls) = planned_plain None all calls
-  planned_plain None all (call.Put key value ∷ calls) = planned_plain None all calls
-  planned_plain None all (call.Del key ∷ calls) = planned_plain None all calls
-  planned_plain None all (call.Scan low high ∷ calls) = planned_plain None all calls
-  planned_plain None all (call.Save ∷ calls) = planned_plain None all calls
-  planned_plain None all (call.Back n ∷ calls) = planned_plain None all calls
-  planned_plain None all (call.Commit ∷ calls) = planned_plain None all calls
-  planned_plain None all (call.Abort ∷ calls) = planned_plain None all calls
-  planned_plain (Some made) all [] = plan_more (plan_of made end.Unended) [] all (All-nil IsPlainPlan)
-  planned_plain (Some made) all (call.Begin ∷ calls) = planned_plain (Some made) all calls
-  planned_plain (Some made) all (call.Commit ∷ calls) = plan_more (plan_of made end.Commit) (planned None calls) all (planned_plain None tt calls)
-  planned_plain (Some made) all (call.Abort ∷ calls) = plan_more (plan_of made end.Abort) (planned None calls) all (planned_plain None tt calls)
-  planned_plain (Some made) all (call.Get key ∷ calls) = planned_plain (Some (made ++ call.Get key ∷ [])) (one_plain made (call.Get key) refl all) calls
-  planned_plain (Some made) all (call.Put key value ∷ calls) = planned_plain (Some (made ++ call.Put key value ∷ [])) (one_plain made (call.Put key value) refl all) calls
-  planned_plain (Some made) all (call.Del key ∷ calls) = planned_plain (Some (made ++ call.Del key ∷ [])) (one_plain made (call.Del key) refl all) calls
-  planned_plain (Some made) all (call.Scan low high ∷ calls) = planned_plain (Some (made ++ call.Scan low high ∷ [])) (one_plain made (call.Scan low high) refl all) calls
-  planned_plain (Some made) all (call.Save ∷ calls) = planned_plain (Some (made ++ call.Save ∷ [])) (one_plain made call.Save refl all) calls
-  planned_plain (Some made) all (call.Back n ∷ calls) = planned_plain (Some (made ++ call.Back n ∷ [])) (one_plain made (call.Back n) refl all) calls
-
-  pub all_plain : (caller n : ℕ) (said : List Line) → All ArePlain (plans_from caller n said)
-  all_plain caller zero said = All-nil ArePlain
-  all_plain caller (suc n) said = All-append ArePlain (planned None (calls_by caller said) ∷ []) (plans_from (suc caller) n said)
-      (All-from_recursion ArePlain (planned None (calls_by caller said) ∷ []) (planned_plain None tt (calls_by caller said), tt)) (all_plain (suc caller) n said)
+pub all_plain : (caller n : ℕ) (said : List Line) → All ArePlain (plans_from caller n said)
+all_plain caller zero said = All-nil ArePlain
+all_plain caller (suc n) said = All-append ArePlain (planned None (calls_by caller said) ∷ []) (plans_from (suc caller) n said)
+    (All-from_recursion ArePlain (planned None (calls_by caller said) ∷ []) (outside (calls_by caller said), tt)) (all_plain (suc caller) n said)
 
 module _ (tells : Bool) (Opens : Shape → List ℕ → List ℕ → Type 0) (old mid : StoreView) (core : CoreView) (begins : Begins tells (Opens old.shape) chain old mid core) where
   -- the core can be shared
