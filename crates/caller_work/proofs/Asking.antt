@@ -1,5 +1,5 @@
 -- What is heard of a call between a begin and its end.
-use Rattle.std.proofs.Common.{◌≡◌, Bool, true, false, List, [], ◌∷◌, ◌++◌, Option, Some, Result, Ok, Err, refl, sym, ap, ◌∙◌, subst}
+use Rattle.std.proofs.Common.{ℕ, ◌≡◌, Bool, true, false, List, [], ◌∷◌, ◌++◌, Option, Some, Result, Ok, Err, refl, sym, ap, ◌∙◌, subst}
 use Rattle.std.specs.Prelude.{IsFalse, IfOk, IfErr, unwrap_or}
 use Rattle.std.proofs.lemmas.Bool.{true≢false}
 use Rattle.std.proofs.lemmas.List.{map-append}
@@ -52,6 +52,10 @@ granted_done (says.Saved n) e = refl
 granted_done (says.Committed n) e = refl
 granted_done _ e = absurd (cc)
 
+busy_same : (reply : Reply) (holder : ℕ) → heard_of reply ≡ Ok (heard.Busy holder) → reply ≡ says.Busy holder
+busy_same (says.Busy n) holder e = cc
+busy_same _ holder e = absurd (cc)
+
 refused_noted : (reply other : Reply) → heard_of reply ≡ Ok (heard.Refused other) → is_noted reply ≡ true
 refused_noted says.NoTransaction other e = refl
 refused_noted says.Already other e = refl
@@ -86,7 +90,9 @@ module _ {C : Type 0} (tells : Bool) (show : C → CoreView) (mars : MarsView C)
     live = live_done tells show was now call reply step (granted_done reply e) ∙ ap (λ (o : Option Granted). live_with (unwrap_or o []) call reply) live.live ∙ live_grows live.granted call reply plain;
     calls_are = map-append (λ (entry : Call × Reply). entry.0) live.granted ((call, reply) ∷ []) ∙ ap (λ (l : List Call). l ++ call ∷ []) live.calls_are;
   }
-  heard_at (heard.Busy holder) e before live = tt
+  heard_at (heard.Busy holder) e before live =
+      let is = busy_same reply holder e in
+      subst (λ (r : Reply). HasMet now.hit call r) is (met_now tells show was now call reply step (ap is_noted is))
   heard_at (heard.Refused other) e before live = λ told.
       let made : Step (limits_of show mars) (show step.old).state was.number call reply (show step.new).state = subst (λ (l : Limits). Step l (show step.old).state was.number call reply (show step.new).state) limits_are (step.steps.step told) in
       let why = may_refuse (limits_of show mars) (show step.old).state was.number (show step.new).state live.granted (step.live ∙ live.live) reply other e call plain made in (

@@ -35,7 +35,7 @@ module _ (calls : List Call) (i : ℕ) (call : Call) (within : i < length calls)
     -- what was heard of a call that was not granted is heard of all
     pub heard_all : (h : Heard) → (h ≡ heard.Granted → ⊥) → IsHeard tells limits (take i calls) call known h → AreHeard tells limits plan known h
     heard_all heard.Granted never one = absurd (never refl)
-    heard_all (heard.Busy holder) never one = tt
+    heard_all (heard.Busy holder) never one = (call, one)
     heard_all (heard.Refused reply) never one = λ told. let both = one told in record { before = take i calls; call = call; behind = drop (i + 1) calls; calls = same ∙ split calls i call within is; why = both.0; met = both.1 }
 
     pub heard_granted : (h : Heard) → h ≡ heard.Granted → IsHeard tells limits (take i calls) call known h → IsLive (take (i + 1) calls) known

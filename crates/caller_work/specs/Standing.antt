@@ -111,28 +111,33 @@ module _ {C : Type 0} where
   abbrev pub IsHeard : Bool → Limits → List Call → Call → Known C → Heard → Type 0
   IsHeard tells limits before call known heard.Granted = IsLive (before ++ call ∷ []) known
   IsHeard tells limits before call known (heard.Refused reply) = IsTrue tells → MayRefuse limits before call reply × HasMet known.hit call reply
-  IsHeard tells limits before call known (heard.Busy holder) = Unit {0}
+  IsHeard tells limits before call known (heard.Busy holder) = HasMet known.hit call (says.Busy holder)
 
   -- what was heard of all calls of a plan
   abbrev pub AreHeard : Bool → Limits → Plan → Known C → Heard → Type 0
   AreHeard tells limits plan known heard.Granted = IsLive plan.calls known
   AreHeard tells limits plan known (heard.Refused reply) = IsTrue tells → IsRefused limits (HasMet known.hit) plan reply
-  AreHeard tells limits plan known (heard.Busy holder) = Unit {0}
+  AreHeard tells limits plan known (heard.Busy holder) = (call : Call) × HasMet known.hit call (says.Busy holder)
 
   -- a plan was made, and has its fate; or the worker stopped
   abbrev pub Comes : Bool → Limits → List Plan → List Fate → Known C → Result Fate Stop → Type 0
   Comes tells limits plans fates known (Ok fate) = Stands tells limits plans (fates ++ fate ∷ []) false known
   Comes tells limits plans fates known (Err stop) = Stands tells limits plans fates (is_media_stop stop) known
 
+  -- a call found another caller in its way
+  abbrev pub IsHeldUp : Known C → Stop → Type 0
+  IsHeldUp known (stop.Busy holder) = (call : Call) × HasMet known.hit call (says.Busy holder)
+  IsHeldUp known _ = Unit {0}
+
   -- nothing is live where the plan was made, or a locked key stopped it
   abbrev pub Ends : Known C → Result Fate Stop → Type 0
   Ends known (Ok fate) = known.live ≡ None
-  Ends known (Err stop) = IsTrue (is_busy_stop stop) → known.live ≡ None
+  Ends known (Err stop) = IsTrue (is_busy_stop stop) → (known.live ≡ None) × IsHeldUp known stop
 
   -- nothing is live where a worker is not stopped for good
   abbrev pub IsIdle : Known C → Option Stop → Type 0
   IsIdle known None = known.live ≡ None
-  IsIdle known (Some stop) = IsTrue (is_busy_stop stop) → known.live ≡ None
+  IsIdle known (Some stop) = IsTrue (is_busy_stop stop) → (known.live ≡ None) × IsHeldUp known stop
 
   -- a worker can begin, or go on where it was stopped by a locked key
   pub record IsReady (tells : Bool) (show : C → CoreView) (mars : MarsView C) (worker : Worker C) : Type 0 where
