@@ -12,6 +12,7 @@ use crate::transaction::{Spot, abort, ask_all, begin, commit};
 use crate::tries::Tries;
 use caller_plans::{Fate, Plan, PlanEnd};
 use core_face::Core;
+use crossbeam_utils::Backoff;
 use mars_manager::{Mars, Pass};
 use std::sync::Wait;
 
@@ -74,7 +75,7 @@ pub fn try_once<R: Wait, C: Core + Drop, G: Gate>(
     }
 }
 
-/// Makes a plan. It stops with `Busy` where each try did.
+/// Makes a plan. It stops with `Busy` where each try did, and backs off before each next one.
 pub fn make<R: Wait, C: Core + Drop, G: Gate>(
     rt: &R,
     mars: &Mars<C>,
@@ -92,10 +93,14 @@ pub fn make<R: Wait, C: Core + Drop, G: Gate>(
     ensures comes { (plans : List Plan) (fates : List Fate) → IsNext plans fates plan.now → Stands C.tells (limits_of C.view mars.now) plans fates false pass.old.known → Comes C.tells (limits_of C.view mars.now) plans fates pass.new.known result }
 {
     let mut left = tries;
+    let backoff = Backoff::new();
     for _ in rt.forever() {
         match try_once(rt, mars, pass, plan, gate, spot) {
             Err(Stop::Busy { holder }) => match left.after_one() {
-                Some(fewer) => left = fewer,
+                Some(fewer) => {
+                    left = fewer;
+                    backoff.snooze();
+                }
                 None => return Err(Stop::Busy { holder }),
             },
             other => return other,
