@@ -67,22 +67,22 @@ const ZERO_FIRST: &[u8] = b"txn 1 caller 0\n0 ok\ntxn 2 caller 1\n1 none\nrec 5 
 #[test]
 fn one_commits_while_another_is_within_a_transaction(rt: HostRuntime) -> Result<(), Fail> {
     let holds = [
-        Hold {
-            place: Place::Answered {
+        Hold::new(
+            Place::Answered {
                 caller: 0,
                 nth: 1,
                 call: 1,
             },
-            time: 1,
-            sets: None,
-            waits: Some(Flag::First),
-        },
-        Hold {
-            place: Place::Ended { caller: 1, nth: 1 },
-            time: 1,
-            sets: Some(Flag::First),
-            waits: None,
-        },
+            1,
+            None,
+            Some(Flag::First),
+        ),
+        Hold::new(
+            Place::Ended { caller: 1, nth: 1 },
+            1,
+            Some(Flag::First),
+            None,
+        ),
     ];
     let gate = Holds::new(&holds);
     let (status, sink) = worked(&rt, "callers 2", OTHER_KEYS, &gate)?;
@@ -97,28 +97,28 @@ fn one_commits_while_another_is_within_a_transaction(rt: HostRuntime) -> Result<
 #[test]
 fn who_finds_a_key_held_at_each_try_is_last(rt: HostRuntime) -> Result<(), Fail> {
     let holds = [
-        Hold {
-            place: Place::Began { caller: 1, nth: 1 },
-            time: 1,
-            sets: None,
-            waits: Some(Flag::First),
-        },
-        Hold {
-            place: Place::Answered {
+        Hold::new(
+            Place::Began { caller: 1, nth: 1 },
+            1,
+            None,
+            Some(Flag::First),
+        ),
+        Hold::new(
+            Place::Answered {
                 caller: 0,
                 nth: 1,
                 call: 1,
             },
-            time: 1,
-            sets: Some(Flag::First),
-            waits: Some(Flag::Second),
-        },
-        Hold {
-            place: Place::Ended { caller: 1, nth: 1 },
-            time: 1,
-            sets: Some(Flag::Second),
-            waits: None,
-        },
+            1,
+            Some(Flag::First),
+            Some(Flag::Second),
+        ),
+        Hold::new(
+            Place::Ended { caller: 1, nth: 1 },
+            1,
+            Some(Flag::Second),
+            None,
+        ),
     ];
     let gate = Holds::new(&holds);
     let (status, sink) = worked(&rt, "callers 2 --tries 1", ONE_STRIPE, &gate)?;
@@ -132,34 +132,34 @@ fn who_finds_a_key_held_at_each_try_is_last(rt: HostRuntime) -> Result<(), Fail>
 #[test]
 fn who_finds_a_key_held_tries_again(rt: HostRuntime) -> Result<(), Fail> {
     let holds = [
-        Hold {
-            place: Place::Began { caller: 1, nth: 1 },
-            time: 1,
-            sets: None,
-            waits: Some(Flag::First),
-        },
-        Hold {
-            place: Place::Answered {
+        Hold::new(
+            Place::Began { caller: 1, nth: 1 },
+            1,
+            None,
+            Some(Flag::First),
+        ),
+        Hold::new(
+            Place::Answered {
                 caller: 0,
                 nth: 1,
                 call: 1,
             },
-            time: 1,
-            sets: Some(Flag::First),
-            waits: Some(Flag::Second),
-        },
-        Hold {
-            place: Place::Began { caller: 1, nth: 1 },
-            time: 2,
-            sets: Some(Flag::Second),
-            waits: Some(Flag::Third),
-        },
-        Hold {
-            place: Place::Ended { caller: 0, nth: 1 },
-            time: 1,
-            sets: Some(Flag::Third),
-            waits: None,
-        },
+            1,
+            Some(Flag::First),
+            Some(Flag::Second),
+        ),
+        Hold::new(
+            Place::Began { caller: 1, nth: 1 },
+            2,
+            Some(Flag::Second),
+            Some(Flag::Third),
+        ),
+        Hold::new(
+            Place::Ended { caller: 0, nth: 1 },
+            1,
+            Some(Flag::Third),
+            None,
+        ),
     ];
     let gate = Holds::new(&holds);
     let (status, sink) = worked(&rt, "callers 2 --tries 2", ONE_STRIPE, &gate)?;

@@ -7,12 +7,34 @@ use std::thread;
 const LOOKS: u64 = 20_000_000;
 
 /// What happens as a caller comes to a place for the `time`-th time, from 1 on: one flag is set, and then another is waited for.
-#[derive(Clone, Copy)]
+#[derive(Drop)]
 pub struct Hold {
-    pub place: Place,
-    pub time: u64,
-    pub sets: Option<Flag>,
-    pub waits: Option<Flag>,
+    place: Place,
+    time: u64,
+    sets: Option<Flag>,
+    waits: Option<Flag>,
+    // How often the caller has come there.
+    came: AtomicU64,
+}
+
+impl Hold {
+    pub fn new(place: Place, time: u64, sets: Option<Flag>, waits: Option<Flag>) -> Hold {
+        Hold {
+            place,
+            time,
+            sets,
+            waits,
+            came: AtomicU64::new(0),
+        }
+    }
+
+    // Counts that a caller has come to a place, and answers whether what is to happen there happens now.
+    fn is_due(&self, place: Place) -> bool {
+        if place != self.place {
+            return false;
+        }
+        self.came.fetch_add(1, Ordering::SeqCst).wrapping_add(1) == self.time
+    }
 }
 
 #[derive(Clone, Copy)]
@@ -25,8 +47,6 @@ pub enum Flag {
 #[derive(Drop)]
 pub struct Holds<'a> {
     holds: &'a [Hold],
-    // How often a caller has come to the place of each hold.
-    came: [AtomicU64; 4],
     first: AtomicBool,
     second: AtomicBool,
     third: AtomicBool,
@@ -34,16 +54,9 @@ pub struct Holds<'a> {
 }
 
 impl<'a> Holds<'a> {
-    /// Up to four holds.
     pub fn new(holds: &'a [Hold]) -> Self {
         Holds {
             holds,
-            came: [
-                AtomicU64::new(0),
-                AtomicU64::new(0),
-                AtomicU64::new(0),
-                AtomicU64::new(0),
-            ],
             first: AtomicBool::new(false),
             second: AtomicBool::new(false),
             third: AtomicBool::new(false),
@@ -90,8 +103,8 @@ impl<'a> Holds<'a> {
 
 impl Gate for Holds<'_> {
     fn at(&self, place: Place) {
-        for (hold, came) in self.holds.iter().zip(&self.came) {
-            if hold.place == place && came.fetch_add(1, Ordering::SeqCst) + 1 == hold.time {
+        for hold in self.holds {
+            if hold.is_due(place) {
                 self.keep(hold);
             }
         }
