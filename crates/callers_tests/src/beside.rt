@@ -63,26 +63,25 @@ const ONE_STRIPE: &[u8] = b"0 begin\n0 put 5 a\n0 commit\n1 begin\n1 get 69\n1 c
 
 const ZERO_FIRST: &[u8] = b"txn 1 caller 0\n0 ok\ntxn 2 caller 1\n1 none\nrec 5 a\n";
 
+// Each caller has one transaction of one call.
+const PUT_OF_ZERO: Place = Place::Answered {
+    caller: 0,
+    nth: 1,
+    call: 1,
+};
+
+const END_OF_ZERO: Place = Place::Ended { caller: 0, nth: 1 };
+
+const BEGIN_OF_ONE: Place = Place::Began { caller: 1, nth: 1 };
+
+const END_OF_ONE: Place = Place::Ended { caller: 1, nth: 1 };
+
 // Caller 0 stays within its transaction until the other's has ended.
 #[test]
 fn one_commits_while_another_is_within_a_transaction(rt: HostRuntime) -> Result<(), Fail> {
     let holds = [
-        Hold::new(
-            Place::Answered {
-                caller: 0,
-                nth: 1,
-                call: 1,
-            },
-            1,
-            None,
-            Some(Flag::First),
-        ),
-        Hold::new(
-            Place::Ended { caller: 1, nth: 1 },
-            1,
-            Some(Flag::First),
-            None,
-        ),
+        Hold::new(PUT_OF_ZERO, 1, None, Some(Flag::First)),
+        Hold::new(END_OF_ONE, 1, Some(Flag::First), None),
     ];
     let gate = Holds::new(&holds);
     let (status, sink) = worked(&rt, "callers 2", OTHER_KEYS, &gate)?;
@@ -97,28 +96,9 @@ fn one_commits_while_another_is_within_a_transaction(rt: HostRuntime) -> Result<
 #[test]
 fn who_finds_a_key_held_at_each_try_is_last(rt: HostRuntime) -> Result<(), Fail> {
     let holds = [
-        Hold::new(
-            Place::Began { caller: 1, nth: 1 },
-            1,
-            None,
-            Some(Flag::First),
-        ),
-        Hold::new(
-            Place::Answered {
-                caller: 0,
-                nth: 1,
-                call: 1,
-            },
-            1,
-            Some(Flag::First),
-            Some(Flag::Second),
-        ),
-        Hold::new(
-            Place::Ended { caller: 1, nth: 1 },
-            1,
-            Some(Flag::Second),
-            None,
-        ),
+        Hold::new(BEGIN_OF_ONE, 1, None, Some(Flag::First)),
+        Hold::new(PUT_OF_ZERO, 1, Some(Flag::First), Some(Flag::Second)),
+        Hold::new(END_OF_ONE, 1, Some(Flag::Second), None),
     ];
     let gate = Holds::new(&holds);
     let (status, sink) = worked(&rt, "callers 2 --tries 1", ONE_STRIPE, &gate)?;
@@ -132,34 +112,10 @@ fn who_finds_a_key_held_at_each_try_is_last(rt: HostRuntime) -> Result<(), Fail>
 #[test]
 fn who_finds_a_key_held_tries_again(rt: HostRuntime) -> Result<(), Fail> {
     let holds = [
-        Hold::new(
-            Place::Began { caller: 1, nth: 1 },
-            1,
-            None,
-            Some(Flag::First),
-        ),
-        Hold::new(
-            Place::Answered {
-                caller: 0,
-                nth: 1,
-                call: 1,
-            },
-            1,
-            Some(Flag::First),
-            Some(Flag::Second),
-        ),
-        Hold::new(
-            Place::Began { caller: 1, nth: 1 },
-            2,
-            Some(Flag::Second),
-            Some(Flag::Third),
-        ),
-        Hold::new(
-            Place::Ended { caller: 0, nth: 1 },
-            1,
-            Some(Flag::Third),
-            None,
-        ),
+        Hold::new(BEGIN_OF_ONE, 1, None, Some(Flag::First)),
+        Hold::new(PUT_OF_ZERO, 1, Some(Flag::First), Some(Flag::Second)),
+        Hold::new(BEGIN_OF_ONE, 2, Some(Flag::Second), Some(Flag::Third)),
+        Hold::new(END_OF_ZERO, 1, Some(Flag::Third), None),
     ];
     let gate = Holds::new(&holds);
     let (status, sink) = worked(&rt, "callers 2 --tries 2", ONE_STRIPE, &gate)?;
