@@ -7,10 +7,12 @@
 #   edits  run: a transaction is a begin, ten puts of one key, and a commit
 #   turns  run: eight callers in turn, a transaction is a begin, two puts, and a commit; every second put finds its key held
 #   raw    eaw: 64 bytes are logged, and committed
-# And of 1,000 records on such a file: their load, a scan of all of them, and a dump. And of a drawn script of 100,000 transactions: a
-# drill beside a run of the same calls, both over the image in memory. Each script is run three times, and the best time counts. The answers go to a file, and the last is compared, so a
-# run that stops early is no result. A time has the start of the process in it, about a millisecond. The image in memory keeps a record
-# of all its calls, so the peak of memory is that of a run over a file, in a folder that is memory where there is one.
+# And of 1,000 records on such a file: their load, a scan of all of them, and a dump. And over the image in memory, of a drawn script of
+# 100,000 transactions a drill beside a run of the same calls, and of 100,000 transactions of one put one, two and four callers that work
+# beside each other, on stripes of their own, beside a run of the same lines. Each script is run three times, and the best time counts.
+# The answers go to a file, and the last is compared, so a run that stops early is no result. A time has the start of the process in it,
+# about a millisecond. The image in memory keeps a record of all its calls, so the peak of memory is that of a run over a file, in a
+# folder that is memory where there is one.
 
 set -eu
 top=$(cd "$(dirname "$0")/.." && pwd)
@@ -232,6 +234,38 @@ drills() {
     }'
 }
 
+# stripes CALLERS COUNT: the lines of so many transactions of one put, on 64 keys in turn, of which each caller has as many
+stripes() {
+    awk -v callers="$1" -v count="$2" 'BEGIN {
+        for (n = 0; n < count; n++) {
+            key = n % 64
+            caller = int(key * callers / 64)
+            printf "%d begin\n%d put %d value%011d\n%d commit\n", caller, caller, key, n, caller
+        }
+    }'
+}
+
+# beside CALLERS COUNT: callers that work beside each other, and a run of the same lines
+beside() {
+    local run callers
+    stripes "$1" "$2" >"$work/drawn"
+    run=$(best_of run)
+    callers=$(best_of callers "$1")
+    [ "$(grep -c '^txn ' "$work/answers")" = "$2" ] && [ "$(tail -n 1 "$work/answers")" = "$(last_record "$2")" ] || {
+        echo "bench: of $2 transactions $1 callers made others" >&2
+        exit 1
+    }
+    awk -v callers="$1" -v lines="$((3 * $2))" -v run="$run" -v beside="$callers" 'BEGIN {
+        printf "callers %d  %d lines, %.1f ms, %.0f a second; run of the same lines %.1f ms, %.0f a second\n",
+            callers, lines, beside / 1000, lines * 1e6 / beside, run / 1000, lines * 1e6 / run
+    }'
+}
+
+# last_record COUNT: the record of the last key behind so many transactions of stripes
+last_record() {
+    printf 'rec 63 value%011d' "$((($1 - 64) / 64 * 64 + 63))"
+}
+
 printf '%-6s %8s %10s %9s %12s %10s %8s\n' mix lines bytes ms lines/s peak-KB peak/in
 for mix in puts reads edits turns raw; do
     # Ten times as many raw lines as 30,000 were too long an input.
@@ -247,4 +281,7 @@ done
 records 100
 records 1000
 drills 1 100000
+for callers in 1 2 4; do
+    beside "$callers" 100000
+done
 [ $# -eq 0 ] || on_file "$1"
