@@ -12,10 +12,10 @@ use Rattle.eaw_device.specs.declared.fresh.FormatFault.{FormatFault}
 use Rattle.eaw_device.specs.declared.fresh.FormatFault.TheVariants.{BadShape, Media}
 use Rattle.eaw_device.specs.Opens.{header_of}
 
--- Page 0 is the super page: its mark, the version 1, the form 0, no slot given and 2 the next page to give. Page 1 is an index page
+-- Page 0 is the super page: its mark, the version 1, the form 1, no slot given and 2 the next page to give. Page 1 is an index page
 -- without pairs, and all others are zero.
 abbrev pub fresh_page : ℕ → List ℕ
-fresh_page zero = codes "MREC" ++ 1 ∷ 0 ∷ 0 ∷ 0 ∷ (little_bytes 4 0 ++ little_bytes 4 2 ++ replicate 496 0)
+fresh_page zero = codes "MREC" ++ 1 ∷ 1 ∷ 0 ∷ 0 ∷ (little_bytes 4 0 ++ little_bytes 4 2 ++ replicate 496 0)
 fresh_page (suc zero) = 1 ∷ replicate 511 0
 fresh_page (suc (suc p)) = replicate 512 0
 

@@ -147,7 +147,7 @@ fn super_page() -> [u8; 512]
     ensures { result ≡ fresh_page 0 }
 {
     let mut bytes = [0; 512];
-    bytes[..16].copy_from_slice(b"MREC\x01\0\0\0\0\0\0\0\x02\0\0\0");
+    bytes[..16].copy_from_slice(b"MREC\x01\x01\0\0\0\0\0\0\x02\0\0\0");
     bytes
 }
 

@@ -13,11 +13,10 @@ use Rattle.command_words.specs.Asked.{AsksFor}
 use Rattle.command_words.specs.declared.words.CallersNumbers.{CallersNumbers}
 use Rattle.command_words.specs.declared.words.Words.{Words}
 use Rattle.command_words.specs.declared.words.Words.TheVariants.{Callers}
-use Rattle.key_list.specs.Index.{chain}
-use Rattle.index_pages.proofs.FailingFacts.{damaged_chain_is_not_sound}
 use Rattle.script_run.specs.declared.ended.Ended.{Ended}
 use Rattle.script_io.specs.Input.{input_limit}
 use Rattle.mars_shell.specs.Asked.{WordsSay}
+use Rattle.mars_shell.specs.Forms.{index_in}
 use Rattle.mars_shell.specs.Input.{InputSays}
 use Rattle.mars_shell.specs.Joint.{Exceeds}
 use Rattle.mars_shell.specs.Outcome.{OutcomeOf}
@@ -26,6 +25,7 @@ use Rattle.mars_shell.specs.Statuses.{Counts, IsEarly}
 use Rattle.mars_shell.specs.declared.status.Status.{Status}
 use Rattle.mars_shell.specs.declared.status.Status.TheVariants.{Good, Usage, TooLong, ReadFault, WriteFault, MediaFault, NoMemory, Damaged, BadRow, NotMars, BadShape}
 use Rattle.row_bytes.proofs.OneShape.{one_shape}
+use Rattle.mars_shell.proofs.Forming.{damage_is_no_soundness}
 
 -- what the words ask for, at a status that is not that of other words
 pub words_say : (words : List (List ℕ)) (status : Status) (Unread : Type 0) (Holds : Words → Type 0) (asked : Words) → (status ≡ Usage → ⊥) → AsksFor words asked → Holds asked → WordsSay words status Unread Holds
@@ -79,8 +79,8 @@ no_bad_row media shape g t array row =
 pub no_damage : (media : View) (shape : Shape) (page : ℕ) → HoldsRecords shape media → IsDamaged media page → ⊥
 no_damage media shape page holds is =
     let same : shape ≡ is.0 = one_shape (header_of media.content.bytes) shape is.0 holds.array.header is.1.header in
-    let own = subst (λ (s : Shape). chain.sound (settled_data s media.content.bytes)) same holds.sound in
-    damaged_chain_is_not_sound (settled_data is.0 media.content.bytes) page is.2 own
+    let own = subst (λ (s : Shape). (index_in s media).sound (settled_data s media.content.bytes)) same holds.sound in
+    damage_is_no_soundness (settled_data is.0 media.content.bytes) page is.2 own
 
 -- a count that stands still has not risen
 pub no_rise : Rose 0 0 → ⊥

@@ -1,4 +1,4 @@
--- A fresh array has sound records, and none.
+-- A fresh array is a sound tree, of no records.
 use Rattle.std.proofs.Common.{◌≡◌, ℕ, ◌*◌, ◌<◌, ◌≤◌, List, take, refl, ap, ◌∙◌, arith}
 use Rattle.std.proofs.Math.Nat.{le-mul_of_pos_right}
 use Rattle.array_shape.specs.declared.shape.Shape.{Shape}
@@ -11,10 +11,10 @@ use Rattle.record_slots.specs.Places.{page_bytes, IsSuper}
 use Rattle.record_slots.specs.Super.{form_said, next_slot_said, next_page_said}
 use Rattle.record_table.specs.Shown.{table_of, table_in}
 use Rattle.index_pages.specs.Page.{kind_said, level_said, count_said, link_said}
-use Rattle.index_pages.proofs.Fresh.{fresh_chain}
+use Rattle.btree_pages.proofs.Fresh.{fresh_tree}
 use Rattle.mars_shell.specs.Formats.{HasNone}
 
-form_fresh : form_said (fresh_page 0) ≡ 0
+form_fresh : form_said (fresh_page 0) ≡ 1
 unfolding form_said
 form_fresh = refl
 
@@ -51,7 +51,7 @@ module _ (shape : Shape) (bytes : List ℕ) (pages : HasPages shape (page_count 
   unfolding page_bytes
   has_page p less = pages p (omega (arith, some_pages shape))
 
-  front : IsSuper 0 (data_of shape bytes)
+  front : IsSuper 1 (data_of shape bytes)
   front =
       let here = has_page 0 (omega arith) in
       let next : next_page_said (page_bytes (data_of shape bytes) 0) ≡ 2 = ap next_page_said here ∙ page_fresh in
@@ -68,5 +68,5 @@ module _ (shape : Shape) (bytes : List ℕ) (pages : HasPages shape (page_count 
   unfolding table_of
   fresh_none =
       let here = has_page 1 (omega arith) in
-      let fresh = fresh_chain (data_of shape bytes) front (ap kind_said here ∙ kind_fresh) (ap level_said here ∙ level_fresh) (ap link_said here ∙ link_fresh) (ap count_said here ∙ count_fresh) in
+      let fresh = fresh_tree (data_of shape bytes) front (ap kind_said here ∙ kind_fresh) (ap level_said here ∙ level_fresh) (ap link_said here ∙ link_fresh) (ap count_said here ∙ count_fresh) in
       record { sound = fresh.0; none = ap (λ (pairs : List Pair). table_in (data_of shape bytes) pairs) fresh.1 }

@@ -5,7 +5,7 @@ use Rattle.std.specs.FinMap.{entries}
 use Rattle.std.specs.List.{flat_map}
 use Rattle.array_shape.specs.declared.shape.Shape.{Shape}
 use Rattle.eaw_face.specs.StoreView.{StoreView, LeavesOnly}
-use Rattle.key_list.specs.Index.{chain}
+use Rattle.page_store.specs.Index.{Index}
 use Rattle.history.specs.Rows as rows
 use Rattle.history.specs.declared.transaction.Done.{Done}
 use Rattle.history.specs.Legal.{records}
@@ -63,7 +63,7 @@ all_plain caller zero said = All-nil ArePlain
 all_plain caller (suc n) said = All-append ArePlain (planned None (calls_by caller said) ∷ []) (plans_from (suc caller) n said)
     (All-from_recursion ArePlain (planned None (calls_by caller said) ∷ []) (outside (calls_by caller said), tt)) (all_plain (suc caller) n said)
 
-module _ (tells : Bool) (Opens : Shape → List ℕ → List ℕ → Type 0) (old mid : StoreView) (core : CoreView) (begins : Begins tells (Opens old.shape) chain old mid core) where
+module _ (tells : Bool) (Opens : Shape → List ℕ → List ℕ → Type 0) (index : Index) (old mid : StoreView) (core : CoreView) (begins : Begins tells (Opens old.shape) index old mid core) where
   -- the core can be shared
   pub can_share : (callers : ℕ) → callers ≤ old.shape.numbers → (IsTrue tells → (image : List ℕ) → mid.left_since mid.moment image → Opens mid.shape image mid.state.bytes) → CanShare tells callers core
   can_share callers few only = record {
@@ -71,14 +71,14 @@ module _ (tells : Bool) (Opens : Shape → List ℕ → List ℕ → Type 0) (ol
     history = begins.fresh.0;
     live = begins.fresh.1;
     enough = subst (λ (l : Limits). callers ≤ l.callers) (sym (begins.over.limits ∙ ap limits_of begins.shape)) few;
-    sound = λ told. (stands tells Opens old mid core begins told (only told)).sound;
-    now = λ told image left. 
-        let has = (stands tells Opens old mid core begins told (only told)).safe image left in
+    sound = λ told. (stands tells Opens index old mid core begins told (only told)).sound;
+    now = λ told image left.
+        let has = (stands tells Opens index old mid core begins told (only told)).safe image left in
         record { count = has.count; at_least = omega arith; at_most = has.at_most; opens = has.opens };
   }
 
   -- memory was short before the work
-  pub untold : (new : StoreView) → IsTrue tells → new ≡ mid → Untaken Opens old fault.NoMemory false [] new
+  pub untold : (new : StoreView) → IsTrue tells → new ≡ mid → Untaken Opens index old fault.NoMemory false [] new
   untold new told same = record { whole = refl; silent = refl; cause = tt; time = subst (λ (v : StoreView). LeavesOnly (λ image. Opens old.shape image old.state.bytes) old v) (sym same) (begins.time told) }
 
 module _ (tells : Bool) (told : IsTrue tells) (core last : CoreView) (callers : ℕ) (input : List ℕ) (said : List Line) (says : AllSay callers (lines_of input) said)

@@ -5,6 +5,7 @@ pub mod FreshRecords
 pub mod Answering
 pub mod Acknowledged
 pub mod Shapes
+pub mod Forming
 pub mod Serving
 pub mod Joining
 pub mod Making

@@ -1,5 +1,5 @@
 -- A run over an array that was opened: its records were read, and its lines answered.
-use Rattle.std.proofs.Common.{◌≡◌, ℕ, ◌≤◌, false, inl, inr, ⊎_elim, List, [], Bool, refl, sym, ap, subst, ◌∙◌, arith}
+use Rattle.std.proofs.Common.{◌≡◌, ℕ, ◌≤◌, length, false, inl, inr, ⊎_elim, List, [], Bool, refl, sym, ap, subst, ◌∙◌, arith}
 use Rattle.std.specs.Prelude.{IsTrue, Err}
 use Rattle.pcm_media.specs.Images.{MayLeave}
 use Rattle.pcm_media.specs.View.{View}
@@ -11,7 +11,7 @@ use Rattle.row_bytes.proofs.OneShape.{one_shape}
 use Rattle.device_recovery.specs.Recovered.{HasNoVote}
 use Rattle.eaw_face.specs.StoreView.{StoreView, LeavesOnly}
 use Rattle.eaw_device.specs.Opens.{header_of, Opens, AllOpen, OpensLike, KeepsData, Attached, IsArray, HoldsArray, IsBehind}
-use Rattle.key_list.specs.Index.{chain}
+use Rattle.page_store.specs.Index.{Index}
 use Rattle.record_table.specs.Shown.{table_of}
 use Rattle.core_face.specs.State.{State}
 use Rattle.core_face.specs.Room.{Limits}
@@ -21,10 +21,13 @@ use Rattle.mars_core.specs.declared.fault.CoreFault.TheVariants as core
 use Rattle.script_io.specs.Written.{IsWritten}
 use Rattle.script_run.specs.declared.ended.Ended.{Ended}
 use Rattle.mars_shell.specs.Dump.{Dumps, dump_text}
+use Rattle.mars_shell.specs.Forms.{index_at, index_in}
 use Rattle.mars_shell.specs.Outcome.{Idle, OutcomeOf}
 use Rattle.mars_shell.specs.Run.{HoldsRecords, IsDamaged, begun_on, HasAll, TakesTurns}
-use Rattle.mars_shell.specs.Served.{Untaken, Served, Told}
+use Rattle.mars_shell.specs.PrefixLaw.{Recovers}
+use Rattle.mars_shell.specs.Served.{opens_of, Untaken, Served, Told}
 use Rattle.mars_shell.specs.Statuses.{served_status}
+use Rattle.mars_shell.proofs.Forming.{sound_says}
 use Rattle.mars_shell.proofs.Unopened.{first_like}
 
 module _ (tells : Bool) (told : IsTrue tells) (old : View) (only_now : (image : List ℕ) → IsTrue tells → old.left_since old.moment image → MayLeave old.content image)
@@ -52,8 +55,8 @@ module _ (tells : Bool) (told : IsTrue tells) (old : View) (only_now : (image : 
         subst (λ (s : Shape). Opens s image store.state.bytes) same opens,
       )
 
-  holds : chain.sound store.state.bytes → HoldsRecords store.shape old
-  holds sound = record { array = array; sound = subst (λ (b : List ℕ). chain.sound b) (attached.bytes told) sound }
+  holds : (index_at store.state.bytes).sound store.state.bytes → HoldsRecords store.shape old
+  holds sound = record { array = array; sound = subst (λ (b : List ℕ). (index_at b).sound b) (attached.bytes told) sound }
 
   module _ (later : StoreView) (new : View) (behind : IsBehind tells later new) where
     -- the records were read
@@ -70,7 +73,7 @@ module _ (tells : Bool) (told : IsTrue tells) (old : View) (only_now : (image : 
       cause = cause;
     }
 
-    module _ (fault : CoreFault) (cut : Bool) (text : List ℕ) (off : Untaken Opens store fault cut text later) where
+    module _ (fault : CoreFault) (cut : Bool) (text : List ℕ) (off : Untaken Opens (index_at store.state.bytes) store fault cut text later) where
       idle : (Cause : Type 0) → Cause → Idle (HoldsArray old) Cause old new cut text
       idle Cause cause = record {
         silent = subst (λ (c : Bool). IsWritten c text []) (sym off.whole) off.silent;
@@ -80,10 +83,10 @@ module _ (tells : Bool) (told : IsTrue tells) (old : View) (only_now : (image : 
       }
 
     -- they were not taken
-    pub untaken_outcome : (Works : Ended → Type 0) (fault : CoreFault) (cut : Bool) (text : List ℕ) → Untaken Opens store fault cut text later
+    pub untaken_outcome : (Works : Ended → Type 0) (fault : CoreFault) (cut : Bool) (text : List ℕ) → Untaken Opens (index_at store.state.bytes) store fault cut text later
         → OutcomeOf Works (IsDamaged old) (HoldsArray old) old (served_status (Err fault)) new cut text
     untaken_outcome Works (core.Damaged page) cut text off =
-        idle (core.Damaged page) cut text off (IsDamaged old page) (store.shape, array, subst (λ (b : List ℕ). chain.fails b page) (attached.bytes told) (off.cause refl))
+        idle (core.Damaged page) cut text off (IsDamaged old page) (store.shape, array, subst (λ (b : List ℕ). (index_at b).fails b page) (attached.bytes told) (off.cause refl))
     untaken_outcome Works core.Media cut text off = inl (idle core.Media cut text off _ (inr (store.shape, array)))
     untaken_outcome Works core.NoMemory cut text off = inr (inl (idle core.NoMemory cut text off _ (store.shape, array)))
 
@@ -91,32 +94,42 @@ module _ (tells : Bool) (told : IsTrue tells) (old : View) (only_now : (image : 
       left_now : (image : List ℕ) → MayLeave new.content image → later.left_since later.moment image
       left_now image left = subst (λ (t : ℕ). later.left_since t image) behind.moment (behind.left new.moment image (counts_now new.moment image told (omega arith) left))
 
-      module _ (Says : Limits → State → State → Type 0) (ended : Ended) (served : Served Says Opens store ended later) where
+      module _ (Says : Limits → State → State → Type 0) (ended : Ended) (served : Served Says Opens (index_at store.state.bytes) store ended later) where
+        recovers : (least : ℕ) (image : List ℕ) → opens_of Opens store.shape (index_at store.state.bytes) served.final least image → Recovers store.shape (index_in store.shape old) served.final least image
+        recovers least image has = subst (λ (b : List ℕ). Recovers store.shape (index_at b) served.final least image) (attached.bytes told) has
+
+        -- the data at the end says the index that it is sound under
+        own_all : HasAll (index_at store.state.bytes) later.state.bytes served.final → HasAll (index_at (data_of store.shape new.content.bytes)) (data_of store.shape new.content.bytes) served.final
+        own_all has =
+            let same : data_of store.shape new.content.bytes ≡ later.state.bytes = ap (λ (s : Shape). data_of s new.content.bytes) (sym served.shape) ∙ behind.bytes in
+            subst (λ (b : List ℕ). HasAll (index_at b) b served.final) (sym same)
+            (subst (λ (i : Index). HasAll i later.state.bytes served.final) (sym (sound_says store.state.bytes later.state.bytes has.sound)) has)
+
         -- callers took turns
         pub takes_turns : TakesTurns Says old ended new
         takes_turns = record {
           shape = store.shape;
           holds = holds served.sound;
           final = served.final;
-          base = served.base ∙ ap (table_of chain) (attached.bytes told);
-          says = subst (λ (b : List ℕ). Says (limits_of store.shape) (begun_on b) served.final) (attached.bytes told) served.says;
+          base = served.base ∙ ap (λ (b : List ℕ). table_of (index_at b) b) (attached.bytes told);
+          says = subst (λ (b : List ℕ). Says (limits_of store.shape) (begun_on (index_at b) b) served.final) (attached.bytes told) served.says;
           legal = served.legal;
           prefix_law = record {
-            now = λ image left. served.now image (left_now image left);
-            since = λ all image left. ⊎_elim (λ was. inl (at_entry store.shape all image was)) (λ anew. inr anew)
+            now = λ image left. recovers (length served.final.history) image (served.now image (left_now image left));
+            since = λ all image left. ⊎_elim (λ was. inl (at_entry store.shape all image was)) (λ anew. inr (recovers 0 image anew))
                 (served.since.only old.moment image (keeps told store.shape all).later (behind.left old.moment image left));
           };
           quiet = λ all. subst (λ (s : Shape). HasNoVote s new.content.bytes) served.shape (behind.quiet told (served.left all).0);
-          left = λ all. subst (λ (b : List ℕ). HasAll b served.final) (sym (ap (λ (s : Shape). data_of s new.content.bytes) (sym served.shape) ∙ behind.bytes)) (served.left all).1;
+          left = λ all. own_all (served.left all).1;
         }
 
       -- they were told
-      pub dumps : (ended : Ended) (cut : Bool) (text : List ℕ) → Told Opens store ended cut text later → Dumps old ended new cut text
+      pub dumps : (ended : Ended) (cut : Bool) (text : List ℕ) → Told Opens (index_at store.state.bytes) store ended cut text later → Dumps old ended new cut text
       dumps ended cut text said = record {
         shape = store.shape;
         holds = holds said.sound;
         end = said.end;
-        wrote = subst (λ (b : List ℕ). IsWritten cut text (dump_text (table_of chain b))) (attached.bytes told) said.wrote;
+        wrote = subst (λ (b : List ℕ). IsWritten cut text (dump_text (table_of (index_at b) b))) (attached.bytes told) said.wrote;
         quiet = subst (λ (s : Shape). HasNoVote s new.content.bytes) said.shape (behind.quiet told said.alive);
         now = λ image left. subst (λ (b : List ℕ). Opens store.shape image b) (attached.bytes told) (said.now image (left_now image left));
         since = λ all image left. looked said.time store.shape all image left;

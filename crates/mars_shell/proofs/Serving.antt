@@ -4,7 +4,7 @@ use Rattle.std.specs.Prelude.{IsTrue}
 use Rattle.counted.proofs.Going as going
 use Rattle.array_shape.specs.declared.shape.Shape.{Shape}
 use Rattle.eaw_face.specs.StoreView.{StoreView, LeavesOnly}
-use Rattle.key_list.specs.Index.{chain}
+use Rattle.page_store.specs.Index.{Index}
 use Rattle.record_table.specs.Does.{OpensWith}
 use Rattle.record_table.specs.Shown.{table_of, keys_of}
 use Rattle.history.specs.Legal.{records, with_doubt}
@@ -29,12 +29,12 @@ use Rattle.mars_shell.proofs.Acknowledged.{committed_kept}
 use Rattle.mars_shell.proofs.Shapes.{same_limits}
 
 -- the records were not taken
-pub untaken : (tells : Bool) (Opens : Shape → List ℕ → List ℕ → Type 0) (old new : StoreView) (fault : CoreFault) → IsTrue tells → CoreCause tells chain old fault
-    → GivesBack tells (Opens old.shape) (is_media_fault fault) old new → Untaken Opens old fault false [] new
-untaken tells Opens old new fault told cause back =
-    record { whole = refl; silent = refl; cause = subst (λ (b : Bool). CoreCause b chain old fault) told cause; time = back.time told }
+pub untaken : (tells : Bool) (Opens : Shape → List ℕ → List ℕ → Type 0) (index : Index) (old new : StoreView) (fault : CoreFault) → IsTrue tells → CoreCause tells index old fault
+    → GivesBack tells (Opens old.shape) (is_media_fault fault) old new → Untaken Opens index old fault false [] new
+untaken tells Opens index old new fault told cause back =
+    record { whole = refl; silent = refl; cause = subst (λ (b : Bool). CoreCause b index old fault) told cause; time = back.time told }
 
-module _ (tells : Bool) (Opens : Shape → List ℕ → List ℕ → Type 0) (old mid : StoreView) (core : CoreView) (begins : Begins tells (Opens old.shape) chain old mid core) where
+module _ (tells : Bool) (Opens : Shape → List ℕ → List ℕ → Type 0) (index : Index) (old mid : StoreView) (core : CoreView) (begins : Begins tells (Opens old.shape) index old mid core) where
   limits_are : core.limits ≡ limits_of old.shape
   limits_are = begins.over.limits ∙ ap limits_of begins.shape
 
@@ -43,11 +43,11 @@ module _ (tells : Bool) (Opens : Shape → List ℕ → List ℕ → Type 0) (ol
   ready callers is = record { callers_are = is ∙ sym (ap (λ (l : Limits). l.callers) limits_are); alive = begins.over.dead ∙ begins.alive }
 
   module _ (told : IsTrue tells) where
-    begun_is : core.state ≡ begun_on old.state.bytes
+    begun_is : core.state ≡ begun_on index old.state.bytes
     begun_is = begins.state told
 
     sound : IsSound core.state
-    sound = subst IsSound (sym begun_is) (opened_sound (table_of chain old.state.bytes) (index_of (keys_of chain old.state.bytes)))
+    sound = subst IsSound (sym begun_is) (opened_sound (table_of index old.state.bytes) (index_of (keys_of index old.state.bytes)))
 
     module _ (only : (image : List ℕ) → mid.left_since mid.moment image → Opens mid.shape image mid.state.bytes) where
       opens_base : (image : List ℕ) → core.left_since core.moment image → core.opens image core.state.base
@@ -69,7 +69,7 @@ module _ (tells : Bool) (Opens : Shape → List ℕ → List ℕ → Type 0) (ol
         safe = λ image left. record { count = 0; at_least = omega (arith, ap length begins.fresh.0); at_most = omega arith; opens = opens_base image left };
       }
 
-    module _ (new : StoreView) (later : CoreView) (over : IsOver tells (Opens new.shape) chain new later) where
+    module _ (new : StoreView) (later : CoreView) (over : IsOver tells (Opens new.shape) index new later) where
       -- the lines of a script were answered
       pub answers : (input : List ℕ) (ended : Ended) (cut : Bool) (text : List ℕ) → Ran call_script (Stands later) (Comes core later) (turns_of core) (lines_of input) ended cut text
           → Answers input ended cut text core.limits core.state later.state
@@ -89,21 +89,21 @@ module _ (tells : Bool) (Opens : Shape → List ℕ → List ℕ → Type 0) (ol
         shape : new.shape ≡ old.shape
         shape = same_limits new.shape mid.shape (sym over.limits ∙ on.limits ∙ begins.over.limits) ∙ begins.shape
 
-        base_is : later.state.base ≡ table_of chain old.state.bytes
+        base_is : later.state.base ≡ table_of index old.state.bytes
         base_is = on.base ∙ ap (λ (s : State). s.base) begun_is
 
         -- in the words of the store
-        opens_now : (more least : ℕ) (image : List ℕ) → least ≤ more → HasPrefixOf later.opens later.state more image → opens_of Opens old.shape later.state least image
+        opens_now : (more least : ℕ) (image : List ℕ) → least ≤ more → HasPrefixOf later.opens later.state more image → opens_of Opens old.shape index later.state least image
         opens_now more least image le has =
             let table = records later.state.base (take has.count (with_doubt later.state.history later.state.doubt)) in
             record {
               count = has.count;
               at_least = omega (arith, le, has.at_least);
               at_most = has.at_most;
-              opens = subst (λ (s : Shape). OpensWith (Opens s) chain image table) shape ((over.opens_to image table).1 has.opens);
+              opens = subst (λ (s : Shape). OpensWith (Opens s) index image table) shape ((over.opens_to image table).1 has.opens);
             }
 
-        turns_time : LeavesOnly (opens_of Opens old.shape later.state 0) mid new
+        turns_time : LeavesOnly (opens_of Opens old.shape index later.state 0) mid new
         turns_time = record {
           later = omega (arith, begins.over.moment, over.moment, on.time.later);
           keeps = λ t image le left. (over.left t image).1 (on.time.keeps t image (omega (arith, le, begins.over.moment)) ((begins.over.left t image).0 left));
@@ -111,7 +111,7 @@ module _ (tells : Bool) (Opens : Shape → List ℕ → List ℕ → Type 0) (ol
               (on.time.only t image (omega (arith, le, begins.over.moment)) ((over.left t image).0 left));
         }
 
-        base_opens : (image : List ℕ) → Opens old.shape image old.state.bytes → opens_of Opens old.shape later.state 0 image
+        base_opens : (image : List ℕ) → Opens old.shape image old.state.bytes → opens_of Opens old.shape index later.state 0 image
         base_opens image opens = record {
           count = 0;
           at_least = omega arith;
@@ -120,18 +120,18 @@ module _ (tells : Bool) (Opens : Shape → List ℕ → List ℕ → Type 0) (ol
         }
 
         -- of the turns that callers took this may be said
-        pub served : (Says : Limits → State → State → Type 0) (ended : Ended) → Says core.limits core.state later.state → (ended ≡ All → later.state.is_dead ≡ false) → Served Says Opens old ended new
+        pub served : (Says : Limits → State → State → Type 0) (ended : Ended) → Says core.limits core.state later.state → (ended ≡ All → later.state.is_dead ≡ false) → Served Says Opens index old ended new
         served Says ended said alive = record {
           sound = begins.sound told;
           shape = shape;
           final = later.state;
           base = base_is;
-          says = subst (λ (l : Limits). Says l (begun_on old.state.bytes) later.state) limits_are (subst (λ (s : State). Says core.limits s later.state) begun_is said);
+          says = subst (λ (l : Limits). Says l (begun_on index old.state.bytes) later.state) limits_are (subst (λ (s : State). Says core.limits s later.state) begun_is said);
           legal = on.sound.doubtful;
           since = going.then (going.weaker base_opens (begins.time told)) turns_time;
           now = λ image left. opens_now (length later.state.history) (length later.state.history) image (omega arith)
               (on.now image ((over.left later.moment image).0 (subst (λ (t : ℕ). new.left_since t image) (sym over.moment) left)));
           left = λ all.
               let living = sym over.dead ∙ alive all in
-              (living, record { sound = over.sound told living; table = over.table told living; index = over.keys told });
+              (living, record { sound = over.sound told living; table = over.table told living; keys = over.keys told });
         }

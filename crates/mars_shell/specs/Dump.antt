@@ -9,12 +9,12 @@ use Rattle.array_shape.specs.declared.shape.Shape.{Shape}
 use Rattle.array_image.specs.Decided.{settled_data}
 use Rattle.device_recovery.specs.Recovered.{HasNoVote}
 use Rattle.eaw_device.specs.Opens.{Opens, AllOpen, OpensLike}
-use Rattle.key_list.specs.Index.{chain}
 use Rattle.record_table.specs.Shown.{table_of}
 use Rattle.history.specs.Writes.{Table}
 use Rattle.script_io.specs.Written.{IsWritten}
 use Rattle.script_run.specs.declared.ended.Ended.{Ended}
 use Rattle.script_run.specs.declared.ended.Ended.TheVariants.{All, WriteFault}
+use Rattle.mars_shell.specs.Forms.{index_in}
 use Rattle.mars_shell.specs.Run.{HoldsRecords}
 
 -- a record's line
@@ -49,7 +49,7 @@ pub record Dumps (old : View) (ended : Ended) (new : View) (cut : Bool) (text : 
   pub shape : Shape
   pub holds : HoldsRecords shape old
   pub end : IsCutAt ended cut
-  pub wrote : IsWritten cut text (dump_text (table_of chain (settled_data shape old.content.bytes)))
+  pub wrote : IsWritten cut text (dump_text (table_of (index_in shape old) (settled_data shape old.content.bytes)))
   pub quiet : HasNoVote shape new.content.bytes
   pub now : (image : List ℕ) → MayLeave new.content image → Opens shape image (settled_data shape old.content.bytes)
   pub since : AllOpen shape old.content → (image : List ℕ) → new.left_since old.moment image → OpensLike shape old.content image

@@ -13,7 +13,7 @@ use Rattle.array_image.specs.Image.{data_of}
 use Rattle.array_image.specs.Standing.{SameCells}
 use Rattle.eaw_device.specs.Fresh.{IsFresh, IsHalfFresh}
 use Rattle.eaw_device.specs.Opens.{Opens}
-use Rattle.key_list.specs.Index.{chain}
+use Rattle.btree_pages.specs.Index.{tree}
 use Rattle.record_table.specs.Shown.{table_of}
 use Rattle.script_io.specs.Written.{IsWritten}
 use Rattle.command_words.specs.declared.words.FormatNumbers.{FormatNumbers}
@@ -63,10 +63,10 @@ pub record IsBegun (asked : FormatNumbers) (old new : View) : Type 0 where
   pub cells : SameCells shape old.content.bytes new.content.bytes
   pub since : (image : List ℕ) → new.left_since old.moment image → IsHalfFresh shape old.content image
 
--- the data has sound records, and none
+-- the data is a sound tree, of no records
 pub record HasNone (bytes : List ℕ) : Type 0 where
-  pub sound : chain.sound bytes
-  pub none : table_of chain bytes ≡ empty
+  pub sound : tree.sound bytes
+  pub none : table_of tree bytes ≡ empty
 
 -- The media holds a fresh array without records, and what a loss of power leaves opens with its data. The bytes of the media and of the
 -- data are told, or a front of that line where it was cut short.

@@ -20,7 +20,7 @@ use Rattle.script_io.specs.Lines.{lines_of}
 use Rattle.script_io.specs.Written.{IsWritten}
 use Rattle.script_text.specs.declared.line.Line.{Line}
 use Rattle.script_run.specs.declared.ended.Ended.{Ended}
-use Rattle.script_run.specs.declared.ended.Ended.TheVariants.{MediaFault, NoMemory} 
+use Rattle.script_run.specs.declared.ended.Ended.TheVariants.{MediaFault, NoMemory}
 use Rattle.mars_shell.specs.Dump.{IsCutAt}
 use Rattle.mars_shell.specs.Outcome.{OutcomeOf}
 use Rattle.mars_shell.specs.Run.{TakesTurns, IsDamaged}

@@ -7,7 +7,7 @@ use Rattle.array_image.specs.Image.{data_of}
 use Rattle.array_image.specs.Decided.{settled_data}
 use Rattle.device_recovery.specs.Recovered.{HasNoVote}
 use Rattle.eaw_device.specs.Opens.{IsArray}
-use Rattle.key_list.specs.Index.{chain}
+use Rattle.page_store.specs.Index.{Index}
 use Rattle.record_table.specs.Shown.{table_of, keys_of}
 use Rattle.history.specs.Legal.{IsLegal, records, with_doubt}
 use Rattle.history.specs.declared.call.Reply.TheVariants.{Committed}
@@ -19,27 +19,28 @@ use Rattle.script_run.specs.Transcript.{Answered}
 use Rattle.script_run.specs.declared.ended.Ended.{Ended}
 use Rattle.script_run.specs.declared.ended.Ended.TheVariants.{All}
 use Rattle.script_text.specs.Replies.{reply_line}
+use Rattle.mars_shell.specs.Forms.{index_at, index_in}
 use Rattle.mars_shell.specs.Lines.{call_script, turns_at}
 use Rattle.mars_shell.specs.PrefixLaw.{PrefixLaw}
 
--- the media holds an array whose records are sound
+-- the media holds an array whose records are sound, under the index that its data says
 pub record HoldsRecords (shape : Shape) (media : View) : Type 0 where
   pub array : IsArray shape media
-  pub sound : chain.sound (settled_data shape media.content.bytes)
+  pub sound : (index_in shape media).sound (settled_data shape media.content.bytes)
 
 -- or one of whose records this is the first page that is not
 abbrev pub IsDamaged : View → ℕ → Type 0
-IsDamaged media page = (shape : Shape) × IsArray shape media × chain.fails (settled_data shape media.content.bytes) page
+IsDamaged media page = (shape : Shape) × IsArray shape media × (index_in shape media).fails (settled_data shape media.content.bytes) page
 
--- the callers before the first line, over this data
-abbrev pub begun_on : List ℕ → State
-begun_on bytes = opened (table_of chain bytes) (index_of (keys_of chain bytes))
+-- the callers before the first line, over this data under an index
+abbrev pub begun_on : Index → List ℕ → State
+begun_on index bytes = opened (table_of index bytes) (index_of (keys_of index bytes))
 
--- the data has the records and the index of a state
-pub record HasAll (bytes : List ℕ) (state : State) : Type 0 where
-  pub sound : chain.sound bytes
-  pub table : table_of chain bytes ≡ records state.base state.history
-  pub index : state.index ≡ index_of (keys_of chain bytes)
+-- the data has the records and the keys of a state, under an index
+pub record HasAll (index : Index) (bytes : List ℕ) (state : State) : Type 0 where
+  pub sound : index.sound bytes
+  pub table : table_of index bytes ≡ records state.base state.history
+  pub keys : state.index ≡ index_of (keys_of index bytes)
 
 -- Callers took turns over an array whose records are sound. These are the base of each state. Says tells what was done and written, of the
 -- limits of the array, of the first state and of the last one. The history is legal on the base, also with the transaction in doubt, and it
@@ -48,12 +49,12 @@ pub record TakesTurns (Says : Limits → State → State → Type 0) (old : View
   pub shape : Shape
   pub holds : HoldsRecords shape old
   pub final : State
-  pub base : final.base ≡ table_of chain (settled_data shape old.content.bytes)
-  pub says : Says (limits_of shape) (begun_on (settled_data shape old.content.bytes)) final
+  pub base : final.base ≡ table_of (index_in shape old) (settled_data shape old.content.bytes)
+  pub says : Says (limits_of shape) (begun_on (index_in shape old) (settled_data shape old.content.bytes)) final
   pub legal : IsLegal final.base (with_doubt final.history final.doubt)
   pub prefix_law : PrefixLaw shape old final new
   pub quiet : ended ≡ All → HasNoVote shape new.content.bytes
-  pub left : ended ≡ All → HasAll (data_of shape new.content.bytes) final
+  pub left : ended ≡ All → HasAll (index_at (data_of shape new.content.bytes)) (data_of shape new.content.bytes) final
 
 -- The lines of the input were answered one by one. What was told as committed is kept: where an answer is the whole line
 -- `c committed n`, the history has at least n transactions.

@@ -1,10 +1,12 @@
 -- What is done over a store whose records are read first.
-use Rattle.std.specs.Prelude.{ℕ, ◌≡◌, List, [], length, Bool, true, false, Result, Ok, Err}
+use Rattle.std.specs.Prelude.{ℕ, ◌≡◌, List, [], length, Bool, true, false, IsTrue, Result, Ok, Err}
 use Rattle.counted.specs.Causes.{Rose}
 use Rattle.array_shape.specs.declared.shape.Shape.{Shape}
 use Rattle.eaw_face.specs.Causes.{IsAlive}
 use Rattle.eaw_face.specs.StoreView.{StoreView, LeavesOnly}
-use Rattle.key_list.specs.Index.{chain}
+use Rattle.record_slots.specs.Places.{page_bytes}
+use Rattle.record_slots.specs.Super.{form_said}
+use Rattle.page_store.specs.Index.{Index}
 use Rattle.record_table.specs.Does.{OpensWith}
 use Rattle.record_table.specs.Shown.{table_of}
 use Rattle.history.specs.Legal.{IsLegal, with_doubt}
@@ -22,46 +24,56 @@ use Rattle.script_run.specs.declared.ended.Ended.TheVariants.{All}
 use Rattle.mars_shell.specs.Dump.{dump_text, IsCutAt}
 use Rattle.mars_shell.specs.Run.{begun_on, HasAll}
 
--- how images of an array of this shape open with records
-abbrev pub opens_of : (Shape → List ℕ → List ℕ → Type 0) → Shape → State → ℕ → List ℕ → Type 0
-opens_of Opens shape final least image = HasPrefixOf (OpensWith (Opens shape) chain) final least image
+-- The super page of the store's data says this form. Nothing was written, and whatever a loss of power might have left meanwhile opens with that data.
+pub record SaysForm (tells : Bool) (Opens : List ℕ → List ℕ → Type 0) (form : ℕ) (old new : StoreView) : Type 0 where
+  pub is : IsTrue tells → form_said (page_bytes old.state.bytes 0) ≡ form
+  pub shape : new.shape ≡ old.shape
+  pub ranges : (t : ℕ) → new.ranges t ≡ old.ranges t
+  pub alive : IsAlive new
+  pub faults : new.faults ≡ old.faults
+  pub state : IsTrue tells → new.state ≡ old.state
+  pub time : IsTrue tells → LeavesOnly (λ image. Opens image old.state.bytes) old new
+
+-- how images of an array of this shape open with records, under an index
+abbrev pub opens_of : (Shape → List ℕ → List ℕ → Type 0) → Shape → Index → State → ℕ → List ℕ → Type 0
+opens_of Opens shape index final least image = HasPrefixOf (OpensWith (Opens shape) index) final least image
 
 -- The records were not taken: nothing was written, and whatever a loss of power might have left meanwhile opens with the store's data.
-pub record Untaken (Opens : Shape → List ℕ → List ℕ → Type 0) (old : StoreView) (fault : CoreFault) (cut : Bool) (text : List ℕ) (new : StoreView) : Type 0 where
+pub record Untaken (Opens : Shape → List ℕ → List ℕ → Type 0) (index : Index) (old : StoreView) (fault : CoreFault) (cut : Bool) (text : List ℕ) (new : StoreView) : Type 0 where
   pub whole : cut ≡ false
   pub silent : text ≡ []
-  pub cause : CoreCause true chain old fault
+  pub cause : CoreCause true index old fault
   pub time : LeavesOnly (λ image. Opens old.shape image old.state.bytes) old new
 
--- Callers took turns over the records of the store's data, which are sound: what is said of a run, in the words of stores.
-pub record Served (Says : Limits → State → State → Type 0) (Opens : Shape → List ℕ → List ℕ → Type 0) (old : StoreView) (ended : Ended) (new : StoreView) : Type 0 where
-  pub sound : chain.sound old.state.bytes
+-- Callers took turns over the records of the store's data, which are sound under an index: what is said of a run, in the words of stores.
+pub record Served (Says : Limits → State → State → Type 0) (Opens : Shape → List ℕ → List ℕ → Type 0) (index : Index) (old : StoreView) (ended : Ended) (new : StoreView) : Type 0 where
+  pub sound : index.sound old.state.bytes
   pub shape : new.shape ≡ old.shape
   pub final : State
-  pub base : final.base ≡ table_of chain old.state.bytes
-  pub says : Says (limits_of old.shape) (begun_on old.state.bytes) final
+  pub base : final.base ≡ table_of index old.state.bytes
+  pub says : Says (limits_of old.shape) (begun_on index old.state.bytes) final
   pub legal : IsLegal final.base (with_doubt final.history final.doubt)
-  pub since : LeavesOnly (opens_of Opens old.shape final 0) old new
-  pub now : (image : List ℕ) → new.left_since new.moment image → opens_of Opens old.shape final (length final.history) image
-  pub left : ended ≡ All → IsAlive new × HasAll new.state.bytes final
+  pub since : LeavesOnly (opens_of Opens old.shape index final 0) old new
+  pub now : (image : List ℕ) → new.left_since new.moment image → opens_of Opens old.shape index final (length final.history) image
+  pub left : ended ≡ All → IsAlive new × HasAll index new.state.bytes final
 
-abbrev pub Serves : (Ended → Limits → State → State → Type 0) → (Shape → List ℕ → List ℕ → Type 0) → StoreView → Result Ended CoreFault → Bool → List ℕ → StoreView → Type 0
-Serves Says Opens old (Ok ended) cut text new = Served (Says ended) Opens old ended new
-Serves Says Opens old (Err fault) cut text new = Untaken Opens old fault cut text new
+abbrev pub Serves : (Ended → Limits → State → State → Type 0) → (Shape → List ℕ → List ℕ → Type 0) → Index → StoreView → Result Ended CoreFault → Bool → List ℕ → StoreView → Type 0
+Serves Says Opens index old (Ok ended) cut text new = Served (Says ended) Opens index old ended new
+Serves Says Opens index old (Err fault) cut text new = Untaken Opens index old fault cut text new
 
--- The records of the store's data, which are sound, were told.
-pub record Told (Opens : Shape → List ℕ → List ℕ → Type 0) (old : StoreView) (ended : Ended) (cut : Bool) (text : List ℕ) (new : StoreView) : Type 0 where
-  pub sound : chain.sound old.state.bytes
+-- The records of the store's data, which are sound under an index, were told.
+pub record Told (Opens : Shape → List ℕ → List ℕ → Type 0) (index : Index) (old : StoreView) (ended : Ended) (cut : Bool) (text : List ℕ) (new : StoreView) : Type 0 where
+  pub sound : index.sound old.state.bytes
   pub shape : new.shape ≡ old.shape
   pub alive : IsAlive new
   pub end : IsCutAt ended cut
-  pub wrote : IsWritten cut text (dump_text (table_of chain old.state.bytes))
+  pub wrote : IsWritten cut text (dump_text (table_of index old.state.bytes))
   pub time : LeavesOnly (λ image. Opens old.shape image old.state.bytes) old new
   pub now : (image : List ℕ) → new.left_since new.moment image → Opens old.shape image old.state.bytes
 
-abbrev pub Tells : (Shape → List ℕ → List ℕ → Type 0) → StoreView → Result Ended CoreFault → Bool → List ℕ → StoreView → Type 0
-Tells Opens old (Ok ended) cut text new = Told Opens old ended cut text new
-Tells Opens old (Err fault) cut text new = Untaken Opens old fault cut text new
+abbrev pub Tells : (Shape → List ℕ → List ℕ → Type 0) → Index → StoreView → Result Ended CoreFault → Bool → List ℕ → StoreView → Type 0
+Tells Opens index old (Ok ended) cut text new = Told Opens index old ended cut text new
+Tells Opens index old (Err fault) cut text new = Untaken Opens index old fault cut text new
 
 -- the counts of faults of the sink and of the media
 abbrev pub ServedCounts : Result Ended CoreFault → ℕ → ℕ → ℕ → ℕ → Type 0

@@ -58,7 +58,6 @@ pub(crate) fn run_callers<
     if callers > store.shape().numbers {
         return (Status::Usage, store.into_media());
     }
-    let (worked, store) =
-        serve_jointly(rt, alloc, &input, callers, tries, sink, room, store, gate);
+    let (worked, store) = serve_jointly(rt, alloc, &input, callers, tries, sink, room, store, gate);
     (served_status(worked), store.into_media())
 }

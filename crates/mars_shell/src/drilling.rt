@@ -2,21 +2,23 @@
 ghost use Rattle.std.specs.Prelude.{◌≡◌, ◌<◌, ◌^◌, ℕ, List, None, IsTrue, IfOk, IfErr, OnOk};
 ghost use Rattle.eaw_face.specs.Causes.{IsAlive};
 ghost use Rattle.drill_gen.specs.Drill.{drill};
-ghost use Rattle.key_list.specs.Index.{chain};
 ghost use Rattle.mars_core.specs.Held.{core_of};
 ghost use Rattle.script_io.specs.Written.{Wrote};
 ghost use Rattle.script_run.specs.Answers.{HasStopCause};
 ghost use Rattle.command_words.specs.declared.words.Words.TheVariants.{Drill};
 ghost use Rattle.mars_shell.specs.Asked.{OutcomeFor};
 ghost use Rattle.mars_shell.specs.Drill.{Drills};
+ghost use Rattle.mars_shell.specs.Forms.{index_at};
 ghost use Rattle.mars_shell.specs.Made.{SummedUp, EndsEarly};
 ghost use Rattle.mars_shell.specs.Served.{Serves, ServedCounts};
 ghost use Rattle.mars_shell.specs.Statuses.{Counts, IsEarly, IsRefusal};
 
+use crate::forms::find_form;
 use crate::opening::open_array;
 use crate::status::{Status, served_status};
 use crate::summary::summary_text;
 use crate::turns::make_turns;
+use btree_pages::BTreePages;
 use command_words::DrillNumbers;
 use drill_gen::script;
 use eaw_face::EawStore;
@@ -24,8 +26,9 @@ use history::play;
 use key_list::KeyList;
 use mars_core::{Core, CoreFault};
 use outside::Sink;
-use page_store::SaveRoom;
+use page_store::{KeyIndex, SaveRoom};
 use pcm_media::Media;
+use record_table::Form;
 use script_io::{write_front, write_whole};
 use script_run::{Ended, Stop};
 use std::alloc::Global;
@@ -58,7 +61,7 @@ pub(crate) fn run_drill<K: Sink, M: Media>(
     (served_status(drilled), store.into_media())
 }
 
-// Makes the calls over the records of a store, tells a summary or that the media failed, and gives the store back.
+// Makes the calls over the records of a store, under the index that its data says, tells a summary or that the media failed, and gives the store back.
 fn drill<K: Sink, S: EawStore>(
     alloc: Global,
     numbers: &DrillNumbers,
@@ -70,12 +73,36 @@ fn drill<K: Sink, S: EawStore>(
     requires alive { IsAlive (S.view store) }
     requires free { (t : ℕ) → (S.view store).ranges t ≡ None }
     ensures served { Wrote K.tells (K.written sink.old) (K.written sink.new) (K.faults sink.old) (K.faults sink.new)
-        (λ cut text. IsTrue S.tells → Serves (λ ended. Drills numbers.now ended cut text) S.opens (S.view store) result.0 cut text (S.view result.1)) }
+        (λ cut text. IsTrue S.tells → Serves (λ ended. Drills numbers.now ended cut text) S.opens (index_at (S.view store).state.bytes) (S.view store) result.0 cut text (S.view result.1)) }
+    ensures untold { IfErr result.0 (λ fault. sink.new ≡ sink.old) }
+    ensures counts { ServedCounts result.0 (K.faults sink.old) (K.faults sink.new) (S.view store).faults (S.view result.1).faults }
+{
+    let mut store = store;
+    match find_form(&mut store) {
+        Ok(Form::Chain) => drill_under::<K, S, KeyList>(alloc, numbers, sink, room, store),
+        Ok(Form::Tree) => drill_under::<K, S, BTreePages>(alloc, numbers, sink, room, store),
+        Err(fault) => (Err(fault), store),
+    }
+}
+
+// The same under an index.
+fn drill_under<K: Sink, S: EawStore, I: KeyIndex>(
+    alloc: Global,
+    numbers: &DrillNumbers,
+    sink: &mut K,
+    room: SaveRoom,
+    store: S,
+) -> (Result<Ended, CoreFault>, S)
+    requires seed { numbers.now.seed < 2 ^ 31 }
+    requires alive { IsAlive (S.view store) }
+    requires free { (t : ℕ) → (S.view store).ranges t ≡ None }
+    ensures served { Wrote K.tells (K.written sink.old) (K.written sink.new) (K.faults sink.old) (K.faults sink.new)
+        (λ cut text. IsTrue S.tells → Serves (λ ended. Drills numbers.now ended cut text) S.opens I.index (S.view store) result.0 cut text (S.view result.1)) }
     ensures untold { IfErr result.0 (λ fault. sink.new ≡ sink.old) }
     ensures counts { ServedCounts result.0 (K.faults sink.old) (K.faults sink.new) (S.view store).faults (S.view result.1).faults }
 {
     let callers = store.shape().numbers;
-    let mut core = match Core::<S, KeyList>::attach(alloc, room, store) {
+    let mut core = match Core::<S, I>::attach(alloc, room, store) {
         Ok(core) => core,
         Err((fault, store)) => return (Err(fault), store),
     };
@@ -98,19 +125,19 @@ fn drill<K: Sink, S: EawStore>(
 }
 
 // Makes the calls on a core, and forms the summary. An error says why there is none.
-fn sum_up<S: EawStore>(
+fn sum_up<S: EawStore, I: KeyIndex>(
     alloc: Global,
     numbers: &DrillNumbers,
     callers: u8,
-    core: &mut Core<S, KeyList>,
+    core: &mut Core<S, I>,
 ) -> Result<Vec<u8>, Stop>
     requires seed { numbers.now.seed < 2 ^ 31 }
     requires callers { callers ≡ (S.view core.old.records.store).shape.numbers }
     requires alive { IsAlive (S.view core.old.records.store) }
-    ensures summed { IfOk result (λ text. SummedUp S.tells numbers.now (core_of S.opens chain (S.view core.old.records.store) core.old)
-        (drill numbers.now.seed numbers.now.count callers) text.items (core_of S.opens chain (S.view core.new.records.store) core.new)) }
-    ensures early { IfErr result (λ stop. EndsEarly S.tells (core_of S.opens chain (S.view core.old.records.store) core.old)
-        (drill numbers.now.seed numbers.now.count callers) stop (core_of S.opens chain (S.view core.new.records.store) core.new)) }
+    ensures summed { IfOk result (λ text. SummedUp S.tells numbers.now (core_of S.opens I.index (S.view core.old.records.store) core.old)
+        (drill numbers.now.seed numbers.now.count callers) text.items (core_of S.opens I.index (S.view core.new.records.store) core.new)) }
+    ensures early { IfErr result (λ stop. EndsEarly S.tells (core_of S.opens I.index (S.view core.old.records.store) core.old)
+        (drill numbers.now.seed numbers.now.count callers) stop (core_of S.opens I.index (S.view core.new.records.store) core.new)) }
     ensures alive { OnOk result (IsAlive (S.view core.new.records.store)) }
     ensures cause { HasStopCause (S.view core.old.records.store).faults (S.view core.new.records.store).faults result }
 {

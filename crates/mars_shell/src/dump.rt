@@ -5,12 +5,15 @@ ghost use Rattle.script_io.specs.Written.{Wrote};
 ghost use Rattle.command_words.specs.declared.words.Words.TheVariants.{Dump};
 ghost use Rattle.mars_shell.specs.Asked.{OutcomeFor};
 ghost use Rattle.mars_shell.specs.Dump.{rec_line, dump_lines};
+ghost use Rattle.mars_shell.specs.Forms.{index_at};
 ghost use Rattle.mars_shell.specs.Served.{Tells, ServedCounts};
 ghost use Rattle.mars_shell.specs.Statuses.{Counts, IsEarly, IsRefusal};
 
+use crate::forms::find_form;
 use crate::number_line::append_number;
 use crate::opening::open_array;
 use crate::status::{Status, served_status};
+use btree_pages::BTreePages;
 use counted::NoMemory;
 use eaw_face::EawStore;
 use history::Rows;
@@ -18,9 +21,10 @@ use itoa::Buffer;
 use key_list::KeyList;
 use mars_core::{Core, CoreFault};
 use outside::Sink;
-use page_store::SaveRoom;
+use page_store::{KeyIndex, SaveRoom};
 use pcm_media::Media;
 use record_slots::Value;
+use record_table::Form;
 use script_io::write_whole;
 use script_run::Ended;
 use std::alloc::Global;
@@ -49,7 +53,7 @@ pub(crate) fn run_dump<K: Sink, M: Media>(alloc: Global, sink: &mut K, media: M)
     (served_status(told), store.into_media())
 }
 
-// Tells the records of a store in one piece, which is formed before any of it is written, and gives the store back.
+// Tells the records of a store, under the index that its data says, and gives the store back.
 fn tell_records<K: Sink, S: EawStore>(
     alloc: Global,
     sink: &mut K,
@@ -59,12 +63,35 @@ fn tell_records<K: Sink, S: EawStore>(
     requires alive { IsAlive (S.view store) }
     requires free { (t : ℕ) → (S.view store).ranges t ≡ None }
     ensures told { Wrote K.tells (K.written sink.old) (K.written sink.new) (K.faults sink.old) (K.faults sink.new)
-        (λ cut text. IsTrue S.tells → Tells S.opens (S.view store) result.0 cut text (S.view result.1)) }
+        (λ cut text. IsTrue S.tells → Tells S.opens (index_at (S.view store).state.bytes) (S.view store) result.0 cut text (S.view result.1)) }
     ensures untold { IfErr result.0 (λ fault. sink.new ≡ sink.old) }
     ensures end { IfOk result.0 (λ ended. (ended ≡ Ended.All) ⊎ (ended ≡ Ended.WriteFault)) }
     ensures counts { ServedCounts result.0 (K.faults sink.old) (K.faults sink.new) (S.view store).faults (S.view result.1).faults }
 {
-    let core = match Core::<S, KeyList>::attach(alloc, room, store) {
+    let mut store = store;
+    match find_form(&mut store) {
+        Ok(Form::Chain) => tell_under::<K, S, KeyList>(alloc, sink, room, store),
+        Ok(Form::Tree) => tell_under::<K, S, BTreePages>(alloc, sink, room, store),
+        Err(fault) => (Err(fault), store),
+    }
+}
+
+// The same under an index. The text is formed whole before any of it is written.
+fn tell_under<K: Sink, S: EawStore, I: KeyIndex>(
+    alloc: Global,
+    sink: &mut K,
+    room: SaveRoom,
+    store: S,
+) -> (Result<Ended, CoreFault>, S)
+    requires alive { IsAlive (S.view store) }
+    requires free { (t : ℕ) → (S.view store).ranges t ≡ None }
+    ensures told { Wrote K.tells (K.written sink.old) (K.written sink.new) (K.faults sink.old) (K.faults sink.new)
+        (λ cut text. IsTrue S.tells → Tells S.opens I.index (S.view store) result.0 cut text (S.view result.1)) }
+    ensures untold { IfErr result.0 (λ fault. sink.new ≡ sink.old) }
+    ensures end { IfOk result.0 (λ ended. (ended ≡ Ended.All) ⊎ (ended ≡ Ended.WriteFault)) }
+    ensures counts { ServedCounts result.0 (K.faults sink.old) (K.faults sink.new) (S.view store).faults (S.view result.1).faults }
+{
+    let core = match Core::<S, I>::attach(alloc, room, store) {
         Ok(core) => core,
         Err((fault, store)) => return (Err(fault), store),
     };

@@ -7,19 +7,23 @@ ghost use Rattle.history.specs.Legal.{records};
 ghost use Rattle.history_text.specs.Text.{done_lines, work_text, all_fate_lines};
 ghost use Rattle.script_io.specs.Written.{IsWritten, Wrote};
 ghost use Rattle.history.specs.Rows.{table_of};
+ghost use Rattle.mars_shell.specs.Forms.{index_at};
 ghost use Rattle.mars_shell.specs.Joint.{media_line, TellsWork, IsBrokenOff, JointWork};
 ghost use Rattle.mars_shell.specs.Served.{Serves, ServedCounts};
 
+use crate::forms::find_form;
+use btree_pages::BTreePages;
 use caller_plans::{LineFault, Script, read_script};
 use caller_work::{Fates, Gate, WorkEnd, work};
 use counted::NoMemory;
 use eaw_face::EawStore;
 use history::{History, Rows, play};
-use history_text::{write_faults, write_fates, write_history, write_records};
+use history_text::{write_fates, write_faults, write_history, write_records};
 use key_list::KeyList;
 use mars_core::{Core, CoreFault};
 use outside::Sink;
-use page_store::SaveRoom;
+use page_store::{KeyIndex, SaveRoom};
+use record_table::Form;
 use script_io::{write_front, write_whole};
 use script_run::Ended;
 use std::alloc::Global;
@@ -28,8 +32,8 @@ use std::thread::Threads;
 
 const MEDIA_LINE: &[u8] = b"media fault\n";
 
-/// Gives the transactions of each caller in the input to a worker of its own, over the records of a store, tells what came of them, and
-/// gives the store back. Where the records were not taken, or memory was short before the work, nothing was told.
+/// Gives the transactions of each caller in the input to a worker of its own, over the records of a store, under the
+/// index that its data says, tells what came of them, and gives the store back. Where the records were not taken, or memory was short before the work, nothing was told.
 pub fn serve_jointly<R: Threads + Wait + Sync, K: Sink, S: EawStore + Drop + Send, G: Gate + Sync>(
     rt: &R,
     alloc: Global,
@@ -47,7 +51,47 @@ pub fn serve_jointly<R: Threads + Wait + Sync, K: Sink, S: EawStore + Drop + Sen
     requires enough { callers ≤ (S.view store).shape.numbers }
     requires tries { 1 ≤ tries }
     ensures joined { Wrote K.tells (K.written sink.old) (K.written sink.new) (K.faults sink.old) (K.faults sink.new)
-        (λ cut text. IsTrue S.tells → Serves (λ ended. JointWork callers input.now ended cut text) S.opens (S.view store) result.0 cut text (S.view result.1)) }
+        (λ cut text. IsTrue S.tells → Serves (λ ended. JointWork callers input.now ended cut text) S.opens (index_at (S.view store).state.bytes) (S.view store) result.0 cut text (S.view result.1)) }
+    ensures untold { IfErr result.0 (λ fault. sink.new ≡ sink.old) }
+    ensures counts { ServedCounts result.0 (K.faults sink.old) (K.faults sink.new) (S.view store).faults (S.view result.1).faults }
+{
+    let mut store = store;
+    match find_form(&mut store) {
+        Ok(Form::Chain) => work_under::<R, K, S, KeyList, G>(
+            rt, alloc, input, callers, tries, sink, room, store, gate,
+        ),
+        Ok(Form::Tree) => work_under::<R, K, S, BTreePages, G>(
+            rt, alloc, input, callers, tries, sink, room, store, gate,
+        ),
+        Err(fault) => (Err(fault), store),
+    }
+}
+
+// The same under an index.
+fn work_under<
+    R: Threads + Wait + Sync,
+    K: Sink,
+    S: EawStore + Drop + Send,
+    I: KeyIndex + Send,
+    G: Gate + Sync,
+>(
+    rt: &R,
+    alloc: Global,
+    input: &[u8],
+    callers: u8,
+    tries: u32,
+    sink: &mut K,
+    room: SaveRoom,
+    store: S,
+    gate: &G,
+) -> (Result<Ended, CoreFault>, S)
+    requires alive { IsAlive (S.view store) }
+    requires free { (t : ℕ) → (S.view store).ranges t ≡ None }
+    requires some { 0 < callers }
+    requires enough { callers ≤ (S.view store).shape.numbers }
+    requires tries { 1 ≤ tries }
+    ensures joined { Wrote K.tells (K.written sink.old) (K.written sink.new) (K.faults sink.old) (K.faults sink.new)
+        (λ cut text. IsTrue S.tells → Serves (λ ended. JointWork callers input.now ended cut text) S.opens I.index (S.view store) result.0 cut text (S.view result.1)) }
     ensures untold { IfErr result.0 (λ fault. sink.new ≡ sink.old) }
     ensures counts { ServedCounts result.0 (K.faults sink.old) (K.faults sink.new) (S.view store).faults (S.view result.1).faults }
 {
@@ -55,13 +99,21 @@ pub fn serve_jointly<R: Threads + Wait + Sync, K: Sink, S: EawStore + Drop + Sen
         return (Err(CoreFault::NoMemory), store);
     };
     let Script { faults, plans } = script;
-    let core = match Core::<S, KeyList>::attach(alloc, room, store) {
+    let core = match Core::<S, I>::attach(alloc, room, store) {
         Ok(core) => core,
         Err((fault, store)) => return (Err(fault), store),
     };
     match work(rt, alloc, core, plans, u64::from(tries), gate) {
         Ok((core, fates, end)) => {
-            let ended = tell_end(alloc, sink, faults.items(), core.history(), core.base(), &fates, end);
+            let ended = tell_end(
+                alloc,
+                sink,
+                faults.items(),
+                core.history(),
+                core.base(),
+                &fates,
+                end,
+            );
             (Ok(ended), core.into_store())
         }
         Err((NoMemory, core)) => (Err(CoreFault::NoMemory), core.into_store()),

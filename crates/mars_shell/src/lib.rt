@@ -7,6 +7,7 @@ mod drilling;
 mod dump;
 mod fault;
 mod formatting;
+mod forms;
 mod joint;
 mod lines;
 mod media_room;
@@ -20,8 +21,8 @@ mod tally;
 mod turns;
 mod whole;
 
-pub use fault::fault_text;
 pub use caller_work::{Gate, OpenGate, Place};
+pub use fault::fault_text;
 pub use media_room::room;
 pub use status::Status;
 pub use whole::run;

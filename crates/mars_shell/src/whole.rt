@@ -34,14 +34,7 @@ pub fn run<
     K: Sink,
     M: Media + Drop + Send,
     G: Gate + Sync,
->(
-    rt: &R,
-    words: &[String],
-    source: &mut S,
-    sink: &mut K,
-    media: M,
-    gate: &G,
-) -> (Status, M)
+>(rt: &R, words: &[String], source: &mut S, sink: &mut K, media: M, gate: &G) -> (Status, M)
     // Usage comes exactly where the words ask for nothing, or for more callers than the array has numbers (`ran`).
     ensures words { WordsSay (map string_bytes words.now) result.0 (Unit {0}) (λ asked. Unit {0}) }
     // Other words touch nothing, what ends the run before the media is opened leaves that alone, and where no line is answered

@@ -12,3 +12,4 @@ pub mod Putting
 pub mod RowsOf
 pub mod Gathering
 pub mod Holding
+pub mod Fronts

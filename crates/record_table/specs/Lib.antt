@@ -8,3 +8,4 @@ pub mod Attached
 pub mod Sought
 pub mod Faults
 pub mod Scanned
+pub mod Form

@@ -2,10 +2,12 @@
 #![tactic(auto)]
 
 mod fault;
+mod form;
 mod records;
 mod scanning;
 mod slots;
 mod told;
 
 pub use fault::{AttachRecords, TableFault};
+pub use form::{Form, form_of};
 pub use records::Records;

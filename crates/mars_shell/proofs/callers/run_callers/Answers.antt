@@ -54,9 +54,10 @@ returns-then-callers-shape-clause-ran g c =
         c.in-Ok-open.opened.0.items,
         c.in-Ok-open.ensures.read,
         λ told.
-            let attached = c.in-Ok-open.ensures.attached in
-            (left_alone media.tells told old (met.only_now c.args.media) _ attached c.in-Ok-open.ensures.keeps _ new c.into_media.ensures _ refl tt,
-            λ is. (_, array media.tells told old (met.only_now c.args.media) _ attached c.in-Ok-open.ensures.keeps, omega (arith, c.if-callers-shape.true, ap (λ s. s.numbers) c.shape.ensures))),
+            let attached = c.in-Ok-open.ensures.attached in (
+              left_alone media.tells told old (met.only_now c.args.media) _ attached c.in-Ok-open.ensures.keeps _ new c.into_media.ensures _ refl tt,
+              λ is. (_, array media.tells told old (met.only_now c.args.media) _ attached c.in-Ok-open.ensures.keeps, omega (arith, c.if-callers-shape.true, ap (λ s. s.numbers) c.shape.ensures)),
+            ),
       );
     }
 
@@ -77,8 +78,10 @@ returns-clause-ran g c =
         input,
         c.in-Ok-open.ensures.read,
         λ told.
-            subst (λ (s : Status). JointOutcome c.args.callers old s new input said.cut said.text) (sym c.served_status.ensures)
-            (turns_outcome media.tells told old (met.only_now c.args.media) _ c.in-Ok-open.ensures.attached c.in-Ok-open.ensures.keeps _ new c.into_media-2.ensures (met.counts_now c.into_media-2.result)
-            (λ ended. JointWork c.args.callers input ended said.cut said.text) c.serve_jointly-worked.result.0 said.cut said.text (rw c.deref.ensures.value at (said.holds told)), λ is. absurd (never_usage c.serve_jointly-worked.result.0 is)),
+            subst (λ (s : Status). JointOutcome c.args.callers old s new input said.cut said.text) (sym c.served_status.ensures) (
+              turns_outcome media.tells told old (met.only_now c.args.media) _ c.in-Ok-open.ensures.attached c.in-Ok-open.ensures.keeps _ new c.into_media-2.ensures (met.counts_now c.into_media-2.result)
+                  (λ ended. JointWork c.args.callers input ended said.cut said.text) c.serve_jointly-worked.result.0 said.cut said.text (rw c.deref.ensures.value at (said.holds told)),
+              λ is. absurd (never_usage c.serve_jointly-worked.result.0 is),
+            ),
       );
     }

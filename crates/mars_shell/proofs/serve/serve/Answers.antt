@@ -1,32 +1,37 @@
-use Rattle.std.proofs.Common.{sym, subst}
-use Rattle.key_list.specs.Index.{chain}
-use Rattle.mars_core.specs.Held.{core_of}
-use Rattle.mars_core.specs.Over.{IsOver}
+use Rattle.std.proofs.Common.{subst}
 use Rattle.mars_shell.specs.Run.{Answers}
-use Rattle.mars_shell.specs.Served.{Served}
-use Rattle.mars_shell.proofs.Serving.{stands, answers, served}
+use Rattle.record_table.specs.Form.{form_number}
+use Rattle.record_table.specs.declared.form.Form.{Form}
+use Rattle.mars_shell.specs.Served.{SaysForm}
+use Rattle.mars_shell.proofs.Forming.{serves_on}
 use Rattle.mars_shell.proofs.serve.serve.Goals as goal
 
-pub returns-clause-served : goal.returns-clause-served
-returns-clause-served g c =
+pub returns-in-Ok-Chain-clause-served : goal.returns-in-Ok-Chain-clause-served
+returns-in-Ok-Chain-clause-served g c =
     let s = g.S.EawStore in
-    let store = c.in-Ok.core.records.store in
-    let begins = c.in-Ok.ensures.begins in
-    let ran = c.answer_lines-ended.ensures.ran in
-    let core = c.answer_lines-ended.new.responder.core in
-    let over = subst (λ st. IsOver s.tells (s.opens (s.view st).shape) chain (s.view st) (core_of s.opens chain (s.view st) core)) c.into_store.ensures.store c.into_store.ensures.over in
+    let old = s.view c.args.store in
+    let mid = s.view c.find_form.new.store in
+    let said = c.serve_under.ensures.served in
+    let form = subst (λ (f : Form). SaysForm s.tells (s.opens old.shape) (form_number f) old mid) c.in-Ok-Chain.field-0-is c.in-Ok-Chain.ensures.says in
     record {
-      cut = ran.cut;
-      text = ran.text;
-      wrote = ran.wrote;
-      counts = ran.counts;
-      holds = λ told.
-          let begun = stands s.tells s.opens (s.view c.args.store) (s.view store) _ begins told (λ image left. g.met.S.EawStore.only_now store image told begins.alive left) in
-          let lines = ran.holds told _ begun in
-          let input = c.args.input.now in
-          let ended = c.answer_lines-ended.result in
-          subst (λ st. Served (Answers input ended ran.cut ran.text) s.opens (s.view c.args.store) ended (s.view st)) (sym c.into_store.ensures.store)
-          (served s.tells s.opens (s.view c.args.store) (s.view store) _ begins told (s.view core.records.store) _ over lines.comes.1 (Answers input ended ran.cut ran.text) ended
-          (answers s.tells s.opens (s.view c.args.store) (s.view store) _ begins told (s.view core.records.store) _ over input ended ran.cut ran.text lines)
-          (λ all. (c.answer_lines-ended.ensures.ready all).alive));
+      cut = said.cut;
+      text = said.text;
+      wrote = said.wrote;
+      counts = said.counts;
+      holds = λ told. serves_on s.tells told s.opens 0 old mid form (s.view c.serve_under.result.1) (λ ended. Answers c.args.input.now ended said.cut said.text) c.serve_under.result.0 said.cut said.text (said.holds told);
+    }
+
+pub returns-in-Ok-Tree-clause-served : goal.returns-in-Ok-Tree-clause-served
+returns-in-Ok-Tree-clause-served g c =
+    let s = g.S.EawStore in
+    let old = s.view c.args.store in
+    let mid = s.view c.find_form.new.store in
+    let said = c.serve_under-in-Ok-Tree.ensures.served in
+    let form = subst (λ (f : Form). SaysForm s.tells (s.opens old.shape) (form_number f) old mid) c.in-Ok-Tree.field-0-is c.in-Ok-Tree.ensures.says in
+    record {
+      cut = said.cut;
+      text = said.text;
+      wrote = said.wrote;
+      counts = said.counts;
+      holds = λ told. serves_on s.tells told s.opens 1 old mid form (s.view c.serve_under-in-Ok-Tree.result.1) (λ ended. Answers c.args.input.now ended said.cut said.text) c.serve_under-in-Ok-Tree.result.0 said.cut said.text (said.holds told);
     }

@@ -1,0 +1,73 @@
+use Rattle.std.proofs.Common.{All, ◌≤◌, ◌≡◌, ℕ, [], false, length, refl, sym, subst, ap, ◌∙◌, arith}
+use Rattle.std.proofs.lemmas.List.{append-nil}
+use Rattle.mars_core.specs.Held.{core_of}
+use Rattle.mars_core.specs.Over.{IsOver, limits_of}
+use Rattle.mars_manager.specs.Sharing.{CanShare}
+use Rattle.mars_shell.specs.Joint.{JointWork}
+use Rattle.mars_shell.specs.Served.{Served}
+use Rattle.caller_work.specs.Fates.{ArePlain}
+use Rattle.mars_shell.proofs.Joining.{as_many, all_plain, can_share, untold, retold, joint_work, living, unbroken}
+use Rattle.mars_shell.proofs.Serving.{served}
+use Rattle.mars_shell.proofs.joint.work_under.Goals as goal
+
+pub work-requires-clause-few : goal.work-requires-clause-few
+work-requires-clause-few g c κs within =
+    let read = c.in-Ok.ensures in
+    let counted : length c.in-Ok.script.plans.items ≡ c.args.callers = ap length read.3 ∙ as_many 0 c.args.callers read.0 in
+    omega (arith, counted, c.ranges.callers.fits)
+
+pub work-requires-clause-plain : goal.work-requires-clause-plain
+work-requires-clause-plain g c κs within =
+    let read = c.in-Ok.ensures in
+    subst (All ArePlain) (sym read.3) (all_plain 0 c.args.callers read.0)
+
+pub work-requires-clause-ready : goal.work-requires-clause-ready
+work-requires-clause-ready g c κs within =
+    let s = g.S.EawStore in
+    let read = c.in-Ok.ensures in
+    let store = c.in-Ok-attach.core.records.store in
+    let begins = c.in-Ok-attach.ensures.begins in
+    subst (λ (n : ℕ). CanShare s.tells n (core_of s.opens g.I.KeyIndex.index (s.view store) c.in-Ok-attach.core)) (sym (ap length read.3 ∙ as_many 0 c.args.callers read.0))
+    (can_share s.tells s.opens g.I.KeyIndex.index (s.view c.args.store) (s.view store) _ begins c.args.callers c.requires.enough (λ told image left. (g.met.S.EawStore g.world.𝓛 g.world.𝓜 g.world.𝓡 ((λ s x. x), (λ x. x), (λ x. x), λ x. x)).only_now store image told begins.alive left))
+
+pub tell_end-ended-requires : goal.tell_end-ended-requires
+tell_end-ended-requires g c =
+    let read = c.in-Ok.ensures in
+    let counted : length c.deref.result.now ≡ c.args.callers = ap length c.deref.ensures.value ∙ c.in-Ok-work.ensures.worked.each ∙ ap length read.3 ∙ as_many 0 c.args.callers read.0 in
+    record { few = omega (arith, counted, c.ranges.callers.fits) }
+
+pub returns-in-Ok-work-clause-joined : goal.returns-in-Ok-work-clause-joined
+returns-in-Ok-work-clause-joined g c =
+    let s = g.S.EawStore in
+    let read = c.in-Ok.ensures in
+    let store = c.in-Ok-attach.core.records.store in
+    let begins = c.in-Ok-attach.ensures.begins in
+    let core = c.in-Ok-work.core in
+    let over = subst (λ st. IsOver s.tells (s.opens (s.view st).shape) g.I.KeyIndex.index (s.view st) (core_of s.opens g.I.KeyIndex.index (s.view st) core)) c.into_store.ensures.store c.into_store.ensures.over in
+    let told = c.tell_end-ended.ensures.told in
+    let worked = c.in-Ok-work.ensures.worked in
+    let enough = subst (λ l. c.args.callers ≤ l.callers) (sym (begins.over.limits ∙ ap limits_of begins.shape)) c.requires.enough in
+    record {
+      cut = told.cut;
+      text = told.text;
+      wrote = told.wrote;
+      counts = told.counts;
+      holds = λ tells. subst (λ st. Served (JointWork c.args.callers c.args.input.now c.tell_end-ended.result told.cut told.text) s.opens g.I.KeyIndex.index (s.view c.args.store) c.tell_end-ended.result (s.view st)) (sym c.into_store.ensures.store)
+          (served s.tells s.opens g.I.KeyIndex.index (s.view c.args.store) (s.view store) _ begins tells (s.view core.records.store) _ over (worked.since.continues tells) (JointWork c.args.callers c.args.input.now c.tell_end-ended.result told.cut told.text) c.tell_end-ended.result
+          (joint_work s.tells tells _ _ c.args.callers c.args.input.now read.0 read.1 c.in-Ok.script.plans.items read.3 c.in-Ok-work.fates.items c.in-Ok-work.end worked enough
+          c.tell_end-ended.result told.cut told.text c.tell_end-ended.ensures.whole
+          (retold c.tell_end-ended.result told.cut told.text _ _ _ _ _ _ _ _ (c.items.ensures ∙ read.2) c.history.ensures c.base.ensures.base c.deref.ensures.value told.holds))
+          (λ all. living s.tells tells _ _ c.args.callers c.args.input.now read.0 read.1 c.in-Ok.script.plans.items read.3 c.in-Ok-work.fates.items c.in-Ok-work.end worked enough (c.tell_end-ended.ensures.whole (unbroken c.tell_end-ended.result all))));
+    }
+
+pub returns-clause-joined : goal.returns-clause-joined
+returns-clause-joined g c =
+    let s = g.S.EawStore in
+    record {
+      cut = false;
+      text = [];
+      wrote = λ _. sym (append-nil _);
+      counts = refl;
+      holds = λ tells. untold s.tells s.opens g.I.KeyIndex.index (s.view c.args.store) (s.view c.in-Ok-attach.core.records.store) _ c.in-Ok-attach.ensures.begins _ tells
+          (ap s.view (c.into_store-in-Err-work.ensures.store ∙ ap (λ core. core.records.store) c.in-Err-work.ensures.given_back));
+    }

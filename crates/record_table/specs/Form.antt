@@ -1,0 +1,37 @@
+-- Which index data has, and how that is found.
+use Rattle.std.specs.Prelude.{ℕ, ◌≡◌, Bool, true, false, IsTrue, IsFalse, List, Result, Ok, Err}
+use Rattle.counted.specs.Causes.{Rose}
+use Rattle.eaw_face.specs.StoreView.{StoreView, LeavesOnly}
+use Rattle.eaw_face.specs.Causes.{IsAlive}
+use Rattle.page_store.specs.Looks.{IsStill}
+use Rattle.record_slots.specs.Places.{IsSuper}
+use Rattle.record_table.specs.declared.fault.AttachRecords.{AttachRecords}
+use Rattle.record_table.specs.declared.fault.AttachRecords.TheVariants.{Damaged, Media, Dead}
+use Rattle.record_table.specs.declared.form.Form.{Form}
+use Rattle.record_table.specs.declared.form.Form.TheVariants.{Chain, Tree}
+
+-- the number of a form in the super page
+abbrev pub form_number : Form → ℕ
+form_number Chain = 0
+form_number Tree = 1
+
+-- the media failed
+abbrev pub is_form_failed : Result Form AttachRecords → Bool
+is_form_failed (Err Media) = true
+is_form_failed _ = false
+
+-- The form that the super page says, which is sound of it; page 0 is damaged exactly where it is sound of neither form.
+abbrev pub FormCause : Bool → StoreView → Result Form AttachRecords → Type 0
+FormCause tells old (Ok form) = IsAlive old × (IsTrue tells → IsSuper (form_number form) old.state.bytes)
+FormCause tells old (Err (Damaged page)) = IsAlive old × (page ≡ 0) × (IsTrue tells → ¬ IsSuper 0 old.state.bytes × ¬ IsSuper 1 old.state.bytes)
+FormCause tells old (Err Media) = IsAlive old
+FormCause tells old (Err Dead) = old.is_dead ≡ true
+
+-- A look at a store, which failed on its media or did not: what numbers have logged is as it was, and at each moment of a store that was
+-- not dead a loss of power leaves what it might have left before, or an image that opens with the data.
+pub record LooksAt (tells : Bool) (Opens : List ℕ → List ℕ → Type 0) (failed : Bool) (old new : StoreView) : Type 0 where
+  pub shape : new.shape ≡ old.shape
+  pub ranges : (t : ℕ) → new.ranges t ≡ old.ranges t
+  pub still : IsFalse failed → IsStill tells old new
+  pub dies : IsTrue failed → (new.is_dead ≡ true) × Rose old.faults new.faults
+  pub time : IsTrue tells → IsAlive old → LeavesOnly (λ image. Opens image old.state.bytes) old new
