@@ -3,7 +3,7 @@ use Rattle.std.proofs.Common.{ℕ, ◌≤◌, List, Bool, sym, ap, subst, ◌∙
 use Rattle.std.specs.Prelude.{IsTrue}
 use Rattle.array_shape.specs.declared.shape.Shape.{Shape}
 use Rattle.eaw_face.specs.StoreView.{StoreView}
-use Rattle.key_list.specs.Index.{chain}
+use Rattle.btree_pages.specs.Index.{tree}
 use Rattle.record_table.specs.Shown.{table_of, keys_of}
 use Rattle.history.specs.Legal.{records}
 use Rattle.core_face.specs.Room.{Limits}
@@ -13,10 +13,10 @@ use Rattle.core_face.proofs.Sound.{opened_sound}
 use Rattle.mars_core.specs.Over.{limits_of, index_of, Begins}
 use Rattle.mars_manager.specs.Sharing.{CanShare}
 
-module _ (tells : Bool) (Opens : Shape → List ℕ → List ℕ → Type 0) (old mid : StoreView) (core : CoreView) (begins : Begins tells (Opens old.shape) chain old mid core)
+module _ (tells : Bool) (Opens : Shape → List ℕ → List ℕ → Type 0) (old mid : StoreView) (core : CoreView) (begins : Begins tells (Opens old.shape) tree old mid core)
     (only : IsTrue tells → (image : List ℕ) → mid.left_since mid.moment image → Opens mid.shape image mid.state.bytes) where
   sound : IsTrue tells → IsSound core.state
-  sound told = subst IsSound (sym (begins.state told)) (opened_sound (table_of chain old.state.bytes) (index_of (keys_of chain old.state.bytes)))
+  sound told = subst IsSound (sym (begins.state told)) (opened_sound (table_of tree old.state.bytes) (index_of (keys_of tree old.state.bytes)))
 
   opens_base : IsTrue tells → (image : List ℕ) → core.left_since core.moment image → core.opens image core.state.base
   opens_base told image left =

@@ -3,15 +3,15 @@ ghost use Rattle.std.specs.Prelude.{◌≡◌, ◌≤◌, ℕ, None, IfSome};
 ghost use Rattle.eaw_face.specs.Causes.{IsAlive};
 ghost use Rattle.mars_manager.specs.Pass.{dealt};
 
+use btree_pages::BTreePages;
 use eaw_face::EawStore;
-use key_list::KeyList;
 use mars_core::Core;
 use mars_manager::{Mars, Passes};
 use page_store::SaveRoom;
 use std::alloc::Global;
 
 /// Callers that take turns on the records of a store.
-pub type Callers<S> = Core<S, KeyList>;
+pub type Callers<S> = Core<S, BTreePages>;
 
 /// Shares the records of a store among the callers 0 and 1. There are none where the records are not sound, the media fails, or
 /// memory is short.
@@ -29,7 +29,7 @@ pub fn share_two<S: EawStore + Drop>(
     let Ok(room) = SaveRoom::new(alloc) else {
         return None;
     };
-    let Ok(core) = Core::<S, KeyList>::attach(alloc, room, store) else {
+    let Ok(core) = Core::<S, BTreePages>::attach(alloc, room, store) else {
         return None;
     };
     match Mars::share(alloc, core, 2) {
