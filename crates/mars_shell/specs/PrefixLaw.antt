@@ -14,9 +14,9 @@ use Rattle.mars_shell.specs.Forms.{index_in}
 abbrev pub Recovers : Shape → Index → State → ℕ → List ℕ → Type 0
 Recovers shape index final least image = HasPrefixOf (OpensWith (Opens shape) index) final least image
 
--- The prefix law, under the index that the data says. An image that a loss of power may leave at the end opens with the records of all committed transactions, and
--- the one in doubt may be there or not. One that might have been left at some moment of the run opens with the records of the
--- first of them, or with the data of an image that could be left at first: where all of these open.
+-- The prefix law, under the index that the data at first says. An image that a loss of power may leave at the end opens with the
+-- records of all committed transactions, and the one in doubt may be there or not. One that might have been left at some moment of the
+-- run opens with the records of the first of them, or with the data of an image that could be left at first: where all of these open.
 pub record PrefixLaw (shape : Shape) (old : View) (final : State) (new : View) : Type 0 where
   pub now : (image : List ℕ) → MayLeave new.content image → Recovers shape (index_in shape old) final (length final.history) image
   pub since : AllOpen shape old.content → (image : List ℕ) → new.left_since old.moment image → OpensLike shape old.content image ⊎ Recovers shape (index_in shape old) final 0 image

@@ -24,7 +24,8 @@ use Rattle.script_run.specs.declared.ended.Ended.TheVariants.{All}
 use Rattle.mars_shell.specs.Dump.{dump_text, IsCutAt}
 use Rattle.mars_shell.specs.Run.{begun_on, HasAll}
 
--- The super page of the store's data says this form. Nothing was written, and whatever a loss of power might have left meanwhile opens with that data.
+-- The super page of the store's data says this form. Nothing was written, and whatever a loss of power might have left meanwhile opens
+-- with that data.
 pub record SaysForm (tells : Bool) (Opens : List ℕ → List ℕ → Type 0) (form : ℕ) (old new : StoreView) : Type 0 where
   pub is : IsTrue tells → form_said (page_bytes old.state.bytes 0) ≡ form
   pub shape : new.shape ≡ old.shape
