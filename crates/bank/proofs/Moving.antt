@@ -1,4 +1,4 @@
--- The calls of a transfer, one after another.
+-- A transfer that is committed keeps the sum.
 use Rattle.std.proofs.Common.{◌≡◌, ◌≢◌, ℕ, ◌+◌, ◌-◌, ◌^◌, ◌<◌, ◌≤◌, inl, inr, ⊎_elim, List, [], ◌∷◌, ◌++◌, take, refl, sym, ◌∙◌, ap, subst, arith}
 use Rattle.std.specs.Prelude.{decimal, Option, Some, None, unwrap_or}
 use Rattle.std.specs.FinMap.{get, insert}
@@ -15,45 +15,6 @@ use Rattle.core_face.specs.State.{State, calls_of, records_of, done_by}
 use Rattle.bank.specs.Accounts.{worth, sum_of, Transfers, KeepsSum}
 use Rattle.bank.specs.Moves.{IsBalanced, Stays, Adds, Holds, MayGrow}
 use Rattle.bank.proofs.Sums.{sum_transfers, keeps_more}
-
--- what a get finds is there
-there : (o : Option (List ℕ)) (text : List ℕ) → Found text ≡ found o → o ≡ Some text
-there None text is = cc
-there (Some t) text is = cc
-
--- the calls so far with one more
-one_more : (caller : ℕ) (call : Call) (reply : Reply) (calls : Granted) (old new : CoreView) → old.state.live caller ≡ Some calls → Adds caller call reply old new → new.state.live caller ≡ Some (calls ++ (call, reply) ∷ [])
-one_more caller call reply calls old new live adds = adds.live ∙ ap (λ (o : Option Granted). Some (unwrap_or o [] ++ (call, reply) ∷ [])) live
-
-pub holds : (caller from to amount less more : ℕ) (payer payee : List ℕ) (old a b c new : CoreView) → old.state.live caller ≡ Some []
-    → Adds caller (Get from) (Found payer) old a → Adds caller (Get to) (Found payee) a b → Adds caller (Put from (decimal less)) Fine b c → Adds caller (Put to (decimal more)) Fine c new
-    → amount ≤ worth payer → worth payer < 2 ^ 64 → worth payee + amount < 2 ^ 64 → less ≡ worth payer - amount → more ≡ worth payee + amount → Holds caller from to amount new
-holds caller from to amount less more payer payee old a b c new live first second third fourth enough small fits less_is more_is = record {
-  calls = calls;
-  live = all;
-  transfers = record {
-    payer = payer;
-    payee = payee;
-    has_payer = there (get table from) payer right.0;
-    has_payee = there (get table to) payee right.1.0;
-    enough = enough;
-    small = small;
-    fits = fits;
-    becomes = λ i. insert (insert table from (decimal (less_is i))) to (decimal (more_is i));
-  };
-}
-  where
-    table : Table
-    table = records_of new.state
-
-    calls : Granted
-    calls = (Get from, Found payer) ∷ (Get to, Found payee) ∷ (Put from (decimal less), Fine) ∷ (Put to (decimal more), Fine) ∷ []
-
-    all : new.state.live caller ≡ Some calls
-    all = one_more caller _ _ _ c new (one_more caller _ _ _ b c (one_more caller _ _ _ a b (one_more caller _ _ _ old a live first) second) third) fourth
-
-    right : IsRight table calls
-    right = subst (λ (o : Option Granted). IsRight table (unwrap_or o [])) all (fourth.stays.goes_on.sound.right caller)
 
 -- what is committed then keeps the sum
 pub balanced : (caller from to amount : ℕ) (old mid new : CoreView) → from ≢ to → mid.state.base ≡ old.state.base → mid.state.history ≡ old.state.history → mid.state.doubt ≡ old.state.doubt
