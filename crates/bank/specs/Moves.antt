@@ -1,0 +1,43 @@
+-- What a transfer does to a core.
+use Rattle.std.specs.Prelude.{ℕ, ◌≡◌, ◌⊎◌, List, [], ◌∷◌, ◌++◌, Some, None}
+use Rattle.history.specs.Table.{Granted, left_by}
+use Rattle.history.specs.Legal.{with_doubt}
+use Rattle.history.specs.declared.call.Call.{Call}
+use Rattle.history.specs.declared.call.Reply.{Reply}
+use Rattle.history.specs.declared.transaction.Done.{Done}
+use Rattle.core_face.specs.Core.{CoreView, Continues}
+use Rattle.core_face.specs.State.{State, calls_of, records_of, done_by}
+use Rattle.bank.specs.Accounts.{KeepsSum, Transfers}
+
+-- each first part of its history keeps the sum, also with the transaction in doubt
+abbrev pub IsBalanced : State → Type 0
+IsBalanced state = KeepsSum state.base (with_doubt state.history state.doubt)
+
+-- nothing was committed, and nothing came in doubt
+pub record Stays (old new : CoreView) : Type 0 where
+  pub goes_on : Continues old new
+  pub history : new.state.history ≡ old.state.history
+  pub doubt : new.state.doubt ≡ old.state.doubt
+
+-- a call was granted within the caller's transaction
+pub record Adds (caller : ℕ) (call : Call) (reply : Reply) (old new : CoreView) : Type 0 where
+  pub stays : Stays old new
+  pub live : new.state.live caller ≡ Some (calls_of old.state caller ++ (call, reply) ∷ [])
+
+-- the caller's transaction has calls that transfer the amount
+pub record Holds (caller from to amount : ℕ) (core : CoreView) : Type 0 where
+  pub calls : Granted
+  pub live : core.state.live caller ≡ Some calls
+  pub transfers : Transfers from to amount (records_of core.state) (left_by (records_of core.state) calls)
+
+-- one transaction was committed, and it transfers the amount
+pub record Commits (from to amount : ℕ) (old new : CoreView) : Type 0 where
+  pub done : Done
+  pub history : new.state.history ≡ old.state.history ++ done ∷ []
+  pub transfers : Transfers from to amount (records_of old.state) (left_by (records_of old.state) done.calls)
+
+-- the caller's transaction was committed or came in doubt, where none was, or else nothing
+abbrev pub MayGrow : ℕ → CoreView → CoreView → Type 0
+MayGrow caller old new =
+    (with_doubt new.state.history new.state.doubt ≡ with_doubt old.state.history old.state.doubt)
+    ⊎ ((old.state.doubt ≡ None) × (with_doubt new.state.history new.state.doubt ≡ old.state.history ++ done_by old.state caller (calls_of old.state caller) ∷ []))

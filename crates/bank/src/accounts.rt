@@ -1,0 +1,41 @@
+// Balances as values of records, and why a transfer is refused.
+ghost use Rattle.std.specs.Prelude.{◌≡◌, ◌^◌, ◌<◌, IfSome, decimal};
+ghost use Rattle.bank.specs.Accounts.{worth};
+
+use history::Reply;
+use itoa::Buffer;
+use record_slots::Value;
+use std::str;
+
+/// Why a transfer was not made, or a balance not told.
+#[derive(Debug, PartialEq, Eq, Drop)]
+pub enum Refusal {
+    /// There is no such account, or its record is no number of a u64.
+    NoAccount { account: u64 },
+    /// The account has too little.
+    Insufficient { balance: u64 },
+    /// The other account would have more than a u64 says.
+    TooMuch { balance: u64 },
+    /// The core answered so. After `Busy` another caller holds one of the accounts: try again later. After `Media` the transfer
+    /// may have been made or not, and each call is answered `Dead`: open the array again.
+    Core(Reply),
+}
+
+// The number that the value writes.
+pub(crate) fn number_in(value: &Value) -> Option<u64>
+    ensures { IfSome result (λ n. n ≡ worth value.now) }
+{
+    let text = str::from_utf8(value.as_bytes()).ok()?;
+    u64::from_str_radix(text, 10).ok()
+}
+
+// The value that writes the number.
+pub(crate) fn value_of(number: u64) -> Value
+    ensures { result ≡ decimal number }
+{
+    let mut buffer = Buffer::new();
+    match Value::of(buffer.format(number).as_bytes()) {
+        Some(value) => value,
+        None => unreachable!(),
+    }
+}

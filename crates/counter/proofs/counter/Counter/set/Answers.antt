@@ -1,0 +1,38 @@
+use Rattle.std.proofs.Common.{ℕ, List, Ok, Err, Result, subst}
+use Rattle.byteorder.specs.Endian.{little_bytes}
+use Rattle.eaw_face.specs.Causes.{Cause}
+use Rattle.eaw_face.specs.Command.{log_write}
+use Rattle.eaw_face.specs.Does.{Does}
+use Rattle.eaw_face.specs.StoreView.{StoreView}
+use Rattle.eaw_face.specs.declared.fault.EawFault.{EawFault}
+use Rattle.counter.proofs.Counting.{write_broken, written, moments}
+use Rattle.counter.proofs.counter.Counter.set.Goals as goal
+use Rattle.counter.proofs.counter.Counter.set.Goals.{After-commit}
+use Rattle.counter.proofs.counter.Counter.set.Given.{Over}
+
+pub returns-in-Err-clause-broken : goal.returns-in-Err-clause-broken
+returns-in-Err-clause-broken g c =
+    let old = g.S.EawStore.view c.self.inside.store in
+    let new = g.S.EawStore.view c.log_write.new.self in
+    rw (← c.self.view_is) (write_broken old new c.args.number c.in-Err.fault (g.met.S.EawStore.shaped c.self.inside.store) c.self.invariant
+    (subst (λ (b : List ℕ). let r : Result ℕ EawFault = Err c.in-Err.fault in Cause old (log_write 0 1024 b) new.faults r) c.write_u64.ensures c.in-Err.ensures.does.cause))
+
+module _ (g : Over) (c : After-commit g) where
+  abbrev old : StoreView
+  old = g.S.EawStore.view c.self.inside.store
+
+  abbrev mid : StoreView
+  mid = g.S.EawStore.view c.log_write.new.self
+
+  first : let r : Result ℕ EawFault = Ok c.in-Ok.field-0 in Does g.S.EawStore.tells (g.S.EawStore.opens old.shape) (log_write 0 1024 (little_bytes 8 c.args.number)) old mid r
+  first = subst (λ (b : List ℕ). let r : Result ℕ EawFault = Ok c.in-Ok.field-0 in Does g.S.EawStore.tells (g.S.EawStore.opens old.shape) (log_write 0 1024 b) old mid r) c.write_u64.ensures c.in-Ok.ensures.does
+
+pub returns-in-Ok-clause-written : goal.returns-in-Ok-clause-written
+returns-in-Ok-clause-written g c = rw (← c.self.view_is)
+    (written g.S.EawStore.tells g.S.EawStore.opens (old g c) (mid g c) (g.S.EawStore.view c.commit.new.self) c.args.number c.self.invariant
+    (g.met.S.EawStore.outlines c.self.inside.store 0) c.in-Ok.field-0 (first g c) c.commit.result c.commit.ensures.does)
+
+pub returns-in-Ok-clause-moments : goal.returns-in-Ok-clause-moments
+returns-in-Ok-clause-moments g c = rw (← c.self.view_is)
+    (moments g.S.EawStore.tells g.S.EawStore.opens (old g c) (mid g c) (g.S.EawStore.view c.commit.new.self) c.args.number c.self.invariant
+    (g.met.S.EawStore.outlines c.self.inside.store 0) c.in-Ok.field-0 (first g c) c.commit.result c.commit.ensures.does)

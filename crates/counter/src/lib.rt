@@ -1,0 +1,11 @@
+//! A counter that a loss of power leaves at n or at n + 1: how firmware keeps a number in an array.
+#![tactic(auto)]
+
+mod counter;
+mod laws;
+
+pub use counter::{CountFault, Counter};
+pub use laws::fresh_array_says_zero;
+
+#[cfg(test)]
+mod tests;
