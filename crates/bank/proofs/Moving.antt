@@ -1,19 +1,14 @@
 -- A transfer that is committed keeps the sum.
-use Rattle.std.proofs.Common.{◌≡◌, ◌≢◌, ℕ, ◌+◌, ◌-◌, ◌^◌, ◌<◌, ◌≤◌, inl, inr, ⊎_elim, List, [], ◌∷◌, ◌++◌, take, refl, sym, ◌∙◌, ap, subst, arith}
-use Rattle.std.specs.Prelude.{decimal, Option, Some, None, unwrap_or}
-use Rattle.std.specs.FinMap.{get, insert}
+use Rattle.std.proofs.Common.{◌≡◌, ◌≢◌, ℕ, ⊎_elim, List, [], ◌∷◌, ◌++◌, sym, ◌∙◌, ap, subst}
+use Rattle.std.specs.Prelude.{Option, unwrap_or}
 use Rattle.history.specs.Writes.{Table}
-use Rattle.history.specs.Table.{Granted, found, left_by, IsRight}
+use Rattle.history.specs.Table.{Granted, left_by}
 use Rattle.history.specs.Legal.{records, with_doubt}
-use Rattle.history.specs.declared.call.Call.{Call}
-use Rattle.history.specs.declared.call.Call.TheVariants.{Get, Put}
-use Rattle.history.specs.declared.call.Reply.{Reply}
-use Rattle.history.specs.declared.call.Reply.TheVariants.{Fine, Found}
 use Rattle.history.specs.declared.transaction.Done.{Done}
-use Rattle.core_face.specs.Core.{CoreView, Continues}
-use Rattle.core_face.specs.State.{State, calls_of, records_of, done_by}
-use Rattle.bank.specs.Accounts.{worth, sum_of, Transfers, KeepsSum}
-use Rattle.bank.specs.Moves.{IsBalanced, Stays, Adds, Holds, MayGrow}
+use Rattle.core_face.specs.Core.{CoreView}
+use Rattle.core_face.specs.State.{calls_of, records_of, done_by}
+use Rattle.bank.specs.Accounts.{sum_of, KeepsSum}
+use Rattle.bank.specs.Moves.{IsBalanced, Holds, MayGrow}
 use Rattle.bank.proofs.Sums.{sum_transfers, keeps_more}
 
 -- what is committed then keeps the sum

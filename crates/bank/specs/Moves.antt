@@ -1,5 +1,5 @@
 -- What a transfer does to a core.
-use Rattle.std.specs.Prelude.{ℕ, ◌≡◌, ◌⊎◌, List, [], ◌∷◌, ◌++◌, Some, None}
+use Rattle.std.specs.Prelude.{ℕ, ◌≡◌, ◌+◌, ◌^◌, ◌<◌, ◌≤◌, ◌⊎◌, List, [], ◌∷◌, ◌++◌, Some, None}
 use Rattle.history.specs.Table.{Granted, left_by}
 use Rattle.history.specs.Legal.{with_doubt}
 use Rattle.history.specs.declared.call.Call.{Call}
@@ -7,7 +7,11 @@ use Rattle.history.specs.declared.call.Reply.{Reply}
 use Rattle.history.specs.declared.transaction.Done.{Done}
 use Rattle.core_face.specs.Core.{CoreView, Continues}
 use Rattle.core_face.specs.State.{State, calls_of, records_of, done_by}
-use Rattle.bank.specs.Accounts.{KeepsSum, Transfers}
+use Rattle.std.specs.FinMap.{get}
+use Rattle.history.specs.Writes.{Table}
+use Rattle.bank.specs.Accounts.{worth, KeepsSum, Transfers}
+use Rattle.bank.specs.declared.accounts.Refusal.{Refusal}
+use Rattle.bank.specs.declared.accounts.Refusal.TheVariants.{NoAccount, Insufficient, TooMuch, Core}
 
 -- each first part of its history keeps the sum, also with the transaction in doubt
 abbrev pub IsBalanced : State → Type 0
@@ -41,3 +45,20 @@ abbrev pub MayGrow : ℕ → CoreView → CoreView → Type 0
 MayGrow caller old new =
     (with_doubt new.state.history new.state.doubt ≡ with_doubt old.state.history old.state.doubt)
     ⊎ ((old.state.doubt ≡ None) × (with_doubt new.state.history new.state.doubt ≡ old.state.history ++ done_by old.state caller (calls_of old.state caller) ∷ []))
+
+-- Why a transfer is refused, on the records before it.
+abbrev pub IsRefused : Table → ℕ → ℕ → ℕ → Refusal → Type 0
+IsRefused table from to amount (NoAccount account) = (account ≡ from) ⊎ (account ≡ to)
+IsRefused table from to amount (Insufficient balance) = (text : List ℕ) × (get table from ≡ Some text) × (balance ≡ worth text) × (balance < amount)
+IsRefused table from to amount (TooMuch balance) = (text : List ℕ) × (get table to ≡ Some text) × (balance ≡ worth text) × (2 ^ 64 ≤ balance + amount)
+IsRefused table from to amount (Core reply) = Unit {0}
+
+-- a step is refused by the core
+abbrev pub IsOfCore : Refusal → Type 0
+IsOfCore (Core reply) = Unit {0}
+IsOfCore _ = ⊥
+
+-- and a read also where the account is none
+abbrev pub IsOfRead : ℕ → Refusal → Type 0
+IsOfRead account (NoAccount named) = named ≡ account
+IsOfRead account refusal = IsOfCore refusal

@@ -2,14 +2,16 @@
 ghost use Rattle.std.specs.Prelude.{◌≡◌, ℕ, List};
 ghost use Rattle.history.specs.Writes.{Table};
 ghost use Rattle.core_face.specs.Core.{IsSafe};
+ghost use Rattle.core_face.specs.State.{Index, opened};
 ghost use Rattle.bank.specs.Accounts.{sum_of};
 ghost use Rattle.bank.specs.Moves.{IsBalanced};
 
 use core_face::Core;
 
-/// Over a core whose transactions keep the sum, each image that a loss of power may leave opens with records of that sum: wherever the
+/// A core begins with no transaction. Over one whose transactions keep the sum, each image that a loss of power may leave opens with records of that sum: wherever the
 /// prefix law holds, as it does along all steps (`core_face::prefix_law`).
 pub fn every_image_keeps_the_sum<C: Core>()
-    ensures { (core : C) (since least : ℕ) (image : List ℕ) → IsBalanced (C.view core).state → IsSafe (C.view core) since least → (C.view core).left_since since image
+    ensures begun { (base : Table) (index : Index) → IsBalanced (opened base index) }
+    ensures images { (core : C) (since least : ℕ) (image : List ℕ) → IsBalanced (C.view core).state → IsSafe (C.view core) since least → (C.view core).left_since since image
         → (table : Table) × (C.view core).opens image table × (sum_of table ≡ sum_of (C.view core).state.base) }
 {}

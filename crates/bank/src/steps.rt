@@ -1,12 +1,12 @@
 // The calls of a transfer, one at a time.
-ghost use Rattle.std.specs.Prelude.{◌≡◌, ◌<◌, ◌++◌, [], ◌∷◌, ℕ, List, Some, IsTrue, IfOk, OnOk, OnErr, decimal};
+ghost use Rattle.std.specs.Prelude.{◌≡◌, ◌<◌, ◌++◌, [], ◌∷◌, ℕ, List, Some, IsTrue, IfOk, IfErr, OnOk, OnErr, decimal};
 ghost use Rattle.history.specs.declared.call.Call.TheVariants.{Get, Put};
 ghost use Rattle.history.specs.declared.call.Reply.TheVariants.{Fine, Found};
 ghost use Rattle.core_face.specs.Core.{Continues};
 ghost use Rattle.core_face.specs.Sound.{IsSound};
 ghost use Rattle.core_face.specs.State.{calls_of, done_by};
 ghost use Rattle.bank.specs.Accounts.{worth};
-ghost use Rattle.bank.specs.Moves.{Stays, Adds, MayGrow};
+ghost use Rattle.bank.specs.Moves.{Stays, Adds, MayGrow, IsOfCore, IsOfRead};
 
 use crate::accounts::{Refusal, number_in, value_of};
 use core_face::{Core, prefix_law};
@@ -18,6 +18,7 @@ pub(crate) fn begin<C: Core>(core: &mut C, caller: u8) -> Result<(), Refusal>
     requires sound { IsTrue C.tells → IsSound (C.view core.old).state }
     ensures limits { (C.view core.new).limits ≡ (C.view core.old).limits }
     ensures stays { IsTrue C.tells → Stays (C.view core.old) (C.view core.new) }
+    ensures cause { IfErr result IsOfCore }
     ensures begun { IsTrue C.tells → OnOk result ((C.view core.new).state.live caller ≡ Some []) }
 {
     prefix_law::<C>();
@@ -33,6 +34,7 @@ pub(crate) fn read<C: Core>(core: &mut C, caller: u8, account: u64) -> Result<u6
     requires sound { IsTrue C.tells → IsSound (C.view core.old).state }
     ensures limits { (C.view core.new).limits ≡ (C.view core.old).limits }
     ensures stays { IsTrue C.tells → Stays (C.view core.old) (C.view core.new) }
+    ensures cause { IfErr result (IsOfRead account) }
     ensures found { IsTrue C.tells → IfOk result (λ n. (text : List ℕ) × (n ≡ worth text) × Adds caller (Get account) (Found text) (C.view core.old) (C.view core.new)) }
 {
     prefix_law::<C>();
@@ -57,6 +59,7 @@ pub(crate) fn write<C: Core>(
     requires sound { IsTrue C.tells → IsSound (C.view core.old).state }
     ensures limits { (C.view core.new).limits ≡ (C.view core.old).limits }
     ensures stays { IsTrue C.tells → Stays (C.view core.old) (C.view core.new) }
+    ensures cause { IfErr result IsOfCore }
     ensures written { IsTrue C.tells → OnOk result (Adds caller (Put account (decimal number)) Fine (C.view core.old) (C.view core.new)) }
 {
     prefix_law::<C>();
@@ -90,6 +93,7 @@ pub(crate) fn commit<C: Core>(core: &mut C, caller: u8) -> Result<(), Refusal>
     requires sound { IsTrue C.tells → IsSound (C.view core.old).state }
     ensures limits { (C.view core.new).limits ≡ (C.view core.old).limits }
     ensures goes_on { IsTrue C.tells → Continues (C.view core.old) (C.view core.new) }
+    ensures cause { IfErr result IsOfCore }
     ensures grows { IsTrue C.tells → MayGrow caller (C.view core.old) (C.view core.new) }
     ensures done { IsTrue C.tells → OnOk result ((C.view core.new).state.history ≡
         (C.view core.old).state.history ++ done_by (C.view core.old).state caller (calls_of (C.view core.old).state caller) ∷ []) }

@@ -1,11 +1,11 @@
 // A transfer from one account to another.
-ghost use Rattle.std.specs.Prelude.{◌≡◌, ◌≢◌, ◌<◌, [], List, ℕ, Some, IsTrue, IfOk, OnOk, OnErr};
+ghost use Rattle.std.specs.Prelude.{◌≡◌, ◌≢◌, ◌<◌, [], List, ℕ, Some, IsTrue, IfOk, IfErr, OnOk, OnErr};
 ghost use Rattle.std.specs.FinMap.{get};
 ghost use Rattle.core_face.specs.Core.{Continues};
 ghost use Rattle.core_face.specs.Sound.{IsSound};
 ghost use Rattle.core_face.specs.State.{records_of};
 ghost use Rattle.bank.specs.Accounts.{worth};
-ghost use Rattle.bank.specs.Moves.{IsBalanced, Stays, Holds, Commits};
+ghost use Rattle.bank.specs.Moves.{IsBalanced, Stays, Holds, Commits, IsRefused};
 
 use crate::accounts::Refusal;
 use crate::steps::{abort, begin, commit, read, write};
@@ -26,6 +26,7 @@ pub fn transfer<C: Core>(
     ensures done { IsTrue C.tells → OnOk result (Commits from to amount (C.view core.old) (C.view core.new)) }
     // Where it is refused, the history is as it was.
     ensures refused { IsTrue C.tells → OnErr result ((C.view core.new).state.history ≡ (C.view core.old).state.history) }
+    ensures cause { IsTrue C.tells → IfErr result (IsRefused (records_of (C.view core.old).state) from to amount) }
     // The records of each first part of the history are worth what they were at first, also with the transaction in doubt.
     ensures balanced { IsTrue C.tells → IsBalanced (C.view core.old).state → IsBalanced (C.view core.new).state }
     // The prefix law goes on: whatever a loss of power leaves has a first part of the history.
@@ -71,6 +72,7 @@ fn move_amount<C: Core>(
     requires begun { IsTrue C.tells → (C.view core.old).state.live caller ≡ Some [] }
     ensures limits { (C.view core.new).limits ≡ (C.view core.old).limits }
     ensures stays { IsTrue C.tells → Stays (C.view core.old) (C.view core.new) }
+    ensures cause { IsTrue C.tells → IfErr result (IsRefused (records_of (C.view core.old).state) from to amount) }
     ensures moved { IsTrue C.tells → OnOk result (Holds caller from to amount (C.view core.new)) }
 {
     let paying = read(core, caller, from)?;

@@ -1,4 +1,4 @@
-use Rattle.std.proofs.Common.{sym, ◌∙◌}
+use Rattle.std.proofs.Common.{◌∙◌}
 use Rattle.bank.proofs.Moving.{balanced}
 use Rattle.bank.proofs.transfers.transfer.Goals as goal
 
