@@ -43,7 +43,7 @@ module _ (shape : Shape) where
   pub place_fits_in : (addr : ℕ) → addr < data_len shape → place_of shape addr < media_len shape
   place_fits_in addr lt = omega (arith, region_fits (logger_of shape addr) (logger_below addr lt), offset_below addr lt)
 
-  -- the addresses of one page follow one another in the media
+  -- the addresses of one page follow one another on the medium
   pub place_next : (addr k : ℕ) → addr % 512 + k < 512 → place_of shape (addr + k) ≡ place_of shape addr + k
   place_next addr k lt =
       let page : (addr + k) / 512 ≡ addr / 512 = omega arith in

@@ -25,7 +25,7 @@ module _ (shape : Shape) where
   pub data_end : (g : ℕ) → data_at shape g + 512 * shape.pages ≡ region_at shape (g + 1)
   data_end g = omega arith
 
-  -- one region behind another
+  -- one region after another
   pub region_end : (g h : ℕ) → g < h → region_at shape (g + 1) ≤ region_at shape h
   region_end g h lt =
       let regions : (g + 1) * region_len shape ≤ h * region_len shape = mul-le-mul_right (region_len shape) (omega arith) in

@@ -9,7 +9,7 @@ use Rattle.eaw_face.specs.Command.{Command, log_write, log_edit, commit, abort, 
 use Rattle.eaw_face.specs.declared.fault.EawFault.{EawFault}
 use Rattle.eaw_face.specs.declared.fault.EawFault.TheVariants.{UnknownTid, LogFull, Media, Dead}
 
--- the store has met no fault of the media
+-- the store has met no fault of the medium
 abbrev pub IsAlive : StoreView → Type 0
 IsAlive store = store.is_dead ≡ false
 

@@ -30,7 +30,7 @@ module _ (g : ℕ) (part : Part) (s rest : List Part) (next : s ≡ part ∷ res
       ap (filter (is_part_on g)) next
       ∙ ap (λ (b : Bool). cond b (part ∷ filter (is_part_on g) rest) (filter (is_part_on g) rest)) (ne_eqb part.logger g ne)
 
--- a part of the range of so many bytes at an address
+-- a part of the range of `len` bytes at an address
 pub record IsWithin (shape : Shape) (addr len : ℕ) (part : Part) : Type 0 where
   pub from : addr ≤ part.addr
   pub to : part.addr + part.len ≤ addr + len
