@@ -20,7 +20,7 @@ abbrev pub recovery_fault : RecoverFault → AttachFault
 recovery_fault (recovery.BadRow logger tid) = BadRow logger tid
 recovery_fault recovery.Media = Media
 
--- the fault may be one of the header, or of the medium
+-- the header is wrong, or the medium failed
 abbrev pub IsOfHeader : AttachFault → Type 0
 IsOfHeader (BadRow logger tid) = ⊥
 IsOfHeader NoMemory = ⊥

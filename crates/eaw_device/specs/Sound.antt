@@ -20,7 +20,7 @@ pub record IsSure (shape : Shape) (content : Content) : Type 0 where
   pub clean : IsClean shape content
   pub header : (image : List ℕ) → MayLeave content image → SaysShape (header_of image) shape
 
--- the array is so, and the cells hold what each number has logged
+-- the array is as above, and its cells hold what each number has logged
 pub record IsTold (shape : Shape) (content : Content) (logs : List Log) : Type 0 where
   pub sure : IsSure shape content
   pub held : (t : ℕ) → ForSome (slice_get logs t) (IsHeld shape content.bytes t)

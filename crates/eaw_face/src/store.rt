@@ -128,7 +128,7 @@ pub trait EawStore {
         requires logger { logger < (view self.now).shape.loggers }
         ensures { result ≡ count_on (view self.now).shape logger (listed ((view self.now).ranges tid)) };
 
-    /// Whether an earlier call has met a fault of the media.
+    /// Whether an earlier call has met a fault of the medium.
     fn is_dead(&self) -> bool
         ensures { result ≡ (view self.now).is_dead };
 
