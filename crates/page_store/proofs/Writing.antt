@@ -73,7 +73,7 @@ module _ (tells : Bool) (old : PagesView) (t addr : ℕ) (bytes : List ℕ) (pla
         number = λ u ne same. ne (ap Some (sym same));
       }
 
-  -- where an edited part lies, and that it is there
+  -- where an edited part lies, and that it exists
   pub edit_there_is : (pos : ℕ) → edits_at old t addr (length bytes) ≡ Some pos
       → (pos < length (listed (old.store.ranges t))) × (range_at (listed (old.store.ranges t)) pos ≡ (addr, length bytes))
   edit_there_is pos is =
