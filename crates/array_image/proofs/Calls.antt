@@ -32,11 +32,11 @@ module _ (tells : Bool) (all more : List (ℕ × ℕ)) (old mid new : View) (wit
       done_cause (Ok x) ok cause = record { later = cause.later; failed = tt; kept = cause.kept }
       done_cause (Err e) ok cause = absurd (false≢true ok)
 
-  -- the last one, whose answer is handed on
+  -- the last one, whose answer is passed on
   pub ends_with : {T E : Type 0} (r : Result T E) → Writes tells more mid new r → Writes tells all old new r
   ends_with r call = calls_on r call call.cause
 
-  -- one that failed, whose fault is handed on
+  -- one that failed, whose fault is passed on
   pub hands_on : {T E U F : Type 0} {e : E} (s : Result U F) → IsErr s → (let r : Result T E = Err e in Writes tells more mid new r) → Writes tells all old new s
   hands_on {T} {E} {U} {F} s err call = calls_on s call (handed s err)
     where
@@ -55,6 +55,6 @@ barrier_keeps P mid new holds is = (ap (λ (c : Content). c.unsettled) is, subst
 pub none_yet : (tells : Bool) (ranges : List (ℕ × ℕ)) (now : View) → SoFar tells ranges now now
 none_yet tells ranges now = writes_none tells ranges now tt
 
--- two facts about what is left anew
+-- two facts about what is new among what might have been left
 pub both_left : {C : Type 0} {before now : ℕ} {past since : ℕ → C → Type 0} {P Q : C → Type 0} → Elapses before now past since P → Elapses before now past since Q → Elapses before now past since (λ c. P c × Q c)
 both_left a b = record { later = a.later; keeps = a.keeps; only = λ t c le left. ⊎_elim (λ was. inl was) (λ p. ⊎_elim (λ was. inl was) (λ q. inr (p, q)) (b.only t c le left)) (a.only t c le left) }

@@ -12,6 +12,6 @@ pub record Elapses {C : Type 0} (before now : ℕ) (past since : ℕ → C → T
   pub keeps : (t : ℕ) (c : C) → t ≤ before → past t c → since t c
   pub only : (t : ℕ) (c : C) → t ≤ before → since t c → past t c ⊎ P c
 
--- what might have been left, told in other things, of which one that was left stands for this one by R
+-- this might have been left, told in things of another kind: one of them that might have been left stands for it by R
 abbrev pub Through : {B C : Type 0} → (B → C → Type 0) → (ℕ → B → Type 0) → ℕ → C → Type 0
 Through {B} {C} R since t c = (b : B) × since t b × R b c

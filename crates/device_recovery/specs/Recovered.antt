@@ -77,7 +77,7 @@ pub record SettlesLike (shape : Shape) (other image : List ℕ) : Type 0 where
   pub header : range image 0 512 ≡ range other 0 512
   pub same : settled_data shape image ≡ settled_data shape other
 
--- so does it compare with some image that could be left at first
+-- it settles like some image that could be left at first
 pub record KeepsSense (shape : Shape) (content : Content) (image : List ℕ) : Type 0 where
   pub earlier : List ℕ
   pub left : MayLeave content earlier

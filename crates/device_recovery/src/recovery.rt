@@ -35,7 +35,7 @@ pub fn recover<M: Media>(media: &mut M, shape: &Shape) -> Result<Report, Recover
     ensures settled { IsTrue M.tells → OnOk result (data_of shape.now (M.view media.new).content.bytes ≡ settled_data shape.now (M.view media.old).content.bytes) }
     ensures counts { IsTrue M.tells → IfOk result (Counts shape.now (M.view media.old).content.bytes) }
     ensures sure { IsTrue M.tells → OnOk result ((i : ℕ) → IsOutside (M.view media.new).content.unsettled i) }
-    // It succeeds only if each decided row is good. If it refuses a row, that is the first one that is not.
+    // It succeeds only if each decided row is good. The row that it refuses is the first one that is not good.
     ensures good { IsTrue M.tells → OnOk result (AllGood shape.now (M.view media.old).content.bytes shape.now.numbers) }
     ensures bad { IsTrue M.tells → IfErr result (λ fault. (g t : ℕ) → fault ≡ BadRow g t → IsFirstBad shape.now (M.view media.old).content.bytes g t) }
     ensures unwritten { IsTrue M.tells → IfErr result (λ fault. (g t : ℕ) → fault ≡ BadRow g t → Touched [] (M.view media.old).content (M.view media.new).content) }

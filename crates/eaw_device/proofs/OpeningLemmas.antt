@@ -23,7 +23,7 @@ module _ (shape : Shape) (content : Content) (opens : AllOpen shape content) whe
   pub all_lawful : (image : List ℕ) → MayLeave content image → IsLawful shape image
   all_lawful image left = (opens image left).1.stands.lawful
 
-  -- so does what settles like it
+  -- what settles like it opens so too
   pub like_sense : (image : List ℕ) → KeepsSense shape content image → OpensLike shape content image
   like_sense image kept =
       let can = opens kept.earlier kept.left in (

@@ -106,7 +106,7 @@ module _ (shape : Shape) (old new : List ℕ) (u : ℕ) (log : Log) (kept : IsKe
     heads = ap ranges_of parts_kept ∙ held.heads;
   }
 
--- so are all logs of other numbers
+-- all logs of other numbers stay too
 pub others_kept : (shape : Shape) (logs : List Log) (old new : List ℕ) (u : ℕ) → ForSome (slice_get logs u) (IsKept shape)
     → ((log : Log) → slice_get logs u ≡ Some log → (g e : ℕ) → g < shape.loggers → e < slice_index log.held g → cell_of shape new g u e ≡ cell_of shape old g u e)
     → option_map (parts_in shape new u) (entries_at logs u) ≡ option_map (parts_in shape old u) (entries_at logs u)

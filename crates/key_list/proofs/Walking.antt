@@ -13,7 +13,7 @@ use Rattle.index_pages.proofs.Rising.{next-none, next-some, found-below}
 use Rattle.index_pages.proofs.ChainFacts.{chain_head}
 use Rattle.key_list.specs.Linked.{IsLinked}
 
--- after so many steps the chain from this page on answers
+-- after `steps` steps the chain from this page on answers
 pub record Next (bytes : List ℕ) (from steps page : ℕ) : Type 0 where
   pub n : ℕ
   pub low : ℕ

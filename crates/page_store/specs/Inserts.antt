@@ -32,7 +32,7 @@ LackRoom store t g h n left [] = ⊥
 LackRoom store t g h n left (action ∷ later) =
     ((action.takes ≤ left) × IsFirstLacking store t action.pages g h n) ⊎ (ActionFits store t left action × LackRoom store t g h n (left - action.takes) later)
 
--- How far an insertion comes in data that is told: a slot is left, and then its actions follow one another.
+-- How far an insertion comes over a store that tells its data: a slot is left, and then its actions follow one another.
 abbrev pub ComesTo : Index → ℕ → StoreView → (ℕ → List Action → Type 0) → Type 0
 ComesTo index key old Ends =
     (next_slot old.state.bytes < slots_of old.shape) × Ends (index_pages_of old.shape - next_page old.state.bytes) (index.actions old.state.bytes key)
@@ -41,7 +41,7 @@ ComesTo index key old Ends =
 abbrev pub IsLogFull : StoreView → ℕ → ℕ → ℕ → ℕ → Type 0
 IsLogFull old t g h n = (pages : List ℕ) × (length pages ≤ 4) × IsFirstLacking old t pages g h n
 
--- why an insertion gets this answer; if data is told, each of the first four comes exactly then
+-- why an insertion gets this answer; over a store that tells its data, each of the first four comes exactly then
 abbrev pub InsertCause : Bool → Index → ℕ → ℕ → StoreView → Result ℕ IndexFault → Type 0
 InsertCause tells index t key old (Ok slot) = IsAlive old × (slot < slots_of old.shape) × (IsTrue tells → ComesTo index key old (AllFit old t))
 InsertCause tells index t key old (Err (SlotsFull n)) = IsAlive old × (n ≡ slots_of old.shape) × (IsTrue tells → next_slot old.state.bytes ≡ n)
@@ -53,8 +53,8 @@ InsertCause tells index t key old (Err Media) = IsAlive old
 InsertCause tells index t key old (Err Dead) = old.is_dead ≡ true
 InsertCause tells index t key old (Err (Damaged page)) = IsAlive old × ¬ IsTrue tells
 
--- What it makes of data that is told: one more pair, with the slot that it answers, or none if it was refused. If pages ran
--- out, all but at most one are given, or the index has as many levels as it may.
+-- What it makes of the data of a store that tells it: one more pair, with the slot that it answers, or none if it was refused. If
+-- pages ran out, all but at most one are given, or the index has as many levels as it may.
 abbrev pub Made : Index → ℕ → List ℕ → List ℕ → Result ℕ IndexFault → Type 0
 Made index key old new (Ok slot) = (slot ≡ next_slot old) × Grows index old new × Gains index key old new
 Made index key old new (Err Media) = Unit {0}

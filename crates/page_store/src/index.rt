@@ -16,8 +16,8 @@ use eaw_face::EawStore;
 /// An index of u64 keys in the data of pages: for each key the slot that holds its record. It has no state of its own.
 ///
 /// Look-ups read the committed data, and insertions change it by nested top actions, which stay whatever becomes of the transaction
-/// around them. If the store does not tell its data, `Damaged` answers a page that breaks the layout, and a look-up that has read
-/// as many pages as the array has.
+/// around them. Over a store that does not tell its data, a page that breaks the layout is answered with `Damaged`, and so is a
+/// look-up that does not end within the pages of the index.
 pub trait KeyIndex {
     /// What it makes of data: whether it is sound, its pairs of key and slot, and what an insertion takes.
     ghost index: { Index };

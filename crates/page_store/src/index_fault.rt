@@ -18,7 +18,7 @@ pub enum IndexFault {
     /// An earlier call met a fault of the medium.
     #[error("the array is dead")]
     Dead,
-    /// A page that was read breaks the layout. Only a store that does not tell its data gives cause for it.
+    /// A page that was read breaks the layout. An insertion answers it only over a store that does not tell its data.
     #[error("page {page} is damaged")]
     Damaged { page: u32 },
 }
