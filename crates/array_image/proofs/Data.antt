@@ -140,7 +140,7 @@ module _ (shape : Shape) where
       let both = outside-append (places_of shape (lists k)) (places_of shape (joined lists (k + 1) n)) x (subst (λ l. IsOutside l x) (places_of-append (lists k) (joined lists (k + 1) n)) out) in
       ⊎_elim (λ is. subst (λ j. IsOutside (places_of shape (lists j)) x) is both.0) (λ ne. outside_list lists x (k + 1) n both.1 g (omega arith) (omega arith)) (cases_eq k g)
 
--- one list more is applied
+-- one more list is applied
 pub applied_more : (lists : ℕ → List Part) (n : ℕ) (d e f : List ℕ) → e ≡ applied (joined lists 0 n) d → f ≡ applied (lists n) e → f ≡ applied (joined lists 0 (n + 1)) d
 applied_more lists n d e f before now =
     now ∙ ap (applied (lists n)) before ∙ sym (applied-append (joined lists 0 n) (lists n) d)

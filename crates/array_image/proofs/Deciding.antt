@@ -67,7 +67,7 @@ decides_same loggers rows others same g lt =
     ap (λ (r : Row). r.voted && has_logger r.mask g && nat_lt r.mask (2 ^ loggers) && all_below loggers (agrees r.mask rows)) (same g lt)
     ∙ ap (λ (b : Bool). (others g).voted && has_logger (others g).mask g && nat_lt (others g).mask (2 ^ loggers) && b) (each (others g).mask)
 
--- rows of one mask, at the loggers of which alone there are votes
+-- rows of one mask, with votes only at loggers of the mask
 module _ (loggers mask : ℕ) (rows : ℕ → Row) (small : mask < 2 ^ loggers) (mask_is : (g : ℕ) → g < loggers → has_logger mask g ≡ true → (rows g).mask ≡ mask)
     (outside : (g : ℕ) → g < loggers → has_logger mask g ≡ false → (rows g).voted ≡ false) where
   -- with all votes each row of the mask is decided
@@ -82,7 +82,7 @@ module _ (loggers mask : ℕ) (rows : ℕ → Row) (small : mask < 2 ^ loggers) 
       (λ lacks. not_decided loggers rows g (outside g lt lacks) ∙ sym lacks)
       (cases_Bool (has_logger mask g))
 
-  -- where one lacks, none is
+  -- if one is missing, none is
   pub decided_none : (h : ℕ) → h < loggers → has_logger mask h ≡ true → (rows h).voted ≡ false → (g : ℕ) → g < loggers → decides loggers rows g ≡ false
   unfolding decides
   decided_none h below here unvoted g lt = ⊎_elim

@@ -53,7 +53,7 @@ module _ (shape : Shape) where
     holds = refl;
   }
 
-  -- where votes of a number alone differ
+  -- if only votes of a number differ
   module _ (t mask : ℕ) (small : t < shape.numbers) (ranges : List (ℕ × ℕ)) (away : (x : ℕ) → ((g : ℕ) → g < shape.loggers → has_logger mask g ≡ true → x ≢ row_at shape g t) → IsOutside ranges x) (old new : List ℕ) (same : SameOutside ranges old new) where
     pub vote_cells : SameCells shape old new
     vote_cells g u e lt below below' = cell_away shape ranges old new g u e same (λ i from to. away i (λ h lt' has is. row_no_cell shape h g t u e i small below below' (omega arith) (omega arith) from to))
@@ -82,7 +82,7 @@ module _ (shape : Shape) where
     pub vote_data : data_of shape new ≡ data_of shape old
     vote_data = data_away shape ranges old new same (λ addr lt. away (place_of shape addr) (λ g lt' has is. row_no_data shape g t addr (place_of shape addr) small lt (omega arith) (omega arith) refl))
 
-  -- where data alone differs
+  -- if only data differs
   module _ (ps : List Part) (placed : AllPlaced shape ps) (old new : List ℕ) (same : SameOutside (places_of shape ps) old new) where
     pub data_rows : (g t : ℕ) → t < shape.numbers → row_of shape new g t ≡ row_of shape old g t
     data_rows g t lt = row_away shape (places_of shape ps) old new g t same (λ i from below. outside_data shape ps i placed (λ addr small is. row_no_data shape g t addr i lt small from below is))
@@ -99,7 +99,7 @@ module _ (shape : Shape) where
       cells = data_cells;
     }
 
-  -- where rows of a number alone differ, and no vote
+  -- if only rows of a number differ, and no vote does
   module _ (t : ℕ) (small : t < shape.numbers) (ranges : List (ℕ × ℕ)) (away : (x : ℕ) → ((g k : ℕ) → g < shape.loggers → 1 ≤ k → k < 16 → x ≢ row_at shape g t + k) → IsOutside ranges x) (old new : List ℕ) (same : SameOutside ranges old new) where
     pub body_cells : SameCells shape old new
     body_cells g u e lt below below' = cell_away shape ranges old new g u e same (λ i from to. away i (λ h k lt' le to' is. row_no_cell shape h g t u e i small below below' (omega arith) (omega arith) from to))
@@ -144,6 +144,6 @@ before_all old (r ∷ rs) image within left =
       same = record { long = before.same.long ∙ rest.same.long; same = λ i out. before.same.same i (out.0, tt) ∙ rest.same.same i out.1 };
     }
 
--- with nothing unsettled before them
+-- if nothing was unsettled before them
 pub left_within : (old : Content) (ranges : List (ℕ × ℕ)) (image : List ℕ) → old.unsettled ≡ [] → MayLeave (partly ranges old) image → SameOutside ranges old.bytes image
 left_within old ranges image none left = record { long = left.long; same = λ i out. left.same i (outside-both ranges old.unsettled i out (subst (λ us. IsOutside us i) (sym none) tt)) }

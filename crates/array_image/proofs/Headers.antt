@@ -1,4 +1,4 @@
--- The header stays: nothing is written into the first 512 bytes but by `format`.
+-- The header stays: only `format` writes into the first 512 bytes.
 use Rattle.std.proofs.Common.{◌≡◌, ℕ, ◌<◌, List, [], ◌∷◌, ◌++◌, arith}
 use Rattle.counted.specs.Bytes.{range}
 use Rattle.pcm_media.specs.Images.{Content, MayLeave, SameOutside, IsOutside, partly}
@@ -21,6 +21,6 @@ behind-append rs ss out out' i lt = outside-both rs ss i (out i lt) (out' i lt)
 pub header_stays : (ranges : List (ℕ × ℕ)) (old new : List ℕ) → AreBehind ranges → SameOutside ranges old new → range new 0 512 ≡ range old 0 512
 header_stays ranges old new behind same = range_away ranges old new 0 512 same (λ i le lt. behind i (omega arith))
 
--- in each image that may be left within writes behind it, where it was sure before them
+-- each image that may be left during writes behind the header has it, if it was settled before them
 pub header_left : (ranges : List (ℕ × ℕ)) (old : Content) (image : List ℕ) → AreBehind ranges → AreBehind old.unsettled → MayLeave (partly ranges old) image → range image 0 512 ≡ range old.bytes 0 512
 header_left ranges old image behind sure left = header_stays (ranges ++ old.unsettled) old.bytes image (behind-append ranges old.unsettled behind sure) left

@@ -76,7 +76,7 @@ module _ (shape : Shape) where
   none_at g h ne [] owned = refl
   none_at g h ne (p ∷ ps) owned = (λ i. cond (ne_eqb (logger_of shape p.0) g (λ is. ne (sym owned.0.logger ∙ is)) i) (p ∷ parts_at shape g ps) (parts_at shape g ps)) ∙ none_at g h ne ps owned.1
 
-  -- of lists that stand beside the loggers that own them
+  -- of lists that are indexed by the loggers that own their parts
   pub parts_at-joined : (lists : ℕ → List Part) (k n : ℕ) → ((h : ℕ) → k ≤ h → h < k + n → AllOwned shape h (lists h)) → (g : ℕ) → k ≤ g → g < k + n → parts_at shape g (joined lists k n) ≡ lists g
   parts_at-joined lists k zero owned g le lt = absurd (omega arith)
   parts_at-joined lists k (suc n) owned g le lt = parts_at-append g (lists k) (joined lists (k + 1) n) ∙ ⊎_elim
@@ -102,7 +102,7 @@ module _ (shape : Shape) where
       parts_at-joined (named_at shape image t firsts counts) 0 shape.loggers (λ h le below. parts_owned shape image h t (slice_index firsts h) (slice_index counts h) long (omega arith) small (good.fit h (omega arith)) (λ e from to. good.cells h e (omega arith) from to)) g (omega arith) (omega arith)
       ∙ sym (same g lt))
 
-  -- of parts that change nothing any more, those of some loggers change nothing
+  -- if parts change nothing any more, those of some loggers change nothing
   pub applied_some : (lists some : ℕ → List Part) (d : List ℕ) → length d ≡ data_len shape → ((g : ℕ) → g < shape.loggers → AllOwned shape g (lists g)) → ((g : ℕ) → g < shape.loggers → (some g ≡ lists g) ⊎ (some g ≡ []))
       → AllPlaced shape (joined lists 0 shape.loggers) → AllPlaced shape (joined some 0 shape.loggers) → applied (joined lists 0 shape.loggers) d ≡ d → applied (joined some 0 shape.loggers) d ≡ d
   applied_some lists some d long owned which placed placed' already = ext_get_or 0 (applied (joined some 0 shape.loggers) d) d (fits (joined some 0 shape.loggers) d long placed' ∙ sym long) (λ a lt.

@@ -4,7 +4,7 @@ use Rattle.std.proofs.lemmas.Nat.{same_from_place, mul-add-lt, row_fits, div-add
 use Rattle.array_shape.specs.declared.shape.Shape.{Shape}
 use Rattle.array_shape.specs.Places.{region_len, region_at, media_len, row_at, cell_at, data_at, data_len, logger_of, offset_of, place_of}
 
--- in regions of one length: two ranges that have a place in common are of one region, and reach into one another
+-- in regions of one length, two ranges that share a place are in one region and overlap there
 pub same_offset : (r g h o n p m x : ℕ) → o + n ≤ r → p + m ≤ r → 512 + g * r + o ≤ x → x < 512 + g * r + o + n → 512 + h * r + p ≤ x → x < 512 + h * r + p + m → (g ≡ h) × (o < p + m) × (p < o + n)
 same_offset r g h o n p m x fits fits' from below from' below' =
     let same = same_from_place g (x - (512 + g * r)) h (x - (512 + h * r)) r (omega arith) (omega arith) (omega arith) in
@@ -43,7 +43,7 @@ module _ (shape : Shape) where
   pub place_fits_in : (addr : ℕ) → addr < data_len shape → place_of shape addr < media_len shape
   place_fits_in addr lt = omega (arith, region_fits (logger_of shape addr) (logger_below addr lt), offset_below addr lt)
 
-  -- the addresses of one page follow one another in the media
+  -- the addresses of one page follow one another on the medium
   pub place_next : (addr k : ℕ) → addr % 512 + k < 512 → place_of shape (addr + k) ≡ place_of shape addr + k
   place_next addr k lt =
       let page : (addr + k) / 512 ≡ addr / 512 = omega arith in

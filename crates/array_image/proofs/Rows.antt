@@ -25,7 +25,7 @@ pub voted_said : (xs : List ℕ) → (row_said xs).voted ≡ nat_eq (get_or xs 0
 unfolding row_said
 voted_said xs = refl
 
--- the rest of a row than its vote
+-- all of a row but its vote is the same
 pub record SameRest (old new : Row) : Type 0 where
   pub mask : new.mask ≡ old.mask
   pub first : new.first ≡ old.first

@@ -55,7 +55,7 @@ module _ (shape : Shape) (t mask : ℕ) (firsts counts : List ℕ) (small : t < 
     not_elsewhere : (u h : ℕ) → u < shape.numbers → h < shape.loggers → u ≢ t → decided shape image h u ≡ false
     not_elsewhere u h lt lt' ne = not_decided shape.loggers (λ k. row_of shape image k u) h (marked.quiet h u lt' lt ne)
 
-    -- the parts of a row at a logger of the mask, and at another one
+    -- the parts of a row at a logger, of the mask or not
     decided_named : (g : ℕ) → g < shape.loggers → decided shape image g t ≡ has_logger mask g → decided_parts shape image g t ≡ named_at shape image t firsts counts g
     decided_named g lt is = ⊎_elim
         (λ has. ap (λ (b : Bool). cond b (row_parts shape image g t) []) (is ∙ has) ∙ (λ i. parts_from shape image g t (marked.first_is g lt has i) (marked.count_is g lt has i)))
@@ -93,7 +93,7 @@ module _ (shape : Shape) (t mask : ℕ) (firsts counts : List ℕ) (small : t < 
               ∙ ap (applied ps) marked.holds;
         }
 
-    -- where one vote lacks, for the data before
+    -- if one vote is missing, it stands for the data before
     pub lacking_stands : (h : ℕ) → h < shape.loggers → has_logger mask h ≡ true → (row_of shape image h t).voted ≡ false → StandsFor shape image d
     lacking_stands h lt has unvoted =
         undecided_stands shape image d marked.long marked.holds (λ g u below below'. ⊎_elim

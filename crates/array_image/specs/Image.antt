@@ -23,7 +23,7 @@ cell_head cell = head_said (take 16 cell)
 abbrev pub cell_part : List ℕ → Part
 cell_part cell = ((cell_head cell).addr, take (cell_head cell).len (drop 16 cell))
 
--- it holds a part of logger g
+-- the cell holds a part of logger g
 abbrev pub IsGoodCell : Shape → ℕ → List ℕ → Type 0
 IsGoodCell shape g cell = IsOwned shape g (cell_head cell).addr (cell_head cell).len
 

@@ -7,7 +7,7 @@ use Rattle.array_shape.specs.Logged.{Part}
 use Rattle.array_image.specs.Image.{row_of, cell_of, parts_from, data_of, IsGoodCell}
 use Rattle.array_image.specs.Decided.{has_logger}
 
--- the parts that are in the cells named for a logger
+-- the parts in the cells that are named for a logger
 abbrev pub named_at : Shape → List ℕ → ℕ → List ℕ → List ℕ → ℕ → List Part
 named_at shape image t firsts counts g = parts_from shape image g t (slice_index firsts g) (slice_index counts g)
 
@@ -21,7 +21,7 @@ pub record IsMaskOf (loggers : ℕ) (counts : List ℕ) (mask : ℕ) : Type 0 wh
   pub has : (g : ℕ) → g < loggers → 0 < slice_index counts g → has_logger mask g ≡ true
   pub lacks : (g : ℕ) → g < loggers → slice_index counts g ≡ 0 → has_logger mask g ≡ false
 
--- the named cells are there, and each holds a part of its logger
+-- the named cells exist, and each holds a part of its logger
 pub record AreGood (shape : Shape) (image : List ℕ) (t : ℕ) (firsts counts : List ℕ) : Type 0 where
   pub fit : (g : ℕ) → g < shape.loggers → slice_index firsts g + slice_index counts g ≤ shape.entries
   pub cells : (g e : ℕ) → g < shape.loggers → slice_index firsts g ≤ e → e < slice_index firsts g + slice_index counts g → IsGoodCell shape g (cell_of shape image g t e)

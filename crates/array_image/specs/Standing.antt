@@ -6,12 +6,12 @@ use Rattle.array_shape.specs.Places.{media_len}
 use Rattle.array_image.specs.Image.{row_of, cell_of, data_of, IsGoodCell}
 use Rattle.array_image.specs.Decided.{decided, settled_data}
 
--- the cells that a row names are there, and each holds a part of its logger
+-- the cells that a row names exist, and each holds a part of its logger
 pub record IsGoodRow (shape : Shape) (image : List ℕ) (g t : ℕ) : Type 0 where
   pub fits : (row_of shape image g t).first + (row_of shape image g t).count ≤ shape.entries
   pub cells : (e : ℕ) → (row_of shape image g t).first ≤ e → e < (row_of shape image g t).first + (row_of shape image g t).count → IsGoodCell shape g (cell_of shape image g t e)
 
--- of the array's length; all decided rows have one number, and each is good
+-- it has the array's length; all decided rows are of one number, and each of them is good
 pub record IsLawful (shape : Shape) (image : List ℕ) : Type 0 where
   pub long : length image ≡ media_len shape
   pub one : (g h t u : ℕ) → g < shape.loggers → h < shape.loggers → t < shape.numbers → u < shape.numbers → decided shape image g t ≡ true → decided shape image h u ≡ true → t ≡ u
@@ -28,11 +28,11 @@ pub record StandsFor (shape : Shape) (image bytes : List ℕ) : Type 0 where
   pub lawful : IsLawful shape image
   pub gives : settled_data shape image ≡ bytes
 
--- it stands for the data before or for that after
+-- it stands for the data before or for the data after
 abbrev pub IsEither : Shape → List ℕ → List ℕ → List ℕ → Type 0
 IsEither shape before after image = StandsFor shape image before ⊎ StandsFor shape image after
 
--- every image that may be left has no voted row, and the data that is read
+-- every image that may be left has no voted row, and the data that a read gives
 abbrev pub IsClean : Shape → Content → Type 0
 IsClean shape content = (image : List ℕ) → MayLeave content image → IsAtRest shape (data_of shape content.bytes) image
 

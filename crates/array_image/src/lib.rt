@@ -1,5 +1,5 @@
 //! What an image of an array stands for: the rows that are decided, and the data once their cells are written into it.
-//! Definitions, lemmas on images that differ in a few places, and laws. Nothing of it runs.
+//! Definitions, lemmas on images that differ in a few places, and laws. None of it runs.
 #![tactic(auto)]
 
 mod laws;

@@ -1,4 +1,4 @@
--- The rows, cells and pages of an array lie in its media, one behind another.
+-- The rows, cells and pages of an array lie on its medium, one behind another.
 use Rattle.std.proofs.Common.{◌≡◌, ◌≢◌, ℕ, ◌+◌, ◌-◌, ◌*◌, ◌/◌, ◌%◌, ◌<◌, ◌≤◌, inl, inr, sym, ◌∙◌, ap, arith}
 use Rattle.std.proofs.lemmas.Bool.{cases_order}
 use Rattle.std.proofs.Math.Nat.{mul-le-mul_right, mod-lt, div-add-mod'}
@@ -25,7 +25,7 @@ module _ (shape : Shape) where
   pub data_end : (g : ℕ) → data_at shape g + 512 * shape.pages ≡ region_at shape (g + 1)
   data_end g = omega arith
 
-  -- one region behind another
+  -- one region after another
   pub region_end : (g h : ℕ) → g < h → region_at shape (g + 1) ≤ region_at shape h
   region_end g h lt =
       let regions : (g + 1) * region_len shape ≤ h * region_len shape = mul-le-mul_right (region_len shape) (omega arith) in
@@ -119,7 +119,7 @@ module _ (shape : Shape) where
       let logger = ap (λ (p : ℕ). data_at shape (p % shape.loggers) + 512 * (p / shape.loggers)) same in
       omega arith
 
-  -- a range within a page lies in the media as it does in the data
+  -- a range within a page lies on the medium as it does in the data
   pub placed_fits : (a n : ℕ) → IsPlaced shape a n → place_of shape a + n ≤ media_len shape
   placed_fits a n placed = omega (arith, place_along a (n - 1) (omega arith), place_below (a + (n - 1)) (omega arith))
 

@@ -11,7 +11,7 @@ use Rattle.array_shape.specs.declared.part.Part.{Part}
 use Rattle.array_shape.specs.Places.{logger_of, data_len, IsPlaced}
 use Rattle.array_shape.specs.Parts.{page_left, first_parts, parts_of, Tile, AreCutAtPages, IsPartOf, first_parts_of_write, parts_of_write, part_of_write, is_part_on, parts_on, is_write_part_on, write_parts_on}
 
--- the first part of a range that is not empty
+-- the first part of a nonempty range
 abbrev pub first_part : Shape → ℕ → ℕ → Part
 first_part shape addr len = record { logger = logger_of shape addr; addr = addr; len = min (page_left addr) len }
 
@@ -19,7 +19,7 @@ abbrev BeginsPage : Part → Type 0
 BeginsPage part = part.addr % 512 ≡ 0
 
 module _ (shape : Shape) where
-  -- enough parts are all of them
+  -- a longer count of parts adds none
   first_parts-more : (n m addr len : ℕ) → len ≤ n → len ≤ m → first_parts shape n addr len ≡ first_parts shape m addr len
   first_parts-more zero zero addr len le le' = refl
   first_parts-more zero (suc m) addr zero le le' = refl
@@ -48,7 +48,7 @@ module _ (shape : Shape) where
   parts_of-no_more addr addr' len len' none none' =
       ap (parts_of shape addr) none ∙ parts_of-none addr ∙ sym (ap (parts_of shape addr') none' ∙ parts_of-none addr')
 
-  -- the same with the address where the first part ends
+  -- the same, with the address at which the first part ends
   pub parts_of-next : (addr len : ℕ) → 0 < len → parts_of shape addr len ≡ first_part shape addr len ∷ parts_of shape (addr + min (page_left addr) len) (len - min (page_left addr) len)
   parts_of-next addr len lt =
       parts_of-some addr len lt

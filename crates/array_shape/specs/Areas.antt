@@ -1,4 +1,4 @@
--- The rows, cells and pages of an array as areas of its media.
+-- The rows, cells and pages of an array as areas of its medium.
 use Rattle.std.specs.Prelude.{ℕ, ◌+◌, ◌*◌, ◌≤◌, ◌<◌, ◌⊎◌}
 use Rattle.array_shape.specs.declared.shape.Shape.{Shape}
 use Rattle.array_shape.specs.Places.{row_at, cell_at, data_at, media_len}
@@ -24,7 +24,7 @@ area_len (row logger tid) = 16
 area_len (cell logger tid entry) = 528
 area_len (page logger nth) = 512
 
--- behind the header, and within the media
+-- behind the header, and within the medium
 pub record IsInMedia (shape : Shape) (area : Area) : Type 0 where
   pub behind : 512 ≤ area_at shape area
   pub within : area_at shape area + area_len area ≤ media_len shape

@@ -16,11 +16,11 @@ first_parts shape (suc n) addr (suc len) =
     record { logger = logger_of shape addr; addr = addr; len = min (page_left addr) (suc len) }
     ∷ first_parts shape n (addr + page_left addr) (suc len - page_left addr)
 
--- all of them: no part is empty, so there are at most as many as bytes
+-- all parts of a range: none is empty, so there are at most as many as bytes
 unfoldable pub parts_of : Shape → ℕ → ℕ → List Part
 parts_of shape addr len = first_parts shape len addr len
 
--- parts that follow one another from an address on, without a gap, and have so many bytes in all
+-- parts that follow one another from an address on, without a gap, and have `len` bytes in all
 abbrev pub Tile : ℕ → ℕ → List Part → Type 0
 Tile addr len [] = len ≡ 0
 Tile addr len (p ∷ ps) = (p.addr ≡ addr) × (p.len ≤ len) × Tile (addr + p.len) (len - p.len) ps
@@ -30,7 +30,7 @@ abbrev pub AreCutAtPages : List Part → Type 0
 AreCutAtPages [] = Unit {0}
 AreCutAtPages (p ∷ ps) = All (λ q. q.addr % 512 ≡ 0) ps
 
--- it lies in one page of the data, which its logger has
+-- it lies in one page of the data, and that page is its logger's
 pub record IsPartOf (shape : Shape) (part : Part) : Type 0 where
   pub placed : IsPlaced shape part.addr part.len
   pub logger : part.logger ≡ logger_of shape part.addr
@@ -42,7 +42,7 @@ first_parts_of_write (suc n) addr [] = []
 first_parts_of_write (suc n) addr (b ∷ bytes) =
     (addr, take (page_left addr) (b ∷ bytes)) ∷ first_parts_of_write n (addr + page_left addr) (drop (page_left addr) (b ∷ bytes))
 
--- A write of bytes at an address, cut at the multiples of 512: each part's address and bytes.
+-- a write of bytes at an address, cut at the multiples of 512: the address and the bytes of each part
 unfoldable pub parts_of_write : ℕ → List ℕ → List (ℕ × List ℕ)
 parts_of_write addr bytes = first_parts_of_write (length bytes) addr bytes
 
@@ -50,7 +50,7 @@ parts_of_write addr bytes = first_parts_of_write (length bytes) addr bytes
 abbrev pub part_of_write : ℕ → List ℕ → Part → ℕ × List ℕ
 part_of_write addr bytes part = (part.addr, take part.len (drop (part.addr - addr) bytes))
 
--- those of them that logger g has
+-- those of them that are of logger g
 abbrev pub is_part_on : ℕ → Part → Bool
 is_part_on g part = nat_eq part.logger g
 

@@ -1,7 +1,7 @@
 // A number that no array may have.
 use thiserror::Error;
 
-/// The numbers on which the shape of an array and its length rest, in the order in which they are tested.
+/// The numbers on which the shape of an array and its length depend, in the order in which they are tested.
 #[derive(Clone, Copy, Debug, PartialEq, Eq)]
 pub enum ShapeNumber {
     Loggers,
@@ -15,7 +15,7 @@ impl ShapeNumber {
     ghost use Rattle.std.specs.Prelude.{◌≡◌};
     ghost use Rattle.array_shape.specs.Numbers.{number_of};
 
-    /// Its place among them, from 1 on.
+    /// Its place in that order, from 1 on.
     pub fn number(self) -> u8
         ensures { result ≡ number_of self }
     {
@@ -29,7 +29,7 @@ impl ShapeNumber {
     }
 }
 
-/// The first number of an array that is out of its range, with the value that was given for it.
+/// The first number of an array that is out of its range, with the value given for it.
 #[derive(Clone, Copy, Debug, PartialEq, Eq, Error)]
 #[error("bad shape {} {given}", .which.number())]
 pub struct BadShape {

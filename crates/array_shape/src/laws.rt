@@ -5,7 +5,7 @@ ghost use Rattle.array_shape.specs.Areas.{Area, page, HasArea, area_at, IsInMedi
 
 use crate::shape::Shape;
 
-/// Each row, cell and page of an array lies in its media, and no two of them share a byte.
+/// Each row, cell and page of an array lies on its medium behind the header, and no two of them share a byte.
 pub fn areas_are_apart(shape: &Shape)
     ensures inside { (a : Area) → HasArea shape.now a → IsInMedia shape.now a }
     ensures apart { (a b : Area) → HasArea shape.now a → HasArea shape.now b → a ≢ b → AreApart shape.now a b }

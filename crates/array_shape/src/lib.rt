@@ -1,4 +1,4 @@
-//! The numbers of an array, and where its rows, cells and data lie in the media.
+//! The numbers of an array, and where its rows, cells and data lie on the medium.
 #![tactic(auto)]
 
 mod bad_shape;

@@ -6,7 +6,7 @@ use crate::part::Part;
 use crate::shape::{PAGE_LEN, Shape};
 use std::marker::Model;
 
-/// The parts of a range that are still to come, in rising order. Contracts see it as their list.
+/// The remaining parts of a range, in rising order. Contracts see it as their list.
 #[derive(Drop)]
 pub struct Parts {
     shape: Shape,

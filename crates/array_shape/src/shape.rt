@@ -5,13 +5,13 @@ use crate::bad_shape::{BadShape, ShapeNumber};
 use crate::parts::Parts;
 use crate::place::Place;
 
-/// Bytes of the header, with which the media begins.
+/// Bytes of the header, with which the medium begins.
 pub const HEADER_LEN: u64 = 512;
 
 /// Bytes of a row.
 pub const ROW_LEN: u64 = 16;
 
-/// Bytes of the head with which a cell begins.
+/// Bytes of a cell's head, with which it begins.
 pub const HEAD_LEN: u64 = 16;
 
 /// Bytes of a cell: its head, and room for a page.
@@ -20,7 +20,7 @@ pub const CELL_LEN: u64 = HEAD_LEN + PAGE_LEN;
 /// Bytes of a page.
 pub const PAGE_LEN: u64 = 512;
 
-/// The four numbers of an array. Each value of the type has them in range.
+/// The four numbers of an array. Every value of the type has them in range.
 #[derive(Clone, Copy, Debug, PartialEq, Eq)]
 pub struct Shape {
     /// Loggers, 1 to 8.
@@ -40,7 +40,7 @@ impl Shape {
     ghost use Rattle.array_shape.specs.Places.{HasNumbers, data_len, media_len, page_count, row_at, cell_at, data_at, region_len, region_at, logger_of, offset_of, place_of, IsPlaced};
     ghost use Rattle.array_shape.specs.Parts.{parts_of, Tile, AreCutAtPages, IsPartOf};
 
-    /// The shape of these numbers.
+    /// The shape with these numbers, or the first of them that is out of range.
     pub fn new(loggers: u8, numbers: u8, entries: u16, pages: u32) -> Result<Shape, BadShape>
         ensures good { IsOk result ↔ AreInRange loggers numbers entries pages }
         ensures shape { IfOk result (HasNumbers loggers numbers entries pages) }
@@ -85,21 +85,21 @@ impl Shape {
         u64::from(self.loggers) * u64::from(self.pages)
     }
 
-    /// How many bytes of data the array has.
+    /// The length of the data in bytes.
     pub fn data_len(&self) -> u64
         ensures { result ≡ data_len self.now }
     {
         PAGE_LEN * self.page_count()
     }
 
-    /// How many bytes the media of the array has.
+    /// The length of the array's medium in bytes.
     pub fn media_len(&self) -> u64
         ensures { result ≡ media_len self.now }
     {
         HEADER_LEN + u64::from(self.loggers) * self.region_len()
     }
 
-    /// Where the row of the transaction number `tid` at a logger lies in the media.
+    /// Where on the medium the row of the transaction number `tid` at a logger begins.
     pub fn row_at(&self, logger: u8, tid: u8) -> u64
         requires logger { logger < self.now.loggers }
         requires tid { tid < self.now.numbers }
@@ -108,7 +108,7 @@ impl Shape {
         self.region_at(logger) + ROW_LEN * u64::from(tid)
     }
 
-    /// Where a cell of the transaction number `tid` at a logger lies in the media.
+    /// Where on the medium a cell of the transaction number `tid` at a logger begins.
     pub fn cell_at(&self, logger: u8, tid: u8, entry: u16) -> u64
         requires logger { logger < self.now.loggers }
         requires tid { tid < self.now.numbers }
@@ -119,7 +119,7 @@ impl Shape {
         self.region_at(logger) + ROW_LEN * u64::from(self.numbers) + CELL_LEN * cell
     }
 
-    /// Where the pages of a logger lie in the media.
+    /// Where on the medium the pages of a logger begin.
     pub fn data_at(&self, logger: u8) -> u64
         requires { logger < self.now.loggers }
         ensures { result ≡ data_at self.now logger }
@@ -142,7 +142,7 @@ impl Shape {
         }
     }
 
-    /// Where an address of the data lies in the media.
+    /// Where on the medium the byte of an address of the data is.
     pub fn byte_at(&self, addr: u64) -> u64
         requires { addr < data_len self.now }
         ensures { result ≡ place_of self.now addr }
@@ -151,7 +151,7 @@ impl Shape {
         self.data_at(place.logger) + place.offset
     }
 
-    /// The parts of a range of the data: it is cut at the multiples of 512.
+    /// The parts of a range of the data, which is cut at the multiples of 512.
     pub fn parts(&self, addr: u64, len: u64) -> Parts
         requires { addr + len ≤ data_len self.now }
         ensures parts { result ≡ parts_of self.now addr len }
@@ -178,7 +178,7 @@ impl Shape {
     }
 }
 
-/// Four loggers, 8 transaction numbers, 16 entries and 64 pages.
+/// Four loggers, 8 transaction numbers, 16 entries per number and logger, and 64 pages per logger.
 impl Default for Shape {
     ghost use Rattle.array_shape.specs.Places.{HasNumbers};
 

@@ -93,7 +93,7 @@ module _ (shape : Shape) (t mask : ℕ) (firsts counts : List ℕ) (small : t < 
     pub staged_placed : (old : Content) → IsStaged shape t mask firsts counts ps d old → AllPlaced shape ps
     staged_placed old staged = marked_placed shape t mask firsts counts small is_mask ps d old.bytes staged.marked
 
-    -- while the parts are applied, behind all votes
+    -- while the parts are applied, after all votes
     pub install_left : (old : Content) (image : List ℕ) → IsStaged shape t mask firsts counts ps d old → HaveVotes shape t counts true shape.loggers old.bytes → MayLeave (partly (places_of shape ps) old) image → StandsFor shape image (applied ps d)
     install_left old image staged votes left =
         let placed = staged_placed old staged in

@@ -73,6 +73,6 @@ module _ (shape : Shape) (t mask : ℕ) (firsts counts : List ℕ) (small : t < 
         let now = votes_after shape t mask firsts counts small is_mask ps d old new staged touched after.0 in
         (release_after shape t mask firsts counts small is_mask ps d new now after.1, now.marked.holds)
 
--- with no logger in the mask nothing is named
+-- if no logger has a count, nothing is named
 pub none_named : (shape : Shape) (t : ℕ) (firsts counts image : List ℕ) → ((g : ℕ) → g < shape.loggers → slice_index counts g ≡ 0) → named_parts shape image t firsts counts ≡ []
 none_named shape t firsts counts image none = joined_none (named_at shape image t firsts counts) 0 shape.loggers (λ g le lt. ap (λ (n : ℕ). parts_from shape image g t (slice_index firsts g) n) (none g (omega arith)))

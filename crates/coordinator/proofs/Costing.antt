@@ -33,7 +33,7 @@ voters_all counts n le = ap voters (take_all n counts le)
 pub sum_all : (counts : List ℕ) (n : ℕ) → length counts ≤ n → sum (take n counts) ≡ sum counts
 sum_all counts n le = ap sum (take_all n counts le)
 
--- without any part
+-- if there is no part
 pub sum_none : (counts : List ℕ) → ((g : ℕ) → g < length counts → slice_index counts g ≡ 0) → sum counts ≡ 0
 sum_none [] none = refl
 sum_none (n ∷ counts) none =

@@ -38,7 +38,7 @@ pub record Installed (tells : Bool) (shape : Shape) (t : ℕ) (firsts counts : L
 pub succeeded : {T E : Type 0} {r : Result T E} (tells : Bool) (ranges : List (ℕ × ℕ)) (old new : View) → Writes tells ranges old new r → IsOk r → SoFar tells ranges old new
 succeeded tells ranges old new call ok = goes_on tells ranges ranges old old new (λ told i out. out) (none_yet tells ranges old) call ok
 
--- a fault is handed on as it is
+-- a fault is passed on as it is
 pub handed : {T E U F : Type 0} {e : E} (s : Result U F) → IsErr s → (tells : Bool) (ranges : List (ℕ × ℕ)) (old new : View) → (let r : Result T E = Err e in Writes tells ranges old new r) → Writes tells ranges old new s
 handed s err tells ranges old new call = hands_on tells ranges ranges old old new (λ told i out. out) (none_yet tells ranges old) s err call
 

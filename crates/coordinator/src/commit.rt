@@ -1,4 +1,4 @@
-// A commit: the rows, the votes, the parts into the data, the votes cleared, each behind a barrier.
+// A commit: the rows, the votes, the parts into the data, the votes cleared, each followed by a barrier.
 ghost use Rattle.std.specs.Prelude.{◌≡◌, ◌+◌, ◌*◌, ◌≤◌, ◌<◌, ℕ, Ok, length, slice_index, sum, IsTrue, OnOk};
 ghost use Rattle.counted.specs.Costs.{Costs};
 ghost use Rattle.pcm_media.specs.View.{View, LeavesOnly, Writes};
@@ -16,10 +16,10 @@ use array_shape::Shape;
 use counted::Failed;
 use pcm_media::Media;
 
-/// Commits the parts in the cells that `firsts` and `counts` name for each logger: from its first entry on, so many.
-/// Whenever power is lost within it, what is left stands for the data before it or for that with all of the parts.
+/// Commits the parts in the cells that `firsts` and `counts` name: for each logger its first cell and how many cells. If power
+/// is lost during it, what is left stands for the data before it or for that data with all of the parts.
 ///
-/// Without any part it calls the media not at all.
+/// If there is no part, it makes no call of the medium.
 pub fn commit_from<M: Media>(
     media: &mut M,
     shape: &Shape,

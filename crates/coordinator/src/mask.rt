@@ -2,7 +2,7 @@
 ghost use Rattle.std.specs.Prelude.{◌≤◌, length};
 ghost use Rattle.array_image.specs.Marked.{IsMaskOf};
 
-// The loggers with a count, one bit each.
+// The loggers with a nonzero count, one bit each.
 pub(crate) fn mask_of(counts: &[u16]) -> u8
     requires { length counts.now ≤ 8 }
     ensures { IsMaskOf (length counts.now) counts.now result }

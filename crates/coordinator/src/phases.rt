@@ -14,7 +14,7 @@ use counted::Failed;
 use logger::Logger;
 use pcm_media::Media;
 
-// The rows are written, without their votes.
+// Writes the rows without their votes.
 pub(crate) fn prepare<M: Media>(
     media: &mut M,
     shape: &Shape,
@@ -42,7 +42,7 @@ pub(crate) fn prepare<M: Media>(
     media.barrier()
 }
 
-// The votes are written, or cleared. Once they all stand, the parts are decided.
+// Writes or clears the votes. Once all of them stand, the parts are decided.
 pub(crate) fn set_votes<M: Media>(
     media: &mut M,
     shape: &Shape,
@@ -66,7 +66,7 @@ pub(crate) fn set_votes<M: Media>(
     media.barrier()
 }
 
-// The parts are written into the data.
+// Writes the parts into the data.
 pub(crate) fn install<M: Media>(
     media: &mut M,
     shape: &Shape,

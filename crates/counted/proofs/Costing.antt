@@ -6,7 +6,7 @@ use Rattle.std.proofs.Math.Nat.{mul-suc, mul-le-mul_left}
 use Rattle.counted.specs.Costs.{Costs}
 use Rattle.counted.specs.Moments.{Ticks}
 
--- what calls cost that all succeeded
+-- what calls cost if all succeeded
 abbrev pub CostsSoFar : Bool → ℕ → ℕ → ℕ → Type 0
 CostsSoFar exact calls before now = let done : Result (Unit {0}) (Unit {0}) = Ok tt in Costs exact calls before now done
 
@@ -21,12 +21,12 @@ module _ {T E : Type 0} (exact : Bool) where
   costs_all calls before now (Ok x) is = record { done = λ told. is; most = omega arith }
   costs_all calls before now (Err e) is = record { done = λ told. tt; most = omega arith }
 
-  -- some of them, where it failed
+  -- some of them, if the work failed
   pub costs_err : (calls before now : ℕ) (r : Result T E) → IsErr r → now ≤ before + calls → Costs exact calls before now r
   costs_err calls before now (Ok x) failed le = absurd (false≢true failed)
   costs_err calls before now (Err e) failed le = record { done = λ told. tt; most = le }
 
-  -- behind others that succeeded
+  -- after others that succeeded
   pub costs_then : (all part rest before mid now : ℕ) (r : Result T E) → all ≡ part + rest → CostsSoFar exact part before mid → Costs exact rest mid now r → Costs exact all before now r
   costs_then all part rest before mid now (Ok y) is first costs = record {
     done = λ told. let one = first.done told in let two = costs.done told in omega (arith, is, one, two);
@@ -34,7 +34,7 @@ module _ {T E : Type 0} (exact : Bool) where
   }
   costs_then all part rest before mid now (Err e) is first costs = record { done = λ told. tt; most = omega (arith, is, first.most, costs.most) }
 
--- so many were made
+-- this many were made
 pub so_far : (exact : Bool) (calls before now : ℕ) → now ≡ before + calls → CostsSoFar exact calls before now
 so_far exact calls before now is = record { done = λ told. is; most = omega arith }
 
@@ -54,7 +54,7 @@ costs_more exact all part rest before mid now x is first costs = record {
 pub costs_ok : {T E : Type 0} (exact : Bool) (all calls before now : ℕ) (x : T) → all ≡ calls → CostsSoFar exact calls before now → (let r : Result T E = Ok x in Costs exact all before now r)
 costs_ok exact all calls before now x is costs = record { done = λ told. let one = costs.done told in omega (arith, is, one); most = omega (arith, is, costs.most) }
 
--- one more round of a loop, each of as many calls
+-- one more round of a loop whose rounds make `each` calls
 pub rounds_next : (each at next : ℕ) → next ≡ at + 1 → each * next ≡ each * at + each
 rounds_next each at next is = subst (λ (k : ℕ). each * k ≡ each * at + each) (let e : suc at ≡ next = omega arith in e) (mul-suc each at)
 

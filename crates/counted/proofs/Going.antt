@@ -15,7 +15,7 @@ then a b = record {
   only = λ t c le left. ⊎_elim (λ was. a.only t c le was) (λ p. inr p) (b.only t c (omega (arith, le, a.later)) left);
 }
 
--- the same seen through what the contents stand for
+-- the same, seen through what the contents stand for
 pub through : {B C : Type 0} {before now : ℕ} {past since : ℕ → B → Type 0} {Q : B → Type 0} (R : B → C → Type 0) (P : C → Type 0) → ((b : B) (c : C) → Q b → R b c → P c) → Elapses before now past since Q → Elapses before now (Through R past) (Through R since) P
 through R P f e = record {
   later = e.later;

@@ -1,16 +1,16 @@
-//! The words that the whole house shares: a call that an object refused by itself, want of memory, and, in
-//! `specs/`, counted faults and what a loss of power at some moment might have left.
+//! What all crates share: a call that failed at the object itself, running out of memory, and, in `specs/`,
+//! counted faults and what a loss of power at some moment might have left.
 #![tactic(auto)]
 
 use std::alloc::{AllocError, AllocFailed};
 use thiserror::Error;
 
-/// An object refused a call by itself, and has counted it.
+/// A call failed at the object itself, which has counted the fault.
 #[derive(Clone, Copy, Debug, PartialEq, Eq, Error)]
 #[error("the object failed")]
 pub struct Failed;
 
-/// No memory was left for the work. Nothing else is said by it.
+/// Memory ran out. It says nothing else.
 #[derive(Clone, Copy, Debug, PartialEq, Eq, Error)]
 #[error("no memory")]
 pub struct NoMemory;

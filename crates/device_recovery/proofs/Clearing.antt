@@ -43,7 +43,7 @@ module _ (shape : Shape) where
         differ : (g h t u k : ℕ) → g ≡ h → t ≡ u → 1 ≤ k → row_at shape g t + k ≡ row_at shape h u → ⊥
         differ g h t u k is is' le at = let e : row_at shape g t ≡ row_at shape h u = (λ i. row_at shape (is i) (is' i)) in omega (arith, e)
 
-    -- a row that was not voted is not
+    -- a row that was not voted still is not
     pub cleared_unvoted : (g t : ℕ) → g < shape.loggers → t < shape.numbers → (row_of shape old g t).voted ≡ false → (row_of shape new g t).voted ≡ false
     cleared_unvoted g t lt lt' not_so = voted_same shape old new g t (same.same (row_at shape g t) (votes_away old (row_at shape g t) (λ h u small small' so is.
         let one = same_row shape g h t u (row_at shape h u) lt' small' (omega arith) (omega arith) (omega arith) (omega arith) in
@@ -114,7 +114,7 @@ module _ (shape : Shape) where
             ∙ applied_some shape (λ h. decided_parts shape old h t) (λ h. decided_parts shape new h t) (data_of shape old) (length-data_of shape old) owned (λ h below. cleared_parts h t below lt' lawful) placed placed' kept
             ∙ sym already
 
-  -- with no vote the data is what it settles to
+  -- if no row is voted, the data is what it settles to
   pub no_vote_settled : (image : List ℕ) → HasNoVote shape image → settled_data shape image ≡ data_of shape image
   no_vote_settled image none = ap (λ (ps : List Part). applied ps (data_of shape image)) (joined_none (λ t. number_parts shape image t) 0 shape.numbers (λ t le below.
       joined_none (λ g. decided_parts shape image g t) 0 shape.loggers (λ g le' below'. not_decided_parts shape image g t (not_decided shape.loggers (λ h. row_of shape image h t) g (none g t (omega arith) (omega arith))))))

@@ -45,7 +45,7 @@ module _ (shape : Shape) where
   pub decided_placed : (image : List ℕ) → length image ≡ media_len shape → AllGood shape image shape.numbers → AllPlaced shape (all_decided shape image)
   decided_placed image long good = joined_placed shape (λ t. number_parts shape image t) 0 shape.numbers (λ t le lt. number_placed image t long (omega arith) (λ g below so. good g t below (omega arith) so))
 
-  -- where data alone differs
+  -- if only data differs
   pub data_frame : (ps : List Part) (old new : List ℕ) → AllPlaced shape ps → SameOutside (places_of shape ps) old new → SameFrame shape old new
   data_frame ps old new placed same = record { long = same.long; rows = λ g t lt lt'. data_rows shape ps placed old new same g t lt'; cells = data_cells shape ps placed old new same }
 

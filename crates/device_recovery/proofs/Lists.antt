@@ -24,7 +24,7 @@ module _ {A : Type 0} (f : ℕ → List A) where
       none : 0 + n ≡ n
       none = omega arith
 
-  -- a list that is not empty makes the whole not empty
+  -- a nonempty list makes the whole nonempty
   pub length_some : (k n i : ℕ) → k ≤ i → i < k + n → 0 < length (f i) → 0 < length (joined f k n)
   length_some k zero i le lt some = absurd (omega arith)
   length_some k (suc n) i le lt some =
@@ -49,7 +49,7 @@ module _ (shape : Shape) (test : ℕ → ℕ → Bool) where
   none_counted none = ap (λ (l : List (ℕ × ℕ)). length l) (joined_none (λ t. at_number shape test row_name t) 0 shape.numbers (λ t le lt.
       joined_none (λ g. cond (test g t) (row_name g t ∷ []) []) 0 shape.loggers (λ g le' lt'. ap (λ (b : Bool). cond b (row_name g t ∷ []) []) (none g t (omega arith) (omega arith)))))
 
-  -- one row more of a number
+  -- one more row of a number
   pub row_counts : (t n : ℕ) → test n t ≡ true → length (joined (λ g. cond (test g t) (row_name g t ∷ []) []) 0 (n + 1)) ≡ length (joined (λ g. cond (test g t) (row_name g t ∷ []) []) 0 n) + 1
   row_counts t n so = omega (arith, length_more (λ g. cond (test g t) (row_name g t ∷ []) []) n, chosen_one (test n t) (row_name n t) so)
 

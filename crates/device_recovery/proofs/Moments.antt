@@ -21,7 +21,7 @@ use Rattle.device_recovery.proofs.Frames.{SameFrame, decided_placed, data_frame,
 use Rattle.device_recovery.proofs.Clearing.{votes_away, cleared_data, cleared_lawful, cleared_settles}
 use Rattle.device_recovery.proofs.Votes.{same_votes}
 
--- with nothing unsettled before writes in these ranges
+-- if nothing was unsettled before writes in these ranges
 left_sure : (old : Content) (ranges : List (ℕ × ℕ)) (image : List ℕ) → ((i : ℕ) → IsOutside old.unsettled i) → MayLeave (partly ranges old) image → SameOutside ranges old.bytes image
 left_sure old ranges image sure left = record { long = left.long; same = λ i out. left.same i (outside-both ranges old.unsettled i out (sure i)) }
 
@@ -78,7 +78,7 @@ module _ (shape : Shape) (old : View) (long : length old.content.bytes ≡ media
 pub data_within : (shape : Shape) (image : List ℕ) (i : ℕ) → IsOutside (recovered_places shape image) i → IsOutside (places_of shape (all_decided shape image)) i
 data_within shape image i out = (outside-append (places_of shape (all_decided shape image)) (voted_places shape image) i out).0
 
--- all is sure, and no row is voted
+-- all is settled, and no row is voted
 pub clean_from : (shape : Shape) (now : Content) → length now.bytes ≡ media_len shape → ((i : ℕ) → IsOutside now.unsettled i) → HasNoVote shape now.bytes → IsClean shape now
 clean_from shape now long sure none image left =
     let same : image ≡ now.bytes = ext_get_or 0 image now.bytes left.long (λ i lt. left.same i (sure i)) in

@@ -20,7 +20,7 @@ module _ (shape : Shape) where
   vote_within image t g lt so i out =
       subst (λ b. IsOutside (cond b ((row_at shape g t, 1) ∷ []) []) i) so (outside_at (λ h. cond (row_of shape image h t).voted ((row_at shape h t, 1) ∷ []) []) i 0 shape.loggers out g (omega arith) (omega arith))
 
-  -- a row stays where no vote of its own number and logger is written
+  -- a row stays if no vote of its own number and logger is written
   pub other_row : (g t n u : ℕ) (old new : List ℕ) → t < shape.numbers → u < shape.numbers → (g ≡ n → t ≡ u → ⊥) → SameOutside ((row_at shape n u, 1) ∷ []) old new → row_of shape new g t ≡ row_of shape old g t
   other_row g t n u old new lt lt' ne same = row_away shape ((row_at shape n u, 1) ∷ []) old new g t same (λ i from below. (
     (λ from' below'.
@@ -28,7 +28,7 @@ module _ (shape : Shape) where
     tt,
   ))
 
-  -- where a row was not voted, its number's votes leave it as it was
+  -- if a row was not voted, its number's votes leave it as it was
   pub unvoted_row : (image : List ℕ) (t g : ℕ) (new : List ℕ) → t < shape.numbers → g < shape.loggers → (row_of shape image g t).voted ≡ false → SameOutside (number_votes shape image t) image new → row_of shape new g t ≡ row_of shape image g t
   unvoted_row image t g new lt lt' not_so same = row_away shape (number_votes shape image t) image new g t same (λ i from below.
       outside_joined (λ h. cond (row_of shape image h t).voted ((row_at shape h t, 1) ∷ []) []) i 0 shape.loggers (λ h le below'.

@@ -17,14 +17,14 @@ use Rattle.device_recovery.specs.declared.report.RecoverFault.TheVariants.{Media
 abbrev pub AllGood : Shape → List ℕ → ℕ → Type 0
 AllGood shape image n = (g t : ℕ) → g < shape.loggers → t < n → decided shape image g t ≡ true → IsGoodRow shape image g t
 
--- of the rows of a number the first decided one that is not good
+-- the row of logger g is the first decided row of number t that is not good
 pub record IsFirstBadAt (shape : Shape) (image : List ℕ) (g t : ℕ) : Type 0 where
   pub logger : g < shape.loggers
   pub is_decided : decided shape image g t ≡ true
   pub bad : IsGoodRow shape image g t → ⊥
   pub below : (h : ℕ) → h < g → decided shape image h t ≡ true → IsGoodRow shape image h t
 
--- of all rows, by rising number, then rising logger
+-- it is the first of all rows, by rising number, then rising logger
 pub record IsFirstBad (shape : Shape) (image : List ℕ) (g t : ℕ) : Type 0 where
   pub number : t < shape.numbers
   pub here : IsFirstBadAt shape image g t
@@ -34,7 +34,7 @@ pub record IsFirstBad (shape : Shape) (image : List ℕ) (g t : ℕ) : Type 0 wh
 abbrev pub row_name : ℕ → ℕ → ℕ × ℕ
 row_name g t = (g, t)
 
--- what stands beside the rows of which a test holds, by rising number, then rising logger
+-- what `beside` gives for the rows that pass a test, by rising number, then rising logger
 abbrev pub at_number : {A : Type 0} → Shape → (ℕ → ℕ → Bool) → (ℕ → ℕ → A) → ℕ → List A
 at_number shape test beside t = joined (λ g. if test g t then beside g t ∷ [] else []) 0 shape.loggers
 
@@ -52,11 +52,11 @@ dropped_rows shape image = at_rows shape (λ g t. (row_of shape image g t).voted
 abbrev pub HasNoVote : Shape → List ℕ → Type 0
 HasNoVote shape image = (g t : ℕ) → g < shape.loggers → t < shape.numbers → (row_of shape image g t).voted ≡ false
 
--- so many calls of the media recovery makes where no row is voted: it makes all sure, and reads each row
+-- how many calls of the medium recovery makes if no row is voted: a barrier, and a read of each row
 abbrev pub quiet_calls : Shape → ℕ
 quiet_calls shape = 1 + shape.loggers * shape.numbers
 
--- how many of them there are
+-- the report says how many of each there are
 pub record Counts (shape : Shape) (image : List ℕ) (report : Report) : Type 0 where
   pub decided : report.decided ≡ length (decided_rows shape image)
   pub dropped : report.dropped ≡ length (dropped_rows shape image)
@@ -71,19 +71,19 @@ voted_places shape image = at_rows shape (λ g t. (row_of shape image g t).voted
 abbrev pub recovered_places : Shape → List ℕ → List (ℕ × ℕ)
 recovered_places shape image = places_of shape (all_decided shape image) ++ voted_places shape image
 
--- lawful, with the header of another image, and it settles to what that does
+-- lawful, with the header of another image, and it settles to what that image does
 pub record SettlesLike (shape : Shape) (other image : List ℕ) : Type 0 where
   pub lawful : IsLawful shape image
   pub header : range image 0 512 ≡ range other 0 512
   pub same : settled_data shape image ≡ settled_data shape other
 
--- the same as some image that could be left at first
+-- it settles like some image that could be left at first
 pub record KeepsSense (shape : Shape) (content : Content) (image : List ℕ) : Type 0 where
   pub earlier : List ℕ
   pub left : MayLeave content earlier
   pub like : SettlesLike shape earlier image
 
--- the media failed
+-- whether the medium failed
 abbrev pub is_of_media : RecoverFault → Bool
 is_of_media Media = true
 is_of_media _ = false

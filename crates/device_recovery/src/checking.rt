@@ -18,7 +18,7 @@ use counted::Failed;
 use pcm_media::Media;
 use row_bytes::{Head, Row, read_head};
 
-// Whether a part with this head lies in one page of this logger.
+// Whether the range that this head says lies in one page of this logger.
 fn is_owned(shape: &Shape, logger: u8, head: Head) -> bool
     ensures { IsTrue result ↔ IsOwned shape.now logger head.addr head.len }
 {
@@ -106,7 +106,7 @@ fn is_bad<M: Media>(
     has_bad_cell(media, shape, logger, tid, row.first, row.count)
 }
 
-// Looks at the rows of one number.
+// Checks the rows of one number.
 fn check_number<M: Media>(
     media: &mut M,
     shape: &Shape,

@@ -1,4 +1,4 @@
-//! Recovery: of what a loss of power left it makes an array at rest.
+//! Recovery: it makes an array at rest of what a loss of power left.
 #![tactic(auto)]
 
 mod checking;

@@ -23,19 +23,19 @@ use counted::Failed;
 use pcm_media::Media;
 use row_bytes::Row;
 
-/// Makes of what a loss of power left an array at rest: the parts of decided rows go into the data, and every vote is cleared.
-/// It may lose power itself, at any moment, and then leaves what settles to the same.
+/// Makes an array at rest of what a loss of power left: the parts of decided rows go into the data, and every vote is cleared.
+/// If power is lost during it, what is left settles to the same, provided that all images that it may find are lawful.
 ///
-/// Where no row is voted it writes nothing, and makes one call for a barrier and one for each row. Where a decided row is not good
-/// it writes nothing either, whatever it answers.
+/// If no row is voted it writes nothing, and makes one call for a barrier and one for each row. If a decided row is not good it
+/// writes nothing either, whatever it answers.
 pub fn recover<M: Media>(media: &mut M, shape: &Shape) -> Result<Report, RecoverFault>
     requires size { (M.view media.old).size ≡ media_len shape.now }
-    // Whatever the bytes were, the data is what they settle to, and no vote is left.
+    // Whatever the bytes were, the data is then what they settle to, and no vote is left.
     ensures clean { IsTrue M.tells → OnOk result (IsClean shape.now (M.view media.new).content) }
     ensures settled { IsTrue M.tells → OnOk result (data_of shape.now (M.view media.new).content.bytes ≡ settled_data shape.now (M.view media.old).content.bytes) }
     ensures counts { IsTrue M.tells → IfOk result (Counts shape.now (M.view media.old).content.bytes) }
     ensures sure { IsTrue M.tells → OnOk result ((i : ℕ) → IsOutside (M.view media.new).content.unsettled i) }
-    // It refuses just where a decided row is not good, and names the first one.
+    // It succeeds only if each decided row is good. The row that it refuses is the first one that is not good.
     ensures good { IsTrue M.tells → OnOk result (AllGood shape.now (M.view media.old).content.bytes shape.now.numbers) }
     ensures bad { IsTrue M.tells → IfErr result (λ fault. (g t : ℕ) → fault ≡ BadRow g t → IsFirstBad shape.now (M.view media.old).content.bytes g t) }
     ensures unwritten { IsTrue M.tells → IfErr result (λ fault. (g t : ℕ) → fault ≡ BadRow g t → Touched [] (M.view media.old).content (M.view media.new).content) }
@@ -55,7 +55,7 @@ pub fn recover<M: Media>(media: &mut M, shape: &Shape) -> Result<Report, Recover
     Ok(report)
 }
 
-// Reads the rows of an array that is sure, and refuses bad ones.
+// Makes what was left durable, reads the rows, and refuses bad ones.
 fn read_sound<M: Media>(media: &mut M, shape: &Shape) -> Result<[Row; MOST], RecoverFault>
     requires size { (M.view media.old).size ≡ media_len shape.now }
     ensures rows { IsTrue M.tells → IfOk result (RowsAre shape.now (M.view media.old).content.bytes shape.now.numbers) }
@@ -72,7 +72,7 @@ fn read_sound<M: Media>(media: &mut M, shape: &Shape) -> Result<[Row; MOST], Rec
     Ok(rows)
 }
 
-// Writes the parts of the decided rows into the data, then clears the votes, each behind a barrier.
+// Writes the parts of the decided rows into the data, then clears the votes, each followed by a barrier.
 fn settle<M: Media>(media: &mut M, shape: &Shape, rows: &[Row; MOST]) -> Result<(), Failed>
     requires size { (M.view media.old).size ≡ media_len shape.now }
     requires fits { (g t : ℕ) → g < shape.now.loggers → t < shape.now.numbers → decided_in shape.now rows.now g t ≡ true → (row_in rows.now g t).first + (row_in rows.now g t).count ≤ shape.now.entries }

@@ -17,7 +17,7 @@ pub enum RecoverFault {
     /// A decided row names cells that are not there, or one that holds no part of its logger. Nothing was written.
     #[error("bad row {logger} {tid}")]
     BadRow { logger: u8, tid: u8 },
-    /// The media failed.
+    /// The medium failed.
     #[error("media fault")]
     Media,
 }

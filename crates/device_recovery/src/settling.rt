@@ -43,7 +43,7 @@ fn apply_number<M: Media>(
     Ok(())
 }
 
-/// Writes the parts of all decided rows into the data, and makes that sure.
+/// Writes the parts of all decided rows into the data, and makes that durable.
 pub(crate) fn settle_data<M: Media>(
     media: &mut M,
     shape: &Shape,
@@ -85,7 +85,7 @@ fn clear_number<M: Media>(
     Ok(())
 }
 
-/// Clears the votes of all voted rows, and makes that sure.
+/// Clears the votes of all voted rows, and makes that durable.
 pub(crate) fn settle_votes<M: Media>(
     media: &mut M,
     shape: &Shape,

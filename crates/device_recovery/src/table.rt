@@ -11,10 +11,10 @@ use counted::Failed;
 use pcm_media::Media;
 use row_bytes::Row;
 
-// The most rows that an array has: eight loggers, 64 numbers.
+// The most rows that an array may have: 8 loggers times 64 numbers.
 pub(crate) const MOST: usize = 512;
 
-// Where the row of a number at a logger stands.
+// Where in the table the row of a number at a logger is.
 pub(crate) fn place(logger: u8, tid: u8) -> usize
     requires logger { logger < 8 }
     requires tid { tid < 64 }
@@ -40,7 +40,7 @@ fn has_logger(mask: u8, logger: u8) -> bool
     (mask >> logger) & 1 == 1
 }
 
-// Whether the row of a logger is voted with a mask, if the mask has that logger.
+// Whether the row of a logger is voted with a mask, or the mask does not have that logger.
 fn agrees(row: Row, mask: u8, logger: u8) -> bool
     requires { logger < 8 }
     ensures { result ≡ (not (has_logger mask logger) || (row.voted && nat_eq row.mask mask)) }

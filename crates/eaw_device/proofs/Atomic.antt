@@ -30,7 +30,7 @@ given_up {A} logs t log free = λ i u. one u i
       | inr ne ↦ ap (λ (b : Bool). cond b None (cond b log (logs u))) (ne_eqb u t ne)
     ]
 
--- a commit of a live number fails by the media alone
+-- only the medium can make a commit of a live number fail
 pub commit_fails : (store : StoreView) (t faults : ℕ) (r : Result (Unit {0}) EawFault) → Cause store (commit t) faults r → IsAlive store → IsLive store t → IfErr r (λ fault. fault ≡ Media)
 commit_fails store t faults (Ok x) cause alive live = tt
 commit_fails store t faults (Err (UnknownTid u)) cause alive live = absurd (cause.2 live)
@@ -116,12 +116,12 @@ module _ (tells : Bool) (Opens : Shape → List ℕ → List ℕ → Type 0) (ol
   }
   atomic (Err Dead) second = absurd (false≢true (sym mid_alive ∙ second.cause))
 
--- nothing is logged where there are no ranges
+-- nothing is logged if there are no ranges
 pub none_ranges : {A B C : Type 0} (f : List A → List B) (h : List A → List C) (o : Option (List A)) → option_map f o ≡ None → option_map h o ≡ None
 none_ranges f h None free = refl
 none_ranges f h (Some l) free = cc
 
--- what is said of other faults than the media's is said of none
+-- if the only faults are the medium's, anything holds of the others
 pub media_alone : {T : Type 0} (X : Type 0) (r : Result T EawFault) → IfErr r (λ fault. fault ≡ Media) → IfErr r (λ fault. fault ≢ Media → X)
 media_alone X (Ok x) is = tt
 media_alone X (Err e) is = λ ne. absurd (ne is)

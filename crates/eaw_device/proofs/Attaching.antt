@@ -28,7 +28,7 @@ recovered_behind shape image i lt =
     outside-both (places_of shape (all_decided shape image)) (voted_places shape image) i (places_behind shape (all_decided shape image) i lt)
     (votes_away shape image i (λ g t below below' so is. omega arith))
 
--- so where all is sure behind it, each image left has the header that was read
+-- so if all is settled after it, each image left has the header that was read
 pub recovered_says : (shape : Shape) (old new : Content) → ((i : ℕ) → IsOutside new.unsettled i) → SaysShape (header_of old.bytes) shape → Touched (recovered_places shape old.bytes) old new → AllSay shape new
 recovered_says shape old new sure says touched image left =
     let kept = header_stays (recovered_places shape old.bytes) old.bytes new.bytes (recovered_behind shape old.bytes) touched.bytes in

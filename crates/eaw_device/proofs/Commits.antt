@@ -47,7 +47,7 @@ module _ (tells : Bool) (old new : View) (shape : Shape) (logs : List Log) (is_d
     time told = subst (λ (ps : List Part). LeavesOnly (face.IsEither (Opens shape) before (applied (drop n ps) before)) old new) its_parts
         (commit_time tells shape old new r does told (long told) (found.told told).sure before (applied (drop n (parts_in shape old.content.bytes t log.entries.items)) before) (any_moment told))
 
-    -- the media failed
+    -- the medium failed
     module _ (rose : Rose old.faults new.faults) where
       pub commit_failed : n ≡ 0 → (let failed : Result (Unit {0}) EawFault = Err Media in face.Does tells (Opens shape) (commit t) (view_of old shape logs is_dead) (view_of new shape logs true) failed)
       commit_failed none = failed tells (Opens shape) (commit t) (view_of old shape logs is_dead) (view_of new shape logs true) refl does.does.cause.later
@@ -94,7 +94,7 @@ module _ (tells : Bool) (old new : View) (shape : Shape) (logs : List Log) (is_d
                 λ i. record { bytes = bytes i; logs = cut i };
           })))
 
--- nothing is called of the media
+-- no call of the medium is made
 module _ (tells : Bool) (media : View) (shape : Shape) (logs : List Log) (is_dead : Bool) (sound : IsSound tells media shape logs is_dead) (alive : is_dead ≡ false) (t : ℕ) (live : IsLive (view_of media shape logs is_dead) t)
     (log : Log) (found : Found tells media shape logs is_dead t log) (now : Log) (kept : IsKept shape now) (n : ℕ) (items : now.entries.items ≡ take n log.entries.items) (at : ℕ) (is : at ≡ t) where
   cells : IsTrue tells → SameCells shape media.content.bytes media.content.bytes

@@ -14,7 +14,7 @@ use Rattle.eaw_device.proofs.Entries.{count_on-ranges_in}
 use Rattle.eaw_device.proofs.Keeping.{last_cells}
 use Rattle.eaw_device.proofs.LogParts.{ranges_in-drop}
 
--- what a logger has of the parts behind a position
+-- what a logger has of the parts from a position on
 module _ (shape : Shape) (log : Log) (kept : IsKept shape log) (offset : ℕ) where
   behind : (g : ℕ) → g < shape.loggers → count_on shape g (drop offset (ranges_in log.entries.items)) ≡ slice_index log.held g - length (cells_on shape g (take offset log.entries.items))
   behind g lt =
@@ -30,7 +30,7 @@ module _ (shape : Shape) (log : Log) (kept : IsKept shape log) (offset : ℕ) wh
       let here : g < shape.loggers = omega arith in
       are g here ∙ sym (behind g here) ∙ sym (get_or-map-range_with_len (λ (h : ℕ). count_on shape h (drop offset (ranges_in log.entries.items))) 0 shape.loggers g g 0 here (omega arith)))
 
--- what is said of an answer that was Ok
+-- from an answer that was Ok
 pub costs_done : {T E U F : Type 0} (exact : Bool) (n calls before now : ℕ) (r : Result T E) (x : U) → is_err r ≡ false → n ≡ calls → Costs exact n before now r → (let s : Result U F = Ok x in Costs exact calls before now s)
 costs_done exact n calls before now (Ok y) x fine is costs = record { done = λ told. let one = costs.done told in omega (arith, is, one); most = omega (arith, is, costs.most) }
 costs_done exact n calls before now (Err e) x fine is costs = absurd (false≢true (sym fine))

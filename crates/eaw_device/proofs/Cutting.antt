@@ -1,4 +1,4 @@
--- A log that is cut at a position, and what it had behind that in the data.
+-- A log that is cut at a position, and what it had from there on in the data.
 use Rattle.std.proofs.Common.{◌≡◌, ◌≢◌, ℕ, ◌<◌, Bool, true, false, List, length, take, sym, ◌∙◌, ap, arith}
 use Rattle.std.specs.Prelude.{IsTrue, slice_get, slice_set, slice_index, Some, None}
 use Rattle.std.specs.Option.{option_map}
@@ -19,7 +19,7 @@ use Rattle.eaw_device.proofs.LogParts.{parts_in-take, ranges_of-take}
 use Rattle.eaw_device.proofs.Tables.{entries_live, entries_free, ranges_there, parts_there, ranges_set, parts_set, parts_kept, held_kept, others_kept, sound_set}
 use Rattle.eaw_device.proofs.Doing.{Found}
 
--- the first entries of a log stand in its cells
+-- the first entries of a log are held in its cells
 pub held_first : (shape : Shape) (image : List ℕ) (t n : ℕ) (log now : Log) → IsKept shape log → IsKept shape now → now.entries.items ≡ take n log.entries.items → IsHeld shape image t log → IsHeld shape image t now
 held_first shape image t n log now kept kept' items held = record {
   good = λ g e lt below.

@@ -21,7 +21,7 @@ module _ {A : Type 0} (dealt : A → ℕ) where
   abbrev pub on : ℕ → List A → ℕ
   on k xs = length (filter (λ x. nat_eq (dealt x) k) xs)
 
-  -- and all below one
+  -- what all numbers below one have
   pub below : ℕ → List A → ℕ
   below k [] = 0
   below k (x ∷ xs) = cond (nat_lt (dealt x) k) 1 0 + below k xs

@@ -34,7 +34,7 @@ module _ (tells : Bool) (Opens : List ℕ → List ℕ → Type 0) (command : Co
     time = time;
   }
 
-  -- one in which the media failed
+  -- a command in which the medium failed
   pub failed : {T : Type 0} → IsAlive old → Knows old command → HasRoom old command → Rose old.faults new.faults → new.is_dead ≡ true → ((u : ℕ) → (IsNumberOf command u → ⊥) → new.ranges u ≡ old.ranges u) → (let r : Result T EawFault = Err Media in Does tells Opens command old new r)
   failed alive knows room rose dead others = record {
     shape = shape;
@@ -47,7 +47,7 @@ module _ (tells : Bool) (Opens : List ℕ → List ℕ → Type 0) (command : Co
     time = time;
   }
 
--- a command that is refused, by a fault that is none of the media
+-- a command that is refused, by a fault other than the medium's
 pub refused : {T : Type 0} (tells : Bool) (Opens : List ℕ → List ℕ → Type 0) (command : Command) (store : StoreView) (fault : EawFault) → (let r : Result T EawFault = Err fault in Cause store command store.faults r) → (fault ≡ Media → ⊥)
     → (r : Result T EawFault) → IsErrAnd r (λ e. e ≡ fault) → Does tells Opens command store store r
 refused {T} tells Opens command store fault cause other (Ok x) is = absurd is
@@ -94,7 +94,7 @@ found tells media shape logs is_dead sound alive t at log is live got =
       held = λ told. (sound.told told alive).held t log there;
     }
 
--- two looks at a log give the same
+-- two look-ups of a log give the same
 pub one_log : (logs : List Log) (t : ℕ) (a b : Log) → slice_get logs t ≡ Some a → slice_get logs t ≡ Some b → a ≡ b
 one_log logs t a b one two = by (sym one ∙ two)
   where

@@ -79,7 +79,7 @@ module _ (shape : Shape) where
       one true same = ap suc same
       one false same = same
 
-  -- where no logger has more than so many, all have so many times the loggers at most
+  -- if no logger has more cells than entries allow, a log has at most that many times the loggers
   pub few_entries : (es : List Entry) → IsShape shape → ((g : ℕ) → g < shape.loggers → length (cells_on shape g es) ≤ shape.entries) → length es ≤ shape.loggers * shape.entries
   few_entries es shaped few =
       let all = below_all (λ (r : ℕ × ℕ). logger_of shape r.0) (ranges_in es) shape.loggers (λ r. logger_small shape r.0 shaped) in

@@ -1,4 +1,4 @@
--- What a fresh array opens as, and what its making leaves.
+-- What a fresh array opens as, and what formatting it may leave.
 use Rattle.std.proofs.Common.{◌≡◌, ℕ, false, inl, inr, List, [], ◌∷◌, length, replicate, refl, sym, ◌∙◌, ap, subst, arith}
 use Rattle.std.proofs.lemmas.List.{ext_get_or}
 use Rattle.counted.proofs.Going.{weaker, then}
@@ -18,7 +18,7 @@ use Rattle.eaw_device.specs.Fresh.{IsFresh, LeavesAsRead, HasParts, IsHalfFresh,
 use Rattle.eaw_device.proofs.FreshLemmas.{header_parts}
 use Rattle.eaw_device.proofs.OpeningLemmas.{clean_opens}
 
--- with nothing unsettled, a loss of power leaves what a read gives
+-- if nothing is unsettled, a loss of power leaves what a read gives
 pub settled_as_read : (content : Content) → content.unsettled ≡ [] → LeavesAsRead content
 settled_as_read content none image left = ext_get_or 0 image content.bytes left.long (λ i lt. left.same i (subst (λ us. IsOutside us i) (sym none) tt))
 
@@ -50,7 +50,7 @@ parts_left shape old new long time = weaker (λ image left.
     let before = before_all old.content (behind_header shape) image (omega arith, tt) left in
     inl (before.earlier, before.left, header_stays (behind_header shape) before.earlier image (is_behind shape) before.same)) time
 
--- while it is
+-- while it is written
 pub header_left : (shape : Shape) (old new : View) → old.content.unsettled ≡ [] → HasParts shape old.content.bytes → LeavesOnly (MayLeave (partly ((0, 512) ∷ []) old.content)) old new → LeavesOnly (HasParts shape) old new
 header_left shape old new none parts time = weaker (λ image left. header_parts shape old.content.bytes image (left_within old.content ((0, 512) ∷ []) image none left) parts) time
 

@@ -45,7 +45,7 @@ module _ (shape : Shape) where
   rows_fit g lt = omega (arith, data_end shape g, region_fits shape g lt)
 
 module _ (shape : Shape) (image : List ℕ) (long : length image ≡ media_len shape) where
-  -- one page more
+  -- one more page
   pub page_more : (p : ℕ) (page : List ℕ) → p < page_count shape → page ≡ fresh_page p → length page ≡ 512
       → HasPages shape p image → HasPages shape (p + 1) (put image (place_of shape (512 * p)) page)
   page_more p page lt is size have =

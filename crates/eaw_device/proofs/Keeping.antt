@@ -20,7 +20,7 @@ use Rattle.eaw_device.proofs.Entries.{numbers_split, numbers_more, ranges_in-app
 abbrev pub HasPlace : Shape → ℕ × ℕ → Type 0
 HasPlace shape r = IsPlaced shape r.0 r.1
 
--- so many cells at each logger, each of these entries in the next one
+-- how many cells a kept log has at each logger
 pub length-cells_on_kept : (shape : Shape) (log : Log) (g : ℕ) → IsKept shape log → g < shape.loggers → length (cells_on shape g log.entries.items) ≡ slice_index log.held g
 length-cells_on_kept shape log g kept lt = ap length (kept.cells g lt) ∙ length-range_with_len 0 (slice_index log.held g)
 
@@ -155,7 +155,7 @@ module _ (shape : Shape) (old now new : Log) (all s rest : List Part) (part : Pa
         ∙ ap (λ (l : List Part). stands.done ++ map (λ (p : Part). (p.addr, p.len)) l) (sym next) ∙ stands.joins;
   }
 
--- where none is left
+-- when none is left
 pub stands_last : (shape : Shape) (old now : Log) (all left : List Part) → left ≡ [] → StandsAt shape old now all left
     → Adds old.entries.items now.entries.items (map (λ (p : Part). (p.addr, p.len)) all)
 stands_last shape old now all left none stands = subst (Adds old.entries.items now.entries.items)
@@ -170,7 +170,7 @@ get_or-ranges_in (e ∷ es) (suc i) d = get_or-ranges_in es i d
 pub entry_placed : (shape : Shape) (es : List Entry) (i : ℕ) (d : Entry) → i < length es → All (HasPlace shape) (ranges_in es) → IsPlaced shape (get_or es i d).addr (get_or es i d).len
 entry_placed shape es i d lt placed = subst (HasPlace shape) (get_or-ranges_in es i d) (placed i (d.addr, d.len) (omega (arith, length-ranges_in es)))
 
--- one entry more of the first ones
+-- one more of the first entries
 module _ (shape : Shape) (shaped : IsShape shape) (es : List Entry) (i : ℕ) (d : Entry) (lt : i < length es) (counts : List ℕ) (long : length counts ≡ 8)
     (are : (g : ℕ) → g < shape.loggers → slice_index counts g ≡ length (cells_on shape g (take i es))) (at : ℕ) (is : at ≡ logger_of shape (get_or es i d).addr) where
   pub at_below : at < shape.loggers
@@ -223,7 +223,7 @@ kept_first shape n old now kept long counts items capacity free = record {
       subst (HasPlace shape) (sym (get_or-take n (ranges_in old.entries.items) k d below)) (kept.placed k d (omega arith))));
 }
 
--- a log is never long
+-- a log has at most 512 entries
 pub log_short : (shape : Shape) (shaped : IsShape shape) (log : Log) → IsKept shape log → length log.entries.items ≤ 512
 log_short shape shaped log kept =
     let few = few_entries shape log.entries.items shaped (λ g lt. omega (arith, length-cells_on_kept shape log g kept lt, kept.fits g lt)) in

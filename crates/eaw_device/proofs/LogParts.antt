@@ -18,7 +18,7 @@ use Rattle.eaw_device.specs.Logs.{ranges_in, parts_in, cells_on, IsKept, IsHeld}
 use Rattle.eaw_device.proofs.Entries.{logger_small, cells_on_here, cells_on_past}
 use Rattle.eaw_device.proofs.Keeping.{HasPlace, last_cells, first_few}
 
--- lists that are the same begin the same, and go on the same
+-- equal lists have equal first elements, and equal rests
 pub firsts_same : {A : Type 0} (x y : A) (xs ys : List A) → x ∷ xs ≡ y ∷ ys → x ≡ y
 firsts_same x y xs ys is = cc
 
@@ -53,7 +53,7 @@ all_placed-drop shape zero ps placed = placed
 all_placed-drop shape (suc n) [] placed = tt
 all_placed-drop shape (suc n) (p ∷ ps) placed = all_placed-drop shape n ps placed.1
 
--- as many of a write as their ranges
+-- as many pieces of a write as ranges
 pub count_on-ranges_of : (shape : Shape) (g : ℕ) (ps : List Part) → count_on shape g (ranges_of ps) ≡ length (filter (is_write_part_on shape g) ps)
 count_on-ranges_of shape g [] = refl
 count_on-ranges_of shape g (p ∷ ps) = one (nat_eq (logger_of shape p.0) g) (count_on-ranges_of shape g ps)
@@ -86,7 +86,7 @@ module _ (shape : Shape) (image : List ℕ) (t : ℕ) where
   parts_from-numbers g e zero = refl
   parts_from-numbers g e (suc n) = ap (λ (l : List Part). part_in g e ∷ l) (parts_from-numbers g (e + 1) n)
 
-  -- where the cells say the ranges of the entries, the parts of one logger are those in its cells
+  -- if the cells say the ranges of the entries, the parts of one logger are those in its cells
   pub parts_at-parts_in : (g : ℕ) (es : List Entry) → ranges_of (parts_in shape image t es) ≡ ranges_in es → parts_at shape g (parts_in shape image t es) ≡ map (part_in g) (cells_on shape g es)
   parts_at-parts_in g [] heads = refl
   parts_at-parts_in g (e ∷ es) heads =

@@ -77,7 +77,7 @@ module _ (tells : Bool) (media : View) (shape : Shape) (logs : List Log) (is_dea
   pub look_range : (pos : ℕ) (e : Entry) → pos < length log.entries.items → e ≡ get_or log.entries.items pos e → (e.addr, e.len) ≡ range_at (listed (option_map ranges_in (entries_at logs t))) pos
   look_range pos e lt is = entry_range log.entries.items pos e lt is ∙ ap (λ (rs : List (ℕ × ℕ)). range_at rs pos) (sym look_ranges)
 
--- a media that is only read
+-- a medium that is only read
 module _ (tells : Bool) (old new : View) (shape : Shape) (logs : List Log) (is_dead : Bool) (sound : IsSound tells old shape logs is_dead) (alive : is_dead ≡ false) {T E : Type 0} (r : Result T E) (does : Writes tells [] old new r)
     (long : IsTrue tells → length old.content.bytes ≡ media_len shape) where
   same : IsTrue tells → new.content.bytes ≡ old.content.bytes

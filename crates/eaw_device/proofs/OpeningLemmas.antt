@@ -23,7 +23,7 @@ module _ (shape : Shape) (content : Content) (opens : AllOpen shape content) whe
   pub all_lawful : (image : List ℕ) → MayLeave content image → IsLawful shape image
   all_lawful image left = (opens image left).1.stands.lawful
 
-  -- so does what settles like it
+  -- what settles like it opens so too
   pub like_sense : (image : List ℕ) → KeepsSense shape content image → OpensLike shape content image
   like_sense image kept =
       let can = opens kept.earlier kept.left in (
@@ -37,11 +37,11 @@ module _ (shape : Shape) (content : Content) (opens : AllOpen shape content) whe
         },
       )
 
--- a media that was only read, or made sure
+-- a medium that was only read, or had a barrier
 pub reading_keeps : {T E : Type 0} (tells : Bool) (old new : View) (r : Result T E) → Writes tells [] old new r → KeepsData tells old new.moment new.left_since
 reading_keeps tells old new r does told shape opens = weaker (like_itself shape old.content opens) (does.time told)
 
--- what settles to the same, where the header that is read says the shape
+-- what settles to the same, if the header that is read says the shape
 pub settling_keeps : (tells : Bool) (shape : Shape) (old new : View) → (IsTrue tells → SaysShape (header_of old.content.bytes) shape)
     → (IsTrue tells → ((image : List ℕ) → MayLeave old.content image → IsLawful shape image) → LeavesOnly (KeepsSense shape old.content) old new)
     → KeepsData tells old new.moment new.left_since
@@ -59,6 +59,6 @@ keeps_then tells old mid new touched first second told shape opens =
     (weaker (λ image like. (like.0, was like.0 like.1, like.2, like.3, like.4))
     (second told shape (λ image left. opens image (was image left))))
 
--- an array at rest opens with its data, where each image has its header
+-- an array at rest opens with its data if each image has its header
 pub clean_opens : (shape : Shape) (content : Content) → IsClean shape content → AllSay shape content → AllOpenWith shape content (data_of shape content.bytes)
 clean_opens shape content clean says image left = record { header = says image left; stands = at_rest_stands shape image (data_of shape content.bytes) (clean image left) }

@@ -14,7 +14,7 @@ use Rattle.array_image.specs.Image.{data_of}
 use Rattle.array_image.proofs.Places.{place_next, place_fits_in}
 use Rattle.array_image.proofs.Data.{get_or-data_of}
 
--- where the loop stands: these parts are left, and so many bytes are read
+-- where the loop stands: these parts are left, and `done` bytes are read
 pub record ReadsAt (shape : Shape) (addr len : ℕ) (whole buf : List ℕ) (tells : Bool) (left : List Part) : Type 0 where
   pub within : All (IsPartOf shape) left
   pub done : ℕ
@@ -52,7 +52,7 @@ module _ (shape : Shape) (addr len : ℕ) (whole : List ℕ) (tells : Bool) wher
     pub stops : reads.done + part.len ≤ len
     stops = omega (arith, tile_here.1, reads.few)
 
-    -- with the bytes of one part more
+    -- with the bytes of one more part
     pub reads_next : (new : List ℕ) → (IsTrue tells → (i : ℕ) → i < reads.done → get_or new i 0 ≡ get_or buf i 0)
         → (IsTrue tells → (j : ℕ) → j < part.len → get_or new (reads.done + j) 0 ≡ get_or whole (part.addr + j) 0) → ReadsAt shape addr len whole new tells rest
     reads_next new before here = record {
@@ -98,7 +98,7 @@ module _ (shape : Shape) (addr len : ℕ) (whole : List ℕ) (tells : Bool) wher
           ∙ part_read shape image part (image_long told) within_here j lt
           ∙ ap (λ (l : List ℕ). get_or l (part.addr + j) 0) (sym (is told)))
 
-  -- where none is left
+  -- when none is left
   pub reads_last : (buf : List ℕ) (s : List Part) → s ≡ [] → ReadsAt shape addr len whole buf tells s → length buf ≡ len → addr + len ≤ length whole → IsTrue tells → buf ≡ range whole addr len
   reads_last buf s none reads long inside told =
       let all : len - reads.done ≡ 0 = subst (Tile (addr + reads.done) (len - reads.done)) none reads.tile in

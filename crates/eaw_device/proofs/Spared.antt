@@ -1,4 +1,4 @@
--- What the making of a fresh array spares: its cells.
+-- What the formatting of a fresh array spares: its cells.
 use Rattle.std.proofs.Common.{◌≡◌, ℕ, ◌+◌, ◌-◌, ◌*◌, ◌/◌, ◌<◌, List, [], ◌∷◌, ◌∙◌, ap, arith}
 use Rattle.pcm_media.specs.Images.{Content, Touched}
 use Rattle.pcm_media.proofs.Left.{same_bytes}

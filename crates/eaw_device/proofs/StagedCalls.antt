@@ -19,7 +19,7 @@ pub when_ok : {T E P : Type 0} (r : Result T E) → is_err r ≡ false → OnOk 
 when_ok (Ok x) fine p = p
 when_ok (Err e) fine p = absurd (false≢true (sym fine))
 
--- what is said of a stage
+-- what a stage at one logger ensures
 pub record Stages (tells : Bool) (t addr : ℕ) (bytes : List ℕ) (mid new : View) (r : Result ℕ StageFault) (shape : Shape) (g k : ℕ) : Type 0 where
   pub fault : IfErr r (IsStageFault shape.entries k (length (write_parts_on shape g addr bytes)))
   pub holds : IsTrue tells → OnOk r (HoldsParts shape new.content.bytes g t k (write_parts_on shape g addr bytes))

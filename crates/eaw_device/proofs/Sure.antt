@@ -24,7 +24,7 @@ use Rattle.eaw_device.specs.Opens.{header_of, Opens}
 use Rattle.eaw_device.specs.Steps.{WritesBehind}
 use Rattle.eaw_device.specs.Sound.{IsSure}
 
--- an image that is left within writes behind the header has a header that was left before them
+-- an image that is left during writes behind the header has a header that was left before them
 module _ (shape : Shape) (ranges : List (ℕ × ℕ)) (old : Content) (behind : AreBehind ranges) (long : 512 ≤ length old.bytes) (header : (image : List ℕ) → MayLeave old image → SaysShape (header_of image) shape)
     (image : List ℕ) (left : MayLeave (partly ranges old) image) where
   front : length (take 512 image) ≡ 512
@@ -79,7 +79,7 @@ module _ (shape : Shape) (ranges : List (ℕ × ℕ)) (in_cells : AreInCells sha
     header = λ image left. header_kept shape ranges old (cells_behind shape ranges in_cells) (omega (arith, long)) sure.header image (left_partly ranges old new touched image left);
   }
 
--- within such writes the data stays
+-- during such writes the data stays
 pub cells_time : (tells : Bool) (shape : Shape) (ranges : List (ℕ × ℕ)) → AreInCells shape ranges → AllWithin (media_len shape) ranges → (old new : View) {T E : Type 0} (r : Result T E) → Writes tells ranges old new r
     → IsTrue tells → length old.content.bytes ≡ media_len shape → IsSure shape old.content → (after : List ℕ) → LeavesOnly (face.IsEither (Opens shape) (data_of shape old.content.bytes) after) old new
 cells_time tells shape ranges in_cells within old new r does told long sure after =

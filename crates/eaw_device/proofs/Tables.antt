@@ -106,7 +106,7 @@ module _ (shape : Shape) (old new : List ℕ) (u : ℕ) (log : Log) (kept : IsKe
     heads = ap ranges_of parts_kept ∙ held.heads;
   }
 
--- so are all logs of other numbers
+-- all logs of other numbers stay too
 pub others_kept : (shape : Shape) (logs : List Log) (old new : List ℕ) (u : ℕ) → ForSome (slice_get logs u) (IsKept shape)
     → ((log : Log) → slice_get logs u ≡ Some log → (g e : ℕ) → g < shape.loggers → e < slice_index log.held g → cell_of shape new g u e ≡ cell_of shape old g u e)
     → option_map (parts_in shape new u) (entries_at logs u) ≡ option_map (parts_in shape old u) (entries_at logs u)
@@ -123,7 +123,7 @@ others_kept shape logs old new u kept same = by (slice_get logs u) kept same
         let is = listed_entries shape log (kept log refl) in
         one (entries_of log) (ap (parts_in shape new u) is ∙ parts_kept shape old new u log (kept log refl) (same log refl) ∙ sym (ap (parts_in shape old u) is))
 
--- a device of which one log and the media changed
+-- a device of which one log and the medium changed
 pub sound_set : (tells : Bool) (old new : View) (shape : Shape) (logs : List Log) (is_dead : Bool) → IsSound tells old shape logs is_dead → new.size ≡ old.size → (t : ℕ) (log : Log) → t < length logs → IsKept shape log
     → (IsTrue tells → is_dead ≡ false → IsSure shape new.content) → (IsTrue tells → is_dead ≡ false → IsHeld shape new.content.bytes t log)
     → (IsTrue tells → is_dead ≡ false → (u : ℕ) → u ≢ t → ForSome (slice_get logs u) (IsHeld shape new.content.bytes u)) → IsSound tells new shape (slice_set logs t log) is_dead
@@ -149,7 +149,7 @@ sound_set tells old new shape logs is_dead sound size t log lt kept sure held ot
     some_same : (a b : Log) → Some a ≡ Some b → a ≡ b
     some_same a b is = cc
 
--- a device of which the media alone changed
+-- a device of which only the medium changed
 pub sound_media : (tells : Bool) (old new : View) (shape : Shape) (logs : List Log) (is_dead : Bool) → IsSound tells old shape logs is_dead → new.size ≡ old.size
     → (IsTrue tells → is_dead ≡ false → IsSure shape new.content) → (IsTrue tells → is_dead ≡ false → (u : ℕ) → ForSome (slice_get logs u) (IsHeld shape new.content.bytes u)) → IsSound tells new shape logs is_dead
 sound_media tells old new shape logs is_dead sound size sure held = record {

@@ -40,7 +40,7 @@ use Rattle.eaw_device.proofs.Tables.{entries_live, ranges_there, parts_there, ra
 use Rattle.eaw_device.proofs.Sure.{cells_sure, cells_time}
 use Rattle.eaw_device.proofs.Doing.{done, failed, refused}
 
--- as many of a write as parts
+-- a write has as many pieces at a logger as its range has parts
 pub length-write_parts_on : (shape : Shape) (g addr : ℕ) (bytes : List ℕ) → length (write_parts_on shape g addr bytes) ≡ length (parts_on shape g addr (length bytes))
 length-write_parts_on shape g addr bytes = ap length (write_parts_on-parts shape addr bytes g) ∙ length-map (parts_on shape g addr (length bytes)) (part_of_write addr bytes)
 
@@ -67,7 +67,7 @@ module _ (tells : Bool) (old : View) (shape : Shape) (logs : List Log) (is_dead 
   needed : (g : ℕ) → count_on shape g (ranges_of (parts_of_write addr bytes)) ≡ length (parts_on shape g addr (length bytes))
   needed g = count_on-ranges_of shape g (parts_of_write addr bytes) ∙ length-write_parts_on shape g addr bytes
 
-  -- what is said of a log that has no room
+  -- what a log without room says
   pub first_full : (g h n : ℕ) → LacksCells shape log.held addr (length bytes) g h n → IsFirstFull (view_of old shape logs is_dead) (listed (option_map ranges_in (entries_at logs t))) (ranges_of (parts_of_write addr bytes)) g h n
   first_full g h n said = record {
     logger = said.logger;
@@ -182,7 +182,7 @@ module _ (tells : Bool) (old : View) (shape : Shape) (logs : List Log) (is_dead 
                     λ i. record { bytes = bytes' i; logs = logs' i };
               }))
 
--- a write that is refused
+-- a refused write
 pub write_refused : (tells : Bool) (old : View) (shape : Shape) (logs : List Log) (is_dead : Bool) → IsSound tells old shape logs is_dead → (t addr : ℕ) (bytes : List ℕ) → addr + length bytes ≤ data_len shape → (fault : EawFault)
     → RefusesWrite shape logs is_dead t addr (length bytes) fault → (r : Result ℕ EawFault) → IsErrAnd r (λ e. e ≡ fault) → face.Does tells (Opens shape) (log_write t addr bytes) (view_of old shape logs is_dead) (view_of old shape logs is_dead) r
 write_refused tells old shape logs is_dead sound t addr bytes inside (UnknownTid u) said = refused tells (Opens shape) (log_write t addr bytes) (view_of old shape logs is_dead) (UnknownTid u) said (λ is. cc)

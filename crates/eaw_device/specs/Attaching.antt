@@ -11,7 +11,7 @@ use Rattle.eaw_device.specs.declared.fault.AttachFault.{AttachFault}
 use Rattle.eaw_device.specs.declared.fault.AttachFault.TheVariants.{NotMars, BadShape, BadRow, Media, NoMemory}
 use Rattle.eaw_device.specs.Opens.{header_of, Opens}
 
--- what an opening answers for a wrong header, and for a recovery that was refused
+-- what an opening answers for a wrong header, and for a refused recovery
 abbrev pub header_fault : HeaderFault → AttachFault
 header_fault header.NotMars = NotMars
 header_fault (header.BadShape bad) = BadShape bad
@@ -20,19 +20,19 @@ abbrev pub recovery_fault : RecoverFault → AttachFault
 recovery_fault (recovery.BadRow logger tid) = BadRow logger tid
 recovery_fault recovery.Media = Media
 
--- the header is wrong, or the media failed
+-- the header is wrong, or the medium failed
 abbrev pub IsOfHeader : AttachFault → Type 0
 IsOfHeader (BadRow logger tid) = ⊥
 IsOfHeader NoMemory = ⊥
 IsOfHeader _ = ⊤
 
--- a row is bad, or the media failed
+-- a row is bad, or the medium failed
 abbrev pub IsOfRecovery : AttachFault → Type 0
 IsOfRecovery (BadRow logger tid) = ⊤
 IsOfRecovery Media = ⊤
 IsOfRecovery _ = ⊥
 
--- the media failed
+-- whether the medium failed
 abbrev pub is_of_media : AttachFault → Bool
 is_of_media Media = true
 is_of_media _ = false

@@ -1,4 +1,4 @@
--- What the commands of a device cost of calls of its media.
+-- How many calls of its medium each command of a device makes.
 use Rattle.std.specs.Prelude.{ℕ, ◌+◌, ◌*◌, List, length, drop, map}
 use Rattle.std.specs.List.{range_with_len}
 use Rattle.array_shape.specs.declared.shape.Shape.{Shape}
@@ -13,8 +13,8 @@ use Rattle.eaw_face.specs.Command.{Command, log_write, log_edit, commit, abort, 
 abbrev pub counts_of : Shape → List (ℕ × ℕ) → List ℕ
 counts_of shape ranges = map (λ g. count_on shape g ranges) (range_with_len 0 shape.loggers)
 
--- Two for each part of a write into a log, one for a part that is edited or read, one for each part of a read; a commit costs what
--- its parts do at their loggers, and an abort nothing.
+-- Two for each part of a write into a log, one for a part that is edited or read, one for each part of a read of data. A commit
+-- costs what its parts cost at their loggers, and an abort nothing.
 abbrev pub calls_of : Command → StoreView → ℕ
 calls_of (log_write t addr bytes) store = 2 * length (parts_of_write addr bytes)
 calls_of (log_edit t pos at bytes) store = 1

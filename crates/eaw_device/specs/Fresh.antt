@@ -12,14 +12,14 @@ use Rattle.eaw_device.specs.declared.fresh.FormatFault.{FormatFault}
 use Rattle.eaw_device.specs.declared.fresh.FormatFault.TheVariants.{BadShape, Media}
 use Rattle.eaw_device.specs.Opens.{header_of}
 
--- Page 0 is the super page: its mark, the version 1, the form 1, no slot given and 2 the next page to give. Page 1 is an index page
--- without pairs, and all others are zero.
+-- Page 0 is the super page: its mark, the version 1, the form 1, no slot given out, and 2 as the next page to give out. Page 1 is an
+-- index page without pairs, and all others are zero.
 abbrev pub fresh_page : ℕ → List ℕ
 fresh_page zero = codes "MREC" ++ 1 ∷ 1 ∷ 0 ∷ 0 ∷ (little_bytes 4 0 ++ little_bytes 4 2 ++ replicate 496 0)
 fresh_page (suc zero) = 1 ∷ replicate 511 0
 fresh_page (suc (suc p)) = replicate 512 0
 
--- the first n pages are as at first
+-- the first n pages are fresh
 abbrev pub HasPages : Shape → ℕ → List ℕ → Type 0
 HasPages shape n bytes = (p : ℕ) → p < n → range (data_of shape bytes) (512 * p) 512 ≡ fresh_page p
 
@@ -27,12 +27,12 @@ HasPages shape n bytes = (p : ℕ) → p < n → range (data_of shape bytes) (51
 abbrev pub HasRows : Shape → ℕ → List ℕ → Type 0
 HasRows shape n bytes = (g t : ℕ) → g < n → t < shape.numbers → range bytes (row_at shape g t) 16 ≡ replicate 16 0
 
--- so are all rows and all pages
+-- all rows and all pages are fresh
 pub record HasParts (shape : Shape) (image : List ℕ) : Type 0 where
   pub rows : HasRows shape shape.loggers image
   pub pages : HasPages shape (page_count shape) image
 
--- The header says the shape, all behind it is as at first, and that is sure.
+-- The header is that of the shape, all rows and pages are fresh, and all is settled.
 pub record IsFresh (shape : Shape) (content : Content) : Type 0 where
   pub settled : content.unsettled ≡ []
   pub header : range content.bytes 0 512 ≡ header_bytes shape
@@ -46,11 +46,11 @@ LeavesAsRead content = (image : List ℕ) → MayLeave content image → image �
 abbrev pub behind_header : Shape → List (ℕ × ℕ)
 behind_header shape = (512, shape.loggers * region_len shape) ∷ []
 
--- while an array is formatted: the header is that of an image that could be left at first, until all that lies behind it is fresh
+-- while an array is formatted: the header is that of an image that could be left at first, or all rows and pages are fresh
 abbrev pub IsHalfFresh : Shape → Content → List ℕ → Type 0
 IsHalfFresh shape content image = ((earlier : List ℕ) × MayLeave content earlier × (header_of image ≡ header_of earlier)) ⊎ HasParts shape image
 
--- the media has another length than the shape, and that is told
+-- the medium has another length than the shape says, and the fault says so; or its length is right, and the medium failed
 abbrev pub IsWrongLength : Shape → ℕ → FormatFault → Type 0
 IsWrongLength shape size (BadShape bad) = (bad.which ≡ MediaLength) × (bad.given ≡ size) × (size ≡ media_len shape → ⊥)
 IsWrongLength shape size Media = size ≡ media_len shape

@@ -51,7 +51,7 @@ placed shape logs t kept = by (slice_get logs t) kept
     by None kept = tt
     by (Some log) kept = one log log.is_live (kept log refl)
 
--- beyond the numbers there is no log
+-- no number beyond the array's has a log
 pub beyond : (logs : List Log) (shape : Shape) (t : ℕ) → length logs ≡ shape.numbers → shape.numbers ≤ t → option_map ranges_in (entries_at logs t) ≡ None
 beyond logs shape t many past = ap (λ (o : Option Log). option_map ranges_in (option_and_then entries_of o)) (slice_get_past logs t (subst (λ (n : ℕ). n ≤ t) (sym many) past))
 
@@ -60,10 +60,10 @@ pub some_now : (media : View) (shape : Shape) (logs : List Log) (is_dead : Bool)
     → ((t : ℕ) (image : List ℕ) → t ≤ media.moment → MayLeave media.content image → media.left_since t image) → LeavesSome (view_of media shape logs is_dead)
 some_now media shape logs is_dead counts = record { image = media.content.bytes; left = counts media.moment media.content.bytes (le_refl media.moment) (left_as_read media.content) }
 
--- what may be left of a sure array opens with its data
+-- what may be left of such an array opens with its data
 pub only_now : (shape : Shape) (content : Content) (image : List ℕ) → IsSure shape content → MayLeave content image → Opens shape image (data_of shape content.bytes)
 only_now shape content image sure left = record { header = sure.header image left; stands = at_rest_stands shape image (data_of shape content.bytes) (sure.clean image left) }
 
--- and an image opens with one data alone
+-- an image opens with only one data
 pub one_data : (shape : Shape) (image a b : List ℕ) → Opens shape image a → Opens shape image b → a ≡ b
 one_data shape image a b one other = sym one.stands.gives ∙ other.stands.gives

@@ -10,7 +10,7 @@ use Rattle.eaw_face.specs.State.{Logs}
 use Rattle.eaw_device.specs.declared.log.Entry.{Entry}
 use Rattle.eaw_device.specs.declared.log.Log.{Log}
 
--- where the parts of entries go, each one's address and length
+-- where the parts of entries go: the address and length of each
 abbrev pub ranges_in : List Entry → List (ℕ × ℕ)
 ranges_in [] = []
 ranges_in (e ∷ es) = (e.addr, e.len) ∷ ranges_in es
@@ -25,8 +25,8 @@ abbrev pub cells_on : Shape → ℕ → List Entry → List ℕ
 cells_on shape g [] = []
 cells_on shape g (e ∷ es) = if nat_eq (logger_of shape e.addr) g then e.cell ∷ cells_on shape g es else cells_on shape g es
 
--- A log with room for all that it may have: none while its number is free; at each logger the first cells, in order, as many as are
--- held; each part within one page of the data.
+-- A log with room for all that it may have. It has no entry while its number is free. At each logger its cells are the first ones, in
+-- order, as many as are held. Each part lies within one page of the data.
 pub record IsKept (shape : Shape) (log : Log) : Type 0 where
   pub loggers : length log.held ≡ 8
   pub room : shape.loggers * shape.entries ≤ vec_capacity log.entries
@@ -35,12 +35,12 @@ pub record IsKept (shape : Shape) (log : Log) : Type 0 where
   pub fits : (g : ℕ) → g < shape.loggers → slice_index log.held g ≤ shape.entries
   pub placed : All (λ r. IsPlaced shape r.0 r.1) (ranges_in log.entries.items)
 
--- the held cells of number t hold parts of their loggers, with the addresses and lengths that the entries say
+-- the held cells of number t hold parts of their loggers, and the entries' cells have the addresses and lengths that the entries say
 pub record IsHeld (shape : Shape) (image : List ℕ) (t : ℕ) (log : Log) : Type 0 where
   pub good : (g e : ℕ) → g < shape.loggers → e < slice_index log.held g → IsGoodCell shape g (cell_of shape image g t e)
   pub heads : ranges_of (parts_in shape image t log.entries.items) ≡ ranges_in log.entries.items
 
--- more entries behind the old ones, with parts that go there
+-- more entries after the old ones, with parts that go to these ranges
 pub record Adds (old new : List Entry) (ranges : List (ℕ × ℕ)) : Type 0 where
   pub added : List Entry
   pub items : new ≡ old ++ added

@@ -13,7 +13,7 @@ use Rattle.eaw_device.specs.Sound.{IsSure}
 use Rattle.eaw_device.specs.Logs.{IsKept}
 use Rattle.eaw_device.specs.declared.log.Log.{Log}
 
--- the log of a number that is free
+-- the log of a free number
 pub record IsFree (shape : Shape) (log : Log) : Type 0 where
   pub kept : IsKept shape log
   pub is_free : log.is_live ≡ false
@@ -23,7 +23,7 @@ pub record AreFree (shape : Shape) (logs : List Log) : Type 0 where
   pub many : length logs ≡ shape.numbers
   pub free : (t : ℕ) → ForSome (slice_get logs t) (IsFree shape)
 
--- From the media as it was to what it is now: the array of the shape that its header says, settled and sure.
+-- From the medium as it was to what it is now: the array of the shape that its header says, settled and durable.
 pub record Settled (tells : Bool) (old : View) (shape : Shape) (new : View) : Type 0 where
   pub shape_is : IsTrue tells → SaysShape (header_of old.content.bytes) shape
   pub sized : old.size ≡ media_len shape

@@ -33,20 +33,20 @@ AllOpen shape content = (image : List ℕ) → MayLeave content image → (bytes
 abbrev pub OpensLike : Shape → Content → List ℕ → Type 0
 OpensLike shape content image = (earlier : List ℕ) × MayLeave content earlier × (bytes : List ℕ) × Opens shape earlier bytes × Opens shape image bytes
 
--- An opening keeps what an array stands for, at each of its moments: where all that could be left at first opens, so does all
--- that might be left anew, with data of the former.
+-- An opening keeps what an array stands for, at each of its moments: if all that could be left at first opens, so does all
+-- that is new among what might have been left, with data of the former.
 abbrev pub KeepsData : Bool → View → ℕ → (ℕ → List ℕ → Type 0) → Type 0
 KeepsData tells media now since = IsTrue tells → (shape : Shape) → AllOpen shape media.content → Elapses media.moment now media.left_since since (OpensLike shape media.content)
 
--- so many calls of the media an opening makes where no row is voted: it reads the header, makes all sure, and reads each row
+-- how many calls of the medium an opening makes if no row is voted: a read of the header, a barrier, and a read of each row
 abbrev pub opening_calls : Shape → ℕ
 opening_calls shape = 2 + shape.loggers * shape.numbers
 
--- from this media to this moment an opening made at most so many, where the header says a shape and no row is voted
+-- an opening made at most this many calls of the medium, if the header says a shape and no row is voted
 abbrev pub OpensWithin : Bool → View → ℕ → Type 0
 OpensWithin tells media now = IsTrue tells → (shape : Shape) → SaysShape (header_of media.content.bytes) shape → HasNoVote shape media.content.bytes → now ≤ media.moment + opening_calls shape
 
--- A store over the media: of the shape that its header says, with the data that it settles to, and no number is live.
+-- A store over the medium: it has the shape that the header says and the data that the array settles to, and no number is live.
 pub record Attached (tells : Bool) (media : View) (store : StoreView) : Type 0 where
   pub shape_is : IsTrue tells → SaysShape (header_of media.content.bytes) store.shape
   pub sized : media.size ≡ media_len store.shape
@@ -58,22 +58,22 @@ pub record Attached (tells : Bool) (media : View) (store : StoreView) : Type 0 w
   pub faults : store.faults ≡ media.faults
   pub calls : IsTrue tells → HasNoVote store.shape media.content.bytes → store.moment ≡ media.moment + opening_calls store.shape
 
--- The media holds an array: its header says this shape, it has the length of that, and each decided row is good.
+-- The medium holds an array: its header says this shape, it has the length of that shape, and each decided row is good.
 pub record IsArray (shape : Shape) (media : View) : Type 0 where
   pub header : SaysShape (header_of media.content.bytes) shape
   pub sized : media.size ≡ media_len shape
   pub good : AllGood shape media.content.bytes shape.numbers
 
--- of some shape
+-- the medium holds an array of some shape
 abbrev pub HoldsArray : View → Type 0
 HoldsArray media = (shape : Shape) × IsArray shape media
 
--- it would, but for a decided row that is bad, the first one
+-- the medium would hold an array, but a decided row is bad, and this is the first one
 abbrev pub HasBadRow : View → ℕ → ℕ → Type 0
 HasBadRow media g t =
     (shape : Shape) × SaysShape (header_of media.content.bytes) shape × (media.size ≡ media_len shape) × IsFirstBad shape media.content.bytes g t
 
--- why a media is not opened, where so many faults are counted behind that
+-- why a medium is not opened, after which `faults` faults are counted
 abbrev pub AttachCause : Bool → View → ℕ → AttachFault → Type 0
 AttachCause tells media faults NotMars = 512 ≤ media.size → IsTrue tells → HasMark (header_of media.content.bytes) → ⊥
 AttachCause tells media faults (BadShape bad) = (512 ≤ media.size) × (IsTrue tells → HasMark (header_of media.content.bytes) × IsBadIn (header_of media.content.bytes) media.size bad.which bad.given)
@@ -81,12 +81,12 @@ AttachCause tells media faults (BadRow g t) = IsTrue tells → HasBadRow media g
 AttachCause tells media faults Media = Rose media.faults faults
 AttachCause tells media faults NoMemory = IsTrue tells → (shape : Shape) × SaysShape (header_of media.content.bytes) shape × (media.size ≡ media_len shape)
 
--- Nothing was written. Only where the media failed while an array was settled, some of that was done.
+-- Nothing was written, unless the medium failed while an array was settled: then some of that may be done.
 abbrev pub AttachLeaves : Bool → View → View → AttachFault → Type 0
 AttachLeaves tells old new Media = IsTrue tells → Touched [] old.content new.content ⊎ HoldsArray old
 AttachLeaves tells old new _ = IsTrue tells → Touched [] old.content new.content
 
--- The media behind a store: its data, its moments and faults are the store's; while that was not dead, no row is voted.
+-- The medium behind a store: its data, its moments and faults are the store's; if that was not dead, no row is voted.
 pub record IsBehind (tells : Bool) (store : StoreView) (media : View) : Type 0 where
   pub size : media.size ≡ media_len store.shape
   pub bytes : data_of store.shape media.content.bytes ≡ store.state.bytes

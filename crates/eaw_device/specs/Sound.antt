@@ -15,18 +15,18 @@ use Rattle.eaw_device.specs.declared.log.Log.{Log}
 use Rattle.eaw_device.specs.Opens.{header_of}
 use Rattle.eaw_device.specs.Logs.{ranges_in, parts_in, IsKept, IsHeld, entries_at}
 
--- Each image that a loss of power may leave has the header of the array, no voted row, and the data that is read.
+-- Each image that a loss of power may leave has the header of the array, no voted row, and the data that a read gives.
 pub record IsSure (shape : Shape) (content : Content) : Type 0 where
   pub clean : IsClean shape content
   pub header : (image : List ℕ) → MayLeave content image → SaysShape (header_of image) shape
 
--- so it is, and each number's log stands in its cells
+-- the array is as above, and its cells hold what each number has logged
 pub record IsTold (shape : Shape) (content : Content) (logs : List Log) : Type 0 where
   pub sure : IsSure shape content
   pub held : (t : ℕ) → ForSome (slice_get logs t) (IsHeld shape content.bytes t)
 
--- The media is as long as the array, which has a log for each number; and while the device is not dead, what is told of the media
--- is that array with these logs.
+-- The medium is as long as the array, which has a log for each number. While the device is not dead, what the medium tells is
+-- that array with these logs.
 pub record IsSound (tells : Bool) (media : View) (shape : Shape) (logs : List Log) (is_dead : Bool) : Type 0 where
   pub shaped : IsShape shape
   pub sized : media.size ≡ media_len shape
@@ -34,7 +34,7 @@ pub record IsSound (tells : Bool) (media : View) (shape : Shape) (logs : List Lo
   pub kept : (t : ℕ) → ForSome (slice_get logs t) (IsKept shape)
   pub told : IsTrue tells → is_dead ≡ false → IsTold shape media.content logs
 
--- what it shows
+-- what a device shows
 abbrev pub view_of : View → Shape → List Log → Bool → StoreView
 view_of media shape logs is_dead = record {
   shape = shape;

@@ -1,4 +1,4 @@
--- What the steps of a command do to the media, and why a write is refused.
+-- What the steps of a command do to the medium, and why a write is refused.
 use Rattle.std.specs.Prelude.{ℕ, ◌≡◌, ◌+◌, ◌<◌, ◌≤◌, Bool, true, false, List, length, Some, slice_get, slice_index, Result}
 use Rattle.std.specs.Option.{ForSome}
 use Rattle.pcm_media.specs.Images.{IsOutside}
@@ -11,11 +11,11 @@ use Rattle.eaw_face.specs.declared.fault.EawFault.{EawFault}
 use Rattle.eaw_face.specs.declared.fault.EawFault.TheVariants.{UnknownTid, LogFull, Media, Dead}
 use Rattle.eaw_device.specs.declared.log.Log.{Log}
 
--- behind the held cells each logger has room for its share of the parts of a range
+-- logger g has room, after the held cells, for its share of the parts of a range
 abbrev pub HasCells : Shape → List ℕ → ℕ → ℕ → ℕ → Type 0
 HasCells shape held addr len g = slice_index held g + length (parts_on shape g addr len) ≤ shape.entries
 
--- logger g is the first that has none: it holds so many cells, and as many more are needed
+-- logger g is the first that has none: it holds h cells, and n more are needed
 pub record LacksCells (shape : Shape) (held : List ℕ) (addr len g h n : ℕ) : Type 0 where
   pub logger : g < shape.loggers
   pub held_is : h ≡ slice_index held g
@@ -23,16 +23,16 @@ pub record LacksCells (shape : Shape) (held : List ℕ) (addr len g h n : ℕ) :
   pub full : shape.entries < h + n
   pub before : (k : ℕ) → k < g → HasCells shape held addr len k
 
--- that is what the refusal of a write says
+-- the refusal of a write says that
 abbrev pub SaysFull : Shape → List ℕ → ℕ → ℕ → EawFault → Type 0
 SaysFull shape held addr len (LogFull g h n) = LacksCells shape held addr len g h n
 SaysFull shape held addr len _ = ⊥
 
--- so has the log of number t, of all loggers
+-- the log of number t has room at all loggers
 abbrev pub LogHasCells : Shape → List Log → ℕ → ℕ → ℕ → Type 0
 LogHasCells shape logs t addr len = ForSome (slice_get logs t) (λ log. (g : ℕ) → g < shape.loggers → HasCells shape log.held addr len g)
 
--- a log lacks them
+-- the log of number t lacks room, and the fault says so
 pub record LogLacksCells (shape : Shape) (logs : List Log) (t addr len : ℕ) (fault : EawFault) : Type 0 where
   pub log : Log
   pub there : slice_get logs t ≡ Some log
@@ -45,7 +45,7 @@ RefusesWrite shape logs is_dead t addr len (LogFull g h n) = (is_dead ≡ false)
 RefusesWrite shape logs is_dead t addr len Media = ⊥
 RefusesWrite shape logs is_dead t addr len Dead = is_dead ≡ true
 
--- the cells of number t, behind the held ones, that a write takes at all loggers
+-- the cells of number t, after the held ones, that a write takes at all loggers
 abbrev pub staged_places : Shape → ℕ → List ℕ → ℕ → List ℕ → List (ℕ × ℕ)
 staged_places shape t held addr bytes = joined (λ g. cell_ranges shape g t (slice_index held g) (length (write_parts_on shape g addr bytes))) 0 shape.loggers
 

@@ -1,4 +1,4 @@
-// The steps of an opening, on the media alone.
+// The steps of an opening, on the medium alone.
 ghost use Rattle.std.specs.Prelude.{◌≡◌, ◌≢◌, ◌≤◌, [], true, IsTrue, IfOk, IfErr, OnOk};
 ghost use Rattle.counted.specs.Costs.{Costs};
 ghost use Rattle.pcm_media.specs.View.{Writes};
@@ -18,7 +18,7 @@ use device_recovery::recover;
 use pcm_media::Media;
 use row_bytes::read_array_header;
 
-/// The shape of the array that the media says it is. Nothing is written.
+/// The shape of the array, as the header of the medium says it. Nothing is written.
 pub(crate) fn read_header<M: Media>(media: &mut M) -> Result<Shape, AttachFault>
     ensures shape { IsTrue M.tells → IfOk result (λ shape. SaysShape (header_of (M.view media.old).content.bytes) shape) }
     ensures sized { IfOk result (λ shape. (M.view media.old).size ≡ media_len shape) }
@@ -36,7 +36,7 @@ pub(crate) fn read_header<M: Media>(media: &mut M) -> Result<Shape, AttachFault>
     Ok(read_array_header(&header, media.len())?)
 }
 
-/// Makes of an array of this shape one at rest, by recovery. The header that was read is sure then, as all else is.
+/// Makes an array of this shape one at rest, by recovery. The header that was read is then durable, as all else is.
 pub(crate) fn settle<M: Media>(media: &mut M, shape: &Shape) -> Result<(), AttachFault>
     requires size { (M.view media.old).size ≡ media_len shape.now }
     requires header { IsTrue M.tells → SaysShape (header_of (M.view media.old).content.bytes) shape.now }

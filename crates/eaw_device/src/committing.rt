@@ -17,7 +17,7 @@ use coordinator::commit_from;
 use counted::Failed;
 use pcm_media::Media;
 
-/// Commits the parts that number `tid` has logged from a position on. The log itself stays as it is.
+/// Commits the parts that number `tid` has logged from position `offset` on. The log itself stays as it is.
 pub(crate) fn commit_log<M: Media>(
     media: &mut M,
     shape: &Shape,
@@ -49,7 +49,7 @@ pub(crate) fn commit_log<M: Media>(
     commit_from(media, shape, tid, &firsts[..loggers], &counts[..loggers])
 }
 
-// How many of the held cells of each logger stand behind the first ones.
+// How many of each logger's held cells come after the first ones.
 fn counts_behind(shape: &Shape, held: &[u16], firsts: &[u16]) -> [u16; 8]
     requires held { length held.now ≡ 8 }
     requires firsts { length firsts.now ≡ 8 }

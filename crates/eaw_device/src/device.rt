@@ -18,7 +18,7 @@ use logger::Logger;
 use pcm_media::Media;
 use std::alloc::Global;
 
-/// The array over a media.
+/// The array over a medium.
 #[derive(Drop)]
 pub struct Eaw<M: Media> {
     media: M,
@@ -29,8 +29,8 @@ pub struct Eaw<M: Media> {
 }
 
 impl<M: Media> Eaw<M> {
-    /// Opens the array that the media holds: looks at its header, takes memory for its tables, and recovers. No number is live.
-    /// At an error the media is given back.
+    /// Opens the array on the medium: reads its header, takes memory for its tables, and recovers. No number is live then.
+    /// On an error the medium is given back.
     pub fn attach(alloc: Global, mut media: M) -> Result<Eaw<M>, (AttachFault, M)>
         ensures opens { IfOk result (λ eaw. Attached M.tells (M.view media) (view_of (M.view eaw.media) eaw.shape eaw.logs.items eaw.is_dead)) }
         ensures cause { IfErr result (λ e. AttachCause M.tells (M.view media) (M.view e.1).faults e.0) }
@@ -53,7 +53,7 @@ impl<M: Media> Eaw<M> {
         }
     }
 
-    /// The media. What live numbers have logged is given up.
+    /// The medium. What live numbers have logged is given up.
     pub fn into_media(self) -> M
         ensures { IsBehind M.tells (view_of (M.view self.media) self.shape self.logs.items self.is_dead) (M.view result) }
     {
@@ -66,7 +66,7 @@ impl<M: Media> Eaw<M> {
         media
     }
 
-    // Where the log of a live number is.
+    // Where the log of a live number is in the table.
     fn find_live(&self, tid: u8) -> Result<usize, EawFault>
         ensures at { IfOk result (λ at. at ≡ tid) }
         ensures alive { OnOk result (self.now.is_dead ≡ false) }
@@ -83,7 +83,7 @@ impl<M: Media> Eaw<M> {
         Ok(at)
     }
 
-    // Where the log of a number is that has room for a write.
+    // Where the log of a number is in the table, if it has room for a write.
     fn find_room(&self, tid: u8, addr: u64, len: u64) -> Result<usize, EawFault>
         requires { addr + len ≤ data_len self.now.shape }
         ensures at { IfOk result (λ at. at ≡ tid) }

@@ -1,4 +1,4 @@
-// What a fresh array is written as.
+// What is written as a fresh array.
 ghost use Rattle.std.specs.Prelude.{◌≡◌, ◌≢◌, ◌≤◌, ◌<◌, ◌*◌, ◌↔◌, [], ◌∷◌, ℕ, Ok, IsTrue, IfErr, OnOk, IsErrOf, replicate};
 ghost use Rattle.counted.specs.Causes.{Rose};
 ghost use Rattle.counted.specs.Bytes.{range};
@@ -15,7 +15,7 @@ use pcm_media::Media;
 use row_bytes::write_array_header;
 use thiserror::Error;
 
-/// Why a media was not formatted.
+/// Why a medium was not formatted.
 #[derive(Clone, Copy, Debug, PartialEq, Eq, Error)]
 pub enum FormatFault {
     /// Its length is not that of the shape. Nothing was written.
@@ -25,10 +25,10 @@ pub enum FormatFault {
     Media,
 }
 
-/// Writes a fresh array of this shape: rows and pages, and behind a barrier the header. Where it is broken off, the header is
-/// an old one, or all behind it is fresh. The cells are left as they are, whatever it answers.
+/// Writes a fresh array of this shape: rows and pages, a barrier, the header, and a barrier. If it is broken off, the header is
+/// an old one, or the rows and pages are fresh. The cells are left as they are, whatever it answers.
 pub fn format<M: Media>(media: &mut M, shape: &Shape) -> Result<(), FormatFault>
-    // Whatever a loss of power leaves then is the fresh array, and opens.
+    // Whatever a loss of power leaves after it is the fresh array, and opens.
     ensures fresh { IsTrue M.tells → OnOk result (IsFresh shape.now (M.view media.new).content) }
     ensures sure { IsTrue M.tells → OnOk result (LeavesAsRead (M.view media.new).content) }
     ensures opens { IsTrue M.tells → OnOk result (AllOpenWith shape.now (M.view media.new).content (data_of shape.now (M.view media.new).content.bytes)) }
@@ -66,7 +66,7 @@ fn write_array<M: Media>(media: &mut M, shape: &Shape) -> Result<(), Failed>
     write_header(media, shape)
 }
 
-// All but the header, and makes it sure.
+// Writes all but the header and the cells, and makes it durable.
 fn write_parts<M: Media>(media: &mut M, shape: &Shape) -> Result<(), Failed>
     requires size { (M.view media.old).size ≡ media_len shape.now }
     ensures parts { IsTrue M.tells → OnOk result (HasParts shape.now (M.view media.new).content.bytes) }
@@ -79,7 +79,7 @@ fn write_parts<M: Media>(media: &mut M, shape: &Shape) -> Result<(), Failed>
     media.barrier()
 }
 
-// The header of what is sure to be a fresh array otherwise.
+// Writes the header, when the rows and pages of a fresh array are durable.
 fn write_header<M: Media>(media: &mut M, shape: &Shape) -> Result<(), Failed>
     requires size { (M.view media.old).size ≡ media_len shape.now }
     requires parts { IsTrue M.tells → HasParts shape.now (M.view media.old).content.bytes }
@@ -118,7 +118,7 @@ fn clear_rows<M: Media>(media: &mut M, shape: &Shape) -> Result<(), Failed>
     fill_rows(media, shape, &zeros[..16 * usize::from(shape.numbers)])
 }
 
-// The rows of a logger stand beside each other, and are written at once.
+// The rows of a logger lie side by side, and are written at once.
 fn fill_rows<M: Media>(media: &mut M, shape: &Shape, zeros: &[u8]) -> Result<(), Failed>
     requires size { (M.view media.old).size ≡ media_len shape.now }
     requires zeros { zeros.now ≡ replicate (16 * shape.now.numbers) 0 }

@@ -1,4 +1,4 @@
-//! The array of editable atomic writes over a media.
+//! The array of editable atomic writes over a medium.
 #![tactic(auto)]
 
 mod attach;

@@ -7,7 +7,7 @@ ghost use Rattle.eaw_device.specs.Logs.{ranges_in, cells_on, IsKept, Adds};
 use array_shape::{Part, Shape};
 use std::alloc::{AllocError, Global};
 
-/// A part that is logged: where it is to go, and the cell of its logger that has it.
+/// A logged part: where it is to go, and the cell of its logger that holds it.
 #[derive(Clone, Copy)]
 pub(crate) struct Entry {
     pub(crate) addr: u64,
@@ -89,7 +89,7 @@ impl Log {
         counts
     }
 
-    /// Drops the entries from a position on.
+    /// Drops the entries from position `len` on.
     pub(crate) fn truncate(&mut self, shape: &Shape, len: usize)
         requires kept { IsKept shape.now self.old }
         requires len { len ≤ length self.old.entries.items }

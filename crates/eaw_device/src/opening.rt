@@ -11,7 +11,7 @@ use counted::NoMemory;
 use pcm_media::Media;
 use std::alloc::Global;
 
-/// Makes of the media the settled array that it holds, and gives its shape and a free log for each number.
+/// Settles the array on the medium, and returns its shape and a free log for each number.
 pub(crate) fn open_array<M: Media>(
     alloc: Global,
     media: &mut M,

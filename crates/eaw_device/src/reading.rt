@@ -11,7 +11,7 @@ use array_shape::Shape;
 use counted::Failed;
 use pcm_media::Media;
 
-/// Reads as many bytes of the data as the buffer has, from an address on.
+/// Fills the buffer with the bytes of the data from `addr` on.
 pub(crate) fn read_data<M: Media>(
     media: &mut M,
     shape: &Shape,

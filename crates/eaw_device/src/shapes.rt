@@ -3,7 +3,7 @@ ghost use Rattle.array_shape.specs.declared.shape.Shape.{Shape};
 
 use array_shape::Shape;
 
-/// The one shape that there is today: 1 logger, 8 transaction numbers, 16 entries, 256 pages.
+/// The one shape in use today: 1 logger, 8 transaction numbers, 16 entries, 256 pages.
 pub fn first_shape() -> Shape
     ensures loggers { result.loggers ≡ 1 }
     ensures numbers { result.numbers ≡ 8 }

@@ -15,7 +15,7 @@ use eaw_face::EawFault;
 use logger::Logger;
 use pcm_media::Media;
 
-/// Refuses a write for which a logger has too few cells left, and names the first one.
+/// Refuses a write if a logger has too few cells left for it, and names the first such logger.
 pub(crate) fn check_room(shape: &Shape, log: &Log, addr: u64, len: u64) -> Result<(), EawFault>
     requires kept { IsKept shape.now log.now }
     requires range { addr + len ≤ data_len shape.now }
@@ -36,7 +36,7 @@ pub(crate) fn check_room(shape: &Shape, log: &Log, addr: u64, len: u64) -> Resul
     Ok(())
 }
 
-/// Writes the parts into the cells behind the held ones, of which there are enough.
+/// Writes the parts into the cells after the held ones, of which there are enough.
 pub(crate) fn stage_all<M: Media>(
     media: &mut M,
     shape: &Shape,

@@ -1,4 +1,4 @@
--- When each answer of a command comes. The refusals stand in their order: a later one comes only where no earlier one does.
+-- When each answer of a command comes. The refusals are listed in their order: a later one comes only if no earlier one does.
 use Rattle.std.specs.Prelude.{ℕ, ◌≡◌, ◌+◌, ◌<◌, ◌≤◌, true, false, List, [], Result, Ok, Err}
 use Rattle.counted.specs.Causes.{Rose}
 use Rattle.array_shape.specs.Parts.{parts_of_write}
@@ -9,11 +9,11 @@ use Rattle.eaw_face.specs.Command.{Command, log_write, log_edit, commit, abort, 
 use Rattle.eaw_face.specs.declared.fault.EawFault.{EawFault}
 use Rattle.eaw_face.specs.declared.fault.EawFault.TheVariants.{UnknownTid, LogFull, Media, Dead}
 
--- the store has met no fault of the media
+-- the store has met no fault of the medium
 abbrev pub IsAlive : StoreView → Type 0
 IsAlive store = store.is_dead ≡ false
 
--- A write into a log needs a number of the array; what is done with a log needs a live one.
+-- A write into a log needs a number of the array; all other work on a log needs a live number.
 abbrev pub Knows : StoreView → Command → Type 0
 Knows store (log_write t addr bytes) = t < store.shape.numbers
 Knows store (log_edit t pos at bytes) = IsLive store t
@@ -25,7 +25,7 @@ Knows store (atomic_write t addr bytes) = Unit {0}
 Knows store (log_read t) = IsLive store t
 Knows store (read addr len) = Unit {0}
 
--- the number that a command names to the store
+-- u is the number that a command names to the store
 abbrev pub IsNumberOf : Command → ℕ → Type 0
 IsNumberOf (log_write t addr bytes) u = u ≡ t
 IsNumberOf (log_edit t pos at bytes) u = u ≡ t
@@ -37,7 +37,7 @@ IsNumberOf (atomic_write t addr bytes) u = u ≡ t
 IsNumberOf (log_read t) u = u ≡ t
 IsNumberOf (read addr len) u = ⊥
 
--- behind these parts each logger has room for its share of those
+-- each logger has room for its share of `needed` besides its share of `held`
 abbrev pub Fit : StoreView → List (ℕ × ℕ) → List (ℕ × ℕ) → Type 0
 Fit store held needed = (g : ℕ) → g < store.shape.loggers → count_on store.shape g held + count_on store.shape g needed ≤ store.shape.entries
 
@@ -46,7 +46,7 @@ HasRoom store (log_write t addr bytes) = Fit store (listed (store.ranges t)) (ra
 HasRoom store (atomic_write t addr bytes) = Fit store [] (ranges_of (parts_of_write addr bytes))
 HasRoom store _ = Unit {0}
 
--- logger g is the first that has no room: it holds so many parts, and as many more are needed
+-- logger g is the first that has no room: it holds h parts, and n more are needed
 pub record IsFirstFull (store : StoreView) (held needed : List (ℕ × ℕ)) (g h n : ℕ) : Type 0 where
   pub logger : g < store.shape.loggers
   pub held_is : h ≡ count_on store.shape g held
@@ -59,7 +59,7 @@ IsFull store (log_write t addr bytes) g h n = IsFirstFull store (listed (store.r
 IsFull store (atomic_write t addr bytes) g h n = IsFirstFull store [] (ranges_of (parts_of_write addr bytes)) g h n
 IsFull store _ g h n = ⊥
 
--- the answer to a command, where so many faults are counted behind it
+-- why a command gets this answer, after which `faults` faults are counted
 abbrev pub Cause : {T : Type 0} → StoreView → Command → ℕ → Result T EawFault → Type 0
 Cause old command faults (Ok answer) = IsAlive old × Knows old command × HasRoom old command
 Cause old command faults (Err Dead) = old.is_dead ≡ true

@@ -18,7 +18,7 @@ pub data Command : Type 0 where
   log_read : (t : ℕ) → Command
   read : (addr len : ℕ) → Command
 
--- the data and the logs after a command that was done
+-- the data and the logs after a command that is done
 abbrev pub after : Command → State → State
 after (log_write t addr bytes) s = record { bytes = s.bytes; logs = with_log s.logs t (Some (listed (s.logs t) ++ parts_of_write addr bytes)) }
 after (log_edit t pos at bytes) s = record { bytes = s.bytes; logs = with_log s.logs t (Some (edited pos at bytes (listed (s.logs t)))) }
@@ -30,7 +30,7 @@ after (atomic_write t addr bytes) s = record { bytes = put s.bytes addr bytes; l
 after (log_read t) s = s
 after (read addr len) s = s
 
--- where the logged parts lie after it: that much is known of a store that does not tell its bytes
+-- where the logged parts lie after it, which is known even of a store that does not tell its data
 abbrev pub ranges_after : Command → Logs (ℕ × ℕ) → Logs (ℕ × ℕ)
 ranges_after (log_write t addr bytes) ranges = with_log ranges t (Some (listed (ranges t) ++ ranges_of (parts_of_write addr bytes)))
 ranges_after (log_edit t pos at bytes) ranges = ranges

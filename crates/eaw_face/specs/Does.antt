@@ -6,7 +6,7 @@ use Rattle.eaw_face.specs.Causes.{Cause, IsNumberOf}
 use Rattle.eaw_face.specs.declared.fault.EawFault.{EawFault}
 use Rattle.eaw_face.specs.declared.fault.EawFault.TheVariants.{Media}
 
--- It is done: data and logs are as the model says, and the store is not dead.
+-- The command is done: data and logs are as the model says, and the store is not dead.
 pub record Becomes (tells : Bool) (command : Command) (old new : StoreView) : Type 0 where
   pub alive : new.is_dead ≡ false
   pub ranges : new.ranges ≡ ranges_after command old.ranges
@@ -16,10 +16,10 @@ pub record Becomes (tells : Bool) (command : Command) (old new : StoreView) : Ty
 abbrev pub IsEither : (List ℕ → List ℕ → Type 0) → List ℕ → List ℕ → List ℕ → Type 0
 IsEither Opens before after image = Opens image before ⊎ Opens image after
 
--- A command of a store, of which an image that a loss of power leaves is opened so. Each answer has its cause; an Ok is the model's
--- command, and hides no fault; a fault of the media leaves the store dead; and whatever the answer, other numbers have logged what
--- they had, and at each moment of a store that was not dead a loss of power leaves what it might have left before, or an image
--- that opens with the data before the command or after it.
+-- A command of a store, where `Opens` says which data an image opens with. Each answer has its cause. An Ok is the model's command,
+-- and hides no fault. A fault of the medium leaves the store dead. Whatever the answer, other numbers have logged what they had,
+-- and a loss of power during a command of a store that was not dead leaves what it might have left before, or an image that opens
+-- with the data before the command or after it.
 pub record Does {T : Type 0} (tells : Bool) (Opens : List ℕ → List ℕ → Type 0) (command : Command) (old new : StoreView) (result : Result T EawFault) : Type 0 where
   pub shape : new.shape ≡ old.shape
   pub later : old.faults ≤ new.faults

@@ -5,7 +5,7 @@ use Rattle.array_shape.specs.declared.shape.Shape.{Shape}
 use Rattle.array_shape.specs.Places.{logger_of}
 use Rattle.array_shape.specs.Logged.{Part}
 
--- something logged for each live number
+-- a list of logged things for each live number
 abbrev pub Logs : Type 0 → Type 0
 Logs A = ℕ → Option (List A)
 
@@ -14,16 +14,16 @@ pub record State : Type 0 where
   pub bytes : List ℕ
   pub logs : Logs Part
 
--- what a number has logged: nothing where it is not live
+-- what a number has logged: nothing if it is not live
 abbrev pub listed : {A : Type 0} → Option (List A) → List A
 listed None = []
 listed (Some log) = log
 
--- number t has this log now, or is free
+-- the logs with this one for number t, or with t free
 abbrev pub with_log : {A : Type 0} → Logs A → ℕ → Option (List A) → Logs A
 with_log logs t log u = if nat_eq u t then log else logs u
 
--- bytes replaced within the part at a position
+-- the parts with bytes replaced within the one at a position
 abbrev pub edited : ℕ → ℕ → List ℕ → List Part → List Part
 edited pos at bytes [] = []
 edited zero at bytes (p ∷ ps) = (p.0, put p.1 at bytes) ∷ ps
@@ -33,11 +33,11 @@ edited (suc pos) at bytes (p ∷ ps) = p ∷ edited pos at bytes ps
 abbrev pub range_at : List (ℕ × ℕ) → ℕ → ℕ × ℕ
 range_at ranges pos = slice_index_or ranges pos (0, 0)
 
--- the bytes of the part at a position
+-- the part at a position
 abbrev pub part_at : List Part → ℕ → Part
 part_at parts pos = slice_index_or parts pos (0, [])
 
--- how many of these ranges logger g has
+-- whether logger g has a range, and how many of these ranges it has
 abbrev pub is_range_on : Shape → ℕ → ℕ × ℕ → Bool
 is_range_on shape g range = nat_eq (logger_of shape range.0) g
 

@@ -5,8 +5,8 @@ use Rattle.array_shape.specs.declared.shape.Shape.{Shape}
 use Rattle.array_shape.specs.Places.{IsPlaced}
 use Rattle.eaw_face.specs.State.{Logs, State, listed}
 
--- Its shape; its data and logs; for each live number the ranges of its parts; whether an earlier call has met a fault of the
--- media; how often the media has failed; the moment; whether a loss of power at some moment from this one on might have left
+-- Its shape; its data and logs; for each live number the ranges of its parts; whether an earlier call met a fault of the
+-- medium; how often the medium has failed; the moment; whether a loss of power at this moment or a later one might have left
 -- this image.
 pub record StoreView : Type 1 where
   pub shape : Shape
@@ -21,12 +21,12 @@ pub record StoreView : Type 1 where
 abbrev pub log_len : StoreView → ℕ → ℕ
 log_len store t = length (listed (store.ranges t))
 
--- the number is one of the array's, and has a log
+-- the number is one of the array's and has a log
 pub record IsLive (store : StoreView) (t : ℕ) : Type 0 where
   pub small : t < store.shape.numbers
   pub live : IsSome (store.ranges t)
 
--- from one view to a later one each image that might have been left anew has P
+-- from one view to a later one, each image that is new among those that might have been left has P
 abbrev pub LeavesOnly : (List ℕ → Type 0) → StoreView → StoreView → Type 0
 LeavesOnly P old new = Elapses old.moment new.moment old.left_since new.left_since P
 

@@ -3,16 +3,16 @@ use thiserror::Error;
 /// Why a command was refused.
 #[derive(Clone, Copy, Debug, PartialEq, Eq, Error)]
 pub enum EawFault {
-    /// The array has no such transaction number, or it holds no log.
+    /// The array has no such transaction number, or the number has no log.
     #[error("number {tid} is unknown")]
     UnknownTid { tid: u8 },
-    /// One logger has no room for the write: it holds so many parts of the number, and as many again are needed.
+    /// One logger has no room for the write: it holds `held` parts of the number, and `needed` more are needed.
     #[error("the log of logger {logger} is full: {held} held, {needed} needed")]
     LogFull { logger: u8, held: u16, needed: u16 },
-    /// The media failed in this call.
+    /// The medium failed in this call.
     #[error("the media failed")]
     Media,
-    /// An earlier call has met a fault of the media.
+    /// An earlier call met a fault of the medium.
     #[error("the array is dead")]
     Dead,
 }

@@ -1,4 +1,4 @@
-// The commands, as the layers above see them.
+// The commands of an array, as the layers above see them.
 ghost use Rattle.std.specs.Prelude.{◌≡◌, ◌≢◌, ◌+◌, ◌≤◌, ◌<◌, true, false, Bool, List, ℕ, take, drop, length, Option, None, is_some, IsTrue, IfOk, IfErr, OnOk, OnErr, IsErrOf};
 ghost use Rattle.std.specs.Option.{option_map};
 ghost use Rattle.counted.specs.Bytes.{range};
@@ -18,25 +18,25 @@ use array_shape::Shape;
 /// multiples of 512, and changes the data when that number commits. Until then its log can be read and edited.
 ///
 /// Each command is one of the model's (`Does`): what it makes of data and logs, when each refusal comes, and what a loss of
-/// power within it may leave. After a refusal other than `Media` nothing has changed. After `Media` each command answers `Dead`.
+/// power during it may leave. After a refusal other than `Media` nothing has changed. After `Media` each command answers `Dead`.
 pub trait EawStore {
-    /// Whether it tells its data. Each clause on bytes holds where it does.
+    /// Whether contracts speak of its data. Each clause on bytes has this as a premise.
     ghost tells: { Bool };
 
     /// Its shape, its data and logs, and what a loss of power might have left.
     ghost view: { Self → StoreView };
 
-    /// An image that a loss of power left can be opened as an array of this shape, with this data.
+    /// Whether an image that a loss of power left opens as an array of this shape, with this data.
     ghost opens: { Shape → List ℕ → List ℕ → Type 0 };
 
-    /// How many calls of its media a command costs where it is done; it makes no more than these otherwise.
+    /// How many calls of its medium a command costs if it is done. Otherwise it makes at most this many.
     ghost calls: { Command → StoreView → ℕ };
 
     fn shape(&self) -> Shape
         ensures { result ≡ (view self.now).shape };
 
-    /// LogWrite: logs a write of these bytes at this address, and makes a free number live. Gives how many parts the number has
-    /// logged now.
+    /// LogWrite: logs a write of these bytes at this address, and makes a free number live. Returns how many parts the number has
+    /// logged by now.
     fn log_write(&mut self, tid: u8, addr: u64, bytes: &[u8]) -> Result<u32, EawFault>
         requires some { 0 < length bytes.now }
         requires inside { addr + length bytes.now ≤ data_len (view self.old).shape }
@@ -61,8 +61,8 @@ pub trait EawStore {
         ensures costs { Costs tells (calls (abort tid) (view self.old)) (view self.old).moment (view self.new).moment result }
         ensures refused { OnErr result (self.new ≡ self.old) };
 
-    /// NestedTopAction: commits the parts from this offset of the log on, which then stay whatever becomes of the rest. The
-    /// number keeps the parts before it, and stays live.
+    /// NestedTopAction: commits the parts from `offset` of the log on, which then stay whatever becomes of the rest. The
+    /// number keeps the parts before `offset`, and stays live.
     fn nested_top(&mut self, tid: u8, offset: u32) -> Result<(), EawFault>
         requires { offset ≤ log_len (view self.old) tid }
         ensures does { Does tells (opens (view self.old).shape) (nested_top tid offset) (view self.old) (view self.new) result }
@@ -71,7 +71,7 @@ pub trait EawStore {
         ensures costs { Costs tells (calls (nested_top tid offset) (view self.old)) (view self.old).moment (view self.new).moment result }
         ensures refused { IfErr result (λ fault. fault ≢ EawFault.Media → self.new ≡ self.old) };
 
-    /// PartialAbort: drops the parts from this offset of the log on. The number stays live.
+    /// PartialAbort: drops the parts from `offset` of the log on. The number stays live.
     fn partial_abort(&mut self, tid: u8, offset: u32) -> Result<(), EawFault>
         requires { offset ≤ log_len (view self.old) tid }
         ensures does { Does tells (opens (view self.old).shape) (partial_abort tid offset) (view self.old) (view self.new) result }
@@ -80,7 +80,7 @@ pub trait EawStore {
         ensures costs { Costs tells (calls (partial_abort tid offset) (view self.old)) (view self.old).moment (view self.new).moment result }
         ensures refused { OnErr result (self.new ≡ self.old) };
 
-    /// AtomicWrite: a transaction of one write, under a number that is free and is free again behind it.
+    /// AtomicWrite: a transaction of one write, under a number that is free before it and after it.
     fn atomic_write(&mut self, tid: u8, addr: u64, bytes: &[u8]) -> Result<(), EawFault>
         requires some { 0 < length bytes.now }
         requires inside { addr + length bytes.now ≤ data_len (view self.old).shape }
@@ -90,7 +90,7 @@ pub trait EawStore {
         ensures costs { Costs tells (calls (atomic_write tid addr bytes.now) (view self.old)) (view self.old).moment (view self.new).moment result }
         ensures refused { IfErr result (λ fault. fault ≢ EawFault.Media → self.new ≡ self.old) };
 
-    /// Reads the part at a position of the log: its bytes go to the front of the buffer. Gives its address and its length.
+    /// Reads the part at position `pos` of the log into the front of the buffer. Returns its address and its length in bytes.
     fn log_read(&mut self, tid: u8, pos: u32, buf: &mut [u8; 512]) -> Result<(u64, u16), EawFault>
         requires { IsLive (view self.old) tid → pos < log_len (view self.old) tid }
         ensures does { Does tells (opens (view self.old).shape) (log_read tid) (view self.old) (view self.new) result }
@@ -100,7 +100,7 @@ pub trait EawStore {
         ensures refused { IfErr result (λ fault. fault ≢ EawFault.Media → self.new ≡ self.old) }
         ensures unread { IfErr result (λ fault. fault ≢ EawFault.Media → buf.new ≡ buf.old) };
 
-    /// Replaces bytes within the part at a position of the log, from this place in it on.
+    /// Replaces bytes within the part at position `pos` of the log, from byte `at` of the part on.
     fn log_edit(&mut self, tid: u8, pos: u32, at: u32, bytes: &[u8]) -> Result<(), EawFault>
         requires pos { IsLive (view self.old) tid → pos < log_len (view self.old) tid }
         requires within { IsLive (view self.old) tid → at + length bytes.now ≤ (range_at (listed ((view self.old).ranges tid)) pos).1 }
@@ -108,7 +108,7 @@ pub trait EawStore {
         ensures costs { Costs tells (calls (log_edit tid pos at bytes.now) (view self.old)) (view self.old).moment (view self.new).moment result }
         ensures refused { IfErr result (λ fault. fault ≢ EawFault.Media → self.new ≡ self.old) };
 
-    /// Reads committed data from this address on, as many bytes as the buffer has.
+    /// Fills the buffer with committed data from `addr` on.
     fn read(&mut self, addr: u64, buf: &mut [u8]) -> Result<(), EawFault>
         requires { addr + length buf.old ≤ data_len (view self.old).shape }
         ensures does { Does tells (opens (view self.old).shape) (read addr (length buf.old)) (view self.old) (view self.new) result }
@@ -117,18 +117,18 @@ pub trait EawStore {
         ensures refused { IfErr result (λ fault. fault ≢ EawFault.Media → self.new ≡ self.old) }
         ensures unread { IfErr result (λ fault. fault ≢ EawFault.Media → buf.new ≡ buf.old) };
 
-    /// How many parts the number has logged, 0 where it is not live.
+    /// How many parts the number has logged: 0 if it is not live.
     fn log_len(&self, tid: u8) -> u32
         requires { tid < (view self.now).shape.numbers }
         ensures { result ≡ log_len (view self.now) tid };
 
-    /// How many of them this logger holds.
+    /// How many of the number's parts this logger holds.
     fn held(&self, tid: u8, logger: u8) -> u16
         requires tid { tid < (view self.now).shape.numbers }
         requires logger { logger < (view self.now).shape.loggers }
         ensures { result ≡ count_on (view self.now).shape logger (listed ((view self.now).ranges tid)) };
 
-    /// Whether an earlier call has met a fault of the media.
+    /// Whether an earlier call has met a fault of the medium.
     fn is_dead(&self) -> bool
         ensures { result ≡ (view self.now).is_dead };
 
@@ -136,36 +136,36 @@ pub trait EawStore {
         requires { tid < (view self.now).shape.numbers }
         ensures { result ≡ is_some ((view self.now).ranges tid) };
 
-    /// The address and the length of the part at a position of the log.
+    /// The address and the length in bytes of the part at position `pos` of the log.
     fn part_range(&self, tid: u8, pos: u32) -> (u64, u16)
         requires tid { tid < (view self.now).shape.numbers }
         requires pos { pos < log_len (view self.now) tid }
         ensures { result ≡ range_at (listed ((view self.now).ranges tid)) pos };
 
-    /// Its numbers are in range.
+    /// The numbers of its shape are in range.
     ghost shaped: { (s : Self) → IsShape (view s).shape };
 
-    /// It tells as many bytes as its shape has.
+    /// Its data has as many bytes as its shape says.
     ghost long: { (s : Self) → IsTrue tells → length (view s).state.bytes ≡ data_len (view s).shape };
 
     /// The ranges are those of the parts that it has logged.
     ghost outlines: { (s : Self) (t : ℕ) → IsTrue tells → (view s).is_dead ≡ false → (view s).ranges t ≡ option_map ranges_of ((view s).state.logs t) };
 
-    /// Each lies within one page of the data.
+    /// Each of these ranges lies within one page of the data.
     ghost placed: { (s : Self) (t : ℕ) → ArePlaced (view s).shape (listed ((view s).ranges t)) };
 
-    /// Beyond the array's numbers none is live.
+    /// No number beyond the array's is live.
     ghost beyond: { (s : Self) (t : ℕ) → (view s).shape.numbers ≤ t → (view s).ranges t ≡ None };
 
     /// While it is not dead, something may be left now.
     ghost some_now: { (s : Self) → IsTrue tells → (view s).is_dead ≡ false → LeavesSome (view s) };
 
-    /// What may be left now is left since each moment up to now.
+    /// What may be left now counts as left since each moment up to now.
     ghost counts_now: { (s : Self) (t : ℕ) (image : List ℕ) → IsTrue tells → t ≤ (view s).moment → (view s).left_since (view s).moment image → (view s).left_since t image };
 
     /// While it is not dead, whatever may be left now opens with the data.
     ghost only_now: { (s : Self) (image : List ℕ) → IsTrue tells → (view s).is_dead ≡ false → (view s).left_since (view s).moment image → opens (view s).shape image (view s).state.bytes };
 
-    /// An image opens with one data alone.
+    /// An image opens with only one data.
     ghost one_data: { (shape : Shape) (image a b : List ℕ) → opens shape image a → opens shape image b → a ≡ b };
 }

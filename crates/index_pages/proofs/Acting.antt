@@ -29,7 +29,7 @@ use Rattle.page_store.proofs.Numbers.{with_here, with_there}
 use Rattle.page_store.proofs.Tops.{top_of_data, top_of_list, top_of_other}
 use Rattle.index_pages.specs.Acts.{Acts}
 
--- one more write is played behind the others
+-- one more write is played after the others
 played_more : (t : ℕ) (ps : List Part) (p : Part) (s : PagesState) → played (writes_as t (ps ++ p ∷ [])) s ≡ after (write_as t p.0 p.1) (played (writes_as t ps) s)
 played_more t [] p s = refl
 played_more t (q ∷ qs) p s = played_more t qs p (after (write_as t q.0 q.1) s)
@@ -88,7 +88,7 @@ module _ (tells : Bool) (Opens : List ℕ → List ℕ → Type 0) (t : ℕ) whe
     pub state : IsTrue tells → state_of now ≡ played (writes_as t parts) (after (top_begin t) (state_of old))
     pub time : IsTrue tells → LeavesOnly (λ image. Opens image old.store.state.bytes) old.store now.store
 
-  -- where it begins
+  -- when it begins
   pub acting_begin : (old now : PagesView) (pages : List ℕ) → IsAlive old.store → FitAll old.store t pages → Becomes tells (top_begin t) old now → now.store ≡ old.store → Acting old now [] pages
   acting_begin old now pages alive fits begun same =
       let ranges : (u : ℕ) → now.store.ranges u ≡ old.store.ranges u = λ u. ap (λ (s : StoreView). s.ranges u) same in
@@ -106,7 +106,7 @@ module _ (tells : Bool) (Opens : List ℕ → List ℕ → Type 0) (t : ℕ) whe
         time = λ told. subst (λ (s : StoreView). LeavesOnly (λ image. Opens image old.store.state.bytes) old.store s) (sym same) (stays old.store.moment old.store.left_since (λ image. Opens image old.store.state.bytes));
       }
 
-  -- where its parts were written the data is as before
+  -- while its parts are written, the data is as before
   acting_data : (old now : PagesView) (parts : List Part) (left : List ℕ) → Acting old now parts left → IsTrue tells → now.store.state.bytes ≡ old.store.state.bytes
   acting_data old now parts left acting told =
       ap (λ (s : PagesState). s.store.bytes) (acting.state told) ∙ played_data t parts (after (top_begin t) (state_of old))
@@ -115,7 +115,7 @@ module _ (tells : Bool) (Opens : List ℕ → List ℕ → Type 0) (t : ℕ) whe
     part : Part
     part = (address page at, bytes)
 
-    -- one more part has room where it is due
+    -- one more part has room when it is due
     due : (g : ℕ) → length (filter (is_page_on old.store.shape.loggers g) (page ∷ left)) ≡ count_on old.store.shape g ((address page at, length bytes) ∷ []) + length (filter (is_page_on old.store.shape.loggers g) left)
     due g =
         let same = one_on (is_page_on old.store.shape.loggers g) (is_range_on old.store.shape g) page (address page at, length bytes) (sym (on_logger old.store.shape g page at (length bytes) within)) in
@@ -158,7 +158,7 @@ module _ (tells : Bool) (Opens : List ℕ → List ℕ → Type 0) (t : ℕ) whe
               (weaker (λ image either. elim either [ inl before ↦ subst (λ (b : List ℕ). Opens image b) (acting_data old now parts (page ∷ left) acting told) before | inr behind ↦ subst (λ (b : List ℕ). Opens image b) (acting_data old now parts (page ∷ left) acting told) behind ]) (does.time told acting.alive));
         }
 
-    -- a part was not written: the media failed
+    -- a part was not written: the medium failed
     pub acting_fail : (fault : PageFault) → IsAlive old.store → (pages : List ℕ) (all : List Part)
         → (let r : Result (Unit {0}) PageFault = Err fault in Does tells Opens (write_as t (address page at) bytes) now new r) → (let r : Result (Unit {0}) PageFault = Err fault in Acts tells Opens t pages all old new r)
     acting_fail Media alive pages all does = record {
@@ -209,7 +209,7 @@ module _ (tells : Bool) (Opens : List ℕ → List ℕ → Type 0) (t : ℕ) whe
       | inr other ↦ top_of_other (state_of old) t parts u other.1
     ]
 
-    -- the action has ended, or the media failed
+    -- the action has ended, or the medium failed
     pub acting_end : (r : Result (Unit {0}) PageFault) → Does tells Opens (top_end t mark) now new r → Acts tells Opens t pages parts old new r
     acting_end (Ok answer) does =
         let out = does.done.outline in
@@ -266,7 +266,7 @@ known_of pages t told ordered = (
   sym (ap (λ (o : Option (List (ℕ × ℕ))). length (listed o)) (told.outlines t) ∙ ap length (listed-ranges (pages.store.state.logs t)) ∙ length-ranges_of (listed (pages.store.state.logs t))),
 )
 
--- a command told for the shape of its own store, as for that of an earlier one
+-- a command stated for the shape of its own store, as for that of an earlier one
 pub on_shape : {T : Type 0} (tells : Bool) (Opens : Shape → List ℕ → List ℕ → Type 0) (c : PageCommand) (old now new : PagesView) (r : Result T PageFault) → now.store.shape ≡ old.store.shape
     → Does tells (Opens now.store.shape) c now new r → Does tells (Opens old.store.shape) c now new r
 on_shape tells Opens c old now new r same does = subst (λ (s : Shape). Does tells (Opens s) c now new r) same does

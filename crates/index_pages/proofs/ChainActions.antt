@@ -47,7 +47,7 @@ joined_from zero bytes page a b = refl
 joined_from (suc n) bytes page a b = refl
 
 module _ (old new : List ℕ) (keeps : Keeps old new) where
-  -- a page that is as it was, behind other keys
+  -- a page that is as it was, after other keys
   pub page_kept : (page low low' : ℕ) → page_bytes new page ≡ page_bytes old page → IsChainPage old page low → Rise low' key_end (page_pairs old page) → IsChainPage new page low'
   page_kept page low low' e t r = record {
     kind = ap kind_said e ∙ t.kind;
@@ -59,7 +59,7 @@ module _ (old new : List ℕ) (keeps : Keeps old new) where
     link = subst (λ (b : List ℕ). link_said b ≢ 0 → (2 ≤ link_said b) × (link_said b < next_page new)) (sym e) (λ h. let l = t.link h in (l.0, omega (arith, l.1, keeps.pages)));
   }
 
-  -- a chain whose pages are as they were, where those with a first key below some key may have changed
+  -- a chain whose pages are as they were, except that those with a first key below some key may have changed
   pub chain_kept : (n page low low' q : ℕ) → IsOwn old page → 2 ≤ page → IsChain n old page low → low' ≤ first_key (page_pairs old page) → first_key (page_pairs old q) < low
       → ((x : ℕ) → 1 ≤ x → x < next_page old → x ≢ q → page_bytes new x ≡ page_bytes old x)
       → IsChain n new page low' × ((from : ℕ) → joined (chain_pieces n new page from) ≡ joined (chain_pieces n old page from))
@@ -114,7 +114,7 @@ above_one : (n : ℕ) → above n 1 ≡ suc n
 above_one zero = refl
 above_one (suc n) = ap suc (above_one n)
 
--- the first key of a chain's page is behind all pages before it
+-- the first key of a chain's page comes after all pages before it
 pub far_first : (n : ℕ) (bytes : List ℕ) (page low key : ℕ) → 2 ≤ page → IsChain n bytes page low → low ≤ first_key (page_pairs bytes (chain_page_for n bytes page key))
 far_first zero bytes page low key two c = absurd c
 far_first (suc n) bytes page low key two c =
@@ -185,7 +185,7 @@ module _ (old new : List ℕ) (keeps : Keeps old new) (change : List Pair → Li
             ]
       ]
 
--- the pages behind one, where those up to it may have changed
+-- the pages after one, when those up to it may have changed
 rest_kept : (old new : List ℕ) → Keeps old new → (n q low low' : ℕ) → IsChain (suc n) old q low → link_of old q ≢ 0 → low' ≤ first_key (page_pairs old (link_of old q))
     → ((x : ℕ) → 1 ≤ x → x < next_page old → x ≢ q → page_bytes new x ≡ page_bytes old x)
     → IsChain n new (link_of old q) low' × ((from : ℕ) → joined (chain_pieces n new (link_of old q) from) ≡ joined (chain_pieces n old (link_of old q) from))
@@ -194,7 +194,7 @@ rest_kept old new keeps n q low low' c linked le kept =
     chain_kept old new keeps n (link_of old q) (behind low (page_pairs old q)) low' q (omega (arith, to.0), to.1) to.0 (c.1 linked) le
     (first_below low key_end (page_pairs old q) (linked_some old q low linked c.0) c.0.rises) kept
 
--- the first page behind one begins behind all its keys
+-- the first key of the page after one comes after all its keys
 pub next_first : (bytes : List ℕ) (n q low : ℕ) → IsChain (suc n) bytes q low → link_of bytes q ≢ 0
     → (behind low (page_pairs bytes q) ≤ first_key (page_pairs bytes (link_of bytes q))) × Rise (first_key (page_pairs bytes (link_of bytes q))) key_end (page_pairs bytes (link_of bytes q))
     × (first_key (page_pairs bytes (link_of bytes q)) < key_end)

@@ -1,4 +1,4 @@
--- The first page that fails is one, and there is none where the index is sound.
+-- Only one page is the first that fails, and none is if the index is sound.
 use Rattle.std.proofs.Common.{◌≡◌, ℕ, zero, suc, inl, inr, List, [], ◌∷◌, sym, ◌∙◌}
 use Rattle.index_pages.specs.Chain.{key_end, behind, IsChainPage, IsChain, IsSoundChain}
 use Rattle.index_pages.specs.Failing.{PairsFail, IsChainHead, ChainFails, IsFirstDamagedOfChain}

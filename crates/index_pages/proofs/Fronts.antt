@@ -1,4 +1,4 @@
--- The super page behind a write of its counts.
+-- The super page after a write of its counts.
 use Rattle.std.proofs.Common.{◌≡◌, ℕ, ◌^◌, ◌<◌, List, [], ◌∷◌, ◌++◌, length, get_or, take, drop, refl, sym, ◌∙◌, ap, arith}
 use Rattle.std.proofs.lemmas.List.{get_or-take, length-append, drop_at, take-take}
 use Rattle.byteorder.specs.Endian.{little_from, little_bytes}
@@ -36,7 +36,7 @@ module _ (bytes : List ℕ) (slot page : ℕ) (small : slot < 2 ^ 32) (small' : 
       append_nil [] = refl
       append_nil (x ∷ xs) = ap (λ (l : List ℕ). x ∷ l) (append_nil xs)
 
--- mark and form stay where the first eight bytes do
+-- mark and form stay if the first eight bytes do
 module _ (old new : List ℕ) (same : range new 0 8 ≡ range old 0 8) where
   pub mark_kept : HasSuperMark (page_bytes old 0) → HasSuperMark (page_bytes new 0)
   unfolding page_bytes

@@ -1,4 +1,4 @@
--- An insertion among pairs whose slots were given.
+-- An insertion among pairs whose slots are given.
 use Rattle.std.proofs.Common.{◌≡◌, ℕ, zero, suc, ◌<◌, true, false, nat_lt, inl, inr, List, [], ◌∷◌, refl, ap}
 use Rattle.std.proofs.lemmas.Bool.Decides.{leb_tells}
 use Rattle.index_pages.proofs.Rising.{inserted-left, inserted-right}

@@ -18,12 +18,12 @@ left [] i d lt = absurd (omega arith)
 left (p ∷ ps) zero d lt = refl
 left (p ∷ ps) (suc i) d lt = left ps i d (omega arith)
 
--- one part more was written
+-- one more part was written
 pub parts_more : (ps : List PagePart) (i : ℕ) (d : PagePart) → i < length ps
     → parts_named (take (i + 1) ps) ≡ parts_named (take i ps) ++ (address (get_or ps i d).page (get_or ps i d).at, (get_or ps i d).bytes.now) ∷ []
 parts_more ps i d lt = ap (λ (n : ℕ). parts_named (take n ps)) (let e : i + 1 ≡ suc i = omega arith in e) ∙ more ps i d lt
 
--- one page less is left
+-- one page fewer is left
 pub pages_left : (ps : List PagePart) (i : ℕ) (d : PagePart) → i < length ps → pages_named (drop i ps) ≡ (get_or ps i d).page ∷ pages_named (drop (i + 1) ps)
 pages_left ps i d lt = left ps i d lt ∙ ap (λ (n : ℕ). (get_or ps i d).page ∷ pages_named (drop n ps)) (let e : suc i ≡ i + 1 = omega arith in e)
 

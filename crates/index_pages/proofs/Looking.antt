@@ -80,7 +80,7 @@ module _ (tells : Bool) (Opens : List ℕ → List ℕ → Type 0) where
   looks_read old new (Err SavesFull) does same = absurd does.cause.1
   looks_read old new (Err (Damaged page)) does same = absurd does.cause
 
--- the same where the second begins with the shape of its own store
+-- the same if the second begins with the shape of its own store
 pub looks_next : (tells : Bool) (Opens : Shape → List ℕ → List ℕ → Type 0) (failed : Bool) (old mid new : PagesView) → Looks tells (Opens old.store.shape) false old mid
     → Looks tells (Opens mid.store.shape) failed mid new → Looks tells (Opens old.store.shape) failed old new
 looks_next tells Opens failed old mid new first second =

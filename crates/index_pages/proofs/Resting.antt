@@ -1,4 +1,4 @@
--- A chain whose pages are as they were, and whose slots carry their keys still.
+-- A chain whose pages are as they were, and whose slots still carry their keys.
 use Rattle.std.proofs.Common.{◌≡◌, ℕ, zero, suc, ◌<◌, ◌≤◌, true, false, nat_eq, inl, inr, List, [], ◌∷◌, ◌++◌, sym, ◌∙◌, ap, subst, arith}
 use Rattle.std.proofs.lemmas.Bool.Decides.{eqb_tells}
 use Rattle.record_slots.specs.Super.{HasSuperMark, form_said, next_slot_said, next_page_said}
@@ -38,7 +38,7 @@ module _ (old new : List ℕ) (keeps : Keeps old new) (same : (x : ℕ) → 1 �
             )
       ]
 
--- what is written into slots leaves a sound chain as it is
+-- writes into slots leave a sound chain as it is
 pub sound_chain_rests : (old new : List ℕ) → IsSoundChain old → KeepsIndex old new → IsSoundChain new × (pairs_of_chain new ≡ pairs_of_chain old)
 unfolding pairs_of_chain
 sound_chain_rests old new sound keeps =

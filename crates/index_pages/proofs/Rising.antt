@@ -21,7 +21,7 @@ pub rise_append : (low mid high : ℕ) (xs ys : List Pair) → Rise low mid xs �
 rise_append low mid high [] ys r s = rise_from_less mid low high ys r s
 rise_append low mid high (x ∷ xs) ys r s = (r.0, rise_append (suc x.0) mid high xs ys r.1 s)
 
--- a key below the lower bound, or from the upper one on, is not there
+-- a key below the lower bound, or not below the upper one, is not there
 pub found-below : (low high key : ℕ) (ps : List Pair) → Rise low high ps → key < low → found ps key ≡ None
 found-below low high key [] r lt = refl
 found-below low high key (p ∷ ps) r lt =
@@ -131,7 +131,7 @@ next-none from (x ∷ xs) ys is =
       | inr h ↦ let e : nat_le from x.0 ≡ false = h.0 in rw e (next-none from xs ys (rw e at is))
     ]
 
--- the pairs from the first on that is not below a key
+-- the pairs from the first on whose key is not below a key
 pub rise_take : (n low high : ℕ) (x : Pair) (xs ys : List Pair) → Rise low high (xs ++ x ∷ ys) → Rise low x.0 xs × Rise x.0 high (x ∷ ys)
 rise_take n low high x [] ys r = (r.0, (omega arith, r.1))
 rise_take n low high x (y ∷ xs) ys r = let h = rise_take n (suc y.0) high x xs ys r.1 in ((r.0, h.0), h.1)

@@ -200,7 +200,7 @@ root_leaf_split low high n pairs r some less =
       (refl, omega arith, take_rises n low high pairs less r, (refl, b.1, drop_rises n low high pairs less r, refl)),
     )
 
--- the next pair from a key on is in the key's piece, or else the first behind that piece
+-- the next pair from a key on is in the key's piece, or else is the first after that piece
 pub next_in_piece : (low high from : ℕ) (pieces : List Piece) (i : ℕ) → Tile low high pieces → IsIn pieces high i from
     → next (joined pieces) from ≡ or_else (next (piece_at pieces i) from) (head (joined (drop (suc i) pieces)))
 next_in_piece low high from [] i t in_i = absurd (omega (arith, in_i.is_piece))

@@ -11,19 +11,19 @@ use Rattle.page_store.specs.Shown.{PagesView}
 use Rattle.page_store.specs.declared.fault.PageFault.{PageFault}
 use Rattle.page_store.specs.declared.fault.PageFault.TheVariants.{Media}
 
--- its parts lie in these pages, and each has room; or one logger lacks room
+-- why an action gets its answer: each of these pages has room for a part, or one logger lacks room
 abbrev pub ActCause : StoreView → ℕ → List ℕ → Result (Unit {0}) PageFault → Type 0
 ActCause old t pages (Ok answer) = IsAlive old × FitAll old t pages
 ActCause old t pages (Err Media) = IsAlive old
 ActCause old t pages (Err fault) = LacksRoom old t pages fault
 
--- the data behind it: with its parts written, or, where it was refused, as before
+-- the data after it: with its parts written, or, if it was refused, as before
 abbrev pub ActData : List Part → List ℕ → List ℕ → Result (Unit {0}) PageFault → Type 0
 ActData parts old new (Ok answer) = new ≡ applied parts old
 ActData parts old new (Err Media) = Unit {0}
 ActData parts old new (Err _) = new ≡ old
 
--- It writes all of its parts or none, and leaves what numbers have logged and saved.
+-- It writes all of its parts or none, and leaves what numbers have logged and saved, except at a fault of the medium.
 pub record Acts (tells : Bool) (Opens : List ℕ → List ℕ → Type 0) (t : ℕ) (pages : List ℕ) (parts : List Part) (old new : PagesView) (result : Result (Unit {0}) PageFault) : Type 0 where
   pub shape : new.store.shape ≡ old.store.shape
   pub cause : ActCause old.store t pages result

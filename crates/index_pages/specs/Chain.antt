@@ -9,12 +9,12 @@ use Rattle.record_slots.specs.Places.{next_page, IsSuper, AreGiven}
 abbrev pub key_end : ℕ
 key_end = 2 ^ 64
 
--- the least key that may come behind these pairs
+-- the least key that may come after these pairs
 abbrev pub behind : ℕ → List Pair → ℕ
 behind low [] = low
 behind low (p ∷ ps) = behind (suc p.0) ps
 
--- a page of a chain, of which all keys before it are below the lower bound
+-- a page of a chain, when all keys before it are below the lower bound
 pub record IsChainPage (bytes : List ℕ) (page low : ℕ) : Type 0 where
   pub kind : kind_of bytes page ≡ 1
   pub level : level_of bytes page ≡ 0
@@ -42,7 +42,7 @@ chain_pieces (suc n) bytes page low =
     (low, page_pairs bytes page)
     ∷ (if nat_eq (link_of bytes page) 0 then [] else chain_pieces n bytes (link_of bytes page) (first_key (page_pairs bytes (link_of bytes page))))
 
--- data that is a chain: it has at most as many pages as were given, since none comes twice
+-- data that is a chain: it has at most as many pages as are given, since none comes twice
 pub record IsSoundChain (bytes : List ℕ) : Type 0 where
   pub front : IsSuper 0 bytes
   pub pages : IsChain (next_page bytes) bytes 1 0

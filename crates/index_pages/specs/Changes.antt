@@ -14,7 +14,7 @@ pub record TakesPairInChain (old new : List ℕ) (page key to : ℕ) : Type 0 wh
   pub given : to < next_slot new
   pub carries : Carries new (key, to)
 
--- a full page of a chain is split: its last 15 pairs go to the next page that nobody had, which takes over the link
+-- a full page of a chain is split: its last 15 pairs go to the next page to give out, which takes over the link
 pub record SplitsPage (old new : List ℕ) (page : ℕ) : Type 0 where
   pub full : length (page_pairs old page) ≡ 30
   pub kind : kind_of new page ≡ 1

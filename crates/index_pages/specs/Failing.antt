@@ -5,8 +5,8 @@ use Rattle.index_pages.specs.Page.{kind_of, level_of, count_of, link_of, page_pa
 use Rattle.page_store.specs.Pairs.{Pair, Rise}
 use Rattle.record_slots.specs.Places.{next_slot, next_page, IsSuper, slot_page, Carries, AreGiven}
 
--- Of these pairs of a page, whose keys start at a lower bound, one fails: its key is too low or its slot was not given, which the page
--- answers for, or its slot does not carry its key, which the page of the slot answers for. Those before it are well.
+-- One of these pairs of a page is the first that fails: its key is below the lower bound or its slot is not given, and then this page
+-- is the bad one; or its slot does not carry its key, and then the page of the slot is. Those before it pass.
 abbrev pub PairsFail : List ℕ → ℕ → ℕ → List Pair → ℕ → Type 0
 PairsFail bytes page low [] bad = ⊥
 PairsFail bytes page low (p ∷ ps) bad =
@@ -21,12 +21,12 @@ pub record IsChainHead (bytes : List ℕ) (page : ℕ) : Type 0 where
   pub most : count_of bytes page ≤ 30
   pub some : count_of bytes page ≡ 0 → (page ≡ 1) × (link_of bytes page ≡ 0)
 
--- a link leads to a page that was given, or ends the chain
+-- a link leads to a page that is given, or ends the chain
 abbrev pub IsLink : List ℕ → ℕ → Type 0
 IsLink bytes link = link ≢ 0 → (2 ≤ link) × (link < next_page bytes)
 
--- From this page on, behind keys below a lower bound, a page fails first: by its head, by its pairs, or by its link; else the pages
--- behind it are tested. A page beyond as many as were given fails.
+-- From this page on, after keys below a lower bound, one page is the first that fails: by its head, by its pairs, or by its link; else
+-- the pages after it are tested. A page that comes after as many as are given fails.
 abbrev pub ChainFails : ℕ → List ℕ → ℕ → ℕ → ℕ → Type 0
 ChainFails zero bytes page low bad = bad ≡ page
 ChainFails (suc n) bytes page low bad =
@@ -36,7 +36,7 @@ ChainFails (suc n) bytes page low bad =
     ⊎ (IsChainHead bytes page × Rise low key_end (page_pairs bytes page) × AreGiven bytes (page_pairs bytes page) × IsLink bytes (link_of bytes page)
     × (link_of bytes page ≢ 0) × ChainFails n bytes (link_of bytes page) (behind low (page_pairs bytes page)) bad)
 
--- the super page goes first, then the pages from page 1 on
+-- the super page is tested first, then the pages from page 1 on
 abbrev pub IsFirstDamagedOfChain : List ℕ → ℕ → Type 0
 IsFirstDamagedOfChain bytes bad =
     (¬ IsSuper 0 bytes × (bad ≡ 0)) ⊎ (IsSuper 0 bytes × ChainFails (next_page bytes) bytes 1 0 bad)

@@ -1,4 +1,4 @@
--- A fault of pages, as an insertion tells it, and as a test does.
+-- A fault of pages, as an insertion gives it, and as a check does.
 use Rattle.page_store.specs.declared.fault.PageFault.{PageFault}
 use Rattle.page_store.specs.declared.fault.PageFault.TheVariants as page
 use Rattle.page_store.specs.declared.index_fault.IndexFault.{IndexFault}
@@ -18,7 +18,7 @@ as_index page.Media = index.Media
 as_index page.Dead = index.Dead
 as_index (page.Damaged bad) = index.Damaged bad
 
--- it is one of a read
+-- it is a fault of a read
 abbrev pub IsOfCheck : PageFault → Type 0
 IsOfCheck (page.LogFull g h n) = ⊥
 IsOfCheck page.SavesFull = ⊥

@@ -1,4 +1,4 @@
--- Answers to reads of single pages.
+-- Why reads of single pages get their answers.
 use Rattle.std.specs.Prelude.{ℕ, ◌≡◌, ◌≤◌, Bool, true, IsTrue, Result, Ok, Err}
 use Rattle.eaw_face.specs.StoreView.{StoreView}
 use Rattle.eaw_face.specs.Causes.{IsAlive}
@@ -8,14 +8,14 @@ use Rattle.page_store.specs.Index.{slots_of, index_pages_of}
 use Rattle.page_store.specs.declared.fault.PageFault.{PageFault}
 use Rattle.page_store.specs.declared.fault.PageFault.TheVariants.{Media, Dead, Damaged}
 
--- a read of what is not tested
+-- of a read that tests nothing
 abbrev pub ReadCause : {T : Type 0} → StoreView → Result T PageFault → Type 0
 ReadCause old (Ok answer) = IsAlive old
 ReadCause old (Err Media) = IsAlive old
 ReadCause old (Err Dead) = old.is_dead ≡ true
 ReadCause old (Err _) = ⊥
 
--- A read of a page that is tested: it is told damaged only where data that is told is not as it should be.
+-- Of a read that tests a page: the page is answered as damaged only if it is not good, over a store that tells its data.
 abbrev pub TestCause : {T : Type 0} → Bool → Type 0 → ℕ → StoreView → Result T PageFault → Type 0
 TestCause tells Good page old (Ok answer) = IsAlive old
 TestCause tells Good page old (Err Media) = IsAlive old

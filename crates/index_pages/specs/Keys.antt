@@ -8,7 +8,7 @@ key_at [] n = 0
 key_at (p ∷ ps) zero = p.0
 key_at (p ∷ ps) (suc n) = key_at ps n
 
--- the first of two answers that there is
+-- the first of two answers, if there is one, else the second
 abbrev pub or_else : Option Pair → Option Pair → Option Pair
 or_else None other = other
 or_else (Some p) other = Some p

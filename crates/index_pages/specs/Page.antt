@@ -21,7 +21,7 @@ link_said bytes = little_from 4 4 bytes
 unfoldable pub pair_said : List ℕ → ℕ → Pair
 pair_said bytes i = (little_from (8 + 16 * i) 8 bytes, little_from (16 + 16 * i) 8 bytes)
 
--- so many pairs from pair i on
+-- n pairs from pair i on
 abbrev pub pairs_from : List ℕ → ℕ → ℕ → List Pair
 pairs_from bytes i zero = []
 pairs_from bytes i (suc n) = pair_said bytes i ∷ pairs_from bytes (suc i) n
@@ -30,7 +30,7 @@ pairs_from bytes i (suc n) = pair_said bytes i ∷ pairs_from bytes (suc i) n
 unfoldable pub pairs_said : List ℕ → List Pair
 pairs_said bytes = pairs_from bytes 0 (count_said bytes)
 
--- the same of a page of the data
+-- the same for a page of the data
 abbrev pub kind_of : List ℕ → ℕ → ℕ
 kind_of bytes page = kind_said (page_bytes bytes page)
 

@@ -15,7 +15,7 @@ abbrev pub parts_named : List PagePart → List Part
 parts_named [] = []
 parts_named (p ∷ ps) = (address p.page p.at, p.bytes.now) ∷ parts_named ps
 
--- each has a byte, and lies within its page
+-- each has at least one byte, and lies within its page
 abbrev pub AreInPages : StoreView → List PagePart → Type 0
 AreInPages store [] = Unit {0}
 AreInPages store (p ∷ ps) = (0 < length p.bytes.now) × IsInPage store p.page p.at (length p.bytes.now) × AreInPages store ps

@@ -11,7 +11,7 @@ abbrev pub joined : List Piece → List Pair
 joined [] = []
 joined (p ∷ ps) = p.1 ++ joined ps
 
--- where the next piece begins: at its low key, or at the upper bound where there is none
+-- where the next piece begins: at its low key, or at the upper bound if there is none
 abbrev pub low_of : List Piece → ℕ → ℕ
 low_of [] high = high
 low_of (p ∷ ps) high = p.0
@@ -22,7 +22,7 @@ abbrev pub Tile : ℕ → ℕ → List Piece → Type 0
 Tile low high [] = low ≡ high
 Tile low high (p ∷ ps) = (p.0 ≡ low) × (low < low_of ps high) × Rise low (low_of ps high) p.1 × Tile (low_of ps high) high ps
 
--- the pairs of piece i, none where there is no such piece
+-- the pairs of piece i, none if there is no such piece
 abbrev pub piece_at : List Piece → ℕ → List Pair
 piece_at [] i = []
 piece_at (p ∷ ps) zero = p.1
@@ -38,13 +38,13 @@ pub record IsIn (pieces : List Piece) (high i key : ℕ) : Type 0 where
   pub from : low_at pieces high i ≤ key
   pub below : key < low_at pieces high (suc i)
 
--- piece i with other pairs
+-- the pieces, with other pairs in piece i
 abbrev pub with_piece : List Piece → ℕ → List Pair → List Piece
 with_piece [] i pairs = []
 with_piece (p ∷ ps) zero pairs = (p.0, pairs) ∷ ps
 with_piece (p ∷ ps) (suc i) pairs = p ∷ with_piece ps i pairs
 
--- piece i in two, of which the second begins at this low key
+-- the pieces, with piece i in two, of which the second begins at this low key
 abbrev pub cut_at : List Piece → ℕ → List Pair → ℕ → List Pair → List Piece
 cut_at [] i left low right = []
 cut_at (p ∷ ps) zero left low right = (p.0, left) ∷ (low, right) ∷ ps

@@ -1,4 +1,4 @@
--- The head of a page of kind 1 and level 0, and the bytes that such a page is written as.
+-- The head of a page of kind 1 and level 0, and the bytes with which such a page is written.
 use Rattle.std.specs.Prelude.{ℕ, ◌≡◌, ◌-◌, ◌*◌, ◌^◌, ◌<◌, ◌≤◌, List, [], ◌∷◌, ◌++◌, length, replicate}
 use Rattle.byteorder.specs.Endian.{little_bytes}
 use Rattle.page_store.specs.Pairs.{Pair}
@@ -11,7 +11,7 @@ pub record IsLeaf (bytes : List ℕ) : Type 0 where
   pub level : level_said bytes ≡ 0
   pub most : count_said bytes ≤ 30
 
--- they say this head
+-- the bytes of a page say this head
 pub record SaysLeaf (bytes : List ℕ) (head : LeafHead) : Type 0 where
   pub leaf : IsLeaf bytes
   pub count : head.count ≡ count_said bytes
@@ -29,7 +29,7 @@ pairs_bytes (p ∷ ps) = pair_bytes p ++ pairs_bytes ps
 unfoldable pub front_bytes : ℕ → ℕ → List ℕ
 front_bytes count link = 1 ∷ 0 ∷ (little_bytes 2 count ++ little_bytes 4 link)
 
--- all of it: behind these the pairs, and zeros
+-- all of it: the front, the pairs behind it, and zeros
 unfoldable pub leaf_bytes : ℕ → List Pair → List ℕ
 leaf_bytes link pairs = front_bytes (length pairs) link ++ (pairs_bytes pairs ++ replicate (504 - 16 * length pairs) 0)
 

@@ -1,10 +1,10 @@
-// Faults of pages, as an index tells them.
+// Faults of pages, as an index gives them.
 ghost use Rattle.std.specs.Prelude.{◌≡◌};
 ghost use Rattle.index_pages.specs.Faults.{IsOfIndex, as_index, IsOfCheck, as_check};
 
 use page_store::{CheckFault, IndexFault, PageFault};
 
-/// A fault of pages, as an insertion tells it.
+/// A fault of pages, as an insertion gives it.
 pub fn index_fault(fault: PageFault) -> IndexFault
     requires { IsOfIndex fault }
     ensures { result ≡ as_index fault }
@@ -26,7 +26,7 @@ pub fn index_fault(fault: PageFault) -> IndexFault
     }
 }
 
-/// A fault of a read, as a test tells it.
+/// A fault of a read, as a check gives it.
 pub fn check_fault(fault: PageFault) -> CheckFault
     requires { IsOfCheck fault }
     ensures { result ≡ as_check fault }

@@ -16,7 +16,7 @@ use record_slots::{SLOT_LEN, Slot, Super, read_slot, read_super};
 
 const SLOTS_IN_PAGE: u32 = 8;
 
-/// How many pages an index has, the super page among them: half of the array's.
+/// How many pages an index has, among them the super page: half of the array's.
 pub fn index_page_count<S: EawStore>(pages: &Pages<S>) -> u32
     ensures count { result ≡ index_pages_of (S.view pages.now.store).shape }
     ensures some { 2 ≤ result }
@@ -58,7 +58,7 @@ pub fn fetch_slot<S: EawStore>(pages: &mut Pages<S>, slot: u32) -> Result<Option
     Ok(read_slot(&bytes))
 }
 
-/// Reads the super page; it is damaged where it is not that of an index of this form.
+/// Reads the super page. It is damaged if it is not that of an index of this form.
 pub fn fetch_super<S: EawStore>(pages: &mut Pages<S>, form: u8) -> Result<Super, PageFault>
     ensures looks { Looks S.tells (S.opens (S.view pages.old.store).shape) (is_failed result)
         (pages_of (S.view pages.old.store) pages.old) (pages_of (S.view pages.new.store) pages.new) }
@@ -81,7 +81,7 @@ pub fn fetch_super<S: EawStore>(pages: &mut Pages<S>, form: u8) -> Result<Super,
     }
 }
 
-// The form is this one, and the counts are those of an index of so many pages.
+// Whether the form is this one, and the counts are those of an index of `count` pages.
 fn is_front(front: &Super, form: u8, count: u32) -> bool
     requires { count ≤ 16384 }
     ensures { IsTrue result ↔ (front.now.form ≡ form) × (front.now.next_slot ≤ 8 * count) × (2 ≤ front.now.next_page) × (front.now.next_page ≤ count) }

@@ -11,7 +11,7 @@ ghost use Rattle.index_pages.specs.Page.{kind_of, level_of, count_of, link_of, p
 ghost use Rattle.index_pages.specs.Pieces.{Piece, joined, Tile, piece_at, IsIn, with_piece};
 ghost use Rattle.index_pages.specs.Ways.{Keeps, page_of_key};
 
-/// A key that was not there is found behind its insertion, and all others as before; the keys still rise.
+/// A key that was not there is found after its insertion, and all others as before. The keys still rise.
 pub fn insertion_adds()
     ensures rises { (low high key to : ℕ) (ps : List Pair) → Rise low high ps → low ≤ key → key < high → found ps key ≡ None → Rise low high (inserted ps key to) }
     ensures found { (low high key to other : ℕ) (ps : List Pair) → Rise low high ps → found ps key ≡ None →
@@ -19,7 +19,7 @@ pub fn insertion_adds()
     ensures one_more { (key to : ℕ) (ps : List Pair) → length (inserted ps key to) ≡ suc (length ps) }
 {}
 
-/// A key lies in the range of one piece, and is found, or inserted, in all pairs as in those of that piece.
+/// A key lies in the range of just one piece, and is found, or inserted, in all pairs as in those of that piece.
 pub fn pieces_answer()
     ensures some { (low high key : ℕ) (pieces : List Piece) → Tile low high pieces → low ≤ key → key < high → (i : ℕ) × IsIn pieces high i key }
     ensures one { (low high key : ℕ) (pieces : List Piece) (i j : ℕ) → Tile low high pieces → IsIn pieces high i key → IsIn pieces high j key → i ≡ j }
@@ -31,15 +31,15 @@ pub fn pieces_answer()
         next (joined pieces) from ≡ or_else (next (piece_at pieces i) from) (head (joined (drop (suc i) pieces))) }
 {}
 
-/// The pages of a sound chain tile all keys, and its pairs rise strictly in them, with slots that were given and carry the keys.
+/// The pages of a sound chain tile all keys. Its pairs rise strictly, with slots that are given and carry the keys.
 pub fn chain_rises()
     ensures tiles { (bytes : List ℕ) → IsSoundChain bytes → Tile 0 key_end (pieces_of_chain bytes) }
     ensures rises { (bytes : List ℕ) → IsSoundChain bytes → Rise 0 key_end (pairs_of_chain bytes) }
     ensures given { (bytes : List ℕ) → IsSoundChain bytes → AreGiven bytes (pairs_of_chain bytes) }
 {}
 
-/// What one action makes of a chain. A look-up goes to the page of the key; a pair that this page takes is inserted in the whole; a cut
-/// of it keeps all pairs. The data stays sound.
+/// What one action makes of a chain. A look-up goes to the page of the key. A pair that this page takes is inserted among all pairs.
+/// A split of this page keeps all pairs. The data stays sound.
 pub fn chain_changes_keep()
     ensures finds { (bytes : List ℕ) (key : ℕ) → IsSoundChain bytes → found (pairs_of_chain bytes) key ≡ found (page_pairs bytes (page_of_key bytes key)) key }
     ensures takes { (old new : List ℕ) (key to : ℕ) → IsSoundChain old → Keeps old new → IsSuper 0 new → next_page new ≡ next_page old → key < key_end →
@@ -51,18 +51,18 @@ pub fn chain_changes_keep()
         IsSoundChain new × (pairs_of_chain new ≡ pairs_of_chain old) }
 {}
 
-/// What is written into slots, with their keys, leaves a chain as it is.
+/// Writes into slots that leave their keys leave a chain as it is.
 pub fn slots_leave_the_chain()
     ensures { (old new : List ℕ) → IsSoundChain old → KeepsIndex old new → IsSoundChain new × (pairs_of_chain new ≡ pairs_of_chain old) }
 {}
 
-/// One page at most is the first that fails, and there is none where the data is sound.
+/// At most one page is the first that fails, and none is if the data is sound.
 pub fn damage_is_first()
     ensures sound { (bytes : List ℕ) (bad : ℕ) → IsFirstDamagedOfChain bytes bad → IsSoundChain bytes → ⊥ }
     ensures one { (bytes : List ℕ) (bad other : ℕ) → IsFirstDamagedOfChain bytes bad → IsFirstDamagedOfChain bytes other → bad ≡ other }
 {}
 
-/// With a super page that is sound, page 1 with no pairs and no link is a sound chain of none.
+/// With a sound super page, a page 1 with no pairs and no link is a sound chain of no pairs.
 pub fn fresh_is_sound()
     ensures { (bytes : List ℕ) → IsSuper 0 bytes → kind_of bytes 1 ≡ 1 → level_of bytes 1 ≡ 0 → link_of bytes 1 ≡ 0 → count_of bytes 1 ≡ 0 →
         IsSoundChain bytes × (pairs_of_chain bytes ≡ []) }

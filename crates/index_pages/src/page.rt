@@ -27,16 +27,16 @@ const LEAF: u8 = 1;
 /// The pairs of a page: keys, and what each leads to.
 pub type Pairs = ArrayVec<(u64, u64), PAIRS_MAX>;
 
-/// The head of a page of kind 1 and level 0, which a page of a chain is, and a leaf of a tree.
+/// The head of a page of kind 1 and level 0, which is a page of a chain or a leaf of a tree.
 #[derive(Clone, Copy, Debug, PartialEq, Eq)]
 pub struct LeafHead {
     /// How many pairs it has, at most 30.
     pub count: u16,
-    /// The page behind it, 0 for none.
+    /// The page that follows it, 0 for none.
     pub link: u32,
 }
 
-/// The head of a page; `None` exactly where its kind is not 1, its level not 0, or its count above 30.
+/// The head of a page. `None` exactly when its kind is not 1, its level is not 0, or its count is above 30.
 pub fn read_leaf_head(page: &[u8; PAGE_LEN]) -> Option<LeafHead>
     ensures says { IfSome result (SaysLeaf page.now) }
     ensures other { IfNone result (¬ IsLeaf page.now) }
@@ -82,7 +82,7 @@ pub fn read_pairs(page: &[u8; PAGE_LEN], count: u16) -> Pairs
     pairs
 }
 
-/// The first pair of a page whose key is not below this one.
+/// The first pair of a page whose key is not below `from`, if there is one.
 pub fn next_pair(page: &[u8; PAGE_LEN], count: u16, from: u64) -> Option<(u64, u64)>
     requires count { count ≡ count_said page.now }
     requires most { count ≤ 30 }

@@ -1,4 +1,4 @@
--- The pages of a chain behind an insertion and behind a cut.
+-- The pages of a chain after an insertion and after a cut.
 use Rattle.std.proofs.Common.{◌≡◌, ◌≢◌, ℕ, zero, suc, ◌<◌, ◌≤◌, true, false, nat_eq, nat_lt, inl, inr, List, [], ◌∷◌, take, drop, refl, sym, ◌∙◌, ap, subst, arith}
 use Rattle.std.specs.Prelude.{if◌then◌else◌}
 use Rattle.std.proofs.lemmas.Bool.Decides.{eqb_tells, leb_tells}
@@ -13,7 +13,7 @@ use Rattle.index_pages.proofs.ChainActions.{first_below, later_some, linked_some
 use Rattle.index_pages.proofs.ChainFacts.{first_from, wide_behind}
 use Rattle.key_list.specs.Index.{IsOnChain, IsPageOfChain, half_for}
 
--- the page of a key was given, and is one of the chain
+-- the page of a key is given, and is one of the chain
 own_for : (n : ℕ) (bytes : List ℕ) (page low key : ℕ) → IsOwn bytes page → IsChain n bytes page low → IsOwn bytes (chain_page_for n bytes page key) × IsOnChain n bytes page (chain_page_for n bytes page key)
 own_for zero bytes page low key own chain = absurd chain
 own_for (suc n) bytes page low key own chain =
@@ -34,7 +34,7 @@ own_for (suc n) bytes page low key own chain =
 pub key_page_own : (bytes : List ℕ) (key : ℕ) → IsSoundChain bytes → IsOwn bytes (page_of_key bytes key) × IsPageOfChain bytes (page_of_key bytes key)
 key_page_own bytes key sound = own_for (next_page bytes) bytes 1 0 key (omega arith, omega (arith, sound.front.some_pages)) sound.pages
 
--- where all links are as they were, so are the pages
+-- if all links are as they were, so are the pages
 on_same : (old new : List ℕ) → ((p : ℕ) → 1 ≤ p → p < next_page old → link_of new p ≡ link_of old p)
     → (n page low other : ℕ) → IsOwn old page → IsChain n old page low → IsOnChain n old page other → IsOnChain n new page other
 on_same old new same zero page low other own chain on = on
@@ -79,7 +79,7 @@ module _ (old new : List ℕ) (q : ℕ) (cut : SplitsPage old new q) (two : 2 �
         )
   ]
 
-  -- the pages behind the cut one stay
+  -- the pages after the cut one stay
   beyond : (n page low other : ℕ) → IsOwn old page → 2 ≤ page → IsChain n old page low → first_key (page_pairs old q) < low → IsOnChain n old page other → IsOnChain n new page other
   beyond zero page low other own far chain below on = on
   beyond (suc n) page low other own far chain below (inl is) = inl is

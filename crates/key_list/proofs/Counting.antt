@@ -20,7 +20,7 @@ use Rattle.index_pages.proofs.Sizes.{slot_page_is}
 use Rattle.key_list.specs.Index.{chain, chain_actions, adding, cutting, half_for}
 use Rattle.key_list.specs.Located.{Locates, adding_pages, cutting_pages}
 
--- room in the log, where a number has logged the same
+-- room in the log, if a number has logged the same
 pub fits_same : (a b : StoreView) (t : ℕ) (pages : List ℕ) → b.shape ≡ a.shape → listed (b.ranges t) ≡ listed (a.ranges t) → FitAll b t pages → FitAll a t pages
 fits_same a b t pages shape logged fits =
     subst (λ (s : Shape). (g : ℕ) → g < s.loggers → count_on s g (listed (a.ranges t)) + length (filter (is_page_on s.loggers g) pages) ≤ s.entries) shape

@@ -34,7 +34,7 @@ use Rattle.key_list.specs.Index.{chain, IsPageOfChain, half_for}
 use Rattle.key_list.specs.Located.{IsLocated, Locates, adding_parts, cutting_parts}
 use Rattle.key_list.proofs.Chains.{key_page_own, pages_same, cut_keeps, cut_names, half_after}
 
--- the slots of a pair carry its key where they are as they were
+-- the slot of a pair carries its key if it is as it was
 carries_on : (old new : List ℕ) (p : Pair) → slot_of new p.1 ≡ slot_of old p.1 → Carries old p → Carries new p
 unfolding Carries
 carries_on old new p same carries = subst (λ (b : List ℕ). IsOfKey p.0 (slot_said b)) (sym same) carries

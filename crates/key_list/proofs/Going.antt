@@ -59,7 +59,7 @@ looks_logs tells Opens old now looks =
     }
 
 module _ (tells : Bool) (Opens : List ℕ → List ℕ → Type 0) (t key : ℕ) where
-  -- So far logs and saves are as they were, and the data has grown at most.
+  -- So far logs and saves are as they were, and the data has at most grown.
   pub record Going (old now : PagesView) : Type 0 where
     pub shape : now.store.shape ≡ old.store.shape
     pub saves : now.counts ≡ old.counts
@@ -115,7 +115,7 @@ module _ (tells : Bool) (Opens : List ℕ → List ℕ → Type 0) (t key : ℕ)
           | inr behind ↦ (applied parts mid.store.state.bytes, behind, may told alive)
         ]) (acts.time told (alive_now old mid going alive)))
 
-    -- one that was done, and leaves the pairs
+    -- an action that was done, and leaves the pairs
     pub going_act : (let r : Result (Unit {0}) PageFault = Ok tt in Acts tells Opens t pages parts mid now r)
         → (IsTrue tells → IsAlive old.store → Grows chain old.store.state.bytes (applied parts mid.store.state.bytes) × Rests chain old.store.state.bytes (applied parts mid.store.state.bytes)) → Going old now
     going_act acts grown = record {
@@ -127,7 +127,7 @@ module _ (tells : Bool) (Opens : List ℕ → List ℕ → Type 0) (t key : ℕ)
       time = λ told alive. (let r : Result (Unit {0}) PageFault = Ok tt in time_acts r acts told alive);
     }
 
-    -- one that was refused
+    -- an action that was refused
     refused : (g h n : ℕ) → (let r : Result (Unit {0}) PageFault = Err (page.LogFull g h n) in Acts tells Opens t pages parts mid now r) → Going old now
     refused g h n acts = record {
       shape = acts.shape ∙ going.shape;
@@ -177,7 +177,7 @@ module _ (tells : Bool) (Opens : List ℕ → List ℕ → Type 0) (t key : ℕ)
       made_of index.Dead well full told alive = going.made told alive
       made_of (index.Damaged bad) well full told alive = going.made told alive
 
-  -- the media failed
+  -- the medium failed
   inserts_look_media : (old mid now : PagesView) → Going old mid → Looks tells Opens true mid now → IsAlive old.store → (let s : Result ℕ IndexFault = Err index.Media in Inserts tells Opens chain t key old now s)
   inserts_look_media old mid now going looks alive =
       let dies = looks.dies refl in

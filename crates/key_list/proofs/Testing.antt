@@ -25,8 +25,8 @@ pub carries_not : (bytes : List ℕ) (key slot : ℕ) (said : Option Slot) → s
 unfolding Carries
 carries_not bytes key slot said is other carries = other (subst (λ (o : Option Slot). IsOfKey key o) (sym is) carries)
 
--- Of all pairs behind a lower bound these are left behind another: where they are well, so are all, and the page that answers for one of
--- them answers for all.
+-- Of all pairs after a lower bound these are left after another: if they pass, so do all, and the page that is bad by one of
+-- them is bad for all.
 pub record PairsLeft (bytes : List ℕ) (page low : ℕ) (pairs : List Pair) (low' : ℕ) (left : List Pair) : Type 0 where
   pub fails : (bad : ℕ) → PairsFail bytes page low' left bad → PairsFail bytes page low pairs bad
   pub rises : Rise low' key_end left → Rise low key_end pairs
@@ -55,7 +55,7 @@ pub left_none : (bytes : List ℕ) (page low : ℕ) (pairs : List Pair) (last : 
     → (let s : Result (Option ℕ) CheckFault = Ok last in PairsCause bytes page low pairs s)
 left_none bytes page low pairs last le left = (left.rises le, left.given tt, left.ends)
 
--- Of a chain so many pages at most are left from this one on, behind keys below a lower bound: where they are sound, so is the data, and
+-- Of a chain at most n pages are left from this one on, after keys below a lower bound: if they are sound, so is the data, and
 -- the first of them that fails is the first of all.
 pub record ChainLeft (bytes : List ℕ) (page low n : ℕ) : Type 0 where
   pub fails : (bad : ℕ) → ChainFails n bytes page low bad → IsFirstDamagedOfChain bytes bad

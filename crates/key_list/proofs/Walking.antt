@@ -13,7 +13,7 @@ use Rattle.index_pages.proofs.Rising.{next-none, next-some, found-below}
 use Rattle.index_pages.proofs.ChainFacts.{chain_head}
 use Rattle.key_list.specs.Linked.{IsLinked}
 
--- behind so many steps the chain from this page on answers
+-- after `steps` steps the chain from this page on answers
 pub record Next (bytes : List ℕ) (from steps page : ℕ) : Type 0 where
   pub n : ℕ
   pub low : ℕ
@@ -35,7 +35,7 @@ next_first bytes from sound =
       answers = ap (λ (n : ℕ). next (joined (chain_pieces n bytes 1 0)) from) e;
     }
 
--- a page of the chain is as it is to be linked
+-- a page of the chain is linked as it has to be
 pub page_linked : (bytes : List ℕ) (pages page low : ℕ) → IsSoundChain bytes → first_slot_page bytes ≡ pages → IsChainPage bytes page low → IsLinked pages (page_bytes bytes page)
 page_linked bytes pages page low sound is head = record {
   leaf = record { kind = head.kind; level = head.level; most = head.most };
@@ -78,7 +78,7 @@ next_last bytes from steps page at last none =
     ∙ next-none from (page_pairs bytes page) (joined (if nat_eq (link_of bytes page) 0 then [] else chain_pieces at.n bytes (link_of bytes page) (first_key (page_pairs bytes (link_of bytes page))))) none
     ∙ (rw b refl)
 
--- the slot of a pair that is found was given
+-- the slot of a pair that is found is given
 given_next : (bytes : List ℕ) (from : ℕ) (p : Pair) (ps : List Pair) → AreGiven bytes ps → next ps from ≡ Some p → p.1 < next_slot bytes
 given_next bytes from p [] given some = absurd (cc)
 given_next bytes from p (q ∷ qs) given some =
@@ -90,7 +90,7 @@ given_next bytes from p (q ∷ qs) given some =
 pub next_slot_given : (bytes : List ℕ) (from steps page : ℕ) (p : Pair) → Next bytes from steps page → next (page_pairs bytes page) from ≡ Some p → p.1 < next_slot bytes
 next_slot_given bytes from steps page p at some = given_next bytes from p (page_pairs bytes page) (chain_head (suc at.n) bytes page at.low at.chain).given some
 
--- what a key leads to is told by the least pair from it on
+-- what a key leads to follows from the least pair from it on
 pub found_next : (ps : List Pair) (key : ℕ) (p : Pair) → next ps key ≡ Some p → p.0 ≡ key → found ps key ≡ Some p.1
 found_next [] key p some is = absurd (cc)
 found_next (q ∷ qs) key p some is =
@@ -138,7 +138,7 @@ found_other low high (q ∷ qs) key p rises some other =
           rw b' (found_other (suc q.0) high qs key p rises.1 e other)
     ]
 
--- on the way to the page of a key: this page was read, and the one behind it is next
+-- on the way to the page of a key: this page was read, and the one after it is next
 pub record Place (bytes : List ℕ) (key steps page link : ℕ) : Type 0 where
   pub n : ℕ
   pub low : ℕ
@@ -162,7 +162,7 @@ place_first bytes key link sound link_is =
 pub first_linked : (bytes : List ℕ) (pages : ℕ) → IsSoundChain bytes → first_slot_page bytes ≡ pages → IsLinked pages (page_bytes bytes 1)
 first_linked bytes pages sound is = page_linked bytes pages 1 0 sound is (chain_head (next_page bytes) bytes 1 0 sound.pages)
 
--- the chain behind the page
+-- the chain after the page
 link_chain : (n : ℕ) (bytes : List ℕ) (page low link : ℕ) → IsChain (suc n) bytes page low → link ≡ link_of bytes page → link ≢ 0 → IsChainPage bytes link (behind low (page_pairs bytes page)) × (2 ≤ link)
 link_chain n bytes page low link chain is more =
     let more' : link_of bytes page ≢ 0 = λ e. more (is ∙ e) in

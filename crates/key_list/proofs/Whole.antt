@@ -29,7 +29,7 @@ use Rattle.key_list.proofs.Going.{Going, going_looks, going_more, going_act, ins
 use Rattle.key_list.proofs.Data.{adding_grows, cutting_grows, half_short}
 use Rattle.key_list.proofs.Counting.{fits_same, lacking_same, added_cause, added_lacks, pages_run_out, cut_lacks, both_cause, second_lacks}
 
--- a page more, and then a pair more
+-- one more page, and then one more pair
 grows_then : (key : ℕ) (a b c : List ℕ) → Grows chain a b → Rests chain a b → next_page b ≡ suc (next_page a) → Grows chain b c → Gains chain key b c → next_page c ≡ next_page b → Grows chain a c × Gains chain key a c
 grows_then key a b c first rests more second gains same = (
   record {
@@ -66,7 +66,7 @@ module _ (tells : Bool) (E : Shape → List ℕ → List ℕ → Type 0) (t key 
   logged1 : listed (v1.store.ranges t) ≡ listed (v0.store.ranges t)
   logged1 = ap (λ (f : ℕ → Option (List (ℕ × ℕ))). listed (f t)) looks.ranges
 
-  -- the parts of an addition, told for the shape at the start
+  -- the parts of an addition, stated for the shape at the start
   added_acts : (w x : PagesView) (f : Super) (p l : ℕ) (ps : List Pair) (r : Result (Unit {0}) PageFault) → w.store.shape ≡ v0.store.shape
       → Acts tells (E w.store.shape) t (adding_pages (index_pages_of w.store.shape) f p) (adding_parts (index_pages_of w.store.shape) f p l ps key) w x r
       → Acts tells (E v0.store.shape) t (adding_pages half f p) (adding_parts half f p l ps key) w x r
@@ -170,7 +170,7 @@ module _ (tells : Bool) (E : Shape → List ℕ → List ℕ → Type 0) (t key 
           going3 : Going tells (E v0.store.shape) t key v0 v3
           going3 = going_more tells (E v0.store.shape) t key v0 v2 v3 going2 (subst (λ (s : Shape). Looks tells (E s) false v2 v3) going2.shape looks2)
 
-          -- the closed top stays closed
+          -- a top action that is not open stays so
           pub closed3 : v0.top t ≡ None → v3.top t ≡ None
           closed3 closed = ap (λ (f : ℕ → Option ℕ). f t) going3.logs.tops ∙ closed
 

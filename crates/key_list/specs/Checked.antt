@@ -1,4 +1,4 @@
--- What the tests of a chain tell.
+-- What the tests of a chain say.
 use Rattle.std.specs.Prelude.{ℕ, suc, ◌≡◌, ◌<◌, ◌≤◌, ◌⊎◌, Bool, true, false, List, Option, Some, None, Result, Ok, Err}
 use Rattle.record_slots.specs.Places.{next_slot, Carries, AreGiven, slot_page}
 use Rattle.page_store.specs.Pairs.{Pair, Rise}
@@ -20,12 +20,12 @@ pub record IsHead (page : ℕ) (bytes : List ℕ) : Type 0 where
   pub most : count_said bytes ≤ 30
   pub some : count_said bytes ≡ 0 → (page ≡ 1) × (link_said bytes ≡ 0)
 
--- the media failed
+-- whether the medium failed
 abbrev pub is_media : {T : Type 0} → Result T CheckFault → Bool
 is_media (Err Media) = true
 is_media _ = false
 
--- A pair of a page, behind keys below a lower bound: it is well, or a page answers for it.
+-- what a test of a pair says, after keys below a lower bound: the pair passes, or a page is bad
 abbrev pub PairCause : List ℕ → ℕ → ℕ → Pair → Result (Unit {0}) CheckFault → Type 0
 PairCause bytes page low pair (Ok answer) = (low ≤ pair.0) × (pair.1 < next_slot bytes) × Carries bytes pair
 PairCause bytes page low pair (Err (Damaged bad)) =
@@ -33,7 +33,7 @@ PairCause bytes page low pair (Err (Damaged bad)) =
     ⊎ ((low ≤ pair.0) × (pair.1 < next_slot bytes) × ¬ Carries bytes pair × (bad ≡ slot_page bytes pair.1))
 PairCause bytes page low pair (Err fault) = Unit {0}
 
--- all pairs of a page, with the last key behind them; or the page that answers for the first that fails
+-- what a test of all pairs of a page says: they pass, and the last key is this; or a page is bad by the first pair that fails
 abbrev pub PairsCause : List ℕ → ℕ → ℕ → List Pair → Result (Option ℕ) CheckFault → Type 0
 PairsCause bytes page low pairs (Ok last) = Rise low key_end pairs × AreGiven bytes pairs × (low_of last ≡ behind low pairs)
 PairsCause bytes page low pairs (Err (Damaged bad)) = PairsFail bytes page low pairs bad

@@ -24,7 +24,7 @@ adding bytes page = record { pages = slot_page bytes (next_slot bytes) ∷ page 
 abbrev pub cutting : List ℕ → ℕ → Action
 cutting bytes page = record { pages = page ∷ next_page bytes ∷ 0 ∷ []; takes = 1 }
 
--- the page of a key behind the cut: of 30 pairs 15 stay
+-- the page of a key after the cut: of 30 pairs 15 stay
 abbrev pub half_for : List ℕ → ℕ → ℕ → ℕ
 half_for bytes page key = if nat_lt key (key_at (page_pairs bytes page) 15) then page else next_page bytes
 
@@ -33,6 +33,6 @@ chain_actions bytes key =
     if nat_lt (count_of bytes (page_of_key bytes key)) 30 then adding bytes (page_of_key bytes key) ∷ []
     else cutting bytes (page_of_key bytes key) ∷ adding bytes (half_for bytes (page_of_key bytes key) key) ∷ []
 
--- it has no inner pages
+-- the chain as an index; it has no inner pages
 abbrev pub chain : Index
 chain = record { sound = IsSoundChain; fails = IsFirstDamagedOfChain; pairs = pairs_of_chain; level = λ bytes. 0; has_page = IsPageOfChain; actions = chain_actions }

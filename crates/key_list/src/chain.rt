@@ -9,8 +9,8 @@ use eaw_face::EawStore;
 use page_store::{CheckFault, IndexFault, KeyIndex, PageFault, Pages};
 
 /// An index that is a chain of pages in the order of their keys: it begins in page 1 and follows the links. A look-up reads each page of
-/// the chain before its key. An insertion is one nested top action of three parts, the slot, the page and the super page; where its
-/// page has 30 pairs, this is cut before, which is one of three parts too: the page, the next page, which takes the upper half and
+/// the chain up to that of its key. An insertion is one nested top action of three parts: the slot, the page and the super page. If the
+/// page has 30 pairs, it is cut first, by another action of three parts: the page, the next page, which takes the upper half and
 /// the link, and the super page.
 #[derive(Clone, Copy, Debug)]
 pub struct KeyList {}

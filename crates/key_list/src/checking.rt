@@ -63,7 +63,7 @@ pub fn check<S: EawStore>(pages: &mut Pages<S>) -> Result<(), CheckFault>
     Err(CheckFault::Damaged { page })
 }
 
-// The head of a page of the chain. The first page alone may be without pairs, and then it is the last one too.
+// The head of a page of the chain. Only the first page may be without pairs, and then it is the last one too.
 fn chain_head(bytes: &[u8; PAGE_LEN], page: u32) -> Option<LeafHead>
     ensures says { IfSome result (SaysLeaf bytes.now) }
     ensures head { IfSome result (λ head. IsHead page bytes.now) }
@@ -82,7 +82,7 @@ fn chain_head(bytes: &[u8; PAGE_LEN], page: u32) -> Option<LeafHead>
     Some(head)
 }
 
-// Tests the pairs of a page behind a last key, and gives the last key then.
+// Tests the pairs of a page after a last key, and returns the new last key.
 fn check_pairs<S: EawStore>(
     pages: &mut Pages<S>,
     page: u32,
@@ -115,7 +115,7 @@ fn check_pairs<S: EawStore>(
     Ok(last)
 }
 
-// Tests a pair of a page behind a last key: its key, its slot, and what that slot says.
+// Tests a pair of a page after a last key: its key, its slot, and what that slot says.
 fn check_pair<S: EawStore>(
     pages: &mut Pages<S>,
     page: u32,
@@ -153,7 +153,7 @@ fn check_pair<S: EawStore>(
     }
 }
 
-// The key may follow the last one.
+// Whether the key may follow the last one.
 fn is_above(last: Option<u64>, key: u64) -> bool
     ensures { IsTrue result ↔ (low_of last ≤ key) }
 {
@@ -163,7 +163,7 @@ fn is_above(last: Option<u64>, key: u64) -> bool
     }
 }
 
-// What was read says a slot of this key.
+// Whether what was read is a slot of this key.
 fn is_of_key(said: &Option<Slot>, key: u64) -> bool
     ensures { IsTrue result ↔ IsOfKey key said.now }
 {

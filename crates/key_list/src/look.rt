@@ -47,7 +47,7 @@ pub fn read_page<S: EawStore>(
     Ok(head)
 }
 
-// The pair with the least key that is not below this one.
+// The pair with the least key that is not below `from`, if there is one.
 pub fn next<S: EawStore>(pages: &mut Pages<S>, from: u64) -> Result<Option<(u64, u32)>, PageFault>
     requires { IsTrue S.tells → IsAlive (S.view pages.old.store) → IsSoundChain (S.view pages.old.store).state.bytes }
     ensures looks { Looks S.tells (S.opens (S.view pages.old.store).shape) (is_failed result)
@@ -95,7 +95,7 @@ pub fn find<S: EawStore>(pages: &mut Pages<S>, key: u64) -> Result<Option<u32>, 
     }
 }
 
-// The page of a key: the last one whose first key is not above it, else the first page.
+// The page of a key: the last one whose first key is not above it, or the first page if there is none.
 pub fn page_for<S: EawStore>(pages: &mut Pages<S>, key: u64) -> Result<u32, PageFault>
     requires { IsTrue S.tells → IsAlive (S.view pages.old.store) → IsSoundChain (S.view pages.old.store).state.bytes }
     ensures looks { Looks S.tells (S.opens (S.view pages.old.store).shape) (is_failed result)

@@ -14,7 +14,7 @@ use record_slots::{COUNTS_AT, COUNTS_LEN, SLOT_LEN, Slot, write_slot, write_supe
 
 const SLOTS_IN_PAGE: u32 = 8;
 
-// How many of 30 pairs stay where a page is cut.
+// How many of 30 pairs stay when a page is cut.
 const HALF: usize = 15;
 
 // Adds a pair of the key and the next slot to its page.

@@ -26,13 +26,13 @@ data_applied shape (p ∷ ps) image long placed =
     let put_long = length-put image (place_of shape p.0) p.1 (omega arith) in
     data_applied shape ps (put image (place_of shape p.0) p.1) (put_long ∙ long) placed.1 ∙ ap (applied ps) (data_put shape image p.0 p.1 long placed.0)
 
--- with a part behind the others
+-- with one more part at the end
 applied_push : (shape : Shape) (ps : List Part) (p : Part) (image : List ℕ) → applied (in_media shape (ps ++ p ∷ [])) image ≡ put (applied (in_media shape ps) image) (place_of shape p.0) p.1
 applied_push shape [] p image = refl
 applied_push shape (q ∷ ps) p image = applied_push shape ps p (put image (place_of shape q.0) q.1)
 
 module _ (shape : Shape) (g t : ℕ) where
-  -- one cell more
+  -- one more cell
   pub parts_more : (image : List ℕ) (e n : ℕ) → parts_from shape image g t e (suc n) ≡ parts_from shape image g t e n ++ cell_part (cell_of shape image g t (e + n)) ∷ []
   parts_more image e zero = ap (λ (k : ℕ). cell_part (cell_of shape image g t k) ∷ []) (omega arith)
   parts_more image e (suc n) =
@@ -82,7 +82,7 @@ module _ (shape : Shape) (g t first count : ℕ) (tells : Bool) (old : View) whe
       one_within i out =
           subst (λ (j : ℕ). IsOutside (places_of shape (cell_part (cell_of shape old.content.bytes g t j) ∷ [])) i) place (one_place shape g t old.content.bytes first count (e - first) (omega arith) i out)
 
-      -- a cell more, in the bytes at first
+      -- one more cell, in the first bytes
       one_more : (let part = cell_part (cell_of shape old.content.bytes g t e) in
           put (applied (in_media shape (parts_from shape old.content.bytes g t first (e - first))) old.content.bytes) (place_of shape part.0) part.1)
           ≡ applied (in_media shape (parts_from shape old.content.bytes g t first (e + 1 - first))) old.content.bytes
@@ -107,7 +107,7 @@ module _ (shape : Shape) (g t first count : ℕ) (tells : Bool) (old : View) whe
           does = writes_done tells (places_of shape (parts_from shape old.content.bytes g t first count)) old new r ok writes_more;
         }
 
-    -- where all were
+    -- when all were applied
     pub data_after : (now : View) (e : ℕ) → e ≡ first + count → AppliedTo shape g t first count tells old now e
         → IsTrue tells → data_of shape now.content.bytes ≡ applied (parts_from shape old.content.bytes g t first count) (data_of shape old.content.bytes)
     data_after now e last so_far told =

@@ -1,4 +1,4 @@
--- Ranges that are known only where a media tells its bytes.
+-- Ranges that are known only if a medium tells its bytes.
 use Rattle.std.proofs.Common.{◌≡◌, ℕ, Bool, List, Result, Ok, Err, subst}
 use Rattle.std.specs.Prelude.{IsTrue, IsErr, OnOk, OnErr}
 use Rattle.std.proofs.lemmas.Bool.{false≢true}
@@ -22,7 +22,7 @@ none_of : {U F : Type 0} (s : Result U F) → IsErr s → (P : Type 0) → OnOk 
 none_of (Ok x) err P = absurd (false≢true err)
 none_of (Err e) err P = tt
 
--- what a call that failed has done, under whatever answer it is passed on
+-- what a failed call has done, whatever answer it is passed on as
 pub writes_failed : {T E U F : Type 0} (tells : Bool) (ranges : List (ℕ × ℕ)) (old new : View) (r : Result T E) (e : E) (s : Result U F) → IsErr s → r ≡ Err e → Writes tells ranges old new r → Writes tells ranges old new s
 writes_failed tells ranges old new r e s err is does = record {
   size = does.size;

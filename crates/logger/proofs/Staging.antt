@@ -30,7 +30,7 @@ module _ (g : ℕ) (part : Part) (s rest : List Part) (next : s ≡ part ∷ res
       ap (filter (is_part_on g)) next
       ∙ ap (λ (b : Bool). cond b (part ∷ filter (is_part_on g) rest) (filter (is_part_on g) rest)) (ne_eqb part.logger g ne)
 
--- a part of the range of so many bytes at an address
+-- a part of the range of `len` bytes at an address
 pub record IsWithin (shape : Shape) (addr len : ℕ) (part : Part) : Type 0 where
   pub from : addr ≤ part.addr
   pub to : part.addr + part.len ≤ addr + len
@@ -49,12 +49,12 @@ all_within shape addr len fits =
     let lie = tiles_lie addr (addr + len) addr len (parts_of shape addr len) (omega arith) (omega arith) (parts_tile shape addr len) in
     λ k d lt. record { from = (lie k d lt).0; to = (lie k d lt).1; whole = parts_placed shape addr len fits k d lt }
 
--- the answer of a media that was not asked, or has done what it was asked
+-- the answer of a medium that was not called, or did what was asked
 abbrev pub done : Result (Unit {0}) Failed
 done = Ok tt
 
 -- Where the loop stands: these parts are left, and the next one of this logger goes to cell e. What is still to be written
--- makes of the bytes now what the whole write makes of the bytes at first.
+-- makes of the current bytes what the whole write makes of the first bytes.
 pub record StandsAt (shape : Shape) (g t held addr : ℕ) (bytes : List ℕ) (tells : Bool) (old now : View) (e : ℕ) (left : List Part) : Type 0 where
   pub within : All (IsWithin shape addr (length bytes)) left
   pub from : held ≤ e
@@ -70,7 +70,7 @@ one_cell shape g t e (suc n) k le lt i out = elim (cases_eq k e) [
   | inr ne ↦ one_cell shape g t (e + 1) n k (omega arith) (omega arith) i out.1
 ]
 
--- what was done, where the last call answered well
+-- what was done, if the last call succeeded
 pub writes_done : {T E : Type 0} (tells : Bool) (ranges : List (ℕ × ℕ)) (old new : View) (r : Result T E) → IsOk r → Writes tells ranges old new r → Writes tells ranges old new done
 writes_done tells ranges old new r ok does = record { size = does.size; cause = done_cause old.faults new.faults r ok does.cause; touched = does.touched; time = does.time }
   where
@@ -134,7 +134,7 @@ module _ (shape : Shape) (g t held addr : ℕ) (bytes : List ℕ) (tells : Bool)
             does = writes_done tells (cell_ranges shape g t held (length (write_parts_on shape g addr bytes))) old new r ok writes_more;
           }
 
-  -- where none is left
+  -- when none is left
   pub stands_last : (now : View) (e : ℕ) (s : List Part) → s ≡ [] → StandsAt shape g t held addr bytes tells old now e s
       → IsTrue tells → now.content.bytes ≡ applied (cell_writes shape g t held (write_parts_on shape g addr bytes)) old.content.bytes
   stands_last now e s none stands told =

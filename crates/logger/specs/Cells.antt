@@ -6,7 +6,7 @@ use Rattle.row_bytes.specs.Written.{head_bytes}
 use Rattle.array_shape.specs.Logged.{Part}
 use Rattle.array_image.specs.Image.{cell_of, parts_from, IsGoodCell}
 
--- parts that are written to the cells of number t at logger g from e on: each one's head, and its bytes behind that
+-- the writes that put parts into the cells of number t at logger g from e on: for each its head, and its bytes behind that
 abbrev pub cell_writes : Shape → ℕ → ℕ → ℕ → List Part → List (ℕ × List ℕ)
 cell_writes shape g t e [] = []
 cell_writes shape g t e (p ∷ ps) =
@@ -22,6 +22,6 @@ pub record HoldsParts (shape : Shape) (image : List ℕ) (g t e : ℕ) (parts : 
   pub hold : parts_from shape image g t e (length parts) ≡ parts
   pub good : (k : ℕ) → e ≤ k → k < e + length parts → IsGoodCell shape g (cell_of shape image g t k)
 
--- parts with their places in the media for their addresses
+-- parts with their places on the medium instead of their addresses
 abbrev pub in_media : Shape → List Part → List (ℕ × List ℕ)
 in_media shape parts = map (λ p. (place_of shape p.0, p.1)) parts

@@ -9,12 +9,12 @@ use Rattle.logger.specs.declared.stage_fault.StageFault.TheVariants.{Full, Media
 abbrev pub write_parts_here : Logger → ℕ → List ℕ → List (ℕ × List ℕ)
 write_parts_here logger addr bytes = write_parts_on logger.shape logger.number addr bytes
 
--- The fault of a write that needs so many cells where so many are held: they are too many, or else the media failed.
+-- The fault of a write that needs `needed` cells when `held` are held: these are too many, or else the medium failed.
 abbrev pub IsStageFault : ℕ → ℕ → ℕ → StageFault → Type 0
 IsStageFault entries held needed (Full h n) = (h ≡ held) × (n ≡ needed) × (entries < held + needed)
 IsStageFault entries held needed Media = held + needed ≤ entries
 
--- The media failed. Where the cells are too few, it was not asked.
+-- Whether the medium failed. If the cells are too few, it was not called.
 abbrev pub is_of_media : StageFault → Bool
 is_of_media (Full h n) = false
 is_of_media Media = true

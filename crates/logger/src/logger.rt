@@ -33,7 +33,7 @@ impl Logger {
     ghost use Rattle.pcm_media.specs.Answer.{media_answer};
     ghost use Rattle.logger.specs.Staging.{write_parts_here, IsStageFault, is_of_media};
 
-    /// The logger of this number.
+    /// The logger with this number.
     pub fn new(shape: Shape, number: u8) -> Logger
         requires { number < shape.loggers }
         ensures shape { result.shape ≡ shape }
@@ -42,7 +42,7 @@ impl Logger {
         Logger { shape, number }
     }
 
-    /// Writes what a row says but for its vote: bytes 1 to 15, and never byte 0.
+    /// Writes a row except for its vote: bytes 1 to 15, and never byte 0.
     pub fn put_row<M: Media>(
         self,
         media: &mut M,
@@ -74,7 +74,7 @@ impl Logger {
         media.write(self.shape.row_at(self.number, tid) + 1, &bytes[1..])
     }
 
-    /// Votes for the row of a transaction number, or takes the vote back.
+    /// Sets or clears the vote of the row of a transaction number.
     pub fn set_vote<M: Media>(self, media: &mut M, tid: u8, voted: bool) -> Result<(), Failed>
         requires size { (M.view media.old).size ≡ media_len self.shape }
         requires tid { tid < self.shape.numbers }
@@ -105,10 +105,10 @@ impl Logger {
         needed
     }
 
-    /// Writes the parts of a write that this logger has to cells of a transaction number, in the order of their
-    /// addresses, from the first cell that is not held. Gives the number of cells that it took.
+    /// Writes the parts of a write that this logger has into cells of a transaction number, in the order of their
+    /// addresses, from the first cell that is not held. Returns how many cells it took.
     ///
-    /// Where the cells left are too few, no call is made of the media.
+    /// If too few cells are left, it makes no call of the medium.
     pub fn stage<M: Media>(
         self,
         media: &mut M,
@@ -142,7 +142,7 @@ impl Logger {
         Ok(needed)
     }
 
-    /// Replaces bytes within the data of a cell.
+    /// Replaces bytes within the data of a cell, from `at` on.
     pub fn edit<M: Media>(
         self,
         media: &mut M,
@@ -168,7 +168,7 @@ impl Logger {
         media.write(cell + HEAD_LEN + u64::from(at), bytes)
     }
 
-    /// Reads a cell: what its head says, and the 512 bytes of its data, of which the length in its head counts.
+    /// Reads a cell: returns what its head says, and puts the 512 bytes of its data into `buf`. Of these the first `len` count.
     pub fn read_entry<M: Media>(
         self,
         media: &mut M,
@@ -192,9 +192,9 @@ impl Logger {
         Ok(head_of(&cell))
     }
 
-    /// Writes the parts in cells of a transaction number to their addresses, one cell after another.
+    /// Writes the parts in the cells `first` to `first + count - 1` of a transaction number to their addresses, one after another.
     ///
-    /// A cell that holds no part of this logger is passed over. Only a media that does not tell its bytes may have one.
+    /// A cell that holds no part of this logger is skipped. Only a medium that does not tell its bytes may have one.
     pub fn apply<M: Media>(
         self,
         media: &mut M,
@@ -224,7 +224,7 @@ impl Logger {
         Ok(())
     }
 
-    // Writes the parts to the cells, which are there.
+    // Writes the parts into the cells, of which enough are left.
     fn put_parts<M: Media>(
         self,
         media: &mut M,
@@ -326,7 +326,7 @@ impl Logger {
         )
     }
 
-    // Whether a part with this head lies in one page of this logger.
+    // Whether the range that this head says lies in one page of this logger.
     fn has_part(self, head: Head) -> bool
         ensures { IsTrue result ↔ IsOwned self.shape self.number head.addr head.len }
     {
@@ -341,7 +341,7 @@ impl Logger {
     }
 }
 
-// The bytes of a write that go to one of its parts.
+// The bytes of a write that belong to one of its parts.
 fn bytes_of(part: Part, addr: u64, bytes: &[u8]) -> &[u8]
     requires from { addr ≤ part.addr }
     requires to { part.addr + part.len ≤ addr + length bytes.now }

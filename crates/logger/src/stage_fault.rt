@@ -1,4 +1,4 @@
-// Why a write is not staged.
+// Why a write was not staged.
 ghost use Rattle.std.specs.Prelude.{◌≡◌};
 ghost use Rattle.logger.specs.declared.stage_fault.StageFault.TheVariants.{Media};
 
@@ -8,10 +8,10 @@ use thiserror::Error;
 /// Why a write is not in the cells of a logger.
 #[derive(Clone, Copy, Debug, PartialEq, Eq, Error)]
 pub enum StageFault {
-    /// The transaction number holds so many cells here, and the write needs more than are left.
+    /// The transaction number holds `held` cells here, and the write needs `needed` more, but fewer are left.
     #[error("{held} cells are held and {needed} more needed")]
     Full { held: u16, needed: u16 },
-    /// The media failed.
+    /// The medium failed.
     #[error("media fault")]
     Media,
 }

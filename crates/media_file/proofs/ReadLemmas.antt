@@ -9,7 +9,7 @@ use Rattle.media_file.specs.Past.{Past, came, noted, held, AreBefore, Answers, I
 use Rattle.media_file.specs.Transfer.{Serves}
 use Rattle.media_file.proofs.ServeLemmas.{serves_none, serves_more, honest_last}
 
--- so many bytes were read
+-- `done` bytes were read
 pub record ReadSoFar (moment at done : ℕ) (buf : List ℕ) (old now : Past) : Type 0 where
   pub same : held now ≡ held old
   pub serves : Serves moment [] old now
@@ -34,7 +34,7 @@ module _ (done : ℕ) (buf part : List ℕ) (low : done ≤ length buf) where
   pub read_again : (moment at : ℕ) (old now : Past) → ReadSoFar moment at done buf old now → ReadSoFar moment at done (put_mid done (length buf - done) buf part) old now
   read_again moment at old now so_far = record { same = so_far.same; serves = so_far.serves; bytes = λ i lt. front_is i lt ∙ so_far.bytes i lt }
 
-  -- a call that gave so many bytes
+  -- a call that gave `count` bytes
   pub read_more : (moment at count : ℕ) (old now : Past) → count ≤ length part → ReadSoFar moment at done buf old now
       → Answers (came (at + done) (take count part)) (held now) → ReadSoFar moment at (done + count) (put_mid done (length buf - done) buf part) old (noted moment (came (at + done) (take count part)) now)
   read_more moment at count old now few so_far answers = record {

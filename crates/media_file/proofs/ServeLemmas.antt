@@ -1,4 +1,4 @@
--- Calls one after another that serve one call of the media.
+-- Calls one after another that serve one call of the medium.
 use Rattle.std.proofs.Common.{◌≡◌, ℕ, ◌+◌, ◌<◌, ◌≤◌, inl, inr, List, subst, arith}
 use Rattle.std.proofs.lemmas.List.Elements.{All-cons}
 use Rattle.pcm_media.specs.Images.{Touched}

@@ -1,4 +1,4 @@
--- What a call of the media does to what it shows.
+-- What a call of the medium does to what it shows.
 use Rattle.std.proofs.Common.{◌≡◌, ℕ, ◌≤◌, Bool, inl, List, Result, Err, refl, subst, sym}
 use Rattle.counted.specs.Causes.{Rose}
 use Rattle.pcm_media.specs.View.{Writes}

@@ -11,7 +11,7 @@ use Rattle.media_file.specs.Past.{Made, Past, stands, noted, held, joined, goes_
 use Rattle.media_file.specs.Transfer.{Serves}
 use Rattle.media_file.proofs.ServeLemmas.{serves_none, serves_more}
 
--- The parts that were written count as one range, which reaches so far at least.
+-- The parts that were written count as one range, which reaches at least this far.
 pub record HasRange (moment at reach len : ℕ) (old now : Past) : Type 0 where
   pub width : ℕ
   pub low : reach ≤ width
@@ -19,7 +19,7 @@ pub record HasRange (moment at reach len : ℕ) (old now : Past) : Type 0 where
   pub unsettled : (held now).unsettled ≡ (at, width) ∷ (held old).unsettled
   pub goes : goes_on moment now.calls ≡ true
 
--- so many bytes were written
+-- `done` bytes were written
 pub record WrittenSoFar (moment at : ℕ) (bytes : List ℕ) (done : ℕ) (old now : Past) : Type 0 where
   pub serves : Serves moment ((at, length bytes) ∷ []) old now
   pub there : (i : ℕ) → i < done → get_or (held now).bytes (at + i) 0 ≡ get_or bytes i 0
@@ -32,7 +32,7 @@ starts : (moment : ℕ) (calls : List Made) → AreBefore moment calls → goes_
 starts moment [] before = refl
 starts moment (made ∷ earlier) before = ne_eqb made.moment moment (omega (arith, All-head (λ made. made.moment < moment) made earlier before))
 
--- one part more, whatever it is, behind those that were written
+-- one more part, whatever it is, after those that were written
 module _ (moment at done len : ℕ) (part : List ℕ) (old now : Past) (few : done + length part ≤ len) (before : AreBefore moment old.calls) where
   range_first : now ≡ old → done ≡ 0 → HasRange moment at (done + length part) len old (noted moment (stands (at + done) part) now)
   range_first same none =
@@ -66,7 +66,7 @@ module _ (moment at done len : ℕ) (part : List ℕ) (old now : Past) (few : do
       count : max (at + done + length part) (at + range.width) - min (at + done) at ≡ max (done + length part) range.width
       count = omega arith
 
--- A part behind the bytes that were written: these stay, and it stands there.
+-- A part after the bytes that were written: these stay, and the part stands there.
 module _ (moment at done : ℕ) (bytes part : List ℕ) (old now : Past) (few : done + length part ≤ length bytes) (before : AreBefore moment old.calls)
     (within : at + length bytes ≤ length (held old).bytes) (so_far : WrittenSoFar moment at bytes done old now) where
   abbrev new : Past
@@ -99,7 +99,7 @@ module _ (moment at done : ℕ) (bytes part : List ℕ) (old now : Past) (few : 
   kept : (i : ℕ) → i < done → get_or (held new).bytes (at + i) 0 ≡ get_or bytes i 0
   kept i lt = get_or-put_before (held now).bytes (at + done) part fits (at + i) (omega arith) ∙ so_far.there i lt
 
-  -- a write that failed, and may have left anything there
+  -- a failed write, which may have left anything there
   spoilt : WrittenSoFar moment at bytes done old new
   spoilt = record {
     serves = serves_is;
@@ -107,7 +107,7 @@ module _ (moment at done : ℕ) (bytes part : List ℕ) (old now : Past) (few : 
     range = inr (record { width = range_is.width; low = omega (arith, range_is.low); high = range_is.high; unsettled = range_is.unsettled; goes = range_is.goes });
   }
 
-  -- one that took the bytes
+  -- a write that took the bytes
   taken : ((i : ℕ) → i < length part → get_or part i 0 ≡ get_or bytes (done + i) 0) → WrittenSoFar moment at bytes (done + length part) old new
   taken is = record {
     serves = serves_is;
@@ -146,7 +146,7 @@ module _ (moment at done : ℕ) (bytes : List ℕ) (old now next : Past) (low : 
         subst (λ (p : Past). WrittenSoFar moment at bytes done old p) (sym left.2) (spoilt moment at done bytes left.0 old now (omega (arith, left.1)) before within so_far)
   ])
 
-  -- a call that took so many bytes
+  -- a call that took `count` bytes
   module _ (count reach : ℕ) (few : count ≤ length (rest_of bytes done)) (there : reach ≡ done + count) (is : next ≡ noted moment (stands (at + done) (take count (rest_of bytes done))) now) where
     count_is : length (take count (rest_of bytes done)) ≡ count
     count_is = length-take-le count (rest_of bytes done) few

@@ -11,7 +11,7 @@ use Rattle.media_file.specs.declared.honest_call.Done.TheVariants.{Measured, Rea
 use Rattle.media_file.specs.declared.honest_call.HonestCall.{HonestCall}
 use Rattle.media_file.specs.Past.{Event, Made, Past, measured, came, stands, resized, synced, content_after, Answers, IsHonest}
 
--- a call with its answer, from what was held before it
+-- a call with its answer, given what was held before it
 abbrev pub event_of : Done → Content → Event
 event_of Measured held = measured (length held.bytes)
 event_of (Read at count) held = came at (range held.bytes at count)
@@ -19,12 +19,12 @@ event_of (Written at bytes) held = stands at bytes.items
 event_of (Resized len) held = resized len
 event_of Synced held = synced
 
--- the calls that were kept, the newest first
+-- the kept calls with their answers, the newest first
 abbrev pub told : Content → List HonestCall → List Made
 told first [] = []
 told first (call ∷ earlier) = record { moment = call.moment; event = event_of call.done (content_after first (told first earlier)) } ∷ told first earlier
 
--- the past of a file with these bytes at first, all of them sure, and these calls since, the oldest first
+-- the past of a file with these bytes at first, all settled, and these calls since, the oldest first
 abbrev pub past_of : List ℕ → List HonestCall → Past
 past_of first calls = record { first = at_rest first; calls = told (at_rest first) (reverse calls) }
 

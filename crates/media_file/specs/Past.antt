@@ -6,8 +6,8 @@ use Rattle.std.proofs.lemmas.List.Elements.{All-head, All-tail}
 use Rattle.counted.specs.Bytes.{put, range}
 use Rattle.pcm_media.specs.Images.{Content, MayLeave, settled}
 
--- A call that was made: the length was told; these bytes came from a place on; these bytes stand at a place since a write, which
--- took them, or failed and left them there; the length was set; all that was written was made sure.
+-- A call that was made: the length was told; these bytes came from a place on; these bytes stand at a place after a write, which
+-- took them, or failed and left them there; the length was set; all that was written was made durable.
 pub data Event : Type 0 where
   measured : (len : ℕ) → Event
   came : (at : ℕ) (bytes : List ℕ) → Event
@@ -15,12 +15,12 @@ pub data Event : Type 0 where
   resized : (len : ℕ) → Event
   synced : Event
 
--- a call, and the moment of the media's call for which it was made
+-- a call, and the moment of the medium's call for which it was made
 pub record Made : Type 0 where
   pub moment : ℕ
   pub event : Event
 
--- what the file held at first, with what of that was not sure, and its calls since, the newest first
+-- what the file held at first, with what of that was not settled, and its calls since, the newest first
 pub record Past : Type 0 where
   pub first : Content
   pub calls : List Made
@@ -28,26 +28,26 @@ pub record Past : Type 0 where
 abbrev pub noted : ℕ → Event → Past → Past
 noted moment event past = record { first = past.first; calls = record { moment = moment; event = event } ∷ past.calls }
 
--- bytes cut to a length, or made longer by zeros
+-- bytes cut to a length, or extended to it with zeros
 abbrev pub padded : ℕ → List ℕ → List ℕ
 padded len bytes = take len bytes ++ replicate (len - length bytes) 0
 
--- the smallest range that has both
+-- the smallest range that contains both
 abbrev pub hull : ℕ × ℕ → ℕ × ℕ → ℕ × ℕ
 hull a b = (min a.0 b.0, max (a.0 + a.1) (b.0 + b.1) - min a.0 b.0)
 
--- One range more. The parts of one write count as one.
+-- One more range. The parts of one write count as one range.
 abbrev pub joined : Bool → ℕ × ℕ → List (ℕ × ℕ) → List (ℕ × ℕ)
 joined false range others = range ∷ others
 joined true range [] = range ∷ []
 joined true range (last ∷ others) = hull range last ∷ others
 
--- the last call was made at this moment too
+-- whether the last call was made at this moment too
 abbrev pub goes_on : ℕ → List Made → Bool
 goes_on moment [] = false
 goes_on moment (last ∷ earlier) = last.moment == moment
 
--- What a call makes of the content. No write reaches past the end.
+-- What a call makes of the content. Writes are taken not to reach past the end.
 abbrev pub next_content : Event → Bool → Content → Content
 next_content (measured len) is_more held = held
 next_content (came at bytes) is_more held = held
@@ -63,12 +63,12 @@ content_after first (made ∷ earlier) = next_content made.event (goes_on made.m
 abbrev pub held : Past → Content
 held past = content_after past.first past.calls
 
--- a loss of power before one of these calls, each made later than this moment, might have left the image
+-- a loss of power just before one of these calls, one that was made later than `t`, might have left the image
 abbrev pub LeftBefore : ℕ → Content → List Made → List ℕ → Type 0
 LeftBefore t first [] image = ⊥
 LeftBefore t first (made ∷ earlier) image = ((t < made.moment) × MayLeave (content_after first earlier) image) ⊎ LeftBefore t first earlier image
 
--- a loss of power at some time since this moment might have left the image
+-- a loss of power at moment `t` or later might have left the image
 abbrev pub LeftSince : Past → ℕ → List ℕ → Type 0
 LeftSince past t image = MayLeave (held past) image ⊎ LeftBefore t past.first past.calls image
 
@@ -76,16 +76,16 @@ LeftSince past t image = MayLeave (held past) image ⊎ LeftBefore t past.first 
 abbrev pub AreBefore : ℕ → List Made → Type 0
 AreBefore now calls = All (λ made. made.moment < now) calls
 
--- before a moment that is past no loss of power comes any more
+-- no call was made after now, so no loss of power came before such a call
 past_only : (now : ℕ) (image : List ℕ) (first : Content) (calls : List Made) → AreBefore (now + 1) calls → LeftBefore now first calls image → ⊥
 past_only now image first [] before left = left
 past_only now image first (made ∷ earlier) before left = ⊎_elim (λ here. omega (arith, here.0, All-head (λ made. made.moment < now + 1) made earlier before)) (λ there. past_only now image first earlier (All-tail (λ made. made.moment < now + 1) made earlier before) there) left
 
--- since now nothing else is left than now
+-- since now, nothing is left but what may be left now
 pub only_now : (past : Past) (now : ℕ) (image : List ℕ) → AreBefore (now + 1) past.calls → LeftSince past now image → MayLeave (held past) image
 only_now past now image before left = ⊎_elim (λ here. here) (λ there. absurd (past_only now image past.first past.calls before there)) left
 
--- a file with this content may answer so
+-- a file with this content may give this answer
 abbrev pub Answers : Event → Content → Type 0
 Answers (measured len) held = len ≡ length held.bytes
 Answers (came at bytes) held = bytes ≡ range held.bytes at (length bytes)

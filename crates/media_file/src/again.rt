@@ -1,11 +1,11 @@
-// Calls of a file that are made again where they are interrupted.
+// Calls of a file that are made again when they are interrupted.
 ghost use Rattle.std.specs.Prelude.{◌≡◌, ◌+◌, ℕ, IsTrue, MatchResult, IsOk, IfOk, OnOk};
 ghost use Rattle.media_file.specs.Past.{noted, measured, resized, synced};
 
 use crate::{CallFault, Calls};
 use counted::Failed;
 
-/// How many bytes the file has.
+/// The length of the file in bytes.
 pub fn measure<C: Calls>(calls: &mut C, moment: u64) -> Result<u64, Failed>
     ensures noted { IsTrue C.trusted → IfOk result (λ len. C.past calls.new ≡ noted moment (measured len) (C.past calls.old)) }
     ensures steady { (more_calls more : ℕ) → IsTrue (C.steady calls.old (more_calls + 1) more) → IsOk result × IsTrue (C.steady calls.new more_calls more) }
@@ -20,7 +20,7 @@ pub fn measure<C: Calls>(calls: &mut C, moment: u64) -> Result<u64, Failed>
     Err(Failed)
 }
 
-/// Cuts the file to so many bytes, or makes it so long with zeros.
+/// Cuts the file to `len` bytes, or extends it to them with zeros.
 pub fn resize<C: Calls>(calls: &mut C, moment: u64, len: u64) -> Result<(), Failed>
     ensures noted { IsTrue C.trusted → OnOk result (C.past calls.new ≡ noted moment (resized len) (C.past calls.old)) }
     ensures steady { (more_calls more : ℕ) → IsTrue (C.steady calls.old (more_calls + 1) more) → IsOk result × IsTrue (C.steady calls.new more_calls more) }
@@ -35,7 +35,7 @@ pub fn resize<C: Calls>(calls: &mut C, moment: u64, len: u64) -> Result<(), Fail
     Err(Failed)
 }
 
-/// Waits until all that was written, and the length, are sure.
+/// Waits until all that was written, and the length, are durable.
 pub fn sync<C: Calls>(calls: &mut C, moment: u64) -> Result<(), Failed>
     ensures noted { IsTrue C.trusted → MatchResult result
         (λ _. C.past calls.new ≡ noted moment synced (C.past calls.old))

@@ -10,25 +10,25 @@ pub enum CallFault {
     Failed,
 }
 
-/// A file by its calls. Each is told the moment of the media's call for which it is made, which only its record needs.
+/// A file by its calls. Each is told the moment of the medium's call for which it is made. Only the record of calls needs it.
 pub trait Calls {
-    /// Whether its record is known to be that of an honest file. Of what the system answers no contract can say that.
+    /// Whether its record is known to be that of an honest file. No contract can say that of what the system answers.
     ghost trusted: { Bool };
 
-    /// What it held at first, and its calls since with their answers. Clauses alone speak of it.
+    /// What it held at first, and its calls since with their answers. Only clauses speak of it.
     ghost past: { Self → Past };
 
-    /// Whether its next calls will be done wholly: so many, which write so many bytes in all.
+    /// Whether this many further calls, which write this many bytes in all, are sure to be done in full.
     ghost steady: { Self → ℕ → ℕ → Bool };
 
-    /// How many bytes it has.
+    /// Its length in bytes.
     fn len(&mut self, moment: u64) -> Result<u64, CallFault>
         ensures noted { IsTrue trusted → MatchResult result
             (λ len. past self.new ≡ noted moment (measured len) (past self.old))
             (λ _. past self.new ≡ past self.old) }
         ensures steady { (calls more : ℕ) → IsTrue (steady self.old (calls + 1) more) → IsOk result × IsTrue (steady self.new calls more) };
 
-    /// Reads bytes from the place `at` on, and tells how many came.
+    /// Reads bytes from `at` on, and returns how many came.
     fn read_at(&mut self, moment: u64, at: u64, buf: &mut [u8]) -> Result<usize, CallFault>
         ensures count { IfOk result (λ count. count ≤ length buf.old) }
         ensures noted { IsTrue trusted → MatchResult result
@@ -36,7 +36,7 @@ pub trait Calls {
             (λ _. past self.new ≡ past self.old) }
         ensures steady { (calls more : ℕ) → IsTrue (steady self.old (calls + 1) more) → (result ≡ Ok (length buf.old)) × IsTrue (steady self.new calls more) };
 
-    /// Writes bytes at the place `at`, and tells how many were taken. Where it fails, anything may stand in their place.
+    /// Writes bytes at `at`, and returns how many were taken. If it fails, anything may stand in their place.
     fn write_at(&mut self, moment: u64, at: u64, bytes: &[u8]) -> Result<usize, CallFault>
         ensures count { IfOk result (λ count. count ≤ length bytes.now) }
         ensures noted { IsTrue trusted → MatchResult result
@@ -44,20 +44,20 @@ pub trait Calls {
             (λ _. (past self.new ≡ past self.old) ⊎ ((left : List ℕ) × (length left ≡ length bytes.now) × (past self.new ≡ noted moment (stands at left) (past self.old)))) }
         ensures steady { (calls more : ℕ) → IsTrue (steady self.old (calls + 1) (length bytes.now + more)) → (result ≡ Ok (length bytes.now)) × IsTrue (steady self.new calls more) };
 
-    /// Cuts it to so many bytes, or makes it so long with zeros.
+    /// Cuts it to `len` bytes, or extends it to them with zeros.
     fn set_len(&mut self, moment: u64, len: u64) -> Result<(), CallFault>
         ensures noted { IsTrue trusted → MatchResult result
             (λ _. past self.new ≡ noted moment (resized len) (past self.old))
             (λ _. past self.new ≡ past self.old) }
         ensures steady { (calls more : ℕ) → IsTrue (steady self.old (calls + 1) more) → IsOk result × IsTrue (steady self.new calls more) };
 
-    /// Waits until what was written, and the length, are sure.
+    /// Waits until all that was written, and the length, are durable.
     fn sync_data(&mut self, moment: u64) -> Result<(), CallFault>
         ensures noted { IsTrue trusted → MatchResult result
             (λ _. past self.new ≡ noted moment synced (past self.old))
             (λ _. past self.new ≡ past self.old) }
         ensures steady { (calls more : ℕ) → IsTrue (steady self.old (calls + 1) more) → IsOk result × IsTrue (steady self.new calls more) };
 
-    /// Where it is trusted, each call was answered from what the calls before it had made of the first content.
+    /// If it is trusted, each call was answered from what the calls before it had made of the first content.
     ghost honest: { (file : Self) → IsTrue trusted → IsHonest (past file).first (past file).calls };
 }

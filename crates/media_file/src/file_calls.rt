@@ -10,18 +10,18 @@ use std::os::unix::fs::FileExt;
 use std::path::Path;
 use std::rt::Files;
 
-/// A file of the system, open to read and to write, and locked until it is let go. Each call makes one of the system, or some
-/// more where a length or a sync is interrupted. It is not trusted: no contract says what the system answers.
+/// A file of the system, open for reading and writing, and locked until it is dropped. Each call makes one call of the system,
+/// or more if a length or a sync is interrupted. It is not trusted: no contract says what the system answers.
 #[derive(Drop)]
 pub struct FileCalls {
     file: File,
 }
 
 impl FileCalls {
-    /// Opens the file at `path`, and locks it. Where there is none, it is made if `makes` says so, and its folder holds it surely
-    /// before this returns; else the answer is None.
+    /// Opens the file at `path` and locks it. If there is none and `makes` is true, one is made, and is durable in its folder
+    /// before this returns. If there is none and `makes` is false, the answer is None.
     ///
-    /// Fails where the system refuses one of these, or another program holds the lock: then the file is as it was, or one that
+    /// Fails if the system refuses one of these calls or another program holds the lock. The file is then as it was, or one that
     /// was made here.
     pub fn open<R: Files<File = File>>(
         rt: &R,
@@ -58,7 +58,7 @@ fn options() -> OpenOptions {
     options
 }
 
-// A new file of no bytes. Once its folder is synced, a loss of power leaves it there.
+// A new empty file. Its folder is synced, so that a loss of power leaves it there.
 fn make<R: Files<File = File>>(rt: &R, path: &str) -> io::Result<File> {
     let file = options().create(true).open(rt, path)?;
     let folder = match Path::new(path).parent() {
@@ -107,8 +107,8 @@ impl Calls for FileCalls {
         self.file.set_len(len).map_err(fault_of)
     }
 
-    // The bytes and the length of the file are what a later read needs, and `sync_data` makes both sure. It leaves out what
-    // nobody reads, as the times of access.
+    // A later read needs the bytes and the length of the file, and `sync_data` makes both durable. It leaves out what nobody
+    // reads, such as the time of the last access.
     fn sync_data(&mut self, _moment: u64) -> Result<(), CallFault> {
         self.file.sync_data().map_err(fault_of)
     }

@@ -1,4 +1,4 @@
-// A media over a file.
+// A medium over a file.
 ghost use Rattle.std.specs.Prelude.{◌≡◌, ◌+◌, ◌-◌, ◌^◌, ◌≤◌, ◌<◌, ℕ, [], ◌∷◌, length, IsOk, IfOk, OnOk, OnErr, IfSome, IsSome, IsTrue};
 ghost use Rattle.counted.specs.Causes.{Rose};
 ghost use Rattle.counted.specs.Moments.{Ticks};
@@ -13,8 +13,8 @@ use pcm_media::Media;
 use std::fs::File;
 use std::rt::Files;
 
-/// A media over a file that nobody else changes. It tells its bytes where its calls are trusted. It counts its faults, and makes
-/// one call of the file for each of its own, where the file does it whole.
+/// A medium over a file that nobody else changes. It tells its bytes if its calls are trusted. It counts its faults. For each
+/// of its calls it makes one call of the file, if the file does that one in full.
 #[derive(Drop)]
 pub struct FileMedia<C: Calls> {
     calls: C,
@@ -29,8 +29,8 @@ pub struct FileMedia<C: Calls> {
 impl<C: Calls + Drop> FileMedia<C> {
     ghost use Rattle.media_file.specs.Shown.{shown, opened};
 
-    /// The media over a file none of whose calls has been made. A file of fewer than `least` bytes is lengthened to them with
-    /// zeros, and synced. Fails where one of these calls does.
+    /// The medium over a file of which no call has been made. A file shorter than `least` bytes is extended to them with
+    /// zeros, and synced. Fails if one of these calls does.
     pub fn over(calls: C, least: u64) -> Result<FileMedia<C>, Failed>
         requires { IsTrue C.trusted → (C.past calls).calls ≡ [] }
         ensures long { IfOk result (λ media. least ≤ (shown media).size) }
@@ -62,11 +62,11 @@ impl<C: Calls + Drop> FileMedia<C> {
 impl FileMedia<FileCalls> {
     ghost use Rattle.media_file.specs.Shown.{shown};
 
-    /// The media over the file at `path`, locked until it is let go. A file of fewer than `least` bytes is lengthened to them
-    /// with zeros. Where there is none, it is made, but where `least` is 0 the answer is None.
+    /// The medium over the file at `path`, which stays locked until the medium is dropped. A file shorter than `least` bytes is
+    /// extended to them with zeros. If there is no file, one is made, unless `least` is 0: then the answer is None.
     ///
-    /// Fails where the system refuses a call, or another program holds the lock: then the file is as it was, or one that was
-    /// made or lengthened here.
+    /// Fails if the system refuses a call or another program holds the lock. The file is then as it was, or one that was made or
+    /// extended here.
     pub fn attach<R: Files<File = File>>(
         rt: &R,
         path: &str,

@@ -1,10 +1,10 @@
-// The calls that a file in memory keeps, and how it is to answer.
+// The calls that a file in memory keeps, and how a call is to be answered.
 
 /// What a call did.
 #[derive(Debug, Drop)]
 pub enum Done {
     Measured,
-    /// So many bytes came from the place `at` on.
+    /// `count` bytes came from the place `at` on.
     Read { at: u64, count: usize },
     /// These bytes stand at the place `at`.
     Written { at: u64, bytes: Vec<u8> },
@@ -15,7 +15,7 @@ pub enum Done {
 /// A call that was made.
 #[derive(Debug, Drop)]
 pub struct HonestCall {
-    /// The moment of the media's call for which it was made.
+    /// The moment of the medium's call for which it was made.
     pub moment: u64,
     pub done: Done,
 }
@@ -25,10 +25,10 @@ pub struct HonestCall {
 pub enum Answer {
     /// All of it is done.
     Whole,
-    /// Of a read or a write so many bytes are done at most.
+    /// At most `most` bytes of a read or a write are done.
     Part { most: usize },
-    /// It is interrupted. A write leaves bytes in its place that nobody wrote.
+    /// It is interrupted. A write leaves in its place bytes that nobody wrote.
     Interrupted,
-    /// It fails, and leaves the same.
+    /// It fails. A write leaves such bytes too.
     Failed,
 }

@@ -1,4 +1,4 @@
-// A file in memory, which is honest.
+// An honest file in memory.
 ghost use Rattle.std.specs.Prelude.{◌≡◌, ◌≤◌, ◌⊎◌, ℕ, List, [], length, true, IfOk, OnOk, OnErr};
 ghost use Rattle.media_file.specs.Past.{held, noted, stands};
 ghost use Rattle.media_file.specs.Honest.{past_of, event_of, is_quiet};
@@ -7,8 +7,8 @@ use crate::{Answer, CallFault, Calls, Done, HonestCall};
 use counted::NoMemory;
 use std::alloc::Global;
 
-/// A file in memory. It keeps its calls, and answers them one after another as a list says, and those behind the list wholly. A
-/// call fails too where no memory is left to keep it.
+/// A file in memory. It keeps its calls. It answers them one after another as a list says, and does those after the end of the
+/// list in full. A call also fails if no memory is left to keep it, and a write if it reaches past the end.
 #[derive(Drop)]
 pub struct HonestCalls {
     alloc: Global,
@@ -24,7 +24,7 @@ impl HonestCalls {
     ghost use Rattle.pcm_media.specs.Replay.{at_rest};
     ghost use Rattle.media_file.specs.InMemory.{past_in};
 
-    /// A file with a copy of these bytes, all of them sure, none of whose calls has been made.
+    /// A file with a copy of these bytes, all durable, of which no call has been made.
     pub fn new(alloc: Global, bytes: &[u8], answers: Vec<Answer>) -> Result<HonestCalls, NoMemory>
         ensures { IfOk result (λ file. past_in file ≡ record { first = at_rest bytes.now; calls = [] }) }
     {
@@ -38,7 +38,7 @@ impl HonestCalls {
         })
     }
 
-    /// What a read of the whole gives.
+    /// What a read of the whole file gives.
     pub fn bytes(&self) -> &[u8]
         ensures { result.now ≡ (held (past_in self.now)).bytes }
     {
@@ -52,14 +52,14 @@ impl HonestCalls {
         &self.first
     }
 
-    /// Its calls, the first of them first.
+    /// Its calls, the oldest first.
     pub fn calls(&self) -> &[HonestCall]
         ensures { past_of (past_in self.now).first.bytes result.now ≡ past_in self.now }
     {
         &self.calls
     }
 
-    // How many of so many bytes the next call does.
+    // How many of `len` bytes the next call does, by the list of answers.
     fn answer(&mut self, len: usize) -> Result<usize, CallFault>
         ensures count { IfOk result (λ count. count ≤ len) }
         ensures same { past_in self.new ≡ past_in self.old }
@@ -89,7 +89,7 @@ impl HonestCalls {
         }
     }
 
-    // Puts bytes at a place.
+    // Puts bytes at a place, and keeps the write.
     fn put(&mut self, moment: u64, at: u64, bytes: &[u8]) -> Result<(), CallFault>
         ensures put { OnOk result (past_in self.new ≡ noted moment (stands at bytes.now) (past_in self.old)) }
         ensures failed { OnErr result (past_in self.new ≡ past_in self.old) }
@@ -109,7 +109,7 @@ impl HonestCalls {
         Ok(())
     }
 
-    // Leaves bytes at a place that nobody wrote.
+    // Leaves at a place bytes that nobody wrote, if they fit and memory suffices.
     fn spoil(&mut self, moment: u64, at: u64, len: usize)
         ensures { (past_in self.new ≡ past_in self.old)
             ⊎ ((left : List ℕ) × (length left ≡ len) × (past_in self.new ≡ noted moment (stands at left) (past_in self.old))) }

@@ -1,4 +1,4 @@
-//! A media over a file: over one of the system, and over one in memory that is known to be honest.
+//! A medium over a file: over one of the system, and over one in memory that is known to be honest.
 #![tactic(auto)]
 
 mod again;

@@ -1,4 +1,4 @@
-// The reads of a file that serve one of its media: a part is followed by the rest, and one that was interrupted is made again.
+// The reads of a file that serve one read of the medium: a part is followed by the rest, and an interrupted call is made again.
 ghost use Rattle.std.specs.Prelude.{◌≡◌, ◌+◌, ◌≤◌, ◌<◌, ◌^◌, [], ℕ, length, IsTrue, IsOk, OnOk};
 ghost use Rattle.counted.specs.Bytes.{range};
 ghost use Rattle.media_file.specs.Past.{held, AreBefore};
@@ -7,7 +7,7 @@ ghost use Rattle.media_file.specs.Transfer.{Serves};
 use crate::{CallFault, Calls};
 use counted::Failed;
 
-/// Reads as many bytes as the buffer has. An end of the file before them is a fault.
+/// Fills the buffer with the bytes from `at` on. An end of the file before the last of them is a fault.
 pub fn read_all<C: Calls>(calls: &mut C, moment: u64, at: u64, buf: &mut [u8]) -> Result<(), Failed>
     requires fits { at + length buf.old < 2 ^ 64 }
     requires within { IsTrue C.trusted → at + length buf.old ≤ length (held (C.past calls.old)).bytes }

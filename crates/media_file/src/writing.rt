@@ -1,4 +1,4 @@
-// The writes of a file that serve one of its media: a part is followed by the rest, and one that was interrupted is made again.
+// The writes of a file that serve one write of the medium: a part is followed by the rest, and an interrupted call is made again.
 ghost use Rattle.std.specs.Prelude.{◌≡◌, ◌+◌, ◌≤◌, ◌<◌, ◌^◌, [], ◌∷◌, ℕ, length, IsTrue, IsOk, OnOk};
 ghost use Rattle.pcm_media.specs.Images.{written};
 ghost use Rattle.media_file.specs.Past.{held, AreBefore};
@@ -7,7 +7,7 @@ ghost use Rattle.media_file.specs.Transfer.{Serves};
 use crate::{CallFault, Calls};
 use counted::Failed;
 
-/// Writes all the bytes.
+/// Writes all the bytes at `at`.
 pub fn write_all<C: Calls>(calls: &mut C, moment: u64, at: u64, bytes: &[u8]) -> Result<(), Failed>
     requires fits { at + length bytes.now < 2 ^ 64 }
     requires within { IsTrue C.trusted → at + length bytes.now ≤ length (held (C.past calls.old)).bytes }

@@ -29,7 +29,7 @@ moment-committed : (ps : List Part) (old : Plain) → length ps ≡ 0 → (commi
 moment-committed [] old none = refl
 moment-committed (p ∷ ps) old none = absurd (omega arith)
 
--- it is one call, where there are any
+-- a commit of parts is one call, if there are any
 pub calls-committed : (ps : List Part) (old : Plain) → (committed ps old).kept.moment ≡ old.kept.moment + min (length ps) 1
 calls-committed [] old = omega arith
 calls-committed (p ∷ ps) old = omega arith
@@ -108,7 +108,7 @@ module _ (old : Plain) (sound : IsSound old) (t : ℕ) (lt : t < old.shape.numbe
             (ap (λ (bs : List ℕ). let s : State = record { bytes = bs; logs = (after (nested_top t offset) (view_of old).state).logs } in s) bytes))
             (time_is (applied (drop offset (listed (logged old.logs t))) old.bytes) (ap (λ (p : Plain). p.bytes) is) (ap (λ (p : Plain). p.kept) is) whole)
 
-        -- the moment stays where there was nothing to commit
+        -- the moment stays if there was nothing to commit
         pub moment_stays : length ps ≡ 0 → mid.kept.moment ≡ old.kept.moment
         moment_stays none = ap (λ (p : Plain). p.kept.moment) first ∙ ap (λ (k : Kept). k.moment) (moment-committed ps old none)
 

@@ -77,7 +77,7 @@ module _ (shape : Shape) where
       go true is = omega arith
       go false is = is
 
-  -- one part more of a list that is gone through
+  -- one more part of a list that is walked
   pub count_on-more : (g : ℕ) (ps : List Part) (i : ℕ) (d : Part) → i < length ps
       → count_on shape g (ranges_of (take (i + 1) ps)) ≡ count_on shape g (ranges_of (take i ps)) + cond (nat_eq (logger_of shape (get_or ps i d).0) g) 1 0
   count_on-more g ps i d lt =

@@ -10,7 +10,7 @@ use Rattle.array_shape.specs.Places.{data_len}
 use Rattle.array_shape.specs.Parts.{Tile, parts_of, is_part_on, part_of_write, parts_of_write}
 use Rattle.array_shape.proofs.Cutting.{parts_tile, parts_placed, parts_of_write-parts}
 
--- a part of the range of so many bytes at an address
+-- a part of the range of `len` bytes at an address
 pub record IsWithin (addr len : ℕ) (part : Part) : Type 0 where
   pub from : addr ≤ part.addr
   pub to : part.addr + part.len ≤ addr + len

@@ -103,6 +103,6 @@ commit_steps old mid new t n offset at first second lt =
     ∙ (λ i. record (first i) { bytes = applied (drop offset (log_at (first i).logs (at i)).parts) (first i).bytes })
     ∙ sym (committed-some (drop offset (log_at old.logs t).parts) old (omega (arith, length-drop offset (log_at old.logs t).parts)))
 
--- without parts nothing changes
+-- if there are no parts, nothing changes
 pub commit_none : (old : Plain) (t offset : ℕ) → offset ≡ length (log_at old.logs t).parts → old ≡ committed (drop offset (log_at old.logs t).parts) old
 commit_none old t offset end = sym (ap (λ (ps : List Part). committed ps old) (drop_all offset (log_at old.logs t).parts (omega arith)))

@@ -12,7 +12,7 @@ versions-push size until (u ∷ untils) past bytes whole long =
     (λ i. record { until = u; bytes = take-append-le size past bytes le i } ∷ versions size (untils ++ until ∷ []) (drop-append-le size past bytes le i))
     ∙ ap (λ (vs : List Version). record { until = u; bytes = take size past } ∷ vs) (versions-push size until untils (drop size past) bytes (omega (arith, length-drop size past)) long)
 
--- one change more
+-- one more change
 module _ (size room until m n : ℕ) (untils past bytes : List ℕ) (holds : HoldsPast size room untils past m n) (some : 0 < room) (long : length bytes ≡ size) where
   less : room * size ≡ (room - 1) * size + size
   less = let one : room ≡ room - 1 + 1 = omega arith in ap (λ (k : ℕ). k * size) one ∙ omega arith

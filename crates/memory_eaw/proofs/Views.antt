@@ -110,7 +110,7 @@ is_some-outline logs t lt = ap (λ (o : Option (List Part)). is_some (option_map
 pub log_is : (logs : List Log) (t n : ℕ) (log : Log) → t < length logs → n ≡ t → log ≡ get_or logs n log → log ≡ log_at logs t
 log_is logs t n log lt is read = read ∙ ap (λ (k : ℕ). get_or logs k log) is ∙ get_or_default logs t log (record { is_live = false; parts = []; room = 0 }) lt
 
--- none of so many fresh logs is live
+-- none of n fresh logs is live
 pub logged-replicate : (n t room : ℕ) → logged (replicate n (record { is_live = false; parts = []; room = room })) t ≡ None
 logged-replicate zero t room = refl
 logged-replicate (suc n) zero room = refl

@@ -1,9 +1,9 @@
--- A store in memory that was just made.
+-- A newly made store in memory.
 use Rattle.std.specs.Prelude.{ℕ, ◌≡◌, false, List, None}
 use Rattle.array_shape.specs.declared.shape.Shape.{Shape}
 use Rattle.eaw_face.specs.StoreView.{StoreView}
 
--- It has this shape and data, no number is live, nothing has failed, and a loss of power leaves this data alone.
+-- It has this shape and data, no number is live, nothing has failed, and a loss of power leaves only this data.
 pub record IsFresh (shape : Shape) (bytes : List ℕ) (store : StoreView) : Type 0 where
   pub shape_is : store.shape ≡ shape
   pub bytes_are : store.state.bytes ≡ bytes

@@ -1,4 +1,4 @@
--- The laws of a store, of one in memory.
+-- A store in memory keeps the laws of a store.
 use Rattle.std.specs.Prelude.{ℕ, zero, suc, ◌≡◌, ◌≤◌, Bool, true, false, if◌then◌else◌, List, [], ◌∷◌, length, Some, None, All, refl}
 use Rattle.std.specs.Option.{option_map}
 use Rattle.std.proofs.Common.{inl, inr, ⊎_elim, ap, arith}
@@ -45,14 +45,14 @@ pub some_now : (plain : Plain) → LeavesSome (view_of plain)
 some_now plain = record { image = plain.bytes; left = inl refl }
 
 module _ (plain : Plain) (sound : IsSound plain) where
-  -- each part lies within one page, and beyond the array's numbers none is live
+  -- each part lies within one page, and no number beyond the array's is live
   pub placed_in : (t : ℕ) → ArePlaced plain.shape (listed (outline (logged plain.logs) t))
   placed_in t = logs_placed plain.shape plain.logs t sound.logs
 
   pub beyond_in : (t : ℕ) → plain.shape.numbers ≤ t → outline (logged plain.logs) t ≡ None
   beyond_in t le = ap (option_map ranges_of) (logged-past plain.logs t (omega (arith, sound.numbers)))
 
-  -- what is left now is left since each moment up to now, and while no change comes it is the data
+  -- what may be left now counts as left since each moment up to now, and it is the data
   pub counts_now : (t : ℕ) (image : List ℕ) → t ≤ plain.kept.moment → LeftSince plain.bytes plain.kept.past plain.kept.moment image → LeftSince plain.bytes plain.kept.past t image
   counts_now t image le left = ⊎_elim (λ now. inl now) (λ was. inr (was_earlier plain.kept.past t plain.kept.moment image le was)) left
 

@@ -6,28 +6,28 @@ use Rattle.array_shape.specs.Places.{IsPlaced}
 use Rattle.array_shape.specs.Logged.{Part, ranges_of}
 use Rattle.eaw_face.specs.State.{Logs}
 
--- whether the number is live; its parts, in the order in which they were logged; and for how many there is room
+-- whether the number is live; its parts, in the order in which they were logged; and how many parts it has room for
 pub record Log : Type 0 where
   pub is_live : Bool
   pub parts : List (ℕ × List ℕ)
   pub room : ℕ
 
--- a part lies within one page of the data
+-- a nonempty part, within one page of the data
 abbrev pub IsWritePart : Shape → Part → Type 0
 IsWritePart shape part = IsPlaced shape part.0 (length part.1)
 
--- A number that is not live has nothing logged. There is room for as many parts as the loggers have entries of a number.
+-- A number that is not live has nothing logged. There is room for as many parts as all loggers have entries for one number.
 pub record IsSoundLog (shape : Shape) (log : Log) : Type 0 where
   pub idle : log.is_live ≡ false → log.parts ≡ []
   pub few : length log.parts ≤ shape.loggers * shape.entries
   pub room : shape.loggers * shape.entries ≤ log.room
   pub placed : All (IsWritePart shape) log.parts
 
--- what it has logged, as the model says it
+-- what it has logged, as the model has it
 abbrev pub log_of : Log → Option (List Part)
 log_of log = if log.is_live then Some log.parts else None
 
--- the same of each number
+-- the same for each number
 abbrev pub logged : List Log → Logs Part
 logged [] t = None
 logged (log ∷ logs) zero = log_of log

@@ -13,17 +13,17 @@ pub record Plain : Type 0 where
   pub kept : Kept
   pub is_dead : Bool
 
--- the data was this at some time after that moment, before a change
+-- the data was this until some change after moment `t`
 abbrev pub WasBefore : List Version → ℕ → List ℕ → Type 0
 WasBefore [] t image = ⊥
 WasBefore (v ∷ vs) t image = ((t < v.until) × (image ≡ v.bytes)) ⊎ WasBefore vs t image
 
--- A loss of power leaves the data as it is; so at some moment from that one on it might have left the data as it is now, or as it
--- was before some change that came after it.
+-- A loss of power leaves the data as it is. So at moment `t` or later it might have left the data as it is now, or as it
+-- was before some change after `t`.
 abbrev pub LeftSince : List ℕ → List Version → ℕ → List ℕ → Type 0
 LeftSince bytes past t image = (image ≡ bytes) ⊎ WasBefore past t image
 
--- an image opens with the data that it is
+-- an image opens with itself as the data
 abbrev pub IsData : List ℕ → List ℕ → Type 0
 IsData image bytes = image ≡ bytes
 
@@ -39,7 +39,7 @@ view_of plain = record {
   left_since = LeftSince plain.bytes plain.kept.past;
 }
 
--- It has the data and the logs of its shape, and no change came later than now.
+-- It has the data and the logs of its shape, and no change is stamped later than now.
 pub record IsSound (plain : Plain) : Type 0 where
   pub long : length plain.bytes ≡ data_len plain.shape
   pub size : plain.kept.size ≡ data_len plain.shape
@@ -49,7 +49,7 @@ pub record IsSound (plain : Plain) : Type 0 where
   pub few : plain.kept.faults ≤ 2 ^ 64 - 1
   pub stamped : All (λ v. v.until ≤ plain.kept.moment) plain.kept.past
 
--- Two stores show the same.
+-- two stores show the same
 pub record SameStore (old new : StoreView) : Type 0 where
   pub shape : new.shape ≡ old.shape
   pub state : new.state ≡ old.state

@@ -1,4 +1,4 @@
--- A store in memory, as its fields say it.
+-- A store in memory, as its fields give it.
 use Rattle.eaw_face.specs.StoreView.{StoreView}
 use Rattle.memory_eaw.specs.declared.eaw.MemoryEaw.{MemoryEaw}
 use Rattle.memory_eaw.specs.Kept.{Kept}

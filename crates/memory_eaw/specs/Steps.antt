@@ -13,7 +13,7 @@ use Rattle.memory_eaw.specs.Plain.{Plain}
 abbrev pub log_at : List Log → ℕ → Log
 log_at logs t = get_or logs t (record { is_live = false; parts = []; room = 0 })
 
--- number t is live now or not, and has logged these parts
+-- number t is now live or not, and has logged these parts
 abbrev pub relogged : ℕ → Bool → List Part → Plain → Plain
 relogged t is_live parts plain = record plain { logs = slice_set plain.logs t (record { is_live = is_live; parts = parts; room = (log_at plain.logs t).room }) }
 
@@ -29,16 +29,16 @@ changed_plain bytes plain = record plain { bytes = bytes; kept = changed plain.b
 abbrev pub failed_plain : Plain → Plain
 failed_plain plain = record plain { kept = failed plain.kept; is_dead = true }
 
--- these parts were committed; without any no call was made
+-- these parts were committed; if there are none, no call was made
 abbrev pub committed : List Part → Plain → Plain
 committed [] plain = plain
 committed (p ∷ ps) plain = changed_plain (applied (p ∷ ps) plain.bytes) plain
 
--- the store is dead, or what is to be known of a number is not so
+-- the fault says that the store is dead, or that the number lacks what it needs
 abbrev pub IsUnknown : StoreView → Type 0 → ℕ → EawFault → Type 0
 IsUnknown store Known t fault = ((fault ≡ Dead) × (store.is_dead ≡ true)) ⊎ ((fault ≡ UnknownTid t) × IsAlive store × (Known → ⊥))
 
--- behind these parts a logger has no room for its share of those
+-- the fault names the first logger that has no room for its share of `needed` besides its share of `held`
 pub record IsFullBy (store : StoreView) (held needed : List (ℕ × ℕ)) (fault : EawFault) : Type 0 where
   pub g : ℕ
   pub h : ℕ

@@ -27,9 +27,9 @@ use std::alloc::Global;
 
 /// An array of editable atomic writes in plain memory, for tests.
 ///
-/// All memory for its commands is taken when it is made. Below the last value of its moment, and while it has room for changes, a call that
-/// is not refused fails exactly where it is listed. A call is counted where it is not refused; a commit of nothing and an abort
-/// are not counted, and do not fail.
+/// All memory for its commands is taken when it is made. A call that is not refused is counted, except that a commit of nothing
+/// and an abort are not counted, and do not fail. Below the last value of its moment, and while it has room for changes, a
+/// counted call fails exactly when it is listed.
 #[derive(Drop)]
 pub struct MemoryEaw {
     shape: Shape,
@@ -40,7 +40,7 @@ pub struct MemoryEaw {
     ghost sound: { IsSound (record { shape = shape; bytes = bytes.items; logs = logs.items; kept = journal; is_dead = is_dead }) },
 }
 
-// So many logs that are not live, each with this room.
+// `numbers` logs that are not live, each with this room.
 fn free_logs(alloc: Global, numbers: u8, room: usize) -> Result<Vec<PlainLog>, NoMemory>
     ensures { IfOk result (λ logs. logs.items ≡ replicate numbers (record { is_live = false; parts = []; room = room })) }
 {
@@ -54,7 +54,7 @@ fn free_logs(alloc: Global, numbers: u8, room: usize) -> Result<Vec<PlainLog>, N
 impl MemoryEaw {
     ghost use Rattle.memory_eaw.specs.Shown.{plain_of, shown, kept_of};
 
-    /// An array of this shape over a copy of these bytes, with room for so many commands that change the data. No call is
+    /// An array of this shape over a copy of these bytes, with room for `changes` commands that change the data. No call is
     /// listed.
     pub fn new(
         alloc: Global,
@@ -76,7 +76,7 @@ impl MemoryEaw {
         })
     }
 
-    /// Lists a call as one that fails: the `nth` that is counted, from 1 since the array was made.
+    /// Lists a call as one that fails: the `nth` counted call, from 1 since the array was made.
     pub fn fail(&mut self, nth: u64) -> Result<(), NoMemory>
         ensures store { SameStore (shown self.old) (shown self.new) }
         ensures ok { OnOk result (kept_of self.new ≡ record (kept_of self.old) { listed = (kept_of self.old).listed ++ nth ∷ [] }) }
@@ -117,7 +117,7 @@ impl MemoryEaw {
         Ok(())
     }
 
-    // Whether each logger has room for its share of a write behind what the number has logged.
+    // Whether each logger has room for its share of a write besides what the number has logged.
     fn check_room(&self, tid: u8, addr: u64, bytes: &[u8]) -> Result<(), EawFault>
         requires tid { tid < self.now.shape.numbers }
         requires inside { addr + length bytes.now ≤ data_len self.now.shape }
@@ -165,7 +165,7 @@ impl MemoryEaw {
         Ok(())
     }
 
-    // Writes the parts that a number has logged, from this offset on, into the data; without any no call is counted.
+    // Writes the parts that a number has logged, from `offset` on, into the data. If there is none, no call is counted.
     fn commit_from(&mut self, tid: u8, offset: usize) -> Result<(), EawFault>
         requires tid { tid < self.old.shape.numbers }
         requires offset { offset ≤ length (log_at (plain_of self.old).logs tid).parts }
@@ -185,7 +185,7 @@ impl MemoryEaw {
         Ok(())
     }
 
-    // Puts the parts of a log, from this offset on, into the data.
+    // Writes the parts of a log, from `offset` on, into the data.
     fn apply_from(&mut self, at: usize, offset: usize)
         requires at { at < self.old.shape.numbers }
         requires offset { offset ≤ length (log_at (plain_of self.old).logs at).parts }
@@ -203,7 +203,7 @@ impl MemoryEaw {
         overwrite(&mut self.bytes, addr as usize, bytes);
     }
 
-    // Logs the parts of a write. Gives how many parts the number has logged then.
+    // Logs the parts of a write. Returns how many parts the number has logged by then.
     fn append(&mut self, tid: u8, addr: u64, bytes: &[u8]) -> u32
         requires tid { tid < self.old.shape.numbers }
         requires inside { addr + length bytes.now ≤ data_len self.old.shape }
@@ -228,7 +228,7 @@ impl MemoryEaw {
         self.logs[usize::from(tid)].edit(pos, at, bytes);
     }
 
-    // Drops the parts that a number has logged from this offset on.
+    // Drops the parts that a number has logged from `offset` on.
     fn truncate(&mut self, tid: u8, offset: usize)
         requires { tid < self.old.shape.numbers }
         ensures { plain_of self.new ≡ relogged tid (log_at (plain_of self.old).logs tid).is_live

@@ -12,7 +12,7 @@ pub struct Journal {
     listed: Vec<u64>,
     moment: u64,
     faults: u64,
-    // The moments of the changes, and the data before them, one behind another.
+    // The moments of the changes, and the data before each change, one version after another.
     untils: Vec<u64>,
     past: Vec<u8>,
     room: u64,
@@ -31,7 +31,7 @@ impl Model for Journal {
 }
 
 impl Journal {
-    // With room for so many changes of so many bytes of data.
+    // A journal with room for `room` changes of `size` bytes of data.
     pub fn new(alloc: Global, size: u64, room: u64) -> Result<Journal, NoMemory>
         ensures { IfOk result (λ j. j ≡ fresh_kept size room) }
     {
@@ -47,7 +47,7 @@ impl Journal {
         })
     }
 
-    // Lists a call as one that fails.
+    // Lists the `nth` call as one that fails.
     pub fn fail(&mut self, nth: u64) -> Result<(), NoMemory>
         ensures ok { OnOk result (self.new ≡ record self.old { listed = self.old.listed ++ nth ∷ [] }) }
         ensures err { OnErr result (self.new ≡ self.old) }
@@ -75,7 +75,7 @@ impl Journal {
         self.faults = self.faults.saturating_add(1);
     }
 
-    // Counts a call that changes no data; tells whether it is done.
+    // Counts a call that changes no data. Returns whether it is done.
     pub fn call(&mut self) -> bool
         ensures done { OnTrue result ((MustFail self.old → ⊥) × (self.new ≡ called self.old)) }
         ensures failed { OnFalse result (MustFail self.old × (self.new ≡ failed self.old)) }
@@ -88,7 +88,7 @@ impl Journal {
         true
     }
 
-    // Counts a call that changes the data, and keeps what it was until then; tells whether it is done.
+    // Counts a call that changes the data, and keeps the data as it was until then. Returns whether it is done.
     pub fn change(&mut self, bytes: &[u8]) -> bool
         requires { length bytes.now ≡ self.old.size }
         ensures done { OnTrue result ((MustFailChange self.old → ⊥) × (self.new ≡ changed bytes.now self.old)) }
@@ -101,8 +101,8 @@ impl Journal {
         self.keep(bytes)
     }
 
-    // Raises the moment for a change, and keeps the data as it was until then. It is done, since the room was taken when the
-    // journal was made.
+    // Raises the moment for a change, and keeps the data as it was until then. This cannot fail, since the room was taken when
+    // the journal was made.
     fn keep(&mut self, bytes: &[u8]) -> bool
         requires size { length bytes.now ≡ self.old.size }
         requires room { 0 < self.old.room }

@@ -1,4 +1,4 @@
-//! An array of editable atomic writes in plain memory, which fails at the calls that are listed. It is for tests.
+//! An array of editable atomic writes in plain memory, which fails at listed calls. It is for tests.
 #![tactic(auto)]
 
 mod eaw;

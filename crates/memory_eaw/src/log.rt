@@ -13,7 +13,7 @@ use counted::NoMemory;
 use std::alloc::Global;
 use std::marker::Model;
 
-// The parts that a number has logged. All their room is taken when it is made.
+// The parts that a number has logged. Room for all of them is taken when it is made.
 #[derive(Drop)]
 pub struct PlainLog {
     is_live: bool,
@@ -29,7 +29,7 @@ impl Model for PlainLog {
     ghost view = { λ l. record { is_live = l.is_live; parts = l.parts.items; room = vec_capacity l.parts } };
 }
 
-// The bytes of a write that go to one part of its range.
+// The bytes of a write that belong to one part of its range.
 fn part_of_write(part: Part, addr: u64, bytes: &[u8]) -> &[u8]
     requires from { addr ≤ part.addr }
     requires to { part.addr + part.len ≤ addr + length bytes.now }
@@ -92,7 +92,7 @@ pub fn count_range(shape: Shape, logger: u8, addr: u64, len: u64) -> u16
 }
 
 impl PlainLog {
-    // Not live, with room for so many parts.
+    // A log that is not live, with room for `room` parts.
     pub fn new(alloc: Global, room: usize) -> Result<PlainLog, NoMemory>
         ensures { IfOk result (λ log. log ≡ record { is_live = false; parts = []; room = room }) }
     {
@@ -114,7 +114,7 @@ impl PlainLog {
         self.parts.len()
     }
 
-    // The address and the length of a part.
+    // The address and the length of a part in bytes.
     pub fn range(&self, pos: usize) -> (u64, u16)
         requires { pos < length self.now.parts }
         ensures { result ≡ range_at (ranges_of self.now.parts) pos }
@@ -122,7 +122,7 @@ impl PlainLog {
         self.parts[pos].range()
     }
 
-    // The bytes of a part go to the front of the buffer. Gives its address and its length.
+    // Reads a part into the front of the buffer. Returns its address and its length in bytes.
     pub fn read(&self, pos: usize, buf: &mut [u8; 512]) -> (u64, u16)
         requires { pos < length self.now.parts }
         ensures range { result ≡ range_at (ranges_of self.now.parts) pos }
@@ -140,7 +140,7 @@ impl PlainLog {
         count(&self.parts, shape, logger)
     }
 
-    // Writes the parts from this offset on into data.
+    // Writes the parts from `offset` on into data.
     pub fn apply_from(&self, offset: usize, target: &mut [u8])
         requires offset { offset ≤ length self.now.parts }
         requires fit { AllFit (length target.old) (drop offset self.now.parts) }
@@ -149,7 +149,7 @@ impl PlainLog {
         apply_all(&self.parts[offset..], target);
     }
 
-    // Logs the parts of a write, and is live.
+    // Logs the parts of a write. The log is then live.
     pub fn append(&mut self, shape: Shape, addr: u64, bytes: &[u8])
         requires inside { addr + length bytes.now ≤ data_len shape }
         requires room { length self.old.parts + length (parts_of_write addr bytes.now) ≤ self.old.room }
@@ -159,7 +159,7 @@ impl PlainLog {
         push_parts(&mut self.parts, shape, addr, bytes);
     }
 
-    // Replaces bytes of a part, from this place in it on.
+    // Replaces bytes of a part, from byte `at` of it on.
     pub fn edit(&mut self, pos: usize, at: u32, bytes: &[u8])
         requires pos { pos < length self.old.parts }
         requires within { at + length bytes.now ≤ (range_at (ranges_of self.old.parts) pos).1 }
@@ -168,14 +168,14 @@ impl PlainLog {
         self.parts[pos].edit(at, bytes);
     }
 
-    // Drops the parts from this offset on.
+    // Drops the parts from `offset` on.
     pub fn truncate(&mut self, offset: usize)
         ensures { self.new ≡ record self.old { parts = take offset self.old.parts } }
     {
         self.parts.truncate(offset);
     }
 
-    // Drops all parts, and is not live.
+    // Drops all parts. The log is then not live.
     pub fn free(&mut self)
         ensures { self.new ≡ record { is_live = false; parts = []; room = self.old.room } }
     {

@@ -4,7 +4,7 @@ ghost use Rattle.counted.specs.Bytes.{put};
 
 use std::marker::Model;
 
-// An address, and the bytes that are to stand there, at most a page of them.
+// An address, and the bytes that are to stand there: at most 512.
 #[derive(Drop)]
 pub struct PlainPart {
     addr: u64,
@@ -22,7 +22,7 @@ impl Model for PlainPart {
     ghost invariant = { λ p. p.len ≤ 512 };
 }
 
-// Puts bytes at a place.
+// Writes these bytes over those from `at` on.
 pub fn overwrite(target: &mut [u8], at: usize, bytes: &[u8])
     requires { at + length bytes.now ≤ length target.old }
     ensures { target.new ≡ put target.old at bytes.now }
@@ -50,14 +50,14 @@ impl PlainPart {
         self.addr
     }
 
-    // Its address and its length.
+    // Its address and its length in bytes.
     pub fn range(&self) -> (u64, u16)
         ensures { result ≡ (self.now.0, length self.now.1) }
     {
         (self.addr, self.len)
     }
 
-    // Its bytes go to the front of the buffer. Gives its address and its length.
+    // Copies its bytes to the front of the buffer. Returns its address and its length in bytes.
     pub fn read(&self, buf: &mut [u8; 512]) -> (u64, u16)
         ensures range { result ≡ (self.now.0, length self.now.1) }
         ensures bytes { take result.1 buf.new ≡ self.now.1 }
@@ -66,7 +66,7 @@ impl PlainPart {
         (self.addr, self.len)
     }
 
-    // Replaces bytes of it from this place on.
+    // Replaces bytes of it from byte `at` on.
     pub fn edit(&mut self, at: u32, bytes: &[u8])
         requires { at + length bytes.now ≤ length self.old.1 }
         ensures { self.new ≡ (self.old.0, put self.old.1 at bytes.now) }

@@ -1,5 +1,5 @@
-//! Sources of bytes and sinks for bytes, each with a count of its faults: two that stay in memory and fail at the calls
-//! that a test lists, and two over std's reader and writer.
+//! Sources and sinks of bytes, each with a count of its faults: two in memory, which fail at the calls that a test lists, and
+//! two over std's reader and writer.
 #![tactic(auto)]
 
 mod memory_sink;

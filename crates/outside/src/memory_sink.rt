@@ -1,4 +1,4 @@
-// A sink in memory, which fails at the calls that are listed.
+// A sink in memory, which fails at listed calls.
 ghost use Rattle.std.specs.Prelude.{◌≡◌, ◌+◌, ◌-◌, ◌≤◌, ◌↔◌, ℕ, true, [], ◌∷◌, ◌++◌, length, IfOk, OnOk, OnErr, IsErr, IsTrue, IsOkAnd, Contains};
 ghost use Rattle.counted.specs.Causes.{HasCause};
 ghost use Rattle.outside.specs.Told.{Puts, TakesPart};
@@ -10,8 +10,8 @@ use counted::{Failed, NoMemory};
 use std::alloc::Global;
 use std::marker::Model;
 
-/// A sink that keeps what is written. While its room suffices it fails exactly at the calls that are listed; past its
-/// room also where no memory is left.
+/// A sink that keeps what is written. As long as its room suffices, a call fails exactly when it is listed. Beyond its room,
+/// a call also fails if memory runs out.
 #[derive(Drop)]
 pub struct MemorySink {
     text: Vec<u8>,
@@ -34,7 +34,7 @@ impl Model for MemorySink {
 }
 
 impl MemorySink {
-    /// A sink with room for so many bytes, with no call listed.
+    /// A sink with room for `room` bytes and no call listed.
     pub fn new(alloc: Global, room: u64) -> Result<MemorySink, NoMemory>
         ensures { IfOk result (λ s. s ≡ record { text = []; room = room; listed = []; calls = 0; faults = 0 }) }
     {
@@ -56,7 +56,7 @@ impl MemorySink {
         Ok(())
     }
 
-    /// What was written.
+    /// All that was written.
     pub fn written(&self) -> &[u8]
         ensures { result.now ≡ self.now.text }
     {

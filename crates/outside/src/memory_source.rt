@@ -1,4 +1,4 @@
-// A source in memory, which fails at the calls that are listed.
+// A source in memory, which fails at listed calls.
 ghost use Rattle.std.specs.Prelude.{◌≡◌, ◌≤◌, ◌==◌, ◌↔◌, min, true, [], ◌∷◌, ◌++◌, length, drop, IfOk, OnOk, OnErr, IsErr, IsOk, MatchResult, Contains, IsTrue};
 ghost use Rattle.counted.specs.Causes.{HasCause};
 ghost use Rattle.outside.specs.Told.{Takes};
@@ -9,7 +9,7 @@ use counted::{Failed, NoMemory};
 use std::alloc::Global;
 use std::marker::Model;
 
-/// A source over a copy of some bytes. It fails exactly at the calls that are listed.
+/// A source over a copy of some bytes. A call fails exactly when it is listed.
 #[derive(Drop)]
 pub struct MemorySource {
     bytes: Vec<u8>,

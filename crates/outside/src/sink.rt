@@ -5,22 +5,21 @@ ghost use Rattle.outside.specs.Told.{Puts, TakesPart};
 
 use counted::Failed;
 
-/// Takes bytes one after another. It counts each of its failures.
+/// Takes bytes one after another. It counts its failures.
 pub trait Sink {
-    /// Whether objects of this type tell their bytes.
+    /// Whether contracts speak of the bytes of this type's objects.
     ghost tells: { Bool };
 
-    /// What was written, where it is told.
+    /// What was written, if it tells its bytes.
     ghost written: { Self → List ℕ };
 
     /// How often it has failed.
     ghost faults: { Self → ℕ };
 
-    /// Whether it will not fail while so many more bytes are written.
+    /// Whether it is sure not to fail while this many more bytes are written.
     ghost steady: { Self → ℕ → Bool };
 
-    /// Puts a front of the piece behind what was written and answers how many bytes that are: at least one of a piece that
-    /// is not empty.
+    /// Appends a prefix of the piece to what was written, and returns its length in bytes: at least one if the piece is not empty.
     fn write(&mut self, piece: &[u8]) -> Result<usize, Failed>
         ensures part { TakesPart result piece.now }
         ensures bytes { IsTrue tells → Puts (written self.old) (written self.new) result piece.now }

@@ -5,21 +5,21 @@ ghost use Rattle.outside.specs.Told.{Takes};
 
 use counted::Failed;
 
-/// Bytes that are read one after another. It counts each of its failures.
+/// Bytes that are read one after another. It counts its failures.
 pub trait Source {
-    /// Whether objects of this type tell their bytes.
+    /// Whether contracts speak of the bytes of this type's objects.
     ghost tells: { Bool };
 
-    /// The bytes that are left, where they are told.
+    /// The bytes still to be read, if it tells its bytes.
     ghost left: { Self → List ℕ };
 
     /// How often it has failed.
     ghost faults: { Self → ℕ };
 
-    /// Whether it will never fail.
+    /// Whether it is sure never to fail.
     ghost steady: { Self → Bool };
 
-    /// Gives the next bytes, at the front of the buffer, and answers how many. None for a buffer that is not empty is the end.
+    /// Puts the next bytes at the front of the buffer and returns how many. Zero for a nonempty buffer means the end.
     fn read(&mut self, buf: &mut [u8]) -> Result<usize, Failed>
         ensures bound { IfOk result (λ n. n ≤ length buf.new) }
         ensures bytes { IsTrue tells → Takes (left self.old) (left self.new) result buf.new }

@@ -10,7 +10,7 @@ use counted::Failed;
 use std::io::{Read, Write};
 use std::marker::Model;
 
-/// A source over a reader. As a source it tells no bytes: no contract says what a reader over the outside gives.
+/// A source over a reader. As a source it does not tell its bytes: no contract says what a reader over the outside gives.
 #[derive(Drop)]
 pub struct StdSource<R: Read> {
     reader: R,
@@ -59,7 +59,7 @@ impl<R: Read> Source for StdSource<R> {
     }
 }
 
-/// A sink over a writer. As a sink it tells no bytes: no contract says what a writer to the outside takes.
+/// A sink over a writer. As a sink it does not tell its bytes: no contract says what a writer to the outside takes.
 #[derive(Drop)]
 pub struct StdSink<W: Write> {
     writer: W,
@@ -92,7 +92,7 @@ impl<W: Write> Sink for StdSink<W> {
 
     ghost steady = { λ _ _. false };
 
-    /// A writer that takes nothing of a piece that is not empty has failed.
+    /// A writer that takes nothing of a nonempty piece has failed.
     fn write(&mut self, piece: &[u8]) -> Result<usize, Failed>
         ensures part { TakesPart result piece.now }
         ensures passed_on { WriteAppends self.old.held self.new.held result piece.now }

@@ -39,7 +39,7 @@ module _ (store : State) (t : ℕ) where
   write_done shape addr bytes None placed = ap (λ (ps : List Part). with_logs store (with_log store.logs t (Some (listed (store.logs t) ++ ps)))) (sym (one_write_part shape addr bytes placed))
   write_done shape addr bytes (Some pos) placed = refl
 
-  -- the three that do nothing to a number that is not live
+  -- the three that do nothing for a number that is not live
   back_done : (front : List Part) (o : Option (List Part)) → store.logs t ≡ o → IsFront front (listed o)
       → with_logs store (with_log store.logs t (option_map (λ log. front) o)) ≡ done (option_map (λ log. partial_abort t (length front)) o) store
   unfolding with_logs

@@ -31,7 +31,7 @@ meets_none_apart r qs none i = elim (cases_lt i r.0) [
   ]
 ]
 
--- a write behind the first part
+-- a write after the first part
 pub written_later : (o : Option ℕ) (addr : ℕ) (bytes : List ℕ) (p : Part) (ps : List Part) → written_at (option_map suc o) addr bytes (p ∷ ps) ≡ p ∷ written_at o addr bytes ps
 written_later None addr bytes p ps = refl
 written_later (Some pos) addr bytes p ps = refl

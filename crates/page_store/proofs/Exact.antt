@@ -1,4 +1,4 @@
--- A write edits the part that the definition names, exactly where there is one; and where parts lie depends on ranges alone.
+-- A write edits the part that the definition names, exactly when there is one; and where parts lie depends on ranges alone.
 use Rattle.std.proofs.Common.{◌≡◌, ℕ, zero, suc, ◌+◌, ◌<◌, ◌≤◌, Bool, true, false, cond, ◌&&◌, not, List, [], ◌∷◌, ◌++◌, length, refl, sym, ◌∙◌, ap, subst, arith}
 use Rattle.std.specs.Prelude.{max, nat_eq, nat_lt, Option, Some, None, is_some}
 use Rattle.std.specs.Option.{option_map}
@@ -22,7 +22,7 @@ meets_none_from r (q ∷ qs) each = and_from (not (meet r q)) (meets_none r qs) 
 meets_itself : (r : ℕ × ℕ) → 0 < r.1 → meet r r ≡ true
 meets_itself r some = and_from (nat_lt r.0 (r.0 + r.1)) (nat_lt r.0 (r.0 + r.1)) (lt-ltb r.0 (r.0 + r.1) (omega arith)) (lt-ltb r.0 (r.0 + r.1) (omega arith))
 
--- from the ranges behind the first to all of them, and back
+-- from the ranges after the first to all of them, and back
 later : (floor : ℕ) (r q : ℕ × ℕ) (qs : List (ℕ × ℕ)) (k floor' : ℕ) → floor' ≤ suc floor → IsEdited floor r qs k → IsEdited floor' r (q ∷ qs) (suc k)
 later floor r q qs k floor' le is = record {
   from = omega (arith, is.from);
@@ -99,7 +99,7 @@ write_ranges floor addr bytes log = go (edit_pos floor (addr, length bytes) (ran
     go None is = ranges-append log ((addr, bytes) ∷ [])
     go (Some pos) is = edited_ranges pos addr bytes log (edit_found (addr, length bytes) floor (ranges_of log) pos is).same
 
--- one part more where none is edited, else as many
+-- one more part if none is edited, else as many
 pub write_length : (floor addr : ℕ) (bytes : List ℕ) (log : List Part) → length (with_write floor addr bytes log) ≡ cond (is_some (edit_pos floor (addr, length bytes) (ranges_of log))) (length log) (length log + 1)
 write_length floor addr bytes log = go (edit_pos floor (addr, length bytes) (ranges_of log))
   where
@@ -107,7 +107,7 @@ write_length floor addr bytes log = go (edit_pos floor (addr, length bytes) (ran
     go None = length-append log ((addr, bytes) ∷ []) ∙ omega arith
     go (Some pos) = length-edited pos 0 bytes log
 
--- ranges that are not empty meet exactly where a byte lies in both
+-- nonempty ranges meet exactly when a byte lies in both
 pub met_by_bytes : (r q : ℕ × ℕ) → 0 < r.1 → 0 < q.1 → ((i : ℕ) → r.0 ≤ i → i < r.0 + r.1 → q.0 ≤ i → i < q.0 + q.1 → ⊥) → meet r q ≡ false
 met_by_bytes r q some some' none = false_from_ne_true (meet r q) (λ met.
     let both = and_parts (nat_lt r.0 (q.0 + q.1)) (nat_lt q.0 (r.0 + r.1)) met in

@@ -60,7 +60,7 @@ module _ (bytes buf : List ℕ) (p : Part) (addr n start len first last : ℕ) (
       (λ i. put (read i) (first - addr) (piece i))
       ∙ sym (part_laid bytes p addr n first last (omega (arith, start_is, len_is)) inside (omega (arith, first_is, start_is)) (omega (arith, last_is, start_is, len_is)) meets)
 
--- one part more
+-- one more part
 pub more_applied : (log : List Part) (pos : ℕ) (d : List ℕ) → pos < length log → applied (take (suc pos) log) d ≡ put (applied (take pos log) d) (part_at log pos).0 (part_at log pos).1
 more_applied [] pos d lt = absurd (omega (arith, lt))
 more_applied (p ∷ ps) zero d lt = refl

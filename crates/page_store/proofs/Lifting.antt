@@ -1,4 +1,4 @@
--- A command of the store, told as the command of pages that makes it.
+-- A command of the store, seen as the command of pages that makes it.
 use Rattle.std.proofs.Common.{◌≡◌, ℕ, ◌<◌, ◌≤◌, Bool, true, false, inl, inr, ⊎_elim, List, [], ◌∷◌, length, Result, Ok, Err, refl, sym, ◌∙◌, ap, subst}
 use Rattle.std.specs.Prelude.{Option, Some, None, IsTrue, IsSome, IfSome, OnOk, OnErr, IsErrOf, IsOk}
 use Rattle.std.specs.Option.{option_map}
@@ -127,7 +127,7 @@ module _ (tells : Bool) (Opens : List ℕ → List ℕ → Type 0) (c : PageComm
         (does.time tell alive);
   }
 
-  -- counts stay ordered, whatever the answer, where the command changes no marks
+  -- counts stay ordered, whatever the answer, if the command changes no marks
   pub ordered_now : {T : Type 0} (r : Result T EawFault) → does_store.Does tells Opens d old.store new.store r
       → ((f : EawFault) → r ≡ Err f → (f ≡ fault.Media → ⊥) → new.store ≡ old.store)
       → new.counts ≡ old.counts → new.top ≡ old.top
@@ -202,7 +202,7 @@ unchanged tells Opens c old p other cause = record {
   time = λ tell living. stays old.store.moment old.store.left_since _;
 }
 
--- A command that makes one of the store where its number is live, and none where it is not.
+-- A command that makes one of the store if its number is live, and none otherwise.
 module _ (tells : Bool) (Opens : List ℕ → List ℕ → Type 0) (c : PageCommand) (d : Command) (t : ℕ) (old new : PagesView)
     (device_is : device c (outline_of old) ≡ if_live (outline_of old) t d)
     (alive : old.store.is_dead ≡ false) (allowed : IsAllowed old.store.shape c (outline_of old)) (ordered : IsOrdered (outline_of old)) (told : IsTrue tells → IsTold old.store)

@@ -53,7 +53,7 @@ marked_at [] t m d lt is = absurd (omega (arith, lt))
 marked_at (x ∷ xs) zero m d lt is = ((λ i. (sym is i).counts), (λ i. (sym is i).top))
 marked_at (x ∷ xs) (suc t) m d lt is = marked_at xs t m d (omega (arith, lt)) is
 
--- what was kept of a number stands beside what is now
+-- the counts that are kept of a number now
 pub counts_now : (marks : List Marked) (t : ℕ) (m : Marked) (ns : List ℕ) → t < length marks → m.counts ≡ ns → counts_in (set marks t m) t ≡ ns
 counts_now marks t m ns lt is = ap (λ (f : ℕ → List ℕ). f t) (counts_set marks t m lt) ∙ with_here (counts_in marks) t m.counts ∙ is
 

@@ -21,7 +21,7 @@ module _ {A : Type 0} (f : ℕ → A) (t : ℕ) (x : A) where
   pub with_same : x ≡ f t → with_one f t x ≡ f
   with_same is = λ i u. with_same_at is u i
 
--- what holds of every number where it holds of the one that was changed, and of the others before
+-- what holds of every number, if it holds of the one that was changed, and of the others before
 pub with_two : {A B : Type 0} (P : ℕ → A → B → Type 0) (f : ℕ → A) (g : ℕ → B) (t : ℕ) (x : A) (y : B) → P t x y → ((u : ℕ) → P u (f u) (g u)) → (u : ℕ) → P u (with_one f t x u) (with_one g t y u)
 with_two P f g t x y here there u = elim (cases_eq t u) [
   | inl is ↦ subst (λ (k : ℕ). P k (with_one f t x k) (with_one g t y k)) is (subst (λ a. P t a (with_one g t y t)) (sym (with_here f t x)) (subst (P t x) (sym (with_here g t y)) here))

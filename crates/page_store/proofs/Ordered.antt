@@ -75,7 +75,7 @@ ordered_none top none = record {
   before = λ i lt. absurd (omega arith);
 }
 
--- how many ranges there are behind a cut
+-- how many ranges there are after a cut
 cut_length : (n : ℕ) (ranges : Option (List (ℕ × ℕ))) → n ≤ length (listed ranges) → length (listed (option_map (take n) ranges)) ≡ n
 cut_length n None le = omega arith
 cut_length n (Some rs) le = length-take-le n rs le

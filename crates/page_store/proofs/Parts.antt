@@ -9,7 +9,7 @@ use Rattle.array_shape.specs.Logged.{Part, applied, AllFit, ranges_of}
 use Rattle.array_image.proofs.Applied.{length-applied, applied_away}
 use Rattle.page_store.specs.Edit.{AreApart}
 
--- a byte that two data share they share after the same parts
+-- a byte that two data share, they share after the same parts
 pub applied_agree : (ps : List Part) (d e : List ℕ) (i : ℕ) → length e ≡ length d → AllFit (length d) ps → get_or e i 0 ≡ get_or d i 0 → get_or (applied ps e) i 0 ≡ get_or (applied ps d) i 0
 applied_agree [] d e i long fit same = same
 applied_agree (p ∷ ps) d e i long fit same =

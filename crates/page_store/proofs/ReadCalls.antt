@@ -101,7 +101,7 @@ module _ {T : Type 0} (tells : Bool) (Opens : List ℕ → List ℕ → Type 0) 
         (weaker (λ image opens. subst (λ (st : State). Opens image st.bytes) ((done_first r ok first.done).state tell) opens) (more.time tell (done_first r ok first.done).alive));
   }
 
--- a fault of a read, handed on
+-- a fault of a read, passed on
 pub reads_err : {T U : Type 0} (tells : Bool) (Opens : List ℕ → List ℕ → Type 0) (t : ℕ) (old new : StoreView) (f : EawFault)
     → (let r : Result T EawFault = Err f in Reads tells Opens t old new r) → (let s : Result U EawFault = Err f in Reads tells Opens t old new s)
 reads_err {T} {U} tells Opens t old new f reads = record {

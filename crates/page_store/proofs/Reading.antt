@@ -22,7 +22,7 @@ part_missed d p at n fits away = range_same (put d p.0 p.1) d at n (length-put d
   | inr after ↦ get_or-put_after d p.0 p.1 fits i (omega arith)
 ])
 
--- of a part that meets the range its bytes are seen from the later begin to the earlier end
+-- of a part that meets the range, its bytes are seen from the later start to the earlier end
 module _ (d : List ℕ) (p : Part) (at n lo hi : ℕ) (fits : p.0 + length p.1 ≤ length d) (inside : at + n ≤ length d) (lo_is : lo ≡ max at p.0) (hi_is : hi ≡ min (at + n) (p.0 + length p.1)) (meets : lo < hi) where
   piece : List ℕ
   piece = range p.1 (lo - p.0) (hi - lo)
@@ -66,7 +66,7 @@ edited_same pos addr bytes [] lt is = absurd (omega arith)
 edited_same zero addr bytes (p ∷ ps) lt is = let same : p.1 ≡ bytes = λ i. (is i).1 in ap (λ (x : List ℕ). (p.0, x) ∷ ps) (put_whole p.1 bytes (ap length same) ∙ sym same)
 edited_same (suc pos) addr bytes (p ∷ ps) lt is = ap (λ (l : List Part). p ∷ l) (edited_same pos addr bytes ps (omega arith) is)
 
--- A part of just this range that no later one meets is what is read there: nothing else need be looked at.
+-- A part of just this range that no later one meets is what is read there: nothing else has to be read.
 pub part_seen : (log : List Part) (d : List ℕ) (pos addr : ℕ) (bytes : List ℕ) → addr + length bytes ≤ length d → AllFit (length d) log → 0 < length bytes → pos < length log → part_at log pos ≡ (addr, bytes)
     → IsEdited 0 (addr, length bytes) (ranges_of log) pos → range (applied log d) addr (length bytes) ≡ bytes
 part_seen log d pos addr bytes fits fit some lt is last =

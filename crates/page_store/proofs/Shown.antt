@@ -1,4 +1,4 @@
--- The model's state behind what pages show.
+-- The model's state that pages stand for.
 use Rattle.std.proofs.Common.{◌≡◌, ℕ, zero, suc, ◌<◌, ◌≤◌, min, List, [], ◌∷◌, length, get_or, take, refl, sym, ◌∙◌, ap, subst, arith}
 use Rattle.std.specs.Prelude.{Option, Some, None, map}
 use Rattle.std.specs.Option.{option_map, unwrap_or}
@@ -38,7 +38,7 @@ lengths_saved : (log : List Part) (counts : List ℕ) → ((i : ℕ) → i < len
 lengths_saved log [] within = refl
 lengths_saved log (n ∷ ns) within = λ i. length-take-le n log (within 0 (omega arith)) i ∷ lengths_saved log ns (λ k lt. within (suc k) (omega arith)) i
 
--- lists that are fronts of a log are those of their lengths
+-- lists that are prefixes of a log are those of their lengths
 saved_lengths : (log : List Part) (saved : List (List Part)) → ((i : ℕ) → i < length saved → IsFront (get_or saved i []) log) → saved_of log (map length saved) ≡ saved
 saved_lengths log [] fronts = refl
 saved_lengths log (l ∷ ls) fronts = λ i. fronts 0 (omega arith) i ∷ saved_lengths log ls (λ k lt. fronts (suc k) (omega arith)) i

@@ -20,7 +20,7 @@ use Rattle.page_store.proofs.Edit.{view_written}
 use Rattle.page_store.proofs.Writes.{take-none}
 use Rattle.page_store.proofs.Numbers.{with_here, with_there}
 
--- the parts of a number, and of another one, where the logs changed for the first alone
+-- the parts of a number, and of another one, if the logs changed for the first alone
 list_here : (s : PagesState) (t : ℕ) (log : Option (List Part)) → listed (with_log s.store.logs t log t) ≡ listed log
 list_here s t log = ap listed (with_here s.store.logs t log)
 
@@ -32,7 +32,7 @@ pub listed-map : (f : List Part → List Part) (log : Option (List Part)) → f 
 listed-map f None none = sym none
 listed-map f (Some log) none = refl
 
--- the parts of a save: none where the number is not live, since it had none as it was saved
+-- the parts of a save: none if the number is not live, since it had none when it was saved
 pub saved_or_none : (front : List Part) (log : Option (List Part)) → IsFront front (listed log) → listed (option_map (λ old. front) log) ≡ front
 saved_or_none front None is = sym (take-none (length front)) ∙ is
 saved_or_none front (Some log) is = refl
@@ -47,7 +47,7 @@ fit-drop n zero log fit = fit
 fit-drop n (suc k) [] fit = tt
 fit-drop n (suc k) (p ∷ ps) fit = fit-drop n k ps fit.1
 
--- the end of a top: the parts before the mark stay; those from it on are in the data; the others' parts stay
+-- the end of a top action: the parts before the mark stay; those from it on are in the data; the others' parts stay
 pub top_end_list : (s : PagesState) (t mark : ℕ) → log_of (after (top_end t mark) s) t ≡ take mark (log_of s t)
 top_end_list s t mark = list_here s t (option_map (take mark) (s.store.logs t)) ∙ listed-map (take mark) (s.store.logs t) (take-none mark)
 
@@ -78,7 +78,7 @@ module _ (shape : Shape) (s : PagesState) (kept : IsKept shape s) where
   pub back_view : (t n : ℕ) → 0 < n → n ≤ length (s.saved t) → view_of t (after (back t n) s) ≡ applied (save_at (s.saved t) n) s.store.bytes
   back_view t n some le = ap (λ (l : List Part). applied l s.store.bytes) (back_list t n some le)
 
-  -- The end of a top: where the parts from the mark on share no byte with those before it, the view stays.
+  -- The end of a top action: if the parts from the mark on share no byte with those before it, the view stays.
   pub top_end_view : (t mark : ℕ) → AreApart (ranges_of (take mark (log_of s t))) (ranges_of (drop mark (log_of s t))) → view_of t (after (top_end t mark) s) ≡ view_of t s
   top_end_view t mark apart =
       ap (λ (l : List Part). applied l (applied (drop mark (log_of s t)) s.store.bytes)) (top_end_list s t mark)

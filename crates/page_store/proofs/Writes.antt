@@ -36,7 +36,7 @@ module _ (addr : ℕ) (bytes : List ℕ) where
   write_front (suc n) (suc floor) (p ∷ ps) le long =
       ap (take (suc n)) (written_later (edit_pos floor (addr, length bytes) (ranges_of ps)) addr bytes p ps) ∙ ap (λ (l : List Part). p ∷ l) (write_front n floor ps (omega arith) (omega arith))
 
-  -- what holds of a list where it holds of one more part behind a list, or of one part that has these bytes
+  -- what holds of a list if it holds of one more part at the end, or of one part that has these bytes
   module _ (P : List Part → Type 0) (more : (p : Part) (ps qs : List Part) → P (p ∷ ps) → (P ps → P qs) → P (p ∷ qs)) (one : P [] → P ((addr, bytes) ∷ [])) (same : (old : List ℕ) (ps : List Part) → length old ≡ length bytes → P ((addr, old) ∷ ps) → P ((addr, bytes) ∷ ps)) where
     pub write_ind : (floor : ℕ) (log : List Part) → P log → P (with_write floor addr bytes log)
     write_ind floor [] holds = one holds

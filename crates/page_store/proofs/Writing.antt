@@ -1,4 +1,4 @@
--- A write as a number: an edit of a part, or a part more.
+-- A write as a number: an edit of a part, or one more part.
 use Rattle.std.proofs.Common.{◌≡◌, ℕ, ◌+◌, ◌-◌, ◌*◌, ◌%◌, ◌<◌, ◌≤◌, max, List, [], ◌∷◌, Bool, false, length, get_or, refl, sym, ◌∙◌, ap, subst, arith}
 use Rattle.counted.specs.Bytes.{put}
 use Rattle.std.specs.Prelude.{Option, Some, None, IsTrue, Result, Ok, Err, OnOk}
@@ -73,7 +73,7 @@ module _ (tells : Bool) (old : PagesView) (t addr : ℕ) (bytes : List ℕ) (pla
         number = λ u ne same. ne (ap Some (sym same));
       }
 
-  -- where an edited part lies, and that it is there
+  -- where an edited part lies, and that it exists
   pub edit_there_is : (pos : ℕ) → edits_at old t addr (length bytes) ≡ Some pos
       → (pos < length (listed (old.store.ranges t))) × (range_at (listed (old.store.ranges t)) pos ≡ (addr, length bytes))
   edit_there_is pos is =
@@ -90,7 +90,7 @@ edits_from store marks t k k_is there m m_is floor floor_at_is place addr len pl
     let same : floor ≡ floor_in (outline_of pages) t = floor_at_is ∙ floor_is pages t m kept.0 kept.1 in
     sym (e_is ∙ ap (λ (f : ℕ). edit_pos f (place, len) (listed (store.ranges t))) same ∙ ap (λ (a : ℕ). edit_pos (floor_in (outline_of pages) t) (a, len) (listed (store.ranges t))) place_is)
 
--- what the number sees behind a write
+-- what the number sees after a write
 pub seen_of : (tells : Bool) (Opens : List ℕ → List ℕ → Type 0) (old new : PagesView) (t addr : ℕ) (bytes : List ℕ) (result : Result (Unit {0}) PageFault)
     → IsPlaced old.store.shape addr (length bytes) → (old.store.is_dead ≡ false → IsOrdered (outline_of old)) → (IsTrue tells → old.store.is_dead ≡ false → IsTold old.store)
     → Does tells Opens (write_as t addr bytes) old new result → IsTrue tells → OnOk result (view_of t (state_of new) ≡ put (view_of t (state_of old)) addr bytes)

@@ -7,7 +7,7 @@ use Rattle.page_store.specs.Edit.{with_write}
 use Rattle.page_store.specs.State.{PagesState, log_of, with_one, save_at, floor_of}
 
 -- A write as a number; a save; the way back to save n; the begin and the end of a top action; the end of a number, by a commit
--- or an abort; a read as a number, and one of the data.
+-- or an abort; a read as a number; and a read of the data.
 pub data PageCommand : Type 0 where
   write_as : (t addr : ℕ) (bytes : List ℕ) → PageCommand
   save : (t : ℕ) → PageCommand
@@ -18,7 +18,7 @@ pub data PageCommand : Type 0 where
   read_as : (t : ℕ) → PageCommand
   read : PageCommand
 
--- the state after a command that was done
+-- the state after a command that is done
 abbrev pub after : PageCommand → PagesState → PagesState
 after (write_as t addr bytes) s = record s { store = record s.store { logs = with_log s.store.logs t (Some (with_write (floor_of s t) addr bytes (log_of s t))) } }
 after (save t) s = record s { saved = with_one s.saved t (s.saved t ++ log_of s t ∷ []) }
@@ -40,7 +40,7 @@ number_of (end t commits) = Some t
 number_of (read_as t) = None
 number_of read = None
 
--- it writes no data: the end of a top and a commit alone do
+-- it writes no data, which only the end of a top action and a commit do
 abbrev pub IsQuiet : PageCommand → Type 0
 IsQuiet (write_as t addr bytes) = Unit {0}
 IsQuiet (save t) = Unit {0}

@@ -1,4 +1,4 @@
--- The command of the store that a command of pages makes, where it makes one: reads aside, none makes two. It follows from
+-- The command of the store that a command of pages makes, if it makes one. Apart from reads, none makes two. It follows from
 -- where parts lie and how many were saved.
 use Rattle.std.specs.Prelude.{ℕ, if◌then◌else◌, List, length, Option, Some, None}
 use Rattle.std.specs.Option.{option_map}
@@ -13,7 +13,7 @@ abbrev pub write_of : ℕ → ℕ → List ℕ → Option ℕ → Command
 write_of t addr bytes None = log_write t addr bytes
 write_of t addr bytes (Some pos) = log_edit t pos 0 bytes
 
--- this command, where the number is live
+-- this command, if the number is live
 abbrev pub if_live : Outline → ℕ → Command → Option Command
 if_live o t command = option_map (λ ranges. command) (o.ranges t)
 
@@ -27,7 +27,7 @@ device (end t commits) o = if_live o t (if commits then commit t else abort t)
 device (read_as t) o = None
 device read o = None
 
--- the store after it, and where the parts lie
+-- the store after such a command, and where the parts then lie
 abbrev pub done : Option Command → State → State
 done None store = store
 done (Some command) store = after command store

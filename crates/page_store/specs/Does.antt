@@ -16,13 +16,13 @@ use Rattle.page_store.specs.declared.fault.PageFault.TheVariants.{LogFull, Saves
 abbrev pub edits_at : PagesView → ℕ → ℕ → ℕ → Option ℕ
 edits_at pages t addr len = edit_pos (floor_in (outline_of pages) t) (addr, len) (listed (pages.store.ranges t))
 
--- A write that edits no part needs room for one, and a save needs one of the 32.
+-- A write that edits no part needs room for one, and a save needs one of the 32 places.
 abbrev pub HasRoom : PagesView → PageCommand → Type 0
 HasRoom pages (write_as t addr bytes) = edits_at pages t addr (length bytes) ≡ None → Fit pages.store (listed (pages.store.ranges t)) ((addr, length bytes) ∷ [])
 HasRoom pages (save t) = length (pages.counts t) < 32
 HasRoom pages _ = Unit {0}
 
--- a write edits no part, and logger g has no room for one: it holds so many, and as many more are needed
+-- a write edits no part, and logger g has no room for one: it holds h, and n more are needed
 abbrev pub IsFull : PagesView → PageCommand → ℕ → ℕ → ℕ → Type 0
 IsFull pages (write_as t addr bytes) g h n = (edits_at pages t addr (length bytes) ≡ None) × IsFirstFull pages.store (listed (pages.store.ranges t)) ((addr, length bytes) ∷ []) g h n
 IsFull pages _ g h n = ⊥
@@ -32,7 +32,7 @@ abbrev pub IsSavedOut : PagesView → PageCommand → Type 0
 IsSavedOut pages (save t) = length (pages.counts t) ≡ 32
 IsSavedOut pages _ = ⊥
 
--- the answer to a command, where so many faults are counted behind it
+-- why a command gets this answer, after which `faults` faults are counted
 abbrev pub Cause : {T : Type 0} → PagesView → PageCommand → ℕ → Result T PageFault → Type 0
 Cause old command faults (Ok answer) = IsAlive old.store × HasRoom old command
 Cause old command faults (Err Dead) = old.store.is_dead ≡ true
@@ -41,7 +41,7 @@ Cause old command faults (Err SavesFull) = IsAlive old.store × IsSavedOut old c
 Cause old command faults (Err Media) = IsAlive old.store × HasRoom old command × Rose old.store.faults faults
 Cause old command faults (Err (Damaged page)) = ⊥
 
--- It is done: parts, saves and tops are as the model says, and the store is not dead.
+-- The command is done: parts, saves and open top actions are as the model says, and the store is not dead.
 pub record Becomes (tells : Bool) (command : PageCommand) (old new : PagesView) : Type 0 where
   pub alive : new.store.is_dead ≡ false
   pub outline : outline_of new ≡ outline_after command (outline_of old)
@@ -52,10 +52,10 @@ abbrev pub named_by : PageCommand → Option ℕ
 named_by (read_as t) = Some t
 named_by command = number_of command
 
--- A call of pages over a store, of which an image that a loss of power leaves is opened so. Each answer has its cause; an Ok is the
--- model's command, and hides no fault; a refusal leaves saves and tops; a fault of the media leaves the store dead; and whatever the
--- answer, other numbers keep what they have logged, and at each moment of a store that was not dead a loss of power leaves what it might
--- have left before, or an image that opens with the data before the command or after it.
+-- A call of pages over a store, where `Opens` says which data an image opens with. Each answer has its cause. An Ok is the model's
+-- command, and hides no fault. A refusal leaves saves and open top actions. A fault of the medium leaves the store dead. Whatever the
+-- answer, other numbers keep what they have logged, and a loss of power during a call on a store that was not dead leaves what it
+-- might have left before, or an image that opens with the data before the command or after it.
 pub record Does {T : Type 0} (tells : Bool) (Opens : List ℕ → List ℕ → Type 0) (command : PageCommand) (old new : PagesView) (result : Result T PageFault) : Type 0 where
   pub shape : new.store.shape ≡ old.store.shape
   pub cause : Cause old command new.store.faults result

@@ -10,14 +10,14 @@ use Rattle.page_store.specs.declared.fault.PageFault.TheVariants.{LogFull, Dead}
 abbrev pub is_page_on : ℕ → ℕ → ℕ → Bool
 is_page_on loggers g page = nat_eq (page % loggers) g
 
--- how many cells logger g would hold of number t with one part more in each of the pages
+-- how many cells of number t logger g would hold with one more part in each of the pages
 abbrev pub held_with : StoreView → ℕ → List ℕ → ℕ → ℕ
 held_with store t pages g = count_on store.shape g (listed (store.ranges t)) + length (filter (is_page_on store.shape.loggers g) pages)
 
 abbrev pub FitAll : StoreView → ℕ → List ℕ → Type 0
 FitAll store t pages = (g : ℕ) → g < store.shape.loggers → held_with store t pages g ≤ store.shape.entries
 
--- logger g is the first that has no room: it holds so many, and as many more are needed
+-- logger g is the first that has no room: it holds h cells, and n more are needed
 pub record IsFirstLacking (store : StoreView) (t : ℕ) (pages : List ℕ) (g h n : ℕ) : Type 0 where
   pub logger : g < store.shape.loggers
   pub held_is : h ≡ count_on store.shape g (listed (store.ranges t))

@@ -12,7 +12,7 @@ pub record Action : Type 0 where
   pub pages : List ℕ
   pub takes : ℕ
 
--- Which data is an index without damage, and which page fails first; the pairs (key, slot) of data; how many levels of inner pages
+-- Which data is a sound index, and which page fails first; the pairs (key, slot) of data; how many levels of inner pages
 -- stand above its leaves; which pages it has; and the actions that the insertion of a key makes, splits first.
 pub record Index : Type 1 where
   pub sound : List ℕ → Type 0
@@ -22,26 +22,26 @@ pub record Index : Type 1 where
   pub has_page : List ℕ → ℕ → Type 0
   pub actions : List ℕ → ℕ → List Action
 
--- four slots for each page of the array; half of the pages are for the index, the super page among them
+-- there are four slots for each page of the array; half of the pages are for the index, among them the super page
 abbrev pub slots_of : Shape → ℕ
 slots_of shape = 4 * page_count shape
 
 abbrev pub index_pages_of : Shape → ℕ
 index_pages_of shape = page_count shape / 2
 
--- no more slots were given than there are, and no more pages than lie below those of slots
+-- no more slots are given than there are, and no more pages than lie below those of slots
 pub record HasCounts (bytes : List ℕ) : Type 0 where
   pub slots : next_slot bytes ≤ slot_count bytes
   pub some : 2 ≤ next_page bytes
   pub pages : next_page bytes ≤ first_slot_page bytes
 
--- the index pages are as they were, and each slot that was given and carries a key carries it still
+-- the index pages are as they were, and each given slot that carries a key still carries it
 pub record KeepsIndex (old new : List ℕ) : Type 0 where
   pub size : length new ≡ length old
   pub pages : (page : ℕ) → page < first_slot_page old → page_bytes new page ≡ page_bytes old page
   pub carried : (pair : Pair) → pair.1 < next_slot old → Carries old pair → Carries new pair
 
--- Data within or behind an insertion: it is sound, slots that were given before are as they were, at most nine pages more are given,
+-- Data during an insertion or after it: it is sound, slots given before are as they were, at most nine more pages are given,
 -- each of them one of the index, which loses none; and it has no fewer levels.
 pub record Grows (index : Index) (old new : List ℕ) : Type 0 where
   pub sound : index.sound new
@@ -53,12 +53,12 @@ pub record Grows (index : Index) (old new : List ℕ) : Type 0 where
   pub kept : (page : ℕ) → index.has_page old page → index.has_page new page
   pub levels : index.level old ≤ index.level new
 
--- the pairs are those before, and no slot more is given
+-- the pairs are those before, and no more slots are given
 pub record Rests (index : Index) (old new : List ℕ) : Type 0 where
   pub pairs : index.pairs new ≡ index.pairs old
   pub slots : next_slot new ≡ next_slot old
 
--- there is one pair more: the key with the next slot, which is given now, absent, and carries the key
+-- there is one more pair: the key with the next slot, which is now given, is absent, and carries the key
 pub record Gains (index : Index) (key : ℕ) (old new : List ℕ) : Type 0 where
   pub pairs : index.pairs new ≡ inserted (index.pairs old) key (next_slot old)
   pub slots : next_slot new ≡ suc (next_slot old)

@@ -12,11 +12,11 @@ use Rattle.page_store.specs.Index.{Action, Index, slots_of, index_pages_of, Grow
 use Rattle.page_store.specs.declared.index_fault.IndexFault.{IndexFault}
 use Rattle.page_store.specs.declared.index_fault.IndexFault.TheVariants.{SlotsFull, PagesFull, LogFull, Media, Dead, Damaged}
 
--- so many pages are left for an action, and each of its parts has room in the log
+-- `left` pages are enough for an action, and each of its parts has room in the log
 abbrev pub ActionFits : StoreView → ℕ → ℕ → Action → Type 0
 ActionFits store t left action = (action.takes ≤ left) × FitAll store t action.pages
 
--- all actions fit one after another
+-- all actions fit, one after another
 abbrev pub AllFit : StoreView → ℕ → ℕ → List Action → Type 0
 AllFit store t left [] = Unit {0}
 AllFit store t left (action ∷ later) = ActionFits store t left action × AllFit store t (left - action.takes) later
@@ -32,7 +32,7 @@ LackRoom store t g h n left [] = ⊥
 LackRoom store t g h n left (action ∷ later) =
     ((action.takes ≤ left) × IsFirstLacking store t action.pages g h n) ⊎ (ActionFits store t left action × LackRoom store t g h n (left - action.takes) later)
 
--- How far an insertion comes in data that is told: a slot is left, and then its actions go one after another.
+-- How far an insertion comes over a store that tells its data: a slot is left, and then its actions follow one another.
 abbrev pub ComesTo : Index → ℕ → StoreView → (ℕ → List Action → Type 0) → Type 0
 ComesTo index key old Ends =
     (next_slot old.state.bytes < slots_of old.shape) × Ends (index_pages_of old.shape - next_page old.state.bytes) (index.actions old.state.bytes key)
@@ -41,7 +41,7 @@ ComesTo index key old Ends =
 abbrev pub IsLogFull : StoreView → ℕ → ℕ → ℕ → ℕ → Type 0
 IsLogFull old t g h n = (pages : List ℕ) × (length pages ≤ 4) × IsFirstLacking old t pages g h n
 
--- The answers. Where data is told, each of the first four comes exactly so.
+-- why an insertion gets this answer; over a store that tells its data, each of the first four comes exactly then
 abbrev pub InsertCause : Bool → Index → ℕ → ℕ → StoreView → Result ℕ IndexFault → Type 0
 InsertCause tells index t key old (Ok slot) = IsAlive old × (slot < slots_of old.shape) × (IsTrue tells → ComesTo index key old (AllFit old t))
 InsertCause tells index t key old (Err (SlotsFull n)) = IsAlive old × (n ≡ slots_of old.shape) × (IsTrue tells → next_slot old.state.bytes ≡ n)
@@ -53,20 +53,20 @@ InsertCause tells index t key old (Err Media) = IsAlive old
 InsertCause tells index t key old (Err Dead) = old.is_dead ≡ true
 InsertCause tells index t key old (Err (Damaged page)) = IsAlive old × ¬ IsTrue tells
 
--- What it makes of data that is told: one pair more, with the slot that it answers; or none, where it was refused. Where pages ran
--- out, all but one at most are given, or the index has as many levels as it may.
+-- What it makes of the data of a store that tells it: one more pair, with the slot that it answers, or none if it was refused. If
+-- pages ran out, all but at most one are given, or the index has as many levels as it may.
 abbrev pub Made : Index → ℕ → List ℕ → List ℕ → Result ℕ IndexFault → Type 0
 Made index key old new (Ok slot) = (slot ≡ next_slot old) × Grows index old new × Gains index key old new
 Made index key old new (Err Media) = Unit {0}
 Made index key old new (Err (PagesFull n)) = Grows index old new × Rests index old new × ((n ≤ next_page new) ⊎ (7 ≤ index.level new))
 Made index key old new (Err _) = Grows index old new × Rests index old new
 
--- the media failed
+-- whether the medium failed
 abbrev pub is_insert_failed : Result ℕ IndexFault → Bool
 is_insert_failed (Err Media) = true
 is_insert_failed _ = false
 
--- data that a loss of power within it may leave
+-- data that a loss of power during it may leave
 abbrev pub MayBecome : Index → ℕ → List ℕ → List ℕ → Type 0
 MayBecome index key old new = Grows index old new × (Rests index old new ⊎ Gains index key old new)
 
@@ -79,8 +79,8 @@ pub record KeepsLogs (tells : Bool) (old new : PagesView) : Type 0 where
   pub logs : IsTrue tells → (u : ℕ) → log_of (state_of new) u ≡ log_of (state_of old) u
 
 -- An insertion of a key, as number t. Saves stay, and other numbers keep what they have logged, whatever the answer; so does t itself,
--- but at a fault of the media, which leaves the store dead. At each moment of a store that was not dead a loss of power leaves what it
--- might have left before, or an image that opens with sound data that has the pairs before or behind it.
+-- except at a fault of the medium, which leaves the store dead. A loss of power during it, if the store was not dead, leaves what it
+-- might have left before, or an image that opens with sound data that has the pairs before it or after it.
 pub record Inserts (tells : Bool) (Opens : List ℕ → List ℕ → Type 0) (index : Index) (t key : ℕ) (old new : PagesView) (result : Result ℕ IndexFault) : Type 0 where
   pub shape : new.store.shape ≡ old.store.shape
   pub cause : InsertCause tells index t key old.store result

@@ -9,8 +9,8 @@ use Rattle.page_store.specs.Shown.{counts_in, top_in}
 abbrev pub outline_in : StoreView → List Marked → Outline
 outline_in store marks = record { ranges = store.ranges; counts = counts_in marks; top = top_in marks }
 
--- There are marks for each number; and while the store is not dead no save has more parts than a later one, than an open top began
--- at, or than there are now.
+-- There are marks for each number. While the store is not dead, no save has more parts than a later one, than there were when an open
+-- top action began, or than there are now.
 pub record IsSound (store : StoreView) (marks : List Marked) : Type 0 where
   pub many : length marks ≡ store.shape.numbers
   pub ordered : store.is_dead ≡ false → IsOrdered (outline_in store marks)

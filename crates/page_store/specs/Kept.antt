@@ -13,8 +13,8 @@ use Rattle.page_store.specs.Command.{PageCommand, write_as, save, back, top_begi
 abbrev pub IsFront : List Part → List Part → Type 0
 IsFront front log = take (length front) log ≡ front
 
--- Of one number: each saved list is the first parts of the list now, and none is shorter than an earlier one; an open top began
--- at no more parts than there are now, and at no fewer than a saved list has; each part lies within one page, and is not empty.
+-- Of one number: each saved list is the first parts of the list now, and none is shorter than an earlier one; an open top action
+-- began at no more parts than there are now, and at no fewer than a saved list has; each part is nonempty, within one page.
 pub record IsKeptOf (shape : Shape) (saved : List (List Part)) (top : Option ℕ) (log : List Part) : Type 0 where
   pub fronts : (i : ℕ) → i < length saved → IsFront (slice_index_or saved i []) log
   pub rising : (i j : ℕ) → i ≤ j → j < length saved → length (slice_index_or saved i []) ≤ length (slice_index_or saved j [])
@@ -22,13 +22,13 @@ pub record IsKeptOf (shape : Shape) (saved : List (List Part)) (top : Option ℕ
   pub before : (i : ℕ) → i < length saved → length (slice_index_or saved i []) ≤ unwrap_or top (length log)
   pub placed : AllPlaced shape log
 
--- of all numbers; and the data are those of the shape
+-- so for each number, and the data has the length that the shape says
 pub record IsKept (shape : Shape) (s : PagesState) : Type 0 where
   pub long : length s.store.bytes ≡ data_len shape
   pub each : (t : ℕ) → IsKeptOf shape (s.saved t) (s.top t) (log_of s t)
 
--- The same of counts alone, which is what is known of any store: no save has more parts than a later one, nor than an open top
--- began at, nor than there are now; and that began at no more than there are now.
+-- The same of counts alone, which is what is known of any store: no save has more parts than a later one, than there were when an
+-- open top action began, or than there are now, and that action began at no more than there are now.
 pub record IsOrderedOf (counts : List ℕ) (top : Option ℕ) (now : ℕ) : Type 0 where
   pub rising : (i j : ℕ) → i ≤ j → j < length counts → slice_index_or counts i 0 ≤ slice_index_or counts j 0
   pub mark : unwrap_or top 0 ≤ now
@@ -37,8 +37,8 @@ pub record IsOrderedOf (counts : List ℕ) (top : Option ℕ) (now : ℕ) : Type
 abbrev pub IsOrdered : Outline → Type 0
 IsOrdered o = (t : ℕ) → IsOrderedOf (o.counts t) (o.top t) (length (listed (o.ranges t)))
 
--- What a caller owes: a range within a page that is not empty; a save that there is; one top at a time, with no save, way back
--- or end inside.
+-- What a caller owes: a nonempty range within a page; a save that exists; one top action at a time, with no save, way back
+-- or end inside it.
 abbrev pub IsAllowed : Shape → PageCommand → Outline → Type 0
 IsAllowed shape (write_as t addr bytes) o = IsPlaced shape addr (length bytes)
 IsAllowed shape (save t) o = o.top t ≡ None
@@ -49,7 +49,7 @@ IsAllowed shape (end t commits) o = o.top t ≡ None
 IsAllowed shape (read_as t) o = Unit {0}
 IsAllowed shape read o = Unit {0}
 
--- a command leaves save n of number t: it is no way back to an earlier save of t, and not its end
+-- a command leaves save n of number t: it is not a way back to an earlier save of t, and not the end of t
 abbrev pub Spares : PageCommand → ℕ → ℕ → Type 0
 Spares (write_as u addr bytes) t n = Unit {0}
 Spares (save u) t n = Unit {0}

@@ -16,8 +16,8 @@ pub record IsStill (tells : Bool) (old new : StoreView) : Type 0 where
   pub faults : new.faults ≡ old.faults
   pub state : IsTrue tells → new.state ≡ old.state
 
--- A look at a store, which failed on its media or did not: what numbers have logged, their saves and their tops are as they were, and
--- at each moment of a store that was not dead a loss of power leaves what it might have left before, or an image that opens with the data.
+-- A look at a store, in which its medium failed or not: what numbers have logged, their saves and open top actions are as they were,
+-- and a loss of power during it, if the store was not dead, leaves what it might have left before, or an image that opens with the data.
 pub record Looks (tells : Bool) (Opens : List ℕ → List ℕ → Type 0) (failed : Bool) (old new : PagesView) : Type 0 where
   pub shape : new.store.shape ≡ old.store.shape
   pub ranges : new.store.ranges ≡ old.store.ranges
@@ -27,7 +27,7 @@ pub record Looks (tells : Bool) (Opens : List ℕ → List ℕ → Type 0) (fail
   pub dies : IsTrue failed → (new.store.is_dead ≡ true) × Rose old.store.faults new.store.faults
   pub time : IsTrue tells → IsAlive old.store → LeavesOnly (λ image. Opens image old.store.state.bytes) old.store new.store
 
--- the media failed
+-- whether the medium failed
 abbrev pub is_failed : {T : Type 0} → Result T PageFault → Bool
 is_failed (Err page.Media) = true
 is_failed _ = false
@@ -36,7 +36,7 @@ abbrev pub is_check_failed : Result (Unit {0}) CheckFault → Bool
 is_check_failed (Err check.Media) = true
 is_check_failed _ = false
 
--- the answer to a look by key: no page is told damaged of a store that tells its data
+-- why a look by key gets this answer: over a store that tells its data no page is answered as damaged
 abbrev pub LookCause : {T : Type 0} → Bool → StoreView → Result T PageFault → Type 0
 LookCause tells old (Err page.Dead) = old.is_dead ≡ true
 LookCause tells old (Err page.Media) = IsAlive old
@@ -44,7 +44,7 @@ LookCause tells old (Err (page.Damaged bad)) = IsAlive old × ¬ IsTrue tells
 LookCause tells old (Err _) = ⊥
 LookCause tells old (Ok answer) = IsAlive old
 
--- the answer to a check: of a store that tells its data exactly whether it is sound, and the page that fails first
+-- why a check gets this answer: over a store that tells its data, exactly whether it is sound, and else the page that fails first
 abbrev pub CheckCause : Bool → Index → StoreView → Result (Unit {0}) CheckFault → Type 0
 CheckCause tells index old (Ok answer) = IsAlive old × (IsTrue tells → index.sound old.state.bytes)
 CheckCause tells index old (Err (check.Damaged bad)) = IsAlive old × (IsTrue tells → index.fails old.state.bytes bad)

@@ -1,4 +1,4 @@
--- The same state without bytes: where parts lie, and how many there were at each save. It is known of any store.
+-- The same state without bytes: where parts lie, and how many there were at each save. This much is known of any store.
 use Rattle.std.specs.Prelude.{ℕ, ◌-◌, max, List, [], ◌∷◌, ◌++◌, length, take, map, slice_index_or, Option, Some, None}
 use Rattle.std.specs.Option.{option_map, unwrap_or}
 use Rattle.array_shape.specs.Logged.{ranges_of}
@@ -7,7 +7,7 @@ use Rattle.page_store.specs.Edit.{with_range}
 use Rattle.page_store.specs.State.{PagesState, with_one}
 use Rattle.page_store.specs.Command.{PageCommand, write_as, save, back, top_begin, top_end, end, read_as, read}
 
--- for each live number the ranges of its parts; how many it had at each of its saves, and as an open top began
+-- for each live number the ranges of its parts; how many it had at each of its saves, and when an open top action began
 pub record Outline : Type 0 where
   pub ranges : Logs (ℕ × ℕ)
   pub counts : ℕ → List ℕ

@@ -7,7 +7,7 @@ use Rattle.page_store.specs.Command.{PageCommand, write_as, top_begin, top_end, 
 use Rattle.page_store.specs.Outline.{outline}
 use Rattle.page_store.specs.Kept.{IsAllowed, Spares}
 
--- nothing is live over these data
+-- over this data no number is live
 abbrev pub fresh : List ℕ → PagesState
 fresh bytes = record { store = record { bytes = bytes; logs = λ t. None }; saved = λ t. []; top = λ t. None }
 
@@ -16,7 +16,7 @@ abbrev pub played : List PageCommand → PagesState → PagesState
 played [] s = s
 played (c ∷ cs) s = played cs (after c s)
 
--- each may be given where it stands
+-- each may be given in the state in which it comes
 abbrev pub AreAllowed : Shape → List PageCommand → PagesState → Type 0
 AreAllowed shape [] s = Unit {0}
 AreAllowed shape (c ∷ cs) s = IsAllowed shape c (outline s) × AreAllowed shape cs (after c s)

@@ -11,14 +11,14 @@ pub record IsRead (tells : Bool) (old new : StoreView) : Type 0 where
   pub ranges : new.ranges ≡ old.ranges
   pub state : IsTrue tells → new.state ≡ old.state
 
--- the answer to a read
+-- why a read gets this answer
 abbrev pub ReadCause : {T : Type 0} → StoreView → ℕ → Result T EawFault → Type 0
 ReadCause old faults (Ok x) = old.is_dead ≡ false
 ReadCause old faults (Err Dead) = old.is_dead ≡ true
 ReadCause old faults (Err Media) = (old.is_dead ≡ false) × Rose old.faults faults
 ReadCause old faults _ = ⊥
 
--- Reads of data and of the log of number t: at each moment a loss of power leaves what it might have left before, or an image that opens with the data.
+-- Reads of data and of the log of number t: a loss of power leaves what it might have left before, or an image that opens with the data.
 pub record Reads {T : Type 0} (tells : Bool) (Opens : List ℕ → List ℕ → Type 0) (t : ℕ) (old new : StoreView) (result : Result T EawFault) : Type 0 where
   pub shape : new.shape ≡ old.shape
   pub cause : ReadCause old new.faults result

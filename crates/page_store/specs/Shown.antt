@@ -14,18 +14,18 @@ pub record Shown (S : Type 0) : Type 0 where
   pub store : S
   pub marks : List Marked
 
--- how many parts each number had at each save, and as an open top began; a number that is none has neither
+-- how many parts each number had at each save, and when an open top action began; a number beyond the array's has neither
 abbrev pub counts_in : List Marked → ℕ → List ℕ
 counts_in marks t = unwrap_or (option_map (λ m. m.counts) (slice_get marks t)) []
 
 abbrev pub top_in : List Marked → ℕ → Option ℕ
 top_in marks t = option_and_then (λ m. m.top) (slice_get marks t)
 
--- no number has saved, and no top is open
+-- no number has saved, and no top action is open
 abbrev pub IsUnmarked : List Marked → Type 0
 IsUnmarked marks = (t : ℕ) → (counts_in marks t ≡ []) × (top_in marks t ≡ None)
 
--- what the store shows; for each number how many parts it had at each of its saves, and how many as an open top began
+-- what the store shows; for each number how many parts it had at each of its saves, and how many when an open top action began
 pub record PagesView : Type 1 where
   pub store : StoreView
   pub counts : ℕ → List ℕ
@@ -38,7 +38,7 @@ pages_of store shown = record { store = store; counts = counts_in shown.marks; t
 abbrev pub outline_of : PagesView → Outline
 outline_of pages = record { ranges = pages.store.ranges; counts = pages.counts; top = pages.top }
 
--- The model's state. A number's list at a save is the first parts of its list now: no call disturbs these.
+-- The model's state. A number's list at a save is the first parts of its list now, since no call disturbs these.
 abbrev pub saved_of : List Part → List ℕ → List (List Part)
 saved_of log counts = map (λ count. take count log) counts
 

@@ -3,19 +3,19 @@ use thiserror::Error;
 /// Why a call of pages was refused.
 #[derive(Clone, Copy, Debug, PartialEq, Eq, Error)]
 pub enum PageFault {
-    /// One logger has no room for a part more: it holds so many of the number, and as many again are needed.
+    /// One logger has no room for one more part: it holds `held` parts of the number, and `needed` more are needed.
     #[error("the log of logger {logger} is full: {held} held, {needed} needed")]
     LogFull { logger: u8, held: u16, needed: u16 },
     /// The transaction has 32 saves already.
     #[error("the saves are full")]
     SavesFull,
-    /// The media failed in this call.
+    /// The medium failed in this call.
     #[error("the media failed")]
     Media,
-    /// An earlier call has met a fault of the media.
+    /// An earlier call met a fault of the medium.
     #[error("the array is dead")]
     Dead,
-    /// A page that was read breaks the layout. It comes only of a store that does not tell its data.
+    /// A page that was read breaks the layout. Look-ups in a sound index answer it only over a store that does not tell its data.
     #[error("page {page} is damaged")]
     Damaged { page: u32 },
 }

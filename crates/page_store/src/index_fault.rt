@@ -1,24 +1,24 @@
 use thiserror::Error;
 
-/// Why an insertion was refused. The kinds stand in their order behind `Dead`: a later one comes only where no earlier one does.
+/// Why an insertion was refused. After `Dead` the kinds are in order: a later one comes only if no earlier one does.
 #[derive(Clone, Copy, Debug, PartialEq, Eq, Error)]
 pub enum IndexFault {
-    /// All slots were given.
+    /// All slots are given.
     #[error("all {slots} slots are given")]
     SlotsFull { slots: u32 },
-    /// A split is due, and the index has too few pages left for it.
+    /// A split is due, and too few index pages are left for it.
     #[error("all {pages} index pages are given")]
     PagesFull { pages: u32 },
-    /// One logger has no room for the parts of an action: it holds so many of the number, and as many again are needed.
+    /// One logger has no room for the parts of an action: it holds `held` parts of the number, and `needed` more are needed.
     #[error("the log of logger {logger} is full: {held} held, {needed} needed")]
     LogFull { logger: u8, held: u16, needed: u16 },
-    /// The media failed in this call.
+    /// The medium failed in this call.
     #[error("the media failed")]
     Media,
-    /// An earlier call has met a fault of the media.
+    /// An earlier call met a fault of the medium.
     #[error("the array is dead")]
     Dead,
-    /// A page that was read breaks the layout. It comes only of a store that does not tell its data.
+    /// A page that was read breaks the layout. An insertion answers it only over a store that does not tell its data.
     #[error("page {page} is damaged")]
     Damaged { page: u32 },
 }
@@ -26,13 +26,13 @@ pub enum IndexFault {
 /// Why a check of an index did not find it sound.
 #[derive(Clone, Copy, Debug, PartialEq, Eq, Error)]
 pub enum CheckFault {
-    /// This page fails first.
+    /// This page is the first that fails.
     #[error("page {page} is damaged")]
     Damaged { page: u32 },
-    /// The media failed in this call.
+    /// The medium failed in this call.
     #[error("the media failed")]
     Media,
-    /// An earlier call has met a fault of the media.
+    /// An earlier call met a fault of the medium.
     #[error("the array is dead")]
     Dead,
 }

@@ -1,5 +1,5 @@
-//! Pages with savepoints and nested top actions over an array of editable atomic writes, the laws of their model, and the boundary of
-//! an index over them.
+//! Pages with savepoints and nested top actions over an array of editable atomic writes, the laws of their model, and the trait of an
+//! index over them.
 #![tactic(auto)]
 
 mod fault;

@@ -1,4 +1,4 @@
-// What a number has saved, and its open top action.
+// The saves of a number, and its open top action.
 ghost use Rattle.std.specs.Prelude.{◌≡◌, ◌-◌, ◌<◌, ◌≤◌, [], ◌∷◌, ◌++◌, length, take, slice_index_or, None, Some};
 ghost use Rattle.std.specs.Bool.{OnTrue, OnFalse};
 ghost use Rattle.page_store.specs.Marked.{floor_at};
@@ -6,10 +6,10 @@ ghost use Rattle.page_store.specs.Marked.{floor_at};
 use arrayvec::ArrayVec;
 use std::marker::Model;
 
-// How many saves a transaction has at most.
+// The most saves that a transaction may have.
 const MOST_SAVES: usize = 32;
 
-// How many parts the log had at each save, and how many as an open top action began.
+// How many parts the log had at each save, and how many when an open top action began.
 #[derive(Drop)]
 pub struct Marks {
     saves: ArrayVec<u32, MOST_SAVES>,
@@ -52,7 +52,7 @@ impl Marks {
         self.saves.is_full()
     }
 
-    // How many parts there were at the last save, or as the open top action began, if that is more.
+    // How many parts there were at the last save, or when the open top action began, if that is more.
     pub fn floor(&self) -> u32
         ensures { result ≡ floor_at self.now }
     {
@@ -76,7 +76,7 @@ impl Marks {
         self.saves.push(count);
     }
 
-    // Forgets the saves behind the first `n`.
+    // Forgets the saves after the first `n`.
     pub fn cut(&mut self, n: u32)
         ensures { self.new ≡ record self.old { counts = take n self.old.counts } }
     {

@@ -30,7 +30,8 @@ use std::marker::Model;
 /// the commands of the SOSP paper). What a number sees, its view, is the data with all that it has written.
 ///
 /// Each call is one of the model's (`Does`): what it makes of parts and saves, when each refusal comes, and what a loss of power
-/// within it may leave. After a refusal other than `Media` nothing has changed. After `Media` each call that can be refused answers `Dead`.
+/// during it may leave. After a refusal other than `Media` nothing has changed. After `Media` each call that can be refused
+/// answers `Dead`.
 #[derive(Drop)]
 pub struct Pages<S: EawStore> {
     store: S,
@@ -76,7 +77,7 @@ impl<S: EawStore> Pages<S> {
         self.store.shape()
     }
 
-    /// How many parts the number has logged, 0 where it is not live.
+    /// How many parts the number has logged: 0 if it is not live.
     pub fn log_len(&self, tid: u8) -> u32
         requires { tid < (S.view self.now.store).shape.numbers }
         ensures { result ≡ log_len (S.view self.now.store) tid }
@@ -91,7 +92,7 @@ impl<S: EawStore> Pages<S> {
         self.store.is_live(tid)
     }
 
-    /// How often the number has saved, up to 32 times.
+    /// How many saves the number has, at most 32.
     pub fn saves(&self, tid: u8) -> u32
         requires { tid < (S.view self.now.store).shape.numbers }
         ensures count { result ≡ length (counts_in self.now.marks tid) }
@@ -100,7 +101,7 @@ impl<S: EawStore> Pages<S> {
         self.marks[usize::from(tid)].saves()
     }
 
-    /// The mark of the number's open top action.
+    /// The mark of the number's open top action, if one is open.
     pub fn open_top(&self, tid: u8) -> Option<u32>
         requires { tid < (S.view self.now.store).shape.numbers }
         ensures { result ≡ top_in self.now.marks tid }
@@ -108,7 +109,7 @@ impl<S: EawStore> Pages<S> {
         self.marks[usize::from(tid)].top()
     }
 
-    /// Whether an earlier call has met a fault of the media. While none has, saves and open tops are in order.
+    /// Whether an earlier call has met a fault of the medium. If none has, saves and open top actions are in order.
     pub fn is_dead(&self) -> bool
         ensures dead { result ≡ (S.view self.now.store).is_dead }
         ensures ordered { IsAlive (S.view self.now.store) → IsOrdered (outline_of (pages_of (S.view self.now.store) self.now)) }
@@ -116,7 +117,7 @@ impl<S: EawStore> Pages<S> {
         self.store.is_dead()
     }
 
-    /// Reads committed data within a page, as many bytes as the buffer has, from the place `at` on.
+    /// Fills the buffer with committed data of a page, from byte `at` of the page on.
     pub fn read(&mut self, page: u32, at: u32, buf: &mut [u8]) -> Result<(), PageFault>
         requires { IsInPage (S.view self.old.store) page at (length buf.old) }
         ensures does { Does S.tells (S.opens (S.view self.old.store).shape) read
@@ -127,7 +128,7 @@ impl<S: EawStore> Pages<S> {
         told(self.store.read(address(page, at), buf))
     }
 
-    /// Reads what the number sees within a page: the data with the number's own parts written.
+    /// Reads what the number sees of a page: the data with the number's own parts written.
     pub fn read_as(&mut self, tid: u8, page: u32, at: u32, buf: &mut [u8]) -> Result<(), PageFault>
         requires tid { tid < (S.view self.old.store).shape.numbers }
         requires inside { IsInPage (S.view self.old.store) page at (length buf.old) }
@@ -141,8 +142,8 @@ impl<S: EawStore> Pages<S> {
     }
 
     /// Writes bytes within a page as the number: they are in its view at once, and in the data once it commits. A part that it has
-    /// logged since its last save, or since its open top action began, is edited where it has just this range and no later part
-    /// meets it; else one part is logged more.
+    /// logged since its last save, and since its open top action began, is edited if it has just this range and no later part
+    /// meets it. Otherwise one more part is logged.
     pub fn write_as(&mut self, tid: u8, page: u32, at: u32, bytes: &[u8]) -> Result<(), PageFault>
         requires tid { tid < (S.view self.old.store).shape.numbers }
         requires some { 0 < length bytes.now }
@@ -161,7 +162,7 @@ impl<S: EawStore> Pages<S> {
         }
     }
 
-    /// Remembers what the number has logged, and gives how often it has saved now.
+    /// Saves what the number has logged, and returns how many saves it has by then.
     pub fn save(&mut self, tid: u8) -> Result<u32, PageFault>
         requires tid { tid < (S.view self.old.store).shape.numbers }
         requires closed { IsAlive (S.view self.old.store) → top_in self.old.marks tid ≡ None }
@@ -183,8 +184,8 @@ impl<S: EawStore> Pages<S> {
         Ok(marks.saves())
     }
 
-    /// Takes the number back to its save `n`, counted from 1: it sees again what it saw there, over the data as it is now. Later
-    /// saves are gone, this one stays.
+    /// Takes the number back to its save `n`, counted from 1: it sees again what it saw then, over the data as it is now. Later
+    /// saves are gone, and this one stays.
     pub fn back(&mut self, tid: u8, n: u32) -> Result<(), PageFault>
         requires tid { tid < (S.view self.old.store).shape.numbers }
         requires some { 0 < n }
@@ -204,7 +205,7 @@ impl<S: EawStore> Pages<S> {
         Ok(())
     }
 
-    /// Begins a top action of the number, and gives the mark that its end takes.
+    /// Begins a top action of the number, and returns the mark that its end takes.
     pub fn top_begin(&mut self, tid: u8) -> u32
         requires tid { tid < (S.view self.old.store).shape.numbers }
         requires closed { IsAlive (S.view self.old.store) → top_in self.old.marks tid ≡ None }
@@ -237,7 +238,7 @@ impl<S: EawStore> Pages<S> {
         Ok(())
     }
 
-    /// Commits the number or aborts it, and forgets its saves. It is free then, as one that was not live is before.
+    /// Commits the number or aborts it, and forgets its saves. It is then free. For a number that is not live, only its saves go.
     pub fn end(&mut self, tid: u8, commits: bool) -> Result<(), PageFault>
         requires tid { tid < (S.view self.old.store).shape.numbers }
         requires closed { IsAlive (S.view self.old.store) → top_in self.old.marks tid ≡ None }
@@ -255,7 +256,7 @@ impl<S: EawStore> Pages<S> {
         Ok(())
     }
 
-    /// Whether one part more of the number in each of these pages has room: a page that is named twice counts twice.
+    /// Whether there is room for one more part of the number in each of these pages. A page that is named twice counts twice.
     pub fn fits(&self, tid: u8, pages: &[u32]) -> Result<(), PageFault>
         requires tid { tid < (S.view self.now.store).shape.numbers }
         requires few { length pages.now < 2 ^ 16 }
@@ -296,7 +297,7 @@ fn address(page: u32, at: u32) -> u64
     512 * u64::from(page) + u64::from(at)
 }
 
-// An answer of the store, as pages tell it. The store is asked for live numbers alone.
+// An answer of the store, as pages give it. The store is asked only for live numbers.
 fn told<T: Drop>(answer: Result<T, EawFault>) -> Result<(), PageFault>
     requires { IfErr answer IsKnown }
     ensures { TellsAs answer result }
@@ -349,7 +350,7 @@ fn read_seen<S: EawStore>(store: &mut S, tid: u8, addr: u64, buf: &mut [u8]) -> 
     Ok(())
 }
 
-// Lays the part at a position of the number's log over bytes that were read from an address on, where it meets them.
+// Lays the part at a position of the number's log over bytes that were read from `addr` on, if it meets them.
 fn lay_part<S: EawStore>(
     store: &mut S,
     tid: u8,
@@ -384,7 +385,7 @@ fn lay_part<S: EawStore>(
     Ok(())
 }
 
-// Puts these bytes at a place.
+// Writes these bytes over those from `at` on.
 fn overwrite(bytes: &mut [u8], at: usize, more: &[u8])
     requires { at + length more.now ≤ length bytes.old }
     ensures { bytes.new ≡ put bytes.old at more.now }
@@ -413,14 +414,14 @@ fn edited_part<S: EawStore>(store: &S, tid: u8, floor: u32, addr: u64, len: u64)
     None
 }
 
-// Two ranges are one.
+// Whether two ranges are the same.
 fn is_same(start: u64, count: u64, addr: u64, len: u64) -> bool
     ensures { IsTrue result ↔ ((start ≡ addr) × (count ≡ len)) }
 {
     start == addr && count == len
 }
 
-// Two ranges share a byte.
+// Whether two ranges share a byte.
 fn meet(addr: u64, len: u64, start: u64, count: u64) -> bool
     requires first { addr + len < 2 ^ 64 }
     requires second { start + count < 2 ^ 64 }
@@ -429,7 +430,7 @@ fn meet(addr: u64, len: u64, start: u64, count: u64) -> bool
     addr < start + count && start < addr + len
 }
 
-// Drops the parts of a live number from an offset on.
+// Drops the parts from an offset on, if the number is live.
 fn drop_from<S: EawStore>(store: &mut S, tid: u8, offset: u32) -> Result<(), PageFault>
     requires tid { tid < (S.view store.old).shape.numbers }
     requires alive { IsAlive (S.view store.old) }
@@ -446,7 +447,7 @@ fn drop_from<S: EawStore>(store: &mut S, tid: u8, offset: u32) -> Result<(), Pag
     told(store.partial_abort(tid, offset))
 }
 
-// Commits the parts of a live number from an offset on.
+// Commits the parts from an offset on, if the number is live.
 fn commit_from<S: EawStore>(store: &mut S, tid: u8, offset: u32) -> Result<(), PageFault>
     requires tid { tid < (S.view store.old).shape.numbers }
     requires alive { IsAlive (S.view store.old) }
@@ -463,7 +464,7 @@ fn commit_from<S: EawStore>(store: &mut S, tid: u8, offset: u32) -> Result<(), P
     told(store.nested_top(tid, offset))
 }
 
-// Commits a live number, or aborts it.
+// Commits the number or aborts it, if it is live.
 fn end_number<S: EawStore>(store: &mut S, tid: u8, commits: bool) -> Result<(), PageFault>
     requires tid { tid < (S.view store.old).shape.numbers }
     requires alive { IsAlive (S.view store.old) }

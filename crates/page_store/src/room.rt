@@ -7,10 +7,10 @@ use counted::NoMemory;
 use std::alloc::Global;
 use std::marker::Model;
 
-// How many numbers an array has at most.
+// The most numbers that an array may have.
 const MOST_NUMBERS: u8 = 64;
 
-/// Room for what the numbers of any array save. Who has taken it can attach pages without memory.
+/// Room for what the numbers of any array save. Whoever has it can attach pages without taking memory.
 #[derive(Drop)]
 pub struct SaveRoom {
     marks: Vec<Marks>,
@@ -35,7 +35,7 @@ impl SaveRoom {
         })
     }
 
-    // Marks for so many numbers: none has saved, and no top action is open.
+    // Marks for `numbers` numbers: none has saved, and no top action is open.
     pub(crate) fn take(self, numbers: u8) -> Vec<Marks>
         requires { numbers ≤ 64 }
         ensures many { length result.items ≡ numbers }

@@ -17,7 +17,7 @@ unsettled-next_content_by (Write at len) false written content = refl
 unsettled-next_content_by Barrier true written content = refl
 unsettled-next_content_by Barrier false written content = refl
 
--- what is not settled after some calls does not hang on the bytes
+-- what is not settled after some calls does not depend on the bytes
 pub unsettled_is : (records : List Record) (written : List ℕ) (content : Content) → (content_after records written content).unsettled ≡ unsettled_after records content.unsettled
 unsettled_is [] written content = refl
 unsettled_is (made ∷ later) written content =
@@ -79,7 +79,7 @@ chosen_both choice rs ss old mid new a b = record {
       (in_or_out ss i);
 }
 
--- one call more of a list that is gone through
+-- one more call of a list that is walked
 module _ (records : List Record) (i : ℕ) (made : Record) (more : take (i + 1) records ≡ take i records ++ made ∷ []) where
   pub chosen_more : (choice old mid new : List ℕ) → IsChosen choice (ranges_of (take i records)) old mid → IsChosen choice (range_of made.call) mid new → IsChosen choice (ranges_of (take (i + 1) records)) old new
   chosen_more choice old mid new first second =

@@ -1,4 +1,4 @@
--- What a call does to a media behind a fuse.
+-- What a call does to a medium behind a fuse.
 use Rattle.std.proofs.Common.{◌≡◌, ℕ, ◌-◌, ◌^◌, ◌<◌, ◌≤◌, ◌⊎◌, min, Bool, inl, inr, ⊎_elim, List, Result, Err, refl, subst, arith}
 use Rattle.std.proofs.lemmas.Bool.{cases_lt}
 use Rattle.std.proofs.lemmas.Result.{on_err_weaker, on_ok_weaker}
@@ -28,7 +28,7 @@ module _ (tells : Bool) (ranges : List (ℕ × ℕ)) (old new : View)
   abbrev Behind : View → ℕ → List ℕ → Type 0
   Behind inner t image = ((t < min inner.moment (2 ^ 64 - 1)) × inner.left_since t image) ⊎ MayLeave inner.content image
 
-  -- what the media behind the fuse might have left, told as the fuse tells it
+  -- what the medium behind the fuse might have left, as the fuse tells it
   from_old : (t : ℕ) (image : List ℕ) → IsTrue tells → t ≤ old.moment → old.moment ≤ 2 ^ 64 - 1 → old.left_since t image → Behind old t image
   from_old t image told le fits left = go (cases_lt t (min old.moment (2 ^ 64 - 1)))
     where

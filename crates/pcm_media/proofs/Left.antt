@@ -24,7 +24,7 @@ same_outside-put old at bytes fits = record { long = length-put old at bytes fit
 pub left_as_read : (content : Content) → MayLeave content content.bytes
 left_as_read content = record { long = refl; same = λ i out. refl }
 
--- with nothing unsettled nothing else is left
+-- if nothing is unsettled, nothing else is left
 pub only_as_read : (content : Content) (image : List ℕ) → content.unsettled ≡ [] → MayLeave content image → (i : ℕ) → get_or image i 0 ≡ get_or content.bytes i 0
 only_as_read content image none left i = left.same i (subst (λ rs. IsOutside rs i) (sym none) tt)
 
@@ -84,7 +84,7 @@ module _ (old new : Content) (at count : ℕ) (fits : at + count ≤ length old.
     same = record { long = sym kept_long; same = λ i out. sym (kept_outside i out.0) };
   }
 
--- a write that was done, one of which nothing was done, and one of which an unknown part was
+-- a write that was done, one of which nothing was done, and one that was done in part
 pub touched_by_write : (old : Content) (at : ℕ) (bytes : List ℕ) → at + length bytes ≤ length old.bytes → Touched ((at, length bytes) ∷ []) old (written at bytes old)
 touched_by_write old at bytes fits = record { bytes = same_outside-put old.bytes at bytes fits; unsettled = λ i out was. (out.0, was) }
 
@@ -111,18 +111,18 @@ touched_both rs ss old mid new a b = record {
   unsettled = λ i out was. let both = outside-append ss rs i out in b.unsettled i both.0 (a.unsettled i both.1 was);
 }
 
--- what may be left then is the old bytes outside the ranges and all that was unsettled
+-- what may be left afterwards has the old bytes outside the ranges and all that was unsettled
 pub left_after : (ranges : List (ℕ × ℕ)) (old new : Content) → Touched ranges old new → (image : List ℕ) → MayLeave new image → (i : ℕ) → IsOutside ranges i → IsOutside old.unsettled i → get_or image i 0 ≡ get_or old.bytes i 0
 left_after ranges old new touched image left i out was = left.same i (touched.unsettled i out was) ∙ touched.bytes.same i out
 
--- where nothing was unsettled
+-- if nothing was unsettled
 pub left_clean : (ranges : List (ℕ × ℕ)) (old new : Content) → Touched ranges old new → old.unsettled ≡ [] → (image : List ℕ) → MayLeave new image → SameOutside ranges old.bytes image
 left_clean ranges old new touched none image left = record {
   long = left.long ∙ touched.bytes.long;
   same = λ i out. left_after ranges old new touched image left i out (subst (λ rs. IsOutside rs i) (sym none) tt);
 }
 
--- where nothing was written
+-- if nothing was written
 pub left_before : (old new : Content) → Touched [] old new → (image : List ℕ) → MayLeave new image → MayLeave old image
 left_before old new touched image left = record { long = left.long ∙ touched.bytes.long; same = λ i out. left_after [] old new touched image left i tt out }
 
@@ -133,14 +133,14 @@ pub outside-both : (rs ss : List (ℕ × ℕ)) (i : ℕ) → IsOutside rs i → 
 outside-both [] ss i out out' = out'
 outside-both (r ∷ rs) ss i out out' = (out.0, outside-both rs ss i out.1 out')
 
--- What may be left at one of several calls that touch these ranges of the content at first.
+-- what may be left during several calls that touch these ranges of the first content
 pub left_partly : (ranges : List (ℕ × ℕ)) (old new : Content) → Touched ranges old new → (image : List ℕ) → MayLeave new image → MayLeave (partly ranges old) image
 left_partly ranges old new touched image left = record {
   long = left.long ∙ touched.bytes.long;
   same = λ i out. let both = outside-append ranges old.unsettled i out in left_after ranges old new touched image left i both.0 both.1;
 }
 
--- the same where further ones are touched from there
+-- the same when further ranges are touched from there
 pub left_partly_on : (all more : List (ℕ × ℕ)) (old mid : Content) → Touched all old mid → ((i : ℕ) → IsOutside all i → IsOutside more i) → (image : List ℕ) → MayLeave (partly more mid) image → MayLeave (partly all old) image
 left_partly_on all more old mid touched within image left = record {
   long = left.long ∙ touched.bytes.long;
@@ -165,7 +165,7 @@ touched_after_nothing ranges old mid new a b = record {
 pub touched_wider : (ranges : List (ℕ × ℕ)) (old new : Content) → Touched [] old new → Touched ranges old new
 touched_wider ranges old new a = record { bytes = record { long = a.bytes.long; same = λ i out. a.bytes.same i tt }; unsettled = λ i out was. a.unsettled i tt was }
 
--- a call and a barrier behind it
+-- a call and a barrier after it
 pub with_barrier : {before between now : ℕ} {past mid_since since : ℕ → List ℕ → Type 0} {P Q : List ℕ → Type 0} (mid new : Content) → ((image : List ℕ) → Q image → P image) → ((image : List ℕ) → MayLeave mid image → P image)
     → Elapses before between past mid_since Q → Touched [] mid new → Elapses between now mid_since since (MayLeave new) → Elapses before now past since P
 with_barrier mid new during after first touched second = then (weaker during first) (weaker (λ image left. after image (left_before mid new touched image left)) second)

@@ -1,4 +1,4 @@
--- What a call does to a media in memory.
+-- What a call does to a medium in memory.
 use Rattle.std.proofs.Common.{◌≡◌, ℕ, ◌+◌, ◌-◌, ◌^◌, ◌<◌, ◌≤◌, ◌⊎◌, Bool, true, false, inl, inr, ⊎_elim, List, [], ◌∷◌, ◌++◌, length, take, drop, Result, Ok, Err, refl, sym, ◌∙◌, ap, subst, arith}
 use Rattle.std.proofs.lemmas.List.{take_all, drop_all, append-nil, length-append}
 use Rattle.std.specs.Prelude.{OnOk, OnErr}
@@ -17,13 +17,13 @@ use Rattle.pcm_media.proofs.Left.{touched_by_nothing, touched_by_write, touched_
 use Rattle.counted.proofs.Puts.{length-put}
 use Rattle.pcm_media.proofs.Replay.{content_push, before_push, before_last, before_only, before_past, total_bytes-push, stamped_push, stamped_later}
 
--- A call and the bytes that it writes fit each other and the media.
+-- A call and the bytes that it writes fit each other and the medium.
 abbrev pub Suits : Call → List ℕ → ℕ → Type 0
 Suits (Read at len) bytes size = bytes ≡ []
 Suits (Write at len) bytes size = (len ≡ length bytes) × (at + len ≤ size)
 Suits Barrier bytes size = bytes ≡ []
 
--- the bytes that a call has for itself
+-- the written bytes that belong to a call
 abbrev pub own_bytes : Bool → List ℕ → List ℕ
 own_bytes true bytes = bytes
 own_bytes false bytes = []
@@ -62,7 +62,7 @@ module _ (start : List ℕ) (old new : Kept) where
         ∙ ap (λ (l : List ℕ). content_after (old.records ++ made ∷ []) l (at_rest start)) kept.written
         ∙ content_push made bytes old.records old.written (at_rest start) whole
 
-    -- what might have been left before a call of those kept now
+    -- what might have been left before one of the calls kept now
     before : (t : ℕ) (image : List ℕ) → LeftBefore new.records new.written (at_rest start) t image ≡ LeftBefore (old.records ++ made ∷ []) (old.written ++ bytes) (at_rest start) t image
     unfolding made
     before t image =
@@ -155,7 +155,7 @@ module _ (start : List ℕ) (old new : Kept) where
     pub content_done : IsKept call true bytes old new → content_of (shows new) ≡ next_content_by call true bytes (content_of (shows old))
     content_done kept = content_kept call true bytes kept tells.whole
 
-    -- A call that was done leaves these bytes, and one that failed those that were there.
+    -- A call that was done leaves these bytes, and one that failed leaves the old ones.
     pub tells_done : (after : List ℕ) → (next_content_by call true bytes (content_of (shows old))).bytes ≡ after → IsKept call true bytes old new → Tells (shows new) after
     tells_done after is kept = record {
       stamped = stamped_kept call true bytes kept tells.whole tells.stamped;
@@ -193,7 +193,7 @@ module _ (start : List ℕ) (old new : Kept) where
     content_failed : IsPassed old new ⊎ IsKept call false [] old new → (content_of (shows new) ≡ content_of (shows old)) ⊎ (content_of (shows new) ≡ next_content_by call false [] (content_of (shows old)))
     content_failed failed = ⊎_elim (λ passed. inl (content_passed passed)) (λ kept. inr (content_kept call false [] kept tells.whole)) failed
 
-    -- a call that does nothing where it failed
+    -- a call that does nothing if it fails
     pub content_on_err : {T E : Type 0} (result : Result T E) → next_content_by call false [] (content_of (shows old)) ≡ content_of (shows old) → Makes call bytes old new result → OnErr result (content_of (shows new) ≡ content_of (shows old))
     content_on_err (Ok x) none makes = tt
     content_on_err (Err e) none makes = ⊎_elim (λ same. same) (λ step. step ∙ none) (content_failed makes.failed)
@@ -206,13 +206,13 @@ module _ (start : List ℕ) (old new : Kept) where
     pub bytes_failed : IsPassed old new ⊎ IsKept call false [] old new → (content_of (shows new)).bytes ≡ (content_of (shows old)).bytes
     bytes_failed failed = ⊎_elim (λ same i. (same i).bytes) (λ step. (λ i. (step i).bytes) ∙ same_read ∙ sym tells.bytes) (content_failed failed)
 
-    -- a call that failed, and for which there was room
+    -- a failed call for which there was room
     pub content_lost : {T E : Type 0} (e : E) → (let r : Result T E = Err e in Makes call bytes old new r) → length old.records < old.calls_room → old.moment < 2 ^ 64 - 1 → content_of (shows new) ≡ next_content_by call false [] (content_of (shows old))
     content_lost e makes room low =
         let written : new.written ≡ old.written ++ [] = ⊎_elim (λ passed. passed.written ∙ sym (append-nil old.written)) (λ kept. kept.written) makes.failed in
         content_kept call false [] (record { later = omega (arith, makes.ticks.next); records = makes.kept low room; written = written }) tells.whole
 
--- a write that was done makes what a write makes
+-- a write that was done makes the content that `written` says
 pub step_written : (at : ℕ) (bytes : List ℕ) (content : Content) → next_content_by (Write at (length bytes)) true bytes content ≡ written at bytes content
 step_written at bytes content = ap (λ (l : List ℕ). record { bytes = put content.bytes at l; unsettled = (at, length bytes) ∷ content.unsettled }) (take_all (length bytes) bytes (omega arith))
 

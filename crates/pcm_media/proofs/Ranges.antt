@@ -23,12 +23,12 @@ range_same xs ys at n long same = ext_get_or 0 (range xs at n) (range ys at n)
 pub range_away : (ranges : List (ℕ × ℕ)) (old new : List ℕ) (at n : ℕ) → SameOutside ranges old new → ((i : ℕ) → at ≤ i → i < at + n → IsOutside ranges i) → range new at n ≡ range old at n
 range_away ranges old new at n same away = range_same new old at n same.long (λ i le lt. same.same i (away i le lt))
 
--- the end of it
+-- the bytes from a place on
 pub end_away : (ranges : List (ℕ × ℕ)) (old new : List ℕ) (base : ℕ) → SameOutside ranges old new → ((i : ℕ) → base ≤ i → IsOutside ranges i) → drop base new ≡ drop base old
 end_away ranges old new base same away = ext_get_or 0 (drop base new) (drop base old) (omega (arith, same.long, length-drop base new, length-drop base old))
     (λ i lt. get_or-drop base new i 0 ∙ same.same (base + i) (away (base + i) (omega arith)) ∙ sym (get_or-drop base old i 0))
 
--- a write within the end
+-- a write into the bytes from a place on
 pub end-put : (bytes : List ℕ) (base at : ℕ) (more : List ℕ) → base + at + length more ≤ length bytes → drop base (put bytes (base + at) more) ≡ put (drop base bytes) at more
 end-put bytes base at more fits =
     let long : length (drop base bytes) ≡ length bytes - base = length-drop base bytes in

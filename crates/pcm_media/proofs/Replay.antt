@@ -1,4 +1,4 @@
--- One call more of those that a media in memory keeps.
+-- One more call of those that a medium in memory keeps.
 use Rattle.std.proofs.Common.{◌≡◌, ℕ, ◌+◌, ◌<◌, ◌≤◌, ◌⊎◌, Bool, true, false, inl, inr, ⊎_elim, List, [], ◌∷◌, ◌++◌, length, drop, refl, sym, ◌∙◌, ap, subst, arith}
 use Rattle.std.proofs.lemmas.List.{take-append-le, drop-append-le, length-drop, nil_from_length}
 use Rattle.pcm_media.specs.declared.call.Call.{Call}
@@ -8,7 +8,7 @@ use Rattle.counted.specs.Bytes.{put}
 use Rattle.pcm_media.specs.Images.{Content, MayLeave}
 use Rattle.pcm_media.specs.Replay.{byte_count_of, next_content_by, byte_count, total_bytes, next_content, IsStamped, content_after, LeftBefore}
 
--- bytes behind those of a call do not change what it does
+-- bytes that follow those of a call do not change what it does
 next_content_by-append : (call : Call) (is_done : Bool) (written more : List ℕ) (content : Content) → byte_count_of call is_done ≤ length written → next_content_by call is_done (written ++ more) content ≡ next_content_by call is_done written content
 next_content_by-append (Read at len) is_done written more content fits = refl
 next_content_by-append (Write at len) true written more content fits = ap (λ (bytes : List ℕ). record { bytes = put content.bytes at bytes; unsettled = (at, len) ∷ content.unsettled }) (take-append-le len written more fits)
@@ -26,7 +26,7 @@ module _ (made : Record) (more : List ℕ) where
       ∙ content_push records (drop (byte_count x) written) (next_content x written content) (omega (arith, length-drop (byte_count x) written))
 
   module _ (t : ℕ) (image : List ℕ) where
-    -- the same written bytes and content, told in another way
+    -- the same for equal written bytes and equal content
     moved : (records : List Record) (written written' : List ℕ) (content content' : Content) → written ≡ written' → content ≡ content' → LeftBefore records written content t image → LeftBefore records written' content' t image
     moved records written written' content content' w c left =
         subst (λ (x : Content). LeftBefore records written' x t image) c (subst (λ (x : List ℕ). LeftBefore records x content t image) w left)

@@ -28,7 +28,7 @@ cause_on before mid now r s ok a b = record {
   kept = kept_on before mid now s (kept_at before mid r ok a.kept) b.kept;
 }
 
--- nothing was called
+-- no call was made
 pub writes_none : {T E : Type 0} (tells : Bool) (ranges : List (ℕ × ℕ)) (old : View) (x : T) → (let r : Result T E = Ok x in Writes tells ranges old old r)
 writes_none tells ranges old x = record {
   size = refl;

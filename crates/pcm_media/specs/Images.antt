@@ -1,4 +1,4 @@
--- What a media holds, and what a loss of power may leave of it.
+-- What a medium holds, and what a loss of power may leave of it.
 use Rattle.std.specs.Prelude.{ℕ, ◌+◌, ◌<◌, ◌≤◌, ◌≡◌, List, [], ◌∷◌, ◌++◌, length, slice_index}
 use Rattle.counted.specs.Bytes.{put}
 
@@ -7,12 +7,12 @@ pub record Content : Type 0 where
   pub bytes : List ℕ
   pub unsettled : List (ℕ × ℕ)
 
--- none of the ranges has this place
+-- the place lies in none of the ranges
 abbrev pub IsOutside : List (ℕ × ℕ) → ℕ → Type 0
 IsOutside [] i = Unit {0}
 IsOutside (r ∷ rs) i = (r.0 ≤ i → i < r.0 + r.1 → ⊥) × IsOutside rs i
 
--- as many bytes, and the same outside the ranges
+-- the same length, and the same bytes outside the ranges
 pub record SameOutside (ranges : List (ℕ × ℕ)) (old new : List ℕ) : Type 0 where
   pub long : length new ≡ length old
   pub same : (i : ℕ) → IsOutside ranges i → slice_index new i ≡ slice_index old i
@@ -21,16 +21,16 @@ pub record SameOutside (ranges : List (ℕ × ℕ)) (old new : List ℕ) : Type 
 abbrev pub MayLeave : Content → List ℕ → Type 0
 MayLeave content image = SameOutside content.unsettled content.bytes image
 
--- after a write
+-- the content after a write
 abbrev pub written : ℕ → List ℕ → Content → Content
 written at bytes old = record { bytes = put old.bytes at bytes; unsettled = (at, length bytes) ∷ old.unsettled }
 
--- after a barrier
+-- the content after a barrier that succeeded
 abbrev pub settled : Content → Content
 settled old = record { bytes = old.bytes; unsettled = [] }
 
--- From the old content to the new one these ranges alone were written, wholly or in part: the other bytes are
--- the same, and no other place is unsettled anew.
+-- From the old content to the new one at most these ranges were written, in whole or in part: the other bytes are
+-- the same, and no place outside the ranges became unsettled.
 pub record Touched (ranges : List (ℕ × ℕ)) (old new : Content) : Type 0 where
   pub bytes : SameOutside ranges old.bytes new.bytes
   pub unsettled : (i : ℕ) → IsOutside ranges i → IsOutside old.unsettled i → IsOutside new.unsettled i

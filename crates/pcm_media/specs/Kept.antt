@@ -1,4 +1,4 @@
--- What a media in memory keeps of its calls.
+-- What a medium in memory keeps of its calls.
 use Rattle.std.specs.Prelude.{ℕ, ◌≡◌, ◌+◌, ◌-◌, ◌^◌, ◌<◌, ◌≤◌, ◌⊎◌, ◌==◌, ◌&&◌, nat_le, Bool, true, false, List, [], ◌∷◌, ◌++◌, length, Contains, Result, Ok, Err, OnOk, OnErr, is_ok}
 use Rattle.std.specs.Bool.{OnTrue, OnFalse}
 use Rattle.counted.specs.Causes.{HasCause, next_count, faults_after}
@@ -6,8 +6,8 @@ use Rattle.counted.specs.Moments.{Ticks}
 use Rattle.pcm_media.specs.declared.call.Call.{Call}
 use Rattle.pcm_media.specs.declared.call.Record.{Record}
 
--- Its calls, the first of them first, and the bytes of the writes that were done, one after another; the moment; the numbers
--- of the calls that are to fail; how many calls failed; and for how many calls and written bytes it has room.
+-- Its calls, the oldest first, and the bytes of the writes that were done, one write after another; the moment; the numbers
+-- of the calls that are to fail; how many calls failed; and how many calls and written bytes it has room for.
 pub record Kept : Type 0 where
   pub records : List Record
   pub written : List ℕ
@@ -17,28 +17,28 @@ pub record Kept : Type 0 where
   pub calls_room : ℕ
   pub bytes_room : ℕ
 
--- nothing yet
+-- no call yet, and room for this many calls and bytes
 abbrev pub fresh_kept : ℕ → ℕ → Kept
 fresh_kept calls bytes = record { records = []; written = []; moment = 0; listed = []; faults = 0; calls_room = calls; bytes_room = bytes }
 
--- the next call fails whatever it is: it is listed, or the moment stands at its last value
+-- the next call fails whatever it is: it is listed, or the moment is at its last value
 abbrev pub MustFail : Kept → Type 0
 MustFail kept = (kept.moment ≡ 2 ^ 64 - 1) ⊎ Contains kept.listed (kept.moment + 1)
 
--- there is room for one call more, which writes so many bytes
+-- there is room for one more call, which writes `count` bytes
 abbrev pub HasRoom : Kept → ℕ → Type 0
 HasRoom kept count = (length kept.records < kept.calls_room) × (length kept.written + count ≤ kept.bytes_room)
 
--- no call is listed, and there is room for so many calls more, which write so many bytes
+-- no call is listed, the moment can rise for this many more calls, and there is room for them and for the bytes that they write
 abbrev pub has_room_for : Kept → ℕ → ℕ → Bool
 has_room_for kept calls bytes = (length kept.listed == 0) && nat_le (kept.moment + calls) (2 ^ 64 - 1)
     && nat_le (length kept.records + calls) kept.calls_room && nat_le (length kept.written + bytes) kept.bytes_room
 
--- this call is kept behind the others, stamped with the moment to which it raised
+-- the kept calls with this one appended, stamped with the moment to which it raised
 abbrev pub records_with : Kept → ℕ → Call → Bool → List Record
 records_with kept moment call is_done = kept.records ++ record { moment = moment; call = call; is_done = is_done } ∷ []
 
--- the call was kept, with the bytes that it wrote, at a moment of its own
+-- the call was kept, with the bytes that it wrote, at a later moment
 pub record IsKept (call : Call) (is_done : Bool) (bytes : List ℕ) (old new : Kept) : Type 0 where
   pub later : old.moment < new.moment
   pub records : new.records ≡ records_with old new.moment call is_done
@@ -50,8 +50,8 @@ pub record IsPassed (old new : Kept) : Type 0 where
   pub records : new.records ≡ old.records
   pub written : new.written ≡ old.written
 
--- A call was made, and wrote these bytes where it was done. It is kept where there was memory for that, and surely where there
--- was room.
+-- A call was made, which wrote these bytes if it was done. It was kept if there was memory for that, and in any case if there
+-- was room and the moment could rise.
 pub record Makes {T E : Type 0} (call : Call) (bytes : List ℕ) (old new : Kept) (result : Result T E) : Type 0 where
   pub ticks : Ticks old.moment new.moment result
   pub faults : new.faults ≡ faults_after old.faults result

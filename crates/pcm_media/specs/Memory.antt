@@ -1,4 +1,4 @@
--- What a media in memory shows.
+-- What a medium in memory shows.
 use Rattle.std.specs.Prelude.{ℕ, ◌<◌, ◌≡◌, ◌⊎◌, Bool, List, length}
 use Rattle.std.proofs.Common.{inl, ⊎_elim, arith}
 use Rattle.pcm_media.specs.Images.{Content, MayLeave}
@@ -11,18 +11,18 @@ pub record Memory : Type 0 where
   pub start : List ℕ
   pub kept : Kept
 
--- what it holds
+-- its content
 abbrev pub content_of : Memory → Content
 content_of memory = content_after memory.kept.records memory.kept.written (at_rest memory.start)
 
--- What a loss of power at some moment from this one on might have left: what it may leave now, and, where this moment is past,
--- what it might have left before some call that came after it.
+-- What a loss of power at moment `t` or later might have left: what it may leave now, and, if `t` is past, what it might have
+-- left before some call that came after `t`.
 abbrev pub LeftSince : Memory → ℕ → List ℕ → Type 0
 LeftSince memory t image =
     MayLeave (content_of memory) image
     ⊎ ((t < memory.kept.moment) × LeftBefore memory.kept.records memory.kept.written (at_rest memory.start) t image)
 
--- what it shows as a media
+-- its view as a medium
 abbrev pub view_of : Memory → View
 view_of memory = record {
   size = length (content_of memory).bytes;
@@ -32,25 +32,25 @@ view_of memory = record {
   faults = memory.kept.faults;
 }
 
--- its next calls will not fail: so many, which write so many bytes
+-- its next calls will not fail: this many, which write this many bytes in all
 abbrev pub is_steady : Memory → ℕ → ℕ → Bool
 is_steady memory calls bytes = has_room_for memory.kept calls bytes
 
--- made anew, with these bytes and room for so many calls and written bytes
+-- a new one, with these bytes and room for this many calls and written bytes
 abbrev pub fresh_memory : List ℕ → ℕ → ℕ → Memory
 fresh_memory start calls bytes = record { start = start; kept = fresh_kept calls bytes }
 
--- The kept calls tell what it holds: no stamp passes the moment, each byte that was written belongs to one of them, and a read
+-- What it holds follows from the kept calls: no stamp is above the moment, each written byte belongs to one of them, and a read
 -- gives what they made of the first bytes.
 pub record Tells (memory : Memory) (read : List ℕ) : Type 0 where
   pub stamped : IsStamped memory.kept.moment memory.kept.records
   pub whole : total_bytes memory.kept.records ≡ length memory.kept.written
   pub bytes : (content_of memory).bytes ≡ read
 
--- what may be left now is left since each moment
+-- what may be left now counts as left since each moment
 pub counts_now : (memory : Memory) (t : ℕ) (image : List ℕ) → MayLeave (content_of memory) image → LeftSince memory t image
 counts_now memory t image left = inl left
 
--- since now nothing else is left
+-- since now, nothing else is left
 pub only_now : (memory : Memory) (image : List ℕ) → LeftSince memory memory.kept.moment image → MayLeave (content_of memory) image
 only_now memory image left = ⊎_elim (λ now. now) (λ before. absurd (omega (arith, before.0))) left

@@ -1,11 +1,11 @@
--- What a media shows, and what its calls do to that.
+-- What a medium shows, and what its calls do to that.
 use Rattle.std.specs.Prelude.{ℕ, ◌≡◌, Bool, IsTrue, List, Result}
 use Rattle.counted.specs.Causes.{HasCause}
 use Rattle.counted.specs.Moments.{Elapses}
 use Rattle.pcm_media.specs.Images.{Content, MayLeave, Touched, partly}
 
--- Its length; what it holds; the moment; whether a loss of power at some moment from this one on might have left this image;
--- how often it has failed.
+-- Its length in bytes; its content; the moment; whether a loss of power at this moment or a later one might have left this
+-- image; how often it has failed.
 pub record View : Type 1 where
   pub size : ℕ
   pub content : Content
@@ -13,12 +13,12 @@ pub record View : Type 1 where
   pub left_since : ℕ → List ℕ → Type 0
   pub faults : ℕ
 
--- from one view to a later one each image that might have been left anew has P
+-- from one view to a later one, each image that is new among those that might have been left has P
 abbrev pub LeavesOnly : (List ℕ → Type 0) → View → View → Type 0
 LeavesOnly P old new = Elapses old.moment new.moment old.left_since new.left_since P
 
--- What a call does, whatever it answers: it writes these ranges at most, and at each moment of it a loss of power leaves what
--- it might have left before, but for bytes in these ranges. It fails only where it counts it.
+-- What a call does, whatever it answers: it writes at most these ranges, and a loss of power during it leaves what it might
+-- have left before, except for bytes in these ranges. Failures are counted, and nothing else is.
 pub record Writes {T E : Type 0} (tells : Bool) (ranges : List (ℕ × ℕ)) (old new : View) (result : Result T E) : Type 0 where
   pub size : new.size ≡ old.size
   pub cause : HasCause old.faults new.faults result

@@ -1,6 +1,6 @@
-// The calls that a media in memory keeps.
+// The calls that a medium in memory keeps.
 
-/// A call of a media.
+/// A call of a medium.
 #[derive(Clone, Copy, Debug, PartialEq, Eq)]
 pub enum Call {
     /// `len` bytes were to be read from the place `at` on.
@@ -13,7 +13,7 @@ pub enum Call {
 /// A call that was made.
 #[derive(Clone, Copy, Debug, PartialEq, Eq)]
 pub struct Record {
-    /// The moment to which the call raised the media; so, counted from 1, the call's number.
+    /// The moment to which the call raised the medium, which is the call's number, counted from 1.
     pub moment: u64,
     pub call: Call,
     /// Whether it answered Ok.

@@ -1,4 +1,4 @@
-// An image that a loss of power may leave, its bytes chosen where nothing is sure.
+// An image that a loss of power may leave, with chosen bytes where nothing is settled.
 ghost use Rattle.std.specs.Prelude.{◌≡◌, ◌<◌, ◌≤◌, [], ◌∷◌, length, drop};
 ghost use Rattle.pcm_media.specs.Choice.{IsLeftBy, IsChosen, ranges_of};
 ghost use Rattle.pcm_media.specs.Replay.{range_of, is_settling, unsettled_after};
@@ -46,7 +46,7 @@ fn settles(made: &Record) -> bool
     }
 }
 
-// How many calls there are up to the last barrier that was done.
+// How many calls there are up to the last barrier that succeeded.
 fn settled_len(records: &[Record]) -> usize
     ensures bound { result ≤ length records.now }
     ensures unsettled { unsettled_after records.now [] ≡ ranges_of (drop result records.now) }
@@ -60,7 +60,7 @@ fn settled_len(records: &[Record]) -> usize
     len
 }
 
-// Puts the chosen bytes wherever these calls left nothing sure; an empty choice keeps what is there.
+// Puts the chosen bytes at each place that these calls leave unsettled. An empty choice keeps what is there.
 pub fn choose(image: &mut [u8], records: &[Record], choice: &[u8])
     ensures { IsLeftBy choice.now (record { bytes = image.old; unsettled = unsettled_after records.now [] }) image.new }
 {

@@ -1,4 +1,4 @@
-// A media that passes so many calls on, and then fails each.
+// A medium that passes a number of calls on, and then fails each one.
 ghost use Rattle.std.specs.Prelude.{◌≡◌, ◌+◌, ◌-◌, ◌<◌, ◌≤◌, nat_le, ◌&&◌, [], ◌∷◌, length, ℕ, IsTrue, IsOk, OnOk};
 ghost use Rattle.std.specs.Bool.{OnTrue, OnFalse};
 ghost use Rattle.counted.specs.Moments.{Ticks};
@@ -12,7 +12,7 @@ use crate::Media;
 use counted::Failed;
 use std::marker::Model;
 
-/// A media behind a fuse: it passes a number of calls of `read`, `write` and `barrier` on, and then fails each one by itself.
+/// A medium behind a fuse: it passes a number of calls of `read`, `write` and `barrier` on, and then fails each one itself.
 #[derive(Drop)]
 pub struct FusedMedia<M> {
     inner: M,
@@ -32,7 +32,7 @@ impl<M> Model for FusedMedia<M> {
 }
 
 impl<M> FusedMedia<M> {
-    /// A fuse in front of this media that passes so many calls on.
+    /// A fuse in front of this medium that passes `passes` calls on.
     pub fn new(inner: M, passes: u64) -> Self
         ensures { result ≡ record { inner = inner; passes = passes; blown = 0 } }
     {
@@ -43,7 +43,7 @@ impl<M> FusedMedia<M> {
         }
     }
 
-    /// The media behind the fuse.
+    /// The medium behind the fuse.
     pub fn into_inner(self) -> M
         ensures { result ≡ self.inner }
     {
@@ -55,7 +55,7 @@ impl<M> FusedMedia<M> {
         inner
     }
 
-    // Whether this call is passed on; if not, it is counted.
+    // Whether this call is passed on. If not, it is counted.
     fn takes_pass(&mut self) -> bool
         ensures inner { self.new.inner ≡ self.old.inner }
         ensures passes { self.new.passes ≡ self.old.passes - 1 }

@@ -1,4 +1,4 @@
-// The calls that a media in memory keeps, and those that are to fail.
+// The calls that a medium in memory keeps, and those that are to fail.
 ghost use Rattle.std.specs.Prelude.{◌≡◌, ◌↔◌, [], ◌∷◌, ◌++◌, length, IfOk, OnOk, OnErr, IsErr};
 ghost use Rattle.counted.specs.Causes.{next_count};
 ghost use Rattle.pcm_media.specs.Kept.{fresh_kept, MustFail, HasRoom, Makes, Takes};
@@ -32,7 +32,7 @@ impl Model for Journal {
 }
 
 impl Journal {
-    // With room for so many calls and so many bytes that they write.
+    // A journal with room for `calls` calls and for `bytes` bytes that they write.
     pub fn new(alloc: Global, calls: u64, bytes: u64) -> Result<Journal, NoMemory>
         ensures { IfOk result (λ j. j ≡ fresh_kept calls bytes) }
     {
@@ -47,7 +47,7 @@ impl Journal {
         })
     }
 
-    // Lists a call as one that fails.
+    // Lists the `nth` call as one that fails.
     pub fn fail(&mut self, nth: u64) -> Result<(), NoMemory>
         ensures ok { OnOk result (self.new ≡ record self.old { listed = self.old.listed ++ nth ∷ [] }) }
         ensures err { OnErr result (self.new ≡ self.old) }
@@ -86,7 +86,7 @@ impl Journal {
         self.bytes_room
     }
 
-    // Raises the moment and keeps the call; tells whether it is done.
+    // Raises the moment and keeps the call. Returns whether the call is done.
     fn take(&mut self, call: Call, bytes: &[u8]) -> bool
         ensures { Takes call bytes.now self.old self.new result }
     {
@@ -107,7 +107,7 @@ impl Journal {
         is_done
     }
 
-    // Makes a call which writes these bytes.
+    // Makes a call that writes these bytes.
     pub fn make(&mut self, call: Call, bytes: &[u8]) -> Result<(), Failed>
         ensures listed { HasRoom self.old (length bytes.now) → (IsErr result ↔ MustFail self.old) }
         ensures past_room { MustFail self.old → IsErr result }

@@ -1,4 +1,4 @@
-//! A media with torn writes and barriers: one in memory, and one that stops behind a fuse.
+//! Media with torn writes and barriers: one in memory, and one that stops when its fuse has blown.
 #![tactic(auto)]
 
 mod call;

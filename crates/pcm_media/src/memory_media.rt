@@ -1,4 +1,4 @@
-// A media in memory, which keeps its calls and fails at those that are listed.
+// A medium in memory, which keeps its calls and fails at those that are listed.
 ghost use Rattle.std.specs.Prelude.{◌≡◌, ◌+◌, ◌-◌, ◌^◌, ◌≤◌, ◌<◌, ◌↔◌, [], ◌∷◌, ◌++◌, length, ℕ, true, IsTrue, IsOk, IfOk, OnOk, OnErr, IsErr};
 ghost use Rattle.counted.specs.Moments.{Ticks};
 ghost use Rattle.counted.specs.Bytes.{put, range};
@@ -16,8 +16,8 @@ use counted::{Failed, NoMemory};
 use std::alloc::Global;
 use std::marker::Model;
 
-/// A media in memory. It keeps all its calls. While its room suffices, and below the last value of its moment, a call fails
-/// exactly where it is listed; past its room also where no memory is left.
+/// A medium in memory, which keeps all its calls. As long as its room suffices and its moment is below the last value, a call
+/// fails exactly when it is listed. Beyond its room, a call also fails if memory runs out.
 #[derive(Drop)]
 pub struct MemoryMedia {
     alloc: Global,
@@ -36,7 +36,7 @@ impl Model for MemoryMedia {
     ghost invariant = { λ m. Tells (record { start = m.start.items; kept = m.journal }) m.bytes.items };
 }
 
-// Puts these bytes at a place.
+// Writes these bytes over those from `at` on.
 fn overwrite(bytes: &mut [u8], at: usize, more: &[u8])
     requires { at + length more.now ≤ length bytes.old }
     ensures { bytes.new ≡ put bytes.old at more.now }
@@ -45,7 +45,7 @@ fn overwrite(bytes: &mut [u8], at: usize, more: &[u8])
 }
 
 impl MemoryMedia {
-    /// A media with a copy of these bytes, settled, with room for the record of so many calls and so many written bytes.
+    /// A medium with a copy of these bytes, all settled, with room to keep `calls` calls and `written` written bytes.
     pub fn new(
         alloc: Global,
         bytes: &[u8],
@@ -57,7 +57,7 @@ impl MemoryMedia {
         MemoryMedia::over(alloc, Vec::from_slice(alloc, bytes)?, calls, written)
     }
 
-    // The same over bytes of its own.
+    // The same over a vector of bytes of its own.
     fn over(
         alloc: Global,
         bytes: Vec<u8>,
@@ -74,7 +74,7 @@ impl MemoryMedia {
         })
     }
 
-    /// Lists a call of `read`, `write` or `barrier` as one that fails: the `nth`, counted from 1 since the media was made.
+    /// Lists a call of `read`, `write` or `barrier` as one that fails: the `nth`, counted from 1 since the medium was made.
     pub fn fail(&mut self, nth: u64) -> Result<(), NoMemory>
         ensures start { self.new.start ≡ self.old.start }
         ensures ok { OnOk result
@@ -84,15 +84,15 @@ impl MemoryMedia {
         self.journal.fail(nth)
     }
 
-    /// What a read of the whole gives.
+    /// What a read of the whole medium gives.
     pub fn bytes(&self) -> &[u8]
         ensures { result.now ≡ (content_of self.now).bytes }
     {
         &self.bytes
     }
 
-    /// An image that a loss of power now may leave, made anew with the same room. At each place that is not settled it has the
-    /// byte of `choice` for that place, over and over; an empty choice keeps what a read gives.
+    /// An image that a loss of power now may leave, as a new medium with the same room. At each place `i` that is not settled it
+    /// has the byte `choice[i % choice.len()]`, or what a read gives if the choice is empty.
     pub fn leave(&self, choice: &[u8]) -> Result<MemoryMedia, NoMemory>
         ensures left { IfOk result (λ m. IsLeftBy choice.now (content_of self.now) m.start) }
         ensures anew { IfOk result (λ m.
@@ -108,7 +108,7 @@ impl MemoryMedia {
         )
     }
 
-    /// Its calls, the first of them first.
+    /// Its calls, the oldest first.
     pub fn calls(&self) -> &[Record]
         ensures { result.now ≡ self.now.kept.records }
     {
@@ -175,7 +175,7 @@ impl Media for MemoryMedia {
         requires { at + length bytes.now ≤ length (content_of self.old).bytes }
         ensures written { OnOk result (content_of self.new ≡ written at bytes.now (content_of self.old)) }
         ensures err { OnErr result ((content_of self.new).bytes ≡ (content_of self.old).bytes) }
-        // Within the room a write that failed leaves its range unsettled.
+        // Within the room, a failed write leaves its range unsettled.
         ensures lost { HasRoom self.old.kept 0 → self.old.kept.moment < 2 ^ 64 - 1 →
             OnErr result (content_of self.new ≡ partly ((at, length bytes.now) ∷ []) (content_of self.old)) }
         ensures does { Writes true ((at, length bytes.now) ∷ []) (view_of self.old) (view_of self.new) result }

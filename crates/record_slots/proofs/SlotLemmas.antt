@@ -56,7 +56,7 @@ module _ (bytes : List ℕ) where
 pub value_said-long : (bytes : List ℕ) → 54 < slice_index bytes 1 → value_said bytes ≡ None
 value_said-long bytes long = none_said bytes (λ e. let fits = short_said bytes e in omega arith)
 
--- what is told of the text behind byte 10 tells what the bytes say
+-- what is known of the text from byte 10 on gives what the bytes say
 pub value_said-some : (bytes : List ℕ) → length bytes ≡ 64 → slice_index bytes 1 ≤ 54 → IsValue (text_said bytes) → value_said bytes ≡ Some (text_said bytes)
 value_said-some bytes long fits value = some_said bytes (value_passes bytes long fits value)
 

@@ -1,4 +1,4 @@
--- Bytes that say a slot are what it is written as, where nothing unsaid stands in them.
+-- Bytes that say a slot are those with which it is written, if all that says nothing in them is zero.
 use Rattle.std.proofs.Common.{◌≡◌, ℕ, zero, suc, ◌+◌, ◌-◌, ◌*◌, ◌/◌, ◌%◌, ◌^◌, ◌<◌, ◌≤◌, true, List, ◌∷◌, ◌++◌, length, get_or, take, drop, replicate, Some, None, inl, inr, refl, sym, ◌∙◌, ap, subst, zero-add, arith}
 use Rattle.std.specs.Prelude.{slice_index}
 use Rattle.std.specs.Int.{byte_at, bytes_low_first}

@@ -1,4 +1,4 @@
--- What the 64 bytes of a slot say, and the bytes that a slot is written as.
+-- What the 64 bytes of a slot say, and the bytes with which a slot is written.
 use Rattle.std.specs.Prelude.{ℕ, ◌≡◌, ◌+◌, ◌-◌, ◌^◌, ◌<◌, Bool, nat_eq, nat_le, ◌&&◌, if◌then◌else◌, List, ◌∷◌, ◌++◌, length, take, drop, replicate, slice_index, Option, Some, None}
 use Rattle.std.specs.List.{list_all}
 use Rattle.byteorder.specs.Endian.{little_from, little_bytes}
@@ -14,20 +14,20 @@ key_said bytes = little_from 2 8 bytes
 abbrev pub text_said : List ℕ → List ℕ
 text_said bytes = take (slice_index bytes 1) (drop 10 bytes)
 
--- the length is that of a value, and so many visible bytes stand there
+-- byte 1 is the length of a value, and that many visible bytes stand from byte 10 on
 abbrev pub is_value_said : List ℕ → Bool
 is_value_said bytes = nat_le 1 (slice_index bytes 1) && (nat_le (slice_index bytes 1) 54 && list_all is_visible (text_said bytes))
 
--- the value, where there is one
+-- the value, if there is one
 unfoldable pub value_said : List ℕ → Option (List ℕ)
 value_said bytes = if is_value_said bytes then Some (text_said bytes) else None
 
--- a present slot with its value
+-- a present slot with its value, if there is one
 abbrev pub present : ℕ → Option (List ℕ) → Option Slot
 present key None = None
 present key (Some value) = Some (Present key value)
 
--- State 0 is absent, state 1 is present where a value stands there. All else says no slot.
+-- State 0 is absent. State 1 is present if the bytes say a value. All else says no slot.
 unfoldable pub slot_said : List ℕ → Option Slot
 slot_said bytes =
     if nat_eq (slice_index bytes 0) 0 then Some (Absent (key_said bytes))
@@ -44,7 +44,7 @@ abbrev pub IsSlot : Slot → Type 0
 IsSlot (Absent key) = key < 2 ^ 64
 IsSlot (Present key value) = (key < 2 ^ 64) × IsValue value
 
--- 64 bytes of which all that the slot says nothing of is zero
+-- 64 bytes, of which those that say nothing of the slot are zero
 pub record IsPlain (bytes : List ℕ) : Type 0 where
   pub size : length bytes ≡ 64
   pub fits : (i : ℕ) → slice_index bytes i < 256

@@ -14,20 +14,20 @@ HasSuperMark bytes = take 5 bytes ≡ super_mark
 unfoldable pub form_said : List ℕ → ℕ
 form_said bytes = slice_index bytes 5
 
--- the next slot and the next page to be given, in bytes 8 to 15
+-- the next slot and the next page to give out, in bytes 8 to 15
 unfoldable pub next_slot_said : List ℕ → ℕ
 next_slot_said bytes = little_from 8 4 bytes
 
 unfoldable pub next_page_said : List ℕ → ℕ
 next_page_said bytes = little_from 12 4 bytes
 
--- the super page of this index form and these counts: its other bytes say nothing
+-- the super page with this index form and these counts; its other bytes say nothing
 pub record SaysSuper (bytes : List ℕ) (front : Super) : Type 0 where
   pub has_mark : HasSuperMark bytes
   pub form : front.form ≡ form_said bytes
   pub next_slot : front.next_slot ≡ next_slot_said bytes
   pub next_page : front.next_page ≡ next_page_said bytes
 
--- the bytes 8 to 15 of a super page with these counts
+-- bytes 8 to 15 of a super page with these counts
 unfoldable pub count_bytes : ℕ → ℕ → List ℕ
 count_bytes next_slot next_page = little_bytes 4 next_slot ++ little_bytes 4 next_page

@@ -4,7 +4,7 @@ use Rattle.std.specs.List.{list_all}
 use Rattle.std.proofs.Common.{ap, sym, ◌∙◌, arith}
 use Rattle.std.proofs.lemmas.List.{take-append-drop, length-take-le}
 
--- a character of ASCII that shows
+-- a visible ASCII character
 abbrev pub is_visible : ℕ → Bool
 is_visible byte = nat_le 0x21 byte && nat_le byte 0x7E
 
@@ -14,18 +14,18 @@ pub record IsValue (text : List ℕ) : Type 0 where
   pub short : length text ≤ 54
   pub visible : IsTrue (list_all is_visible text)
 
--- the text stands in front, and zeros behind it
+-- the text at the front, and zeros behind it
 pub record IsStored (len : ℕ) (bytes : List ℕ) : Type 0 where
   pub size : length bytes ≡ 54
   pub fits : len ≤ 54
   pub value : IsValue (take len bytes)
   pub padded : drop len bytes ≡ replicate (54 - len) 0
 
--- the text gives its length back
+-- the length is that of the text
 pub stored_len : (len : ℕ) (bytes : List ℕ) → IsStored len bytes → length (take len bytes) ≡ len
 stored_len len bytes h = length-take-le len bytes (omega arith)
 
--- the text and zeros give the bytes back
+-- the text and zeros are the bytes
 pub stored_bytes : (len : ℕ) (bytes : List ℕ) → IsStored len bytes → take len bytes ++ replicate (54 - length (take len bytes)) 0 ≡ bytes
 stored_bytes len bytes h =
     rw (stored_len len bytes h) (ap (λ rest. take len bytes ++ rest) (sym h.padded) ∙ take-append-drop len bytes)

@@ -1,4 +1,4 @@
-//! The value of a record, the slot of 64 bytes that holds one, and the super page.
+//! The value of a record, the slot of 64 bytes that holds it, and the super page.
 #![tactic(auto)]
 
 mod laws;

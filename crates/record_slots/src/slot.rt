@@ -4,7 +4,7 @@ ghost use Rattle.record_slots.specs.Slots.{slot_said, value_said, slot_bytes};
 use crate::{VALUE_MAX, Value};
 use byteorder::{ByteOrder, LittleEndian};
 
-/// The bytes of a slot: one of state, one of length, eight of the key (little-endian), and the room of a value.
+/// The bytes of a slot: one for the state, one for the length, eight for the key (little-endian), and room for a value.
 pub const SLOT_LEN: usize = 64;
 
 const KEY_AT: usize = 2;
@@ -22,7 +22,7 @@ pub enum Slot {
     Present { key: u64, value: Value },
 }
 
-/// The slot that the bytes say; `None` exactly where they say none. Of an absent slot only the state and the key are looked at.
+/// The slot that the bytes say. `None` exactly when they say none. Of an absent slot only the state and the key are read.
 pub fn read_slot(bytes: &[u8; SLOT_LEN]) -> Option<Slot>
     ensures { result ≡ slot_said bytes.now }
 {
@@ -47,7 +47,7 @@ fn read_value(bytes: &[u8; SLOT_LEN]) -> Option<Value>
     Value::of(&bytes[VALUE_AT..VALUE_AT + len])
 }
 
-/// Writes all 64 bytes. What the slot says nothing of is zero.
+/// Writes all 64 bytes. Those of which the slot says nothing are zero.
 pub fn write_slot(slot: &Slot, out: &mut [u8; SLOT_LEN])
     ensures written { out.new ≡ slot_bytes slot.now }
     ensures reads_back { slot_said out.new ≡ Some slot.now }

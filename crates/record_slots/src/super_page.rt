@@ -3,10 +3,10 @@ ghost use Rattle.record_slots.specs.Super.{HasSuperMark, SaysSuper, count_bytes}
 
 use byteorder::{ByteOrder, LittleEndian};
 
-/// Where the eight bytes of both counts stand in the super page.
+/// Where in the super page the eight bytes of the two counts begin.
 pub const COUNTS_AT: usize = 8;
 
-/// How many bytes both counts have.
+/// How many bytes the two counts take.
 pub const COUNTS_LEN: usize = 8;
 
 const MARK: [u8; 5] = *b"MREC\x01";
@@ -17,7 +17,7 @@ const NEXT_SLOT_AT: usize = 8;
 
 const NEXT_PAGE_AT: usize = 12;
 
-/// What the super page says: the form of the index (0 a chain), and the slot and the page that are given next.
+/// What the super page says: the form of the index (0 is a chain), and the next slot and the next page to give out.
 #[derive(Clone, Copy, Debug, PartialEq, Eq)]
 pub struct Super {
     pub form: u8,
@@ -25,7 +25,7 @@ pub struct Super {
     pub next_page: u32,
 }
 
-/// What a super page says; `None` exactly where its first five bytes are not the mark and the version.
+/// What a super page says. `None` exactly when its first five bytes are not the mark and the version.
 pub fn read_super(bytes: &[u8; 512]) -> Option<Super>
     ensures says { IfSome result (SaysSuper bytes.now) }
     ensures unmarked { IfNone result (¬ HasSuperMark bytes.now) }
@@ -40,7 +40,7 @@ pub fn read_super(bytes: &[u8; 512]) -> Option<Super>
     })
 }
 
-/// Writes the eight bytes of both counts, which stand in the super page from `COUNTS_AT` on.
+/// Writes the eight bytes of the two counts, which stand in the super page from `COUNTS_AT` on.
 pub fn write_super_counts(next_slot: u32, next_page: u32, out: &mut [u8; COUNTS_LEN])
     ensures { out.new ≡ count_bytes next_slot next_page }
 {

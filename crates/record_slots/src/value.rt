@@ -5,7 +5,7 @@ ghost use Rattle.record_slots.specs.Text.{IsValue, is_visible};
 
 use std::marker::Model;
 
-/// The most bytes of a value.
+/// The largest length of a value in bytes.
 pub const VALUE_MAX: usize = 54;
 
 /// The text of a record: 1 to 54 bytes, each from `!` to `~`.
@@ -31,7 +31,7 @@ impl Model for Value {
 }
 
 impl Value {
-    /// The value with this text, if it is that of a value.
+    /// The value with this text, or `None` if no value has it.
     pub fn of(text: &[u8]) -> Option<Value>
         ensures { SomeIff result (IsValue text.now) text.now }
     {

@@ -50,7 +50,7 @@ pub mark_told : (bytes : List ℕ) (r : Bool) → r ≡ pointwise nat_eq mark (t
 mark_told bytes true is = sym (same_text mark (take 8 bytes) is)
 mark_told bytes false is = λ marked. other_text mark (take 8 bytes) is (sym marked)
 
--- a number out of range is wrong in every media
+-- a number out of range is wrong on every medium
 pub bad_in : (bytes : List ℕ) (size : ℕ) (which : ShapeNumber) (given : ℕ) → IsFirstBad (loggers_said bytes) (numbers_said bytes) (entries_said bytes) (pages_said bytes) which given → IsBadIn bytes size which given
 bad_in bytes size Loggers given bad = bad
 bad_in bytes size Numbers given bad = bad

@@ -1,4 +1,4 @@
--- What the bytes of rows and heads say, where some of them are the same.
+-- What the bytes of rows and heads say, when some of them are the same.
 use Rattle.std.proofs.Common.{◌≡◌, ℕ, zero, suc, ◌+◌, ◌^◌, ◌<◌, ◌≤◌, Bool, true, false, nat_eq, if◌then◌else◌, List, ◌++◌, get_or, take, drop, replicate, refl, sym, ◌∙◌, ap, arith}
 use Rattle.std.proofs.lemmas.List.{get_or-drop}
 use Rattle.byteorder.specs.Endian.{little_from, little_bytes}
@@ -42,7 +42,7 @@ row_said-same xs ys same =
     (little_from-same 2 2 2 xs ys (λ k lt. same (2 + k) (omega arith)))
     (little_from-same 4 4 2 xs ys (λ k lt. same (4 + k) (omega arith)))
 
--- where byte 0 is another, the vote is
+-- a new byte 0 changes the vote alone
 pub row_said-vote : (old new : List ℕ) (vote : ℕ) → get_or new 0 0 ≡ vote → ((k : ℕ) → 1 ≤ k → k < 16 → get_or new k 0 ≡ get_or old k 0)
     → row_said new ≡ row (nat_eq vote 0xC3) (row_said old).mask (row_said old).first (row_said old).count
 unfolding row_said
@@ -60,7 +60,7 @@ count_written : (mask first count : ℕ) → count < 2 ^ 16 → little_from 3 2 
 count_written mask first count fits =
     sym (little_from-drop 0 3 2 (row_rest mask first count)) ∙ little_number-reads_back 2 count (replicate 10 0) fits
 
--- where bytes 1 to 15 are new ones, the rest is
+-- new bytes 1 to 15 change the rest alone
 pub row_said-rest : (old new : List ℕ) (mask first count : ℕ) → first < 2 ^ 16 → count < 2 ^ 16
     → get_or new 0 0 ≡ get_or old 0 0 → ((k : ℕ) → k < 15 → get_or new (k + 1) 0 ≡ get_or (row_rest mask first count) k 0)
     → row_said new ≡ row (row_said old).voted mask first count

@@ -29,12 +29,12 @@ entries_said bytes = little_from 10 2 bytes
 unfoldable pub pages_said : List ℕ → ℕ
 pages_said bytes = little_from 12 4 bytes
 
--- the header of an array of this shape: the rest of it says nothing
+-- the header of an array of this shape; its other bytes say nothing
 pub record SaysShape (bytes : List ℕ) (shape : Shape) : Type 0 where
   pub has_mark : HasMark bytes
   pub numbers : HasNumbers (loggers_said bytes) (numbers_said bytes) (entries_said bytes) (pages_said bytes) shape
 
--- the number of a header with the mark that is wrong: the first one out of range, or else the length of the media
+-- the number that is wrong in a header with the mark: the first one out of range, or else the length of the medium
 abbrev pub IsBadIn : List ℕ → ℕ → ShapeNumber → ℕ → Type 0
 IsBadIn bytes size Loggers given = IsFirstBad (loggers_said bytes) (numbers_said bytes) (entries_said bytes) (pages_said bytes) Loggers given
 IsBadIn bytes size Numbers given = IsFirstBad (loggers_said bytes) (numbers_said bytes) (entries_said bytes) (pages_said bytes) Numbers given
@@ -42,7 +42,7 @@ IsBadIn bytes size Entries given = IsFirstBad (loggers_said bytes) (numbers_said
 IsBadIn bytes size Pages given = IsFirstBad (loggers_said bytes) (numbers_said bytes) (entries_said bytes) (pages_said bytes) Pages given
 IsBadIn bytes size MediaLength given = (given ≡ size) × ((shape : Shape) × SaysShape bytes shape × (size ≢ media_len shape))
 
--- what keeps a media of so many bytes that begins with these from being an array
+-- what keeps a medium of `size` bytes that begins with these bytes from being an array
 abbrev pub IsFaulty : List ℕ → ℕ → HeaderFault → Type 0
 IsFaulty bytes size NotMars = ¬ HasMark bytes
 IsFaulty bytes size (BadShape bad) = HasMark bytes × IsBadIn bytes size bad.which bad.given
@@ -51,6 +51,6 @@ IsFaulty bytes size (BadShape bad) = HasMark bytes × IsBadIn bytes size bad.whi
 abbrev pub header_front : Shape → List ℕ
 header_front shape = mark ++ shape.loggers ∷ shape.numbers ∷ (little_bytes 2 shape.entries ++ little_bytes 4 shape.pages)
 
--- the 512 bytes that are written: the rest is zeros
+-- the 512 bytes that are written: the mark and the numbers, and zeros
 unfoldable pub header_bytes : Shape → List ℕ
 header_bytes shape = header_front shape ++ replicate 496 0

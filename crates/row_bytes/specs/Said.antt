@@ -1,10 +1,10 @@
--- What bytes of the media say. Numbers are little-endian.
+-- What bytes of the medium say. Numbers are little-endian.
 use Rattle.std.specs.Prelude.{ℕ, List, nat_eq, slice_index}
 use Rattle.byteorder.specs.Endian.{little_from}
 use Rattle.row_bytes.specs.declared.row.Row.{Row}
 use Rattle.row_bytes.specs.declared.head.Head.{Head}
 
--- The row that 16 bytes say: the vote, which is 0xC3 and no other; the mask; the first entry; the count. The rest says nothing.
+-- The row that 16 bytes say: the vote, for which 0xC3 alone stands; the mask; the first entry; the count. The rest says nothing.
 unfoldable pub row_said : List ℕ → Row
 row_said bytes = record {
   voted = nat_eq (slice_index bytes 0) 0xC3;

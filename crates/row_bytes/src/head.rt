@@ -5,14 +5,14 @@ ghost use Rattle.row_bytes.specs.Written.{head_bytes};
 
 use byteorder::{ByteOrder, LittleEndian};
 
-/// What the 16 bytes before a cell's data say: where the data is to go.
+/// What the 16 bytes before a cell's data say: the address where the data is to go, and its length in bytes.
 #[derive(Clone, Copy, Debug, PartialEq, Eq)]
 pub struct Head {
     pub addr: u64,
     pub len: u16,
 }
 
-/// What the bytes of a head say. Bytes 10 to 15 are not looked at.
+/// What the bytes of a head say. Bytes 10 to 15 are ignored.
 pub fn read_head(bytes: &[u8; 16]) -> Head
     ensures { result ≡ head_said bytes.now }
 {

@@ -11,7 +11,7 @@ use thiserror::Error;
 
 const MARK: [u8; 8] = *b"MARSEAW1";
 
-/// Why the first bytes of a media are not the header of an array.
+/// Why the first bytes of a medium are not the header of an array.
 #[derive(Clone, Copy, Debug, PartialEq, Eq, Error)]
 pub enum HeaderFault {
     #[error("not mars")]
@@ -42,7 +42,7 @@ fn header_front(shape: Shape) -> [u8; 16]
     front
 }
 
-/// The shape of the array in a media of `media_len` bytes that begins with this header.
+/// The shape of the array on a medium of `media_len` bytes that begins with this header.
 pub fn read_array_header(bytes: &[u8; 512], media_len: u64) -> Result<Shape, HeaderFault>
     ensures shape { IfOk result (λ shape. SaysShape bytes.now shape) }
     ensures length { IfOk result (λ shape. media_len ≡ places.media_len shape) }

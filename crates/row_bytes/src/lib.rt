@@ -1,4 +1,4 @@
-//! The codec of an array's header, of its rows and of the heads of its cells.
+//! The codec for an array's header, its rows and the heads of its cells.
 #![tactic(auto)]
 
 mod head;

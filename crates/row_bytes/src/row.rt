@@ -5,7 +5,7 @@ ghost use Rattle.row_bytes.specs.Written.{row_bytes, vote_byte};
 
 use byteorder::{ByteOrder, LittleEndian};
 
-// The vote byte of a row that is voted. Any other is not.
+// The vote byte of a voted row. A row with any other vote byte is not voted.
 const VOTED: u8 = 0xC3;
 
 /// What the 16 bytes of a row say: one logger's share of a transaction.
@@ -20,7 +20,7 @@ pub struct Row {
     pub count: u16,
 }
 
-/// What the bytes of a row say. Bytes 6 to 15 are not looked at.
+/// What the bytes of a row say. Bytes 6 to 15 are ignored.
 pub fn read_row(bytes: &[u8; 16]) -> Row
     ensures { result ≡ row_said bytes.now }
 {

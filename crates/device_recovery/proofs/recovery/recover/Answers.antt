@@ -67,7 +67,7 @@ returns-in_err-settle-clause-any_moment g c told lawful =
     then (reading_law shape old mid lawful (c.in_ok-rows.ensures.does.time told))
     (sense_law shape old mid (m.view c.settle.new.media) same (c.settle.ensures.any_moment told (subst (IsLawful shape) same (lawful old.content.bytes (left_as_read old.content)))))
 
--- a fault of the media is a failure of it
+-- a fault of the medium is a failure of it
 media_failed : {T : Type 0} (r : Result T RecoverFault) → IsErrAnd r (λ fault. fault ≡ Media) → IsErr (media_answer is_of_media r)
 media_failed (Ok report) is = absurd is
 media_failed (Err fault) is = subst (λ e. (let r : Result (Unit {0}) RecoverFault = Err e in IsErr (media_answer is_of_media r))) (sym is) refl

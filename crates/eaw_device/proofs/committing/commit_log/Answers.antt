@@ -23,7 +23,7 @@ use Rattle.eaw_device.proofs.LogParts.{named_good, named_applied}
 use Rattle.eaw_device.proofs.committing.commit_log.Given.{Over}
 use Rattle.eaw_device.proofs.committing.commit_log.Goals as goal
 
--- the counts that are handed on are those of the loggers
+-- the counts that are passed on are those of the loggers
 handed : (n loggers : ℕ) (xs : List ℕ) → n ≡ loggers → (g : ℕ) → g < loggers → slice_index (take n xs) g ≡ slice_index xs g
 handed n loggers xs is g lt = get_or-take n xs g 0 (omega arith)
 
@@ -41,7 +41,7 @@ module _ (shape : Shape) (log : Log) (offset n : ℕ) (is : n ≡ shape.loggers)
   counts_are : (h : ℕ) → h < shape.loggers → slice_index (take n counts) h ≡ slice_index log.held h - slice_index (take n firsts) h
   counts_are h lt = handed n shape.loggers counts is h lt ∙ count h lt ∙ ap (λ (k : ℕ). slice_index log.held h - k) (sym (handed n shape.loggers firsts is h lt))
 
-  -- with all cells among the first ones none is left
+  -- if all cells are among the first ones, none is left
   none_left : IsKept shape log → length log.entries.items ≡ offset → (h : ℕ) → h < shape.loggers → slice_index (take n counts) h ≡ 0
   none_left kept all h lt =
       let whole : length (cells_on shape h (take offset log.entries.items)) ≡ length (cells_on shape h log.entries.items) = ap (λ (es : List Entry). length (cells_on shape h es)) (take_all offset log.entries.items (omega arith)) in

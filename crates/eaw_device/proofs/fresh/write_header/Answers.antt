@@ -18,7 +18,7 @@ use Rattle.eaw_device.proofs.fresh.write_header.Goals as goal
 first_bytes : (n i : ℕ) → n ≡ 512 → IsOutside ((0, 512) ∷ []) i → IsOutside ((0, n) ∷ []) i
 first_bytes n i is out = subst (λ k. IsOutside ((0, k) ∷ []) i) (sym is) out
 
--- the header in its place, made sure
+-- the header in its place, and settled
 fresh_with : (shape : Shape) (old : Content) (header : List ℕ) → length old.bytes ≡ media_len shape → length header ≡ 512 → header ≡ header_bytes shape → HasParts shape old.bytes → IsFresh shape (settled (written 0 header old))
 fresh_with shape old header sized long is parts =
     let fits : 0 + length header ≤ length old.bytes = omega (arith, sized, long) in

@@ -9,7 +9,7 @@ use Rattle.eaw_device.proofs.Entries.{logger_small}
 use Rattle.eaw_device.proofs.StagedCalls.{when_ok, stage_failed, stage_goes_on, stage_holds}
 use Rattle.eaw_device.proofs.staging.stage_all.Goals as goal
 
--- the parts that a logger has, as it is named
+-- the parts that a logger has, by its name
 length_here : (shape its : Shape) (n number addr : ℕ) (bytes : List ℕ) → its ≡ shape → n ≡ number → length (write_parts_on its n addr bytes) ≡ on (λ (p : ℕ × List ℕ). logger_of shape p.0) number (parts_of_write addr bytes)
 length_here shape its n number addr bytes is at = λ i. length (write_parts_on (is i) (at i) addr bytes)
 

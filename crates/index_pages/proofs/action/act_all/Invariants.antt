@@ -4,7 +4,7 @@ use Rattle.index_pages.specs.Parts.{pages_named, parts_named}
 use Rattle.index_pages.proofs.Acting.{Acting}
 use Rattle.index_pages.proofs.action.act_all.Given as goal
 
--- so many parts were written
+-- the parts written so far
 abbrev pub invariant-loop-part : goal.invariant-loop-part
 invariant-loop-part g l =
     Acting g.S.EawStore.tells (g.S.EawStore.opens (g.S.EawStore.view l.fn.pages.store).shape) l.tid (pages_of (g.S.EawStore.view l.fn.pages.store) l.fn.pages)

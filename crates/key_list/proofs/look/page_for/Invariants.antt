@@ -6,7 +6,7 @@ use Rattle.page_store.specs.Shown.{pages_of}
 use Rattle.key_list.proofs.Walking.{Place}
 use Rattle.key_list.proofs.look.page_for.Given as goal
 
--- the data is as it was, and the key's page is this one or comes behind it
+-- the data is as it was, and the key's page is this one or comes after it
 abbrev pub invariant-loop-step : goal.invariant-loop-step
 invariant-loop-step g l = record {
   some : 1 ≤ l.page;

@@ -13,7 +13,7 @@ pub overflow_add-count : goal.overflow_add-count
 overflow_add-count c =
     omega (arith, count_on-few c.args.shape c.args.logger (take c.loop-part.part-index c.args.parts.now), length-take c.loop-part.part-index c.args.parts.now)
 
--- one part more, which is the logger's or is not
+-- one more part, which is the logger's or is not
 one_more : (shape : Shape) (g : ℕ) (ps : List Part) (i count : ℕ) (part : Part) (on : Bool) → i < length ps → part ≡ get_or ps i part
     → count ≡ count_on shape g (ranges_of (take i ps)) → nat_eq (logger_of shape part.0) g ≡ on → count + cond on 1 0 ≡ count_on shape g (ranges_of (take (i + 1) ps))
 one_more shape g ps i count part on lt is so_far test =

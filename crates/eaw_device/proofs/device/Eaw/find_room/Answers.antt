@@ -15,7 +15,7 @@ check_room-requires-clause-kept g c =
     let below : c.args.tid < length s.logs.items = omega (arith, s.sound.many) in
     s.sound.kept c.args.tid c.index.result.now (found_log s.logs.items c.from-at.result c.args.tid c.index.result.now c.from-at.ensures below c.index.ensures)
 
--- the refusal of a log is that of its number
+-- what refuses a log refuses its number
 refuses : (shape : Shape) (logs : List Log) (is_dead : Bool) (t addr len : ℕ) (log : Log) → slice_get logs t ≡ Some log → is_dead ≡ false → t < shape.numbers → (fault : EawFault) → SaysFull shape log.held addr len fault → RefusesWrite shape logs is_dead t addr len fault
 refuses shape logs is_dead t addr len log there alive small (UnknownTid u) said = absurd said
 refuses shape logs is_dead t addr len log there alive small (LogFull g h n) said = (alive, small, record { log = log; there = there; says = said })

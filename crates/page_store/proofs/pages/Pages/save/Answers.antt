@@ -16,7 +16,7 @@ use Rattle.page_store.proofs.Lifting.{still, still_becomes}
 use Rattle.page_store.proofs.Marking.{was, counts_become, top_stay, counts_now}
 use Rattle.page_store.proofs.pages.Pages.save.Goals as goal
 
--- the marks of one number, with a save more
+-- the marks of one number, with one more save
 module _ (store : StoreView) (marks : List Marked) (t k : ℕ) (k_is : k ≡ t) (there : t < length marks) (m m' : Marked) (m_is : m ≡ get_or marks k m)
     (n : ℕ) (n_is : n ≡ length (listed (store.ranges t))) (after : m' ≡ record m { counts = m.counts ++ n ∷ [] }) where
   counts_after : counts_in (set marks k m') ≡ with_one (counts_in marks) t (counts_in marks t ++ length (listed (store.ranges t)) ∷ [])

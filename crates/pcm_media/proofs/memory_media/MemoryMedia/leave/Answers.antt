@@ -8,7 +8,7 @@ use Rattle.pcm_media.specs.Choice.{IsLeftBy}
 use Rattle.pcm_media.proofs.ChoiceLemmas.{unsettled_is, slice_back}
 use Rattle.pcm_media.proofs.memory_media.MemoryMedia.leave.Goals as goal
 
--- what was chosen for these bytes, behind these calls, is left of what the media holds
+-- an image that is chosen for these bytes after these calls is left of what the medium holds
 left_of : (choice image bytes : List ℕ) (records : List Record) (memory : Memory) → (content_of memory).bytes ≡ bytes → records ≡ memory.kept.records
     → IsLeftBy choice (record { bytes = bytes; unsettled = unsettled_after records [] }) image → IsLeftBy choice (content_of memory) image
 left_of choice image bytes records memory read kept left =
