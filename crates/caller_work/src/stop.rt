@@ -1,4 +1,4 @@
-// What a worker makes of replies.
+// What a worker makes of the replies.
 ghost use Rattle.std.specs.Prelude.{◌≡◌, IsFalse, Some, None};
 ghost use Rattle.core_face.specs.Fate.{is_media};
 ghost use Rattle.caller_work.specs.Standing.{is_media_stop, is_busy_stop, heard_of};
@@ -10,14 +10,14 @@ use history::Reply;
 pub enum Stop {
     /// Another caller held a key at each try. This transaction and the later ones are left for last.
     Busy { holder: u8 },
-    /// The media failed in a call of this worker,
+    /// The medium failed in a call of this worker.
     Media,
-    /// or in an earlier one.
+    /// The medium failed in an earlier call, or one of another worker.
     Dead,
     NoMemory,
 }
 
-/// What was heard of calls.
+/// What came of calls.
 #[derive(Drop)]
 pub enum Heard {
     Granted,
@@ -25,7 +25,7 @@ pub enum Heard {
     Refused { reply: Reply },
 }
 
-// Takes a reply to a begin, a commit or an abort that was not done.
+// Turns a reply to a begin, a commit or an abort that was not done into a stop.
 pub fn stop_of(reply: Reply) -> Stop
     ensures media { is_media_stop result ≡ is_media reply }
     ensures busy { IsFalse (is_busy_stop result) }
@@ -37,7 +37,7 @@ pub fn stop_of(reply: Reply) -> Stop
     }
 }
 
-// Takes a reply to a call between a begin and its end.
+// Turns a reply to a call between begin and end into what came of it.
 pub fn answer_of(reply: Reply) -> Result<Heard, Stop>
     ensures { result ≡ heard_of reply }
 {
