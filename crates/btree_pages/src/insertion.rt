@@ -75,7 +75,7 @@ fn with_pages(front: Super, more: u32) -> Super
     }
 }
 
-// Inserts a key from a page on its way on, which has room.
+// Inserts a key, going on from a page on its way that has room.
 fn insert_below<S: EawStore>(
     pages: &mut Pages<S>,
     tid: u8,

@@ -43,7 +43,7 @@ all_drafted caller (draft ∷ drafts) lines = drafted draft (calls_by caller lin
 abbrev pub all_faults : ℕ → Reading → List Line → List LineFault
 all_faults n reading lines = reading.faults ++ faults_from n (are_within reading.drafts.items) lines
 
--- the line's caller is one of so many
+-- if the line is a call, its caller is one of this many
 abbrev pub IsAmong : ℕ → Line → Type 0
 IsAmong callers (Told caller call) = caller < callers
 IsAmong callers _ = Unit {0}

@@ -22,7 +22,7 @@ pub record Mirrors (below : TableState) (state : State) : Type 0 where
   pub writes : (caller : ℕ) → below.writes caller ≡ (log_of (calls_of state caller)).writes
   pub saved : (caller : ℕ) → below.saved caller ≡ (log_of (calls_of state caller)).saved
 
--- no logger holds more of a caller than it has entries
+-- no logger holds more of a caller than it has entries for
 abbrev pub HasHeld : Limits → State → Type 0
 HasHeld limits state = (caller g : ℕ) → held_on limits state caller g ≤ limits.entries
 

@@ -1,4 +1,4 @@
--- What the making of a fresh array answers, writes and leaves.
+-- What making a fresh array answers, writes and leaves.
 use Rattle.std.specs.Prelude.{ℕ, ◌≡◌, ◌⊎◌, List, [], ◌∷◌, ◌++◌, codes, Bool, true, false}
 use Rattle.std.specs.FinMap.{empty}
 use Rattle.std.specs.Fmt.{decimal}
@@ -24,7 +24,7 @@ use Rattle.mars_shell.specs.declared.status.Status.TheVariants.{Good, WriteFault
 abbrev pub CanBe : FormatNumbers → Type 0
 CanBe asked = AreInRange asked.loggers asked.numbers asked.entries asked.pages
 
--- the shape has them
+-- the shape has these numbers
 abbrev pub HasAsked : FormatNumbers → Shape → Type 0
 HasAsked asked shape = HasNumbers asked.loggers asked.numbers asked.entries asked.pages shape
 

@@ -77,7 +77,7 @@ abbrev pub Tells : (Shape → List ℕ → List ℕ → Type 0) → Index → St
 Tells Opens index old (Ok ended) cut text new = Told Opens index old ended cut text new
 Tells Opens index old (Err fault) cut text new = Untaken Opens index old fault cut text new
 
--- the counts of faults of the sink and of the media
+-- the counts of faults of the sink and of the medium
 abbrev pub ServedCounts : Result Ended CoreFault → ℕ → ℕ → ℕ → ℕ → Type 0
 ServedCounts (Ok ended) sink sink' media media' = Counts ended sink sink' media media'
 ServedCounts (Err Media) sink sink' media media' = (sink' ≡ sink) × Rose media media'

@@ -10,7 +10,7 @@ use script_run::Ended;
 /// How a run ended.
 #[derive(Clone, Copy, Debug, PartialEq, Eq)]
 pub enum Status {
-    /// The input was read to its end and each line was answered.
+    /// What was asked for was done. Of a command with an input, that was read to its end and each line was answered.
     Good,
     /// The words ask for nothing that the program knows, or for more callers than the array has transaction numbers.
     Usage,
