@@ -56,8 +56,8 @@ pub record TakesTurns (Says : Limits → State → State → Type 0) (old : View
   pub quiet : ended ≡ All → HasNoVote shape new.content.bytes
   pub left : ended ≡ All → HasAll (index_at (data_of shape new.content.bytes)) (data_of shape new.content.bytes) final
 
--- The lines of the input were answered one by one. What was acknowledged as committed is kept: if an answer is the whole line `c committed
--- n`, the history has at least n transactions.
+-- The lines of the input were answered one by one. What was acknowledged as committed is kept: the history has at least n transactions
+-- if an answer is the whole line `c committed n`.
 pub record Answers (input : List ℕ) (ended : Ended) (cut : Bool) (text : List ℕ) (limits : Limits) (first final : State) : Type 0 where
   pub answers : List (List ℕ)
   pub rest : List ℕ
