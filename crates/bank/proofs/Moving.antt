@@ -11,7 +11,7 @@ use Rattle.bank.specs.Accounts.{sum_of, KeepsSum}
 use Rattle.bank.specs.Moves.{IsBalanced, Holds, MayGrow}
 use Rattle.bank.proofs.Sums.{sum_transfers, keeps_more}
 
--- what is committed then keeps the sum
+-- the commit then keeps the sum
 pub balanced : (caller from to amount : ℕ) (old mid new : CoreView) → from ≢ to → mid.state.base ≡ old.state.base → mid.state.history ≡ old.state.history → mid.state.doubt ≡ old.state.doubt
     → new.state.base ≡ mid.state.base → Holds caller from to amount mid → MayGrow caller mid new → IsBalanced old.state → IsBalanced new.state
 balanced caller from to amount old mid new apart base history doubt base' held grew keeps =

@@ -1,4 +1,4 @@
--- The sum of a table behind a transfer.
+-- The sum of a table after a transfer.
 use Rattle.std.proofs.Common.{T, ◌≡◌, ◌≢◌, ℕ, ◌+◌, ◌-◌, ◌<◌, ◌≤◌, Bool, true, false, cond, ⊎_elim, List, [], ◌∷◌, ◌++◌, length, take, Some, None, refl, sym, ◌∙◌, ap, arith}
 use Rattle.std.specs.Prelude.{IsTrue, ◌&&◌, decimal}
 use Rattle.std.specs.declared.cmp.Ordering.{Ordering}
@@ -39,11 +39,11 @@ is_less Greater h = absurd (false≢true h)
 abbrev sum_in : List (ℕ × List ℕ) → ℕ
 sum_in es = sum_by (λ (row : ℕ × List ℕ). worth row.1) es
 
--- a row more
+-- one more row
 sum_more : (e : ℕ × List ℕ) (es : List (ℕ × List ℕ)) → sum_in (e ∷ es) ≡ worth e.1 + sum_in es
 sum_more e es = sum_by-cons (λ (row : ℕ × List ℕ). worth row.1) e es
 
--- a key below the first of sorted rows is not found behind it
+-- a key below the first of sorted rows is not among the later ones
 none_below : (k : ℕ) (e : ℕ × List ℕ) (es : List (ℕ × List ℕ)) → IsTrue (is_sorted nat_cmp (e ∷ es)) → nat_cmp k e.0 ≡ Less → find nat_cmp k es ≡ None
 none_below k e [] sorted less = refl
 none_below k e (f ∷ es) sorted less =
@@ -66,7 +66,7 @@ sum_put k v was (e ∷ es) sorted there = by (nat_cmp k e.0) refl (λ rest. sum_
         rw is (omega (arith, sum_more (e.0, v) es, sum_more e es, same))
     by Greater is rest = rw is (omega (arith, sum_more e (put nat_cmp k v es), sum_more e es, rest (at Greater is)))
 
--- a value in the place of another
+-- one value replaces another
 pub sum_insert : (table : Table) (k : ℕ) (v was : List ℕ) → get table k ≡ Some was → sum_of (insert table k v) + worth was ≡ sum_of table + worth v
 sum_insert table k v was there =
     ap (λ (es : List (ℕ × List ℕ)). sum_in es + worth was) (entries-insert nat_cmp_total table k v)
@@ -92,7 +92,7 @@ sum_transfers from to amount old new apart moved =
       worth_decimal (worth moved.payee + amount) fits,
     )
 
--- a transaction more that keeps it
+-- one more transaction that keeps the sum
 pub keeps_more : (base : Table) (history : List Done) (done : Done) → KeepsSum base history → sum_of (left_by (records base history) done.calls) ≡ sum_of (records base history) → KeepsSum base (history ++ done ∷ [])
 keeps_more base history done keeps same count = ⊎_elim whole front (cases_lt (length history) count)
   where

@@ -26,6 +26,6 @@ no_plus : (ds : List ℕ) → AllDigits 10 ds → without_leading_plus ds ≡ ds
 no_plus [] digits = without_leading_plus_none [] (λ is. cc)
 no_plus (c ∷ cs) digits = without_leading_plus_none (c ∷ cs) (λ is. let range = digit_from_value c digits.0 in omega (arith, range, is))
 
--- and they write it
+-- they spell the number
 pub worth_decimal : (n : ℕ) → n < 2 ^ 64 → worth (decimal n) ≡ n
 worth_decimal n fits = ap (λ (ds : List ℕ). digits_value 10 ds) (no_plus (decimal n) (decimal_is_IsNumeral n fits).0.1) ∙ (decimal_is_IsNumeral n fits).1

@@ -13,11 +13,11 @@ use Rattle.bank.specs.Accounts.{worth, KeepsSum, Transfers}
 use Rattle.bank.specs.declared.accounts.Refusal.{Refusal}
 use Rattle.bank.specs.declared.accounts.Refusal.TheVariants.{NoAccount, Insufficient, TooMuch, Core}
 
--- each first part of its history keeps the sum, also with the transaction in doubt
+-- each prefix of the history keeps the sum, also with the transaction in doubt
 abbrev pub IsBalanced : State → Type 0
 IsBalanced state = KeepsSum state.base (with_doubt state.history state.doubt)
 
--- nothing was committed, and nothing came in doubt
+-- nothing was committed, and nothing came to be in doubt
 pub record Stays (old new : CoreView) : Type 0 where
   pub goes_on : Continues old new
   pub history : new.state.history ≡ old.state.history
@@ -28,7 +28,7 @@ pub record Adds (caller : ℕ) (call : Call) (reply : Reply) (old new : CoreView
   pub stays : Stays old new
   pub live : new.state.live caller ≡ Some (calls_of old.state caller ++ (call, reply) ∷ [])
 
--- the caller's transaction has calls that transfer the amount
+-- the calls of the caller's transaction transfer the amount
 pub record Holds (caller from to amount : ℕ) (core : CoreView) : Type 0 where
   pub calls : Granted
   pub live : core.state.live caller ≡ Some calls
@@ -40,25 +40,25 @@ pub record Commits (from to amount : ℕ) (old new : CoreView) : Type 0 where
   pub history : new.state.history ≡ old.state.history ++ done ∷ []
   pub transfers : Transfers from to amount (records_of old.state) (left_by (records_of old.state) done.calls)
 
--- the caller's transaction was committed or came in doubt, where none was, or else nothing
+-- nothing was added to the history, or the caller's transaction was, committed or in doubt
 abbrev pub MayGrow : ℕ → CoreView → CoreView → Type 0
 MayGrow caller old new =
     (with_doubt new.state.history new.state.doubt ≡ with_doubt old.state.history old.state.doubt)
     ⊎ ((old.state.doubt ≡ None) × (with_doubt new.state.history new.state.doubt ≡ old.state.history ++ done_by old.state caller (calls_of old.state caller) ∷ []))
 
--- Why a transfer is refused, on the records before it.
+-- Why a transfer is refused, given the records before it.
 abbrev pub IsRefused : Table → ℕ → ℕ → ℕ → Refusal → Type 0
 IsRefused table from to amount (NoAccount account) = (account ≡ from) ⊎ (account ≡ to)
 IsRefused table from to amount (Insufficient balance) = (text : List ℕ) × (get table from ≡ Some text) × (balance ≡ worth text) × (balance < amount)
 IsRefused table from to amount (TooMuch balance) = (text : List ℕ) × (get table to ≡ Some text) × (balance ≡ worth text) × (2 ^ 64 ≤ balance + amount)
 IsRefused table from to amount (Core reply) = Unit {0}
 
--- a step is refused by the core
+-- the core refused a step
 abbrev pub IsOfCore : Refusal → Type 0
 IsOfCore (Core reply) = Unit {0}
 IsOfCore _ = ⊥
 
--- and a read also where the account is none
+-- a read is also refused if there is no such account
 abbrev pub IsOfRead : ℕ → Refusal → Type 0
 IsOfRead account (NoAccount named) = named ≡ account
 IsOfRead account refusal = IsOfCore refusal

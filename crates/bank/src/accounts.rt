@@ -7,21 +7,21 @@ use itoa::Buffer;
 use record_slots::Value;
 use std::str;
 
-/// Why a transfer was not made, or a balance not told.
+/// Why a transfer was not made, or a balance was not given.
 #[derive(Debug, PartialEq, Eq, Drop)]
 pub enum Refusal {
-    /// There is no such account, or its record is no number of a u64.
+    /// There is no such account, or its record is not the decimal of a u64.
     NoAccount { account: u64 },
     /// The account has too little.
     Insufficient { balance: u64 },
-    /// The other account would have more than a u64 says.
+    /// The other account would exceed a u64.
     TooMuch { balance: u64 },
-    /// The core answered so. After `Busy` another caller holds one of the accounts: try again later. After `Media` the transfer
-    /// may have been made or not, and each call is answered `Dead`: open the array again.
+    /// The core gave this reply. After `Busy` another caller holds one of the accounts, so try again later. After `Media` the transfer may
+    /// have been made or not, and each call is answered `Dead` until the array is opened again.
     Core(Reply),
 }
 
-// The number that the value writes.
+// The number that a value spells.
 pub(crate) fn number_in(value: &Value) -> Option<u64>
     ensures { IfSome result (λ n. n ≡ worth value.now) }
 {
@@ -29,7 +29,7 @@ pub(crate) fn number_in(value: &Value) -> Option<u64>
     u64::from_str_radix(text, 10).ok()
 }
 
-// The value that writes the number.
+// The value that spells the number.
 pub(crate) fn value_of(number: u64) -> Value
     ensures { result ≡ decimal number }
 {

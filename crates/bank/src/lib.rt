@@ -1,4 +1,4 @@
-//! Accounts over a core of records: how an engine makes transactions, and what it can prove of them.
+//! Accounts over a core of records: how an engine makes transactions, and what it can prove about them.
 #![tactic(auto)]
 
 mod accounts;

@@ -76,7 +76,7 @@ pub(crate) fn write<C: Core>(
     }
 }
 
-// Gives a transaction up. Where the media fails then, the next call is told.
+// Aborts a transaction. If the medium fails meanwhile, the next call reports it.
 pub(crate) fn abort<C: Core>(core: &mut C, caller: u8)
     requires inside { caller < (C.view core.old).limits.callers }
     requires sound { IsTrue C.tells → IsSound (C.view core.old).state }

@@ -11,7 +11,7 @@ use crate::accounts::Refusal;
 use crate::steps::{abort, begin, commit, read, write};
 use core_face::{Core, prefix_law};
 
-/// Moves an amount from one account to another, as one transaction of the caller, who has none.
+/// Moves an amount from one account to another, as one transaction of the caller, which must have none live.
 pub fn transfer<C: Core>(
     core: &mut C,
     caller: u8,
@@ -22,14 +22,14 @@ pub fn transfer<C: Core>(
     requires inside { caller < (C.view core.old).limits.callers }
     requires apart { from ≢ to }
     requires sound { IsTrue C.tells → IsSound (C.view core.old).state }
-    // Where it is done, the history has one transaction more, which moves the amount.
+    // If it is done, the history has one more transaction, which moves the amount.
     ensures done { IsTrue C.tells → OnOk result (Commits from to amount (C.view core.old) (C.view core.new)) }
-    // Where it is refused, the history is as it was.
+    // If it is refused, the history is as it was.
     ensures refused { IsTrue C.tells → OnErr result ((C.view core.new).state.history ≡ (C.view core.old).state.history) }
     ensures cause { IsTrue C.tells → IfErr result (IsRefused (records_of (C.view core.old).state) from to amount) }
-    // The records of each first part of the history are worth what they were at first, also with the transaction in doubt.
+    // The records of each prefix of the history have the same sum as those at the opening, also with the transaction in doubt.
     ensures balanced { IsTrue C.tells → IsBalanced (C.view core.old).state → IsBalanced (C.view core.new).state }
-    // The prefix law goes on: whatever a loss of power leaves has a first part of the history.
+    // The prefix law still holds: whatever a loss of power leaves has a prefix of the history.
     ensures goes_on { IsTrue C.tells → Continues (C.view core.old) (C.view core.new) }
     ensures limits { (C.view core.new).limits ≡ (C.view core.old).limits }
 {
@@ -44,7 +44,7 @@ pub fn transfer<C: Core>(
     }
 }
 
-/// What an account has, read in a transaction of the caller, who has none.
+/// The balance of an account, read in a transaction of the caller, which must have none live.
 pub fn balance<C: Core>(core: &mut C, caller: u8, account: u64) -> Result<u64, Refusal>
     requires inside { caller < (C.view core.old).limits.callers }
     requires sound { IsTrue C.tells → IsSound (C.view core.old).state }

@@ -1,4 +1,4 @@
--- The actions that are left where a page was cut, and the way to a key then.
+-- The actions that are left after a page was split, and the way to a key then.
 use Rattle.std.proofs.Common.{◌≡◌, ◌≢◌, ℕ, zero, suc, ◌<◌, ◌≤◌, true, false, nat_lt, inl, inr, List, [], ◌∷◌, length, take, drop, refl, sym, ◌∙◌, ap, subst, arith}
 use Rattle.std.specs.Prelude.{if◌then◌else◌}
 use Rattle.std.proofs.lemmas.Bool.Decides.{nat_tests, leb_tells}
@@ -34,7 +34,7 @@ pub under_self : (l : ℕ) (bytes : List ℕ) (q : ℕ) → IsUnder l bytes q q
 under_self zero bytes q = refl
 under_self (suc l) bytes q = inl refl
 
--- a half of the entries has the child of a key in its range
+-- a half of the entries that has the key in its range has the key's child
 pub child_take : (n key : ℕ) (es : List Pair) → 0 < n → n < length es → key < key_at es n → child_for (take n es) key ≡ child_for es key
 child_take zero key es some less lt = absurd (omega arith)
 child_take (suc n) key [] some less lt = absurd (omega arith)
@@ -55,7 +55,7 @@ child_drop (suc n) key low high (e ∷ f ∷ es) less r le =
     let is : child_for (e ∷ f ∷ es) key ≡ child_for (f ∷ es) key = (rw b refl) in
     child_drop n key (suc e.0) high (f ∷ es) (omega arith) r.1 le ∙ sym is
 
--- one page below, with what it says
+-- one page further down, with what it has
 abbrev actions_step : ℕ → List ℕ → ℕ → ℕ → ℕ → ℕ → ℕ → List Pair → List Action
 actions_step m bytes now next key c count pairs =
     if nat_lt count 30 then actions_below m bytes c c next key else cutting c next now ∷ actions_below m bytes c (half_for pairs c next key) (suc next) key
@@ -82,7 +82,7 @@ module _ (old new : List ℕ) (slots : next_slot new ≡ next_slot old) (size : 
       ∙ ap (λ (b : List ℕ). actions_step m new now next key (child_for (page_pairs old p) key) (count_said b) (pairs_said b)) there
       ∙ step_same m now next key (child_for (page_pairs old p) key) (count_of old (child_for (page_pairs old p) key)) (page_pairs old (child_for (page_pairs old p) key)) tails
 
-  -- where no page below has changed
+  -- if no page below has changed
   pub actions_same : (m key p low high : ℕ) → IsTree m old p low high → low ≤ key → key < high → ((x : ℕ) → IsUnder m old x p → page_bytes new x ≡ page_bytes old x)
       → (now next : ℕ) → actions_below m new p now next key ≡ actions_below m old p now next key
   actions_same zero key p low high t le lt kept now next = adding_same now
@@ -94,7 +94,7 @@ module _ (old new : List ℕ) (slots : next_slot new ≡ next_slot old) (size : 
       below_same m key p p (ap (λ (b : List ℕ). child_for (pairs_said b) key) (kept p (inl refl))) (under (child_for (page_pairs old p) key) (under_self m old (child_for (page_pairs old p) key)))
       (actions_same m key (child_for (page_pairs old p) key) child.from child.to child.tree child.from_key child.key_to under) now next
 
-  -- behind a cut the half of the key has what is left
+  -- after a split, the half that has the key has what is left to do
   module _ (whole left right key : ℕ) (cut : IsCut old new whole left right) where
     pub half_child : (low : ℕ) → Rise low key_end (page_pairs old whole) → child_for (page_pairs new (half_for (page_pairs old whole) left right key)) key ≡ child_for (page_pairs old whole) key
     half_child low rises = elim (leb_tells (suc key) (key_at (page_pairs old whole) 15)) [
@@ -123,7 +123,7 @@ module _ (old new : List ℕ) (slots : next_slot new ≡ next_slot old) (size : 
         deeper : (m from to : ℕ) → IsTree m old (child_for (page_pairs old whole) key) from to → IsUnder m old whole (child_for (page_pairs old whole) key) → level_of old whole ≡ suc m → ⊥
         deeper m from to tree u level = let sub = sub_of m old whole (child_for (page_pairs old whole) key) from to tree u in omega (arith, sub.most, tree_level sub.m old whole sub.from sub.to sub.tree, level)
 
--- where pages above a level say what they said, the way to that level is as it was
+-- if pages above a level keep their pairs, the way down to that level stays
 pub way_same : (l : ℕ) (old new : List ℕ) → ((x : ℕ) → IsOwn old x → l < level_of old x → page_pairs new x ≡ page_pairs old x)
     → (d key p low high : ℕ) → IsTree (above d l) old p low high → IsOwn old p → low ≤ key → key < high → page_for d new p key ≡ page_for d old p key
 way_same l old new same zero key p low high t own le lt = refl

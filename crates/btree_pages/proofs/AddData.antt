@@ -1,4 +1,4 @@
--- What an added pair makes of the data.
+-- What adding a pair does to the data.
 use Rattle.std.proofs.Common.{◌≡◌, ◌≢◌, ℕ, suc, ◌+◌, ◌*◌, ◌/◌, ◌%◌, ◌^◌, ◌<◌, ◌≤◌, inl, inr, List, Option, length, refl, sym, ◌∙◌, ap, subst, arith}
 use Rattle.std.proofs.lemmas.Bool.{cases_lt}
 use Rattle.std.proofs.lemmas.Bool.Decides.{eqb_tells}
@@ -228,7 +228,7 @@ module _ (shape : Shape) (old : List ℕ) (half : ℕ) (long : length old ≡ da
     | inr far ↦ ap level_said (page_old 1 (omega arith) own_root.1 far.1)
   ]
 
-  -- what an added pair makes of the data
+  -- what adding a pair does to the data
   pub adding_grows : Grows tree old (applied (adding_parts half front leaf pairs key) old) × Gains tree key old (applied (adding_parts half front leaf pairs key) old)
   unfolding added
   adding_grows = (

@@ -1,4 +1,4 @@
--- No page comes twice in a sound tree.
+-- No page occurs twice in a sound tree.
 use Rattle.std.proofs.Common.{◌≡◌, ◌≢◌, ℕ, zero, suc, ◌<◌, ◌≤◌, inl, inr, List, [], ◌∷◌, length, length-append, sym, ◌∙◌, subst, arith}
 use Rattle.btree_pages.specs.TreeFacts.{children_tile, tree_rises, tree_wide, tree_level}
 use Rattle.btree_pages.specs.Tree.{IsTreeLeaf, AreChildren, next_low, AreSound, IsTree, pieces_with, pairs_under, IsUnder, IsUnderSome}
@@ -9,7 +9,7 @@ use Rattle.index_pages.specs.Page.{page_pairs}
 use Rattle.index_pages.specs.Pieces.{joined, Tile}
 use Rattle.page_store.specs.Pairs.{Pair, Rise}
 
--- a page of a tree has the tree of its level, within bounds of its own
+-- a page of a tree has a tree of its level under it, within bounds of its own
 pub record Sub (bytes : List ℕ) (q l low high : ℕ) : Type 0 where
   pub m : ℕ
   pub from : ℕ
@@ -26,7 +26,7 @@ first_some f P fact bytes (e ∷ es) high some are sound =
     let h = fact e.1 e.0 (next_low es high) are.0 sound.0 in
     omega (arith, h, length-append (f e.1) (joined (pieces_with f es)))
 
--- no tree but the root's is empty
+-- no tree but that of the root is empty
 pub tree_some : (m : ℕ) (bytes : List ℕ) (q low high : ℕ) → IsTree m bytes q low high → q ≢ 1 → 1 ≤ length (pairs_under m bytes q)
 tree_some zero bytes q low high t other = omega (arith, t.some other, length-page_pairs bytes q)
 tree_some (suc m) bytes q low high t other =
@@ -66,7 +66,7 @@ sub_of (suc l) bytes q page low high t (inr u) =
     wider bytes q l (suc l) (next_low (page_pairs bytes page) high) low high high (omega arith) (omega arith) (omega arith)
     (sub_below l bytes q (sub_of l bytes q) (page_pairs bytes page) high t.0.children t.1 u)
 
--- two ranges, one below the other, have no page in common
+-- trees over two disjoint ranges have no page in common
 pub subs_apart : (bytes : List ℕ) (q l l' low mid mid' high : ℕ) → q ≢ 1 → mid ≤ mid' → Sub bytes q l low mid → Sub bytes q l' mid' high → ⊥
 subs_apart bytes q l l' low mid mid' high other le s t =
     let e : t.m ≡ s.m = sym (tree_level t.m bytes q t.from t.to t.tree) ∙ tree_level s.m bytes q s.from s.to s.tree in

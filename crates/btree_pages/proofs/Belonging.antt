@@ -1,4 +1,4 @@
--- The pages of a tree where a page was cut: none is lost, and the new one belongs to it.
+-- The pages of a tree after a split: none is lost, and the new one belongs to it.
 use Rattle.std.proofs.Common.{◌≡◌, ◌≢◌, ℕ, zero, suc, ◌<◌, ◌≤◌, ◌⊎◌, true, false, nat_lt, inl, inr, List, [], ◌∷◌, length, take, drop, refl, sym, ◌∙◌, ap, subst, arith}
 use Rattle.std.proofs.lemmas.Bool.Decides.{leb_tells, eqb_tells}
 use Rattle.record_slots.specs.Places.{page_bytes}
@@ -39,7 +39,7 @@ some_halves P (suc n) [] u = absurd u
 some_halves P (suc n) (e ∷ es) (inl u) = inl (inl u)
 some_halves P (suc n) (e ∷ es) (inr u) = elim (some_halves P n es u) [ inl a ↦ inl (inr a) | inr a ↦ inr a ]
 
--- a page below a page on a key's way
+-- a page under a page on a key's way
 pub under_way : (d l : ℕ) (bytes : List ℕ) (key p low high x : ℕ) → IsTree (above d l) bytes p low high → low ≤ key → key < high → IsUnder l bytes x (page_for d bytes p key) → IsUnder (above d l) bytes x p
 under_way zero l bytes key p low high x t le lt u = u
 under_way (suc d) l bytes key p low high x t le lt u =
@@ -48,7 +48,7 @@ under_way (suc d) l bytes key p low high x t le lt u =
     let child = child_step (above d l) bytes (page_pairs bytes p) high key some t.0.children t.1 (omega arith) lt in
     inr (child_some (IsUnder (above d l) bytes x) (page_pairs bytes p) key some (under_way d l bytes key (child_for (page_pairs bytes p) key) child.from child.to x child.tree child.from_key child.key_to u))
 
--- a child of a page was cut
+-- a child of a page was split
 module _ (old new : List ℕ) (l parent key right : ℕ) (splits : SplitsChild old new parent key right) (parent_level : level_of old parent ≡ suc l) (child_level : level_of old (child_for (page_pairs old parent) key) ≡ l)
     (kept : (x : ℕ) → IsOwn old x → x ≢ parent → x ≢ child_for (page_pairs old parent) key → page_bytes new x ≡ page_bytes old x) where
   below_stays : (n x : ℕ) → ((p low high : ℕ) → IsOwn old p → IsTree n old p low high → IsUnder n old x p → IsUnder n new x p ⊎ IsUnder l new x right)
@@ -57,7 +57,7 @@ module _ (old new : List ℕ) (l parent key right : ℕ) (splits : SplitsChild o
   below_stays n x ih (e ∷ es) high are sound (inl u) = elim (ih e.1 e.0 (next_low es high) (omega (arith, are.0), are.1) sound.0 u) [ inl a ↦ inl (inl a) | inr a ↦ inr a ]
   below_stays n x ih (e ∷ es) high are sound (inr u) = elim (below_stays n x ih es high are.2 sound.1 u) [ inl a ↦ inl (inr a) | inr a ↦ inr a ]
 
-  -- the entries of a page stand in it still, or in its upper half
+  -- the entries of a page are still in it, or in its upper half
   entries_stay : (n p x : ℕ) → IsOwn old p → level_of old p ≡ suc n → IsUnderSome (IsUnder n new x) (page_pairs old p) → IsUnder (suc n) new x p ⊎ IsUnder l new x right
   entries_stay n p x own level u = elim (eqb_tells p parent) [
     | inl same ↦
@@ -87,12 +87,12 @@ module _ (old new : List ℕ) (l parent key right : ℕ) (splits : SplitsChild o
         | inr a ↦ inr a
       ]
 
-  -- what is below the upper half is below the parent
+  -- what is under the upper half is under the parent
   pub half_named : (x : ℕ) → 1 ≤ length (page_pairs old parent) → IsUnder l new x right → IsUnder (suc l) new x parent
   half_named x some u = inr (subst (λ (ps : List Pair). IsUnderSome (IsUnder l new x) ps) (sym splits.pairs)
       (new_with (IsUnder l new x) (page_pairs old parent) key (middle old (child_for (page_pairs old parent) key), right) some u))
 
--- below an unchanged page
+-- under an unchanged page
 module _ (old new : List ℕ) (x : ℕ) where
   some_same : (l : ℕ) → ((p low high : ℕ) → IsTree l old p low high → ((q : ℕ) → IsUnder l old q p → page_bytes new q ≡ page_bytes old q) → IsUnder l old x p → IsUnder l new x p)
       → (es : List Pair) (high : ℕ) → AreSound (IsTree l old) es high → ((q : ℕ) → IsUnderSome (IsUnder l old q) es → page_bytes new q ≡ page_bytes old q) → IsUnderSome (IsUnder l old x) es → IsUnderSome (IsUnder l new x) es
@@ -107,7 +107,7 @@ module _ (old new : List ℕ) (x : ℕ) where
       inr (subst (λ (b : List ℕ). IsUnderSome (IsUnder l new x) (pairs_said b)) (sym (kept p (inl refl)))
       (some_same l (under_same l) (page_pairs old p) high t.1 (λ q v. kept q (inr v)) u))
 
--- the root was cut
+-- the root was split
 module _ (old new : List ℕ) (left right : ℕ) (splits : SplitsRoot old new left right) where
   pub grown_stays : (l low high x : ℕ) → IsTree l old 1 low high → ((q : ℕ) → IsUnder l old q 1 → q ≢ 1 → page_bytes new q ≡ page_bytes old q) → IsUnder l old x 1 → IsUnder (suc l) new x 1
   grown_stays zero low high x t kept u = inl u
@@ -128,7 +128,7 @@ module _ (old new : List ℕ) (left right : ℕ) (splits : SplitsRoot old new le
   pub right_named : (l : ℕ) → IsUnder (suc l) new right 1
   right_named l = inr (subst (λ (ps : List Pair). IsUnderSome (IsUnder l new right) ps) (sym splits.pairs) (inr (inl (under_self l new right))))
 
--- a leaf alone has changed
+-- only a leaf has changed
 module _ (old new : List ℕ) (leaf x : ℕ) (bottom : level_of old leaf ≡ 0) (kept : (q : ℕ) → IsOwn old q → q ≢ leaf → page_bytes new q ≡ page_bytes old q) where
   inner_some : (l : ℕ) → ((p low high : ℕ) → IsOwn old p → IsTree l old p low high → IsUnder l old x p → IsUnder l new x p)
       → (es : List Pair) (high : ℕ) → AreChildren old es → AreSound (IsTree l old) es high → IsUnderSome (IsUnder l old x) es → IsUnderSome (IsUnder l new x) es

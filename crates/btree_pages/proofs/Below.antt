@@ -1,4 +1,4 @@
--- What is left of an insertion from a page on, and its ends.
+-- What is left of an insertion from a page on, and how it ends.
 use Rattle.std.proofs.Common.{◌≡◌, ◌≢◌, ℕ, suc, ◌+◌, ◌-◌, ◌/◌, ◌^◌, ◌<◌, ◌≤◌, Bool, true, false, nat_lt, inl, inr, List, [], ◌∷◌, length, take, drop, None, Result, Ok, Err, refl, sym, ◌∙◌, ap, subst, arith}
 use Rattle.std.specs.Prelude.{IsTrue}
 use Rattle.std.proofs.lemmas.Bool.Decides.{leb_tells}
@@ -78,7 +78,7 @@ adding_at shape bytes long half all front says page =
     ap (λ (x : ℕ). x ∷ page ∷ 0 ∷ []) place
 
 module _ (tells : Bool) (E : Shape → List ℕ → List ℕ → Type 0) (t key : ℕ) (v0 : PagesView) (page0 level0 most slot0 : ℕ) where
-  -- So far the insertion has come to a page that has room.
+  -- The insertion has come to a page that has room.
   pub record Stands (v : PagesView) (front : Super) (page level : ℕ) (pairs : List Pair) : Type 0 where
     pub front_is : IsFront v0.store.shape front
     pub slot : front.next_slot ≡ slot0
@@ -117,7 +117,7 @@ module _ (tells : Bool) (E : Shape → List ℕ → List ℕ → Type 0) (t key 
       pub living : IsAlive v.store
       living = alive_now (tree_below page0 level0 most) tells (E v0.store.shape) t key v0 v s.going alive
 
-      -- the child can't be read
+      -- the child cannot be read
       pub child_err : (v' : PagesView) (fault : PageFault) → (let r : Result Node PageFault = Err fault in Looks tells (E v.store.shape) (is_failed r) v v' × LookCause tells v.store r)
           → (let r : Result ℕ IndexFault = Err (as_index fault) in Inserts tells (E v0.store.shape) (tree_below page0 level0 most) t key v0 v' r)
       child_err v' fault looks' =
@@ -152,7 +152,7 @@ module _ (tells : Bool) (E : Shape → List ℕ → List ℕ → Type 0) (t key 
             (subst (λ (b : List ℕ). Walks v0.store t (index_pages_of v0.store.shape) key (index_pages_of v0.store.shape - next_page v0.store.state.bytes)
             (actions_below level0 v0.store.state.bytes page0 page0 (next_page v0.store.state.bytes) key) most b page level pairs) (sym (same1 told)) (s.walks told))
 
-        -- a child with room is the next page
+        -- a child with room is the next page on the way
         pub stands_down : length below < 30 → Stands v' front child m below
         stands_down room = record {
           front_is = s.front_is;
@@ -248,7 +248,7 @@ module _ (tells : Bool) (E : Shape → List ℕ → List ℕ → Type 0) (t key 
             cut_enough : IsTrue tells → 1 ≤ index_pages_of v0.store.shape - next_page v'.store.state.bytes
             cut_enough told = omega (arith, next, (counts1 told).pages)
 
-            -- the cut was refused
+            -- the split was refused
             pub cut_err : (v'' : PagesView) (fault : PageFault) → (let r : Result (Unit {0}) PageFault = Err fault in Acts tells (E v'.store.shape) t (cutting_pages child front.next_page page) (cutting_parts front child m below page pairs) v' v'' r)
                 → (let r : Result ℕ IndexFault = Err (as_index fault) in Inserts tells (E v0.store.shape) (tree_below page0 level0 most) t key v0 v'' r)
             cut_err v'' fault acts' =
@@ -311,7 +311,7 @@ module _ (tells : Bool) (E : Shape → List ℕ → List ℕ → Type 0) (t key 
                     (applied (cutting_parts front child m below page pairs) v'.store.state.bytes) page2 pairs2
                     (half_is2 told ∙ ap (λ (n : ℕ). half_for (page_pairs v'.store.state.bytes child) child n key) (counts1 told).pages) (cut_fits told) (cut_count told).1 (half_way told) (half_rest told)
 
-                -- behind the cut the half of the key is the next page
+                -- after the split, the half that has the key is the next page on the way
                 pub stands_cut : (front2 : Super) (level2 : ℕ) → front2.next_slot ≡ front.next_slot → front2.next_page ≡ front.next_page + 1 → level2 ≡ m → Stands v'' front2 page2 level2 pairs2
                 stands_cut front2 level2 slot2 next2 level2_is =
                     let half2 = half_read v0.store.shape below child front.next_page key page2 pairs2 full child_read.small child_read.some child_read.inside (omega (arith, s.front_is.some)) next page2_is pairs2_are in

@@ -1,4 +1,4 @@
--- Answers to tests of pages as answers to look-ups.
+-- Answers of page tests, as answers of look-ups.
 use Rattle.std.proofs.Common.{ℕ, Bool, Result, Err, refl, sym, ◌∙◌}
 use Rattle.std.specs.Prelude.{IsTrue}
 use Rattle.eaw_face.specs.StoreView.{StoreView}
@@ -8,7 +8,7 @@ use Rattle.index_pages.specs.Fetched.{TestCause}
 use Rattle.page_store.specs.declared.fault.PageFault.{PageFault}
 use Rattle.page_store.specs.declared.fault.PageFault.TheVariants.{LogFull, SavesFull, Media, Dead, Damaged}
 
--- no page of data that is told and sound is damaged
+-- in sound data whose bytes are known no page is damaged
 pub look_cause : (T U : Type 0) (tells : Bool) (old mid : StoreView) (Good : Type 0) (page : ℕ) (fault : PageFault) → IsStill tells old mid → (IsTrue tells → IsAlive old → Good)
     → (let r : Result T PageFault = Err fault in TestCause tells Good page mid r) → (let s : Result U PageFault = Err fault in LookCause tells old s)
 look_cause T U tells old mid Good page Media still good cause = sym still.dead ∙ cause

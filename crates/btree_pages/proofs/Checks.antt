@@ -1,4 +1,4 @@
--- Tests of a tree, step by step.
+-- The tests of a tree, step by step.
 use Rattle.std.proofs.Common.{◌≡◌, ◌≢◌, ◌↔◌, ℕ, zero, suc, ◌+◌, ◌-◌, ◌<◌, ◌≤◌, inl, inr, List, [], ◌∷◌, Result, Ok, Err, refl, sym, ◌∙◌, ap, subst, arith}
 use Rattle.record_slots.specs.Slots.{slot_said}
 use Rattle.record_slots.specs.Places.{slot_of, next_page, IsOfKey, Carries, AreGiven, page_bytes}
@@ -24,14 +24,14 @@ pub carries_not : (bytes : List ℕ) (key slot : ℕ) (said : Option Slot) → s
 unfolding Carries
 carries_not bytes key slot said is other carries = other (subst (λ (o : Option Slot). IsOfKey key o) (sym is) carries)
 
--- all pairs are left
+-- at first all pairs are left
 pub whole_left : (page : List ℕ) (n : ℕ) → n ≡ count_said page → pairs_said page ≡ pairs_from page 0 (n - 0)
 whole_left page n is = from_first page ∙ ap (λ (m : ℕ). pairs_from page 0 m) (let e : count_said page ≡ n - 0 = omega (arith, is) in e)
 
 pub first_said : (page : List ℕ) (n low : ℕ) → n ≡ count_said page → 1 ≤ n → next_low (pairs_said page) low ≡ (pair_said page 0).0
 first_said page n low is some = ap (λ (ps : List Pair). next_low ps low) (whole_left page n is ∙ from_step page 0 n (omega (arith, some)))
 
--- A test of all pairs that went as far as pair i: what is left decides.
+-- A test of all pairs that has come to pair i: what is left decides.
 module _ (page : List ℕ) (i n : ℕ) (All : Type 0) where
   next_left : i < n → pairs_from page i (n - i) ≡ pair_said page i ∷ pairs_from page (i + 1) (n - (i + 1))
   next_left lt = from_step page i n lt ∙ ap (λ (j : ℕ). pair_said page i ∷ pairs_from page j (n - j)) (let e : suc i ≡ i + 1 = omega arith in e)
@@ -65,7 +65,7 @@ module _ (page : List ℕ) (i n : ℕ) (All : Type 0) where
     pub named_end : n ≤ i → All
     named_end le = left.0 (subst (λ (ps : List Pair). AreNamed pages ps) (sym (from_end page i n le)) tt)
 
--- the children that were named are below the next page
+-- the children are named exactly when they are below the next page
 pub named_children : (bytes : List ℕ) (pages : ℕ) (es : List Pair) → pages ≡ next_page bytes → AreNamed pages es ↔ AreChildren bytes es
 named_children bytes pages [] is = (λ a. tt, λ a. tt)
 named_children bytes pages (e ∷ es) is = let h = named_children bytes pages es is in (
@@ -73,7 +73,8 @@ named_children bytes pages (e ∷ es) is = let h = named_children bytes pages es
   λ a. (a.0, omega (arith, a.1, is), h.1 a.2),
 )
 
--- Of all pairs of a leaf these are left: where they are well, so are all, and the page that answers for one of them answers for all.
+-- Of all pairs of a leaf these are left: if they are sound, so are all, and the page that is damaged because of one of them is the leaf's
+-- answer.
 pub record SlotsLeft (bytes : List ℕ) (page : ℕ) (pairs left : List Pair) : Type 0 where
   pub fails : (bad : ℕ) → SlotsFail bytes page left bad → SlotsFail bytes page pairs bad
   pub given : AreGiven bytes left → AreGiven bytes pairs
@@ -91,7 +92,7 @@ module _ (bytes : List ℕ) (page : ℕ) (pairs : List Pair) (p : Pair) (rest : 
   slots_fail Media f = tt
   slots_fail Dead f = tt
 
--- the same of the children of a page
+-- the same for the children of a page
 pub record ChildrenLeft (l : ℕ) (bytes : List ℕ) (all left : List Pair) (high : ℕ) : Type 0 where
   pub fails : (bad : ℕ) → ChildFails (IsTree l bytes) (TreeFails l bytes) left high bad → ChildFails (IsTree l bytes) (TreeFails l bytes) all high bad
   pub sound : AreSound (IsTree l bytes) left high → AreSound (IsTree l bytes) all high
@@ -109,7 +110,7 @@ module _ (l : ℕ) (bytes : List ℕ) (all : List Pair) (e : Pair) (rest : List 
   children_fail Media f = tt
   children_fail Dead f = tt
 
--- one page's own tests, whose bytes were read
+-- a page's own tests, once its bytes were read
 module _ (bytes buf : List ℕ) (page low high : ℕ) (is : buf ≡ page_bytes bytes page) where
   leaf_node : IsTreeLeafHead bytes page low high → IsNode buf
   leaf_node t = subst (λ (b : List ℕ). IsNode b) (sym is) (record { form = inl (t.kind, t.level); link = t.link; most = t.most })
@@ -121,7 +122,7 @@ module _ (bytes buf : List ℕ) (page low high : ℕ) (is : buf ≡ page_bytes b
     most = t.most;
   })
 
-  -- it is no page of the tree
+  -- it is not a page of the tree
   pub other_page : (l : ℕ) → l ≤ 7 → ¬ IsNode buf → TreeFails l bytes page low high page
   other_page zero most other = inl ((λ t. other (leaf_node t)), refl)
   other_page (suc l) most other = inl ((λ t. other (inner_node l most t)), refl)

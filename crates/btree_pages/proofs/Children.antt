@@ -1,4 +1,4 @@
--- The child that a key lies in, of a page on its way.
+-- The child that has the key in its range, of a page on the key's way.
 use Rattle.std.proofs.Common.{◌≡◌, ◌≢◌, ℕ, zero, suc, ◌+◌, ◌<◌, ◌≤◌, List, length, sym, ap, subst, arith}
 use Rattle.record_slots.specs.Places.{page_bytes, next_page}
 use Rattle.page_store.specs.Pairs.{Pair}
@@ -15,7 +15,7 @@ use Rattle.btree_pages.proofs.Descending.{child_step, node_of}
 use Rattle.btree_pages.proofs.Ways.{Way, way_of, child_given, above-le}
 use Rattle.btree_pages.specs.TreeFacts.{tree_level}
 
--- it was given, and stands one level down
+-- the child is given out and one level down
 pub record IsChild (bytes : List ℕ) (child level : ℕ) : Type 0 where
   pub two : 2 ≤ child
   pub given : child < next_page bytes

@@ -1,4 +1,4 @@
--- What the cut of a page makes of the data.
+-- What splitting a page does to the data.
 use Rattle.std.proofs.Common.{◌≡◌, ◌≢◌, ℕ, zero, suc, ◌+◌, ◌*◌, ◌^◌, ◌<◌, ◌≤◌, true, false, nat_lt, inl, inr, List, [], ◌∷◌, length, take, drop, refl, sym, ◌∙◌, ap, subst, arith}
 use Rattle.std.specs.Prelude.{if◌then◌else◌}
 use Rattle.std.proofs.lemmas.Bool.{cases_lt}
@@ -46,7 +46,7 @@ use Rattle.btree_pages.proofs.Splitting.{halves, sound_tree_splits}
 use Rattle.btree_pages.proofs.Ways.{Way, way_of, way_own, child_given}
 use Rattle.btree_pages.specs.TreeFacts.{tree_level, under_own}
 
--- the slots of a pair carry its key where they are as they were
+-- a slot that is as it was carries the same key
 pub carries_on : (old new : List ℕ) (p : Pair) → slot_of new p.1 ≡ slot_of old p.1 → Carries old p → Carries new p
 unfolding Carries
 carries_on old new p same carries = subst (λ (b : List ℕ). IsOfKey p.0 (slot_said b)) (sym same) carries
@@ -56,7 +56,7 @@ small_at n [] lt small = absurd (omega arith)
 small_at zero (p ∷ ps) lt small = small.0
 small_at (suc n) (p ∷ ps) lt small = small_at n ps (omega arith) small.2
 
--- kinds of pages are those of their levels
+-- the kind of a page is that of its level
 pub tree_kind : (m : ℕ) (bytes : List ℕ) (page low high : ℕ) → IsTree m bytes page low high → kind_of bytes page ≡ kind_for m
 tree_kind zero bytes page low high t = t.kind
 tree_kind (suc m) bytes page low high t = t.0.kind
@@ -329,7 +329,7 @@ module _ (shape : Shape) (old : List ℕ) (half : ℕ) (long : length old ≡ da
   unfolding cut
   others_there x some lt no_parent no_child = cut_others x some lt no_parent (λ e. no_child (e ∙ page_there))
 
-  -- the data is sound, and has its pairs
+  -- the data is sound and has the same pairs
   pub cut_sound : IsSoundTree (applied (cutting_parts front page level pairs parent entries) old) × (pairs_of_tree (applied (cutting_parts front page level pairs parent entries) old) ≡ pairs_of_tree old)
   unfolding cut
   cut_sound =
@@ -355,7 +355,7 @@ module _ (shape : Shape) (old : List ℕ) (half : ℕ) (long : length old ≡ da
   above_same x own high =
       ap pairs_said (cut_others x own.0 own.1 (λ e. omega (arith, high, level_parent, ap (λ (y : ℕ). level_of old y) e)) (λ e. omega (arith, high, level_page, ap (λ (y : ℕ). level_of old y) e)))
 
-  -- the parent is on the key's way still
+  -- the parent is still on the key's way
   pub parent_there : parent ≡ page_for d (applied (cutting_parts front page level pairs parent entries) old) 1 key
   unfolding cut
   parent_there = way.page_is ∙ sym (way_same (suc level) old cut above_same d key 1 0 key_end root_tree own_root (omega arith) fits)
@@ -381,7 +381,7 @@ module _ (shape : Shape) (old : List ℕ) (half : ℕ) (long : length old ≡ da
         | inr a ↦ below_half x a
       ]
 
-  -- what a cut page makes of the data
+  -- what splitting a page does to the data
   pub cutting_grows : Grows tree old (applied (cutting_parts front page level pairs parent entries) old) × Rests tree old (applied (cutting_parts front page level pairs parent entries) old)
   unfolding cut
   cutting_grows = (
@@ -398,7 +398,7 @@ module _ (shape : Shape) (old : List ℕ) (half : ℕ) (long : length old ≡ da
     record { pairs = cut_sound.1; slots = slot_now ∙ says.slots },
   )
 
-  -- the half of the key is on its way then, and has room
+  -- the half that has the key is now on its way, and has room
   pub half_there : half_for (page_pairs old page) page front.next_page key ≡ page_for (suc d) (applied (cutting_parts front page level pairs parent entries) old) 1 key
   unfolding cut
   half_there =
@@ -424,7 +424,7 @@ module _ (shape : Shape) (old : List ℕ) (half : ℕ) (long : length old ≡ da
     | inr h ↦ let b : nat_lt key (key_at (page_pairs old page) 15) ≡ false = h.0 in rw b upper_half.pairs_are
   ]
 
-  -- what was to be done behind the cut is what is to be done from that half on
+  -- what is left to do after the split is what is to do from that half on
   pub half_left : actions_below level (applied (cutting_parts front page level pairs parent entries) old) (half_for (page_pairs old page) page front.next_page key)
       (half_for (page_pairs old page) page front.next_page key) (next_page (applied (cutting_parts front page level pairs parent entries) old)) key
       ≡ actions_below level old page (half_for (page_pairs old page) page front.next_page key) (suc (next_page old)) key

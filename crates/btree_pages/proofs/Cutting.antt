@@ -13,7 +13,7 @@ get_key [] n = refl
 get_key (p ∷ ps) zero = refl
 get_key (p ∷ ps) (suc n) = get_key ps n
 
--- all that stands behind the first n
+-- everything after the first n pairs
 pub all_behind : (ps : List Pair) (n : ℕ) → take (length ps - n) (drop n ps) ≡ drop n ps
 all_behind ps n = take_all (length ps - n) (drop n ps) (omega (arith, length-drop n ps))
 
@@ -23,7 +23,7 @@ same_part p p' at at' b b' e f h = cc
 pub same_four : {A : Type 0} (a a' b b' c c' d d' : A) → a ≡ a' → b ≡ b' → c ≡ c' → d ≡ d' → (a ∷ b ∷ c ∷ d ∷ []) ≡ (a' ∷ b' ∷ c' ∷ d' ∷ [])
 same_four a a' b b' c c' d d' e f h k = cc
 
--- the search for a key's child goes on to the next entry
+-- the search for a key's child moves to the next entry
 child_on : (ps : List Pair) (i key : ℕ) → suc i < length ps → (get_or ps (suc i) (0, 0)).0 ≤ key → child_for (drop i ps) key ≡ child_for (drop (suc i) ps) key
 child_on [] i key lt le = absurd (omega arith)
 child_on (e ∷ []) i key lt le = absurd (omega arith)

@@ -1,4 +1,4 @@
--- The way down to the leaf of a key, and what lies behind that leaf.
+-- The way down to the leaf of a key, and what comes after that leaf.
 use Rattle.std.proofs.Common.{◌≡◌, ◌≢◌, ℕ, zero, suc, ◌+◌, ◌<◌, ◌≤◌, true, false, nat_lt, inl, inr, List, [], ◌∷◌, ◌++◌, length, Option, Some, None, refl, sym, ◌∙◌, ap, subst, arith}
 use Rattle.std.proofs.lemmas.Bool.Decides.{nat_tests, leb_tells}
 use Rattle.std.proofs.lemmas.List.{append-nil}
@@ -20,7 +20,7 @@ use Rattle.btree_pages.proofs.Apart.{tree_some, child_facts, entries_tile, start
 use Rattle.btree_pages.proofs.Ways.{found_on_way, child_given}
 use Rattle.btree_pages.specs.TreeFacts.{tree_level}
 
--- the entries behind that of a key's child, which ends at their bound, and the pairs below them
+-- the entries after that of a key's child, whose range ends at their bound, and the pairs under them
 abbrev pub Behind : ℕ → List ℕ → List Pair → ℕ → ℕ → ℕ → ℕ → Option ℕ → Type 0
 Behind l bytes es high c from to None =
     (to ≡ high) × ((k : ℕ) → from ≤ k → k < to → next (joined (pieces_with (pairs_under l bytes) es)) k ≡ next (pairs_under l bytes c) k)
@@ -29,7 +29,7 @@ Behind l bytes es high c from to (Some b) =
     × ((p : Pair) × (next (joined (pieces_with (pairs_under l bytes) es)) b ≡ Some p)
     × ((k : ℕ) → from ≤ k → k < to → next (joined (pieces_with (pairs_under l bytes) es)) k ≡ or_else (next (pairs_under l bytes c) k) (Some p)))
 
--- the child of a key among these entries
+-- the key's child among these entries
 pub record Child (l : ℕ) (bytes : List ℕ) (es : List Pair) (high key : ℕ) : Type 0 where
   pub from : ℕ
   pub to : ℕ
@@ -41,7 +41,7 @@ pub record Child (l : ℕ) (bytes : List ℕ) (es : List Pair) (high key : ℕ) 
   pub same : (k : ℕ) → from ≤ k → k < to → child_for es k ≡ child_for es key
   pub behind : Behind l bytes es high (child_for es key) from to (bound_in es key)
 
--- a list that is not empty has a head
+-- a list that is not empty has a first element
 head_some : (ps : List Pair) → 1 ≤ length ps → (p : Pair) × (head ps ≡ Some p)
 head_some [] some = absurd (omega arith)
 head_some (p ∷ ps) some = (p, refl)
@@ -50,7 +50,7 @@ head_append : (p : Pair) (xs ys : List Pair) → head xs ≡ Some p → head (xs
 head_append p [] ys is = absurd (cc)
 head_append p (x ∷ xs) ys is = is
 
--- the first entry has the child of its own low key
+-- the first entry has the child for its own low key
 first_child : (e : Pair) (es : List Pair) (high : ℕ) → e.0 < next_low es high → child_for (e ∷ es) e.0 ≡ e.1
 first_child e [] high lt = refl
 first_child e (f ∷ es) high lt = let b : nat_lt e.0 f.0 ≡ true = grind (arith, nat_tests) in rw b refl
@@ -169,7 +169,7 @@ leaf_begins (suc m) bytes q low high two t =
     let some : 1 ≤ length (page_pairs bytes q) = omega (arith, t.0.some, length-page_pairs bytes q) in
     first_begins m bytes (leaf_begins m bytes) (page_pairs bytes q) low high some (start_of low high (page_pairs bytes q) some t.0.first) t.0.children t.1
 
--- behind so many steps down: this page answers for all keys in its range, of which the key is one
+-- after so many steps down, this page decides for all keys in its range, of which the key is one
 pub record Down (bytes : List ℕ) (key steps page : ℕ) (bound : Option ℕ) : Type 0 where
   pub m : ℕ
   pub low : ℕ
@@ -209,7 +209,7 @@ down_first bytes key sound lt = record {
   begins = tt;
 }
 
--- a step down to the key's child
+-- one step down, to the key's child
 module _ (m : ℕ) (bytes : List ℕ) (key steps page low high : ℕ) (bound : Option ℕ) (t : IsTree (suc m) bytes page low high) (from : low ≤ key) (to : key < high) (left : suc m + steps ≤ 7)
     (way : (k : ℕ) → low ≤ k → k < high → leaf_for bytes k ≡ page_for (suc m) bytes page k)
     (finds : (k : ℕ) → low ≤ k → k < high → found (pairs_of_tree bytes) k ≡ found (pairs_under (suc m) bytes page) k)
@@ -256,7 +256,7 @@ module _ (m : ℕ) (bytes : List ℕ) (key steps page low high : ℕ) (bound : O
         begins = b.1;
       }
 
--- the level of the page tells whether it is a leaf
+-- the level of the page says whether it is a leaf
 down_level : (bytes : List ℕ) (key steps page : ℕ) (bound : Option ℕ) → (d : Down bytes key steps page bound) → level_of bytes page ≡ d.m
 down_level bytes key steps page bound d = tree_level d.m bytes page d.low d.high d.tree
 

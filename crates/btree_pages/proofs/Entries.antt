@@ -11,7 +11,7 @@ use Rattle.btree_pages.proofs.Apart.{child_facts}
 use Rattle.btree_pages.proofs.Descending.{child_step}
 use Rattle.btree_pages.proofs.Splitting.{length-with, next_low-with}
 
--- behind the entry of a key's child there is the place of any key in that child's range
+-- the place of a key in the range of key's child is right after that child's entry
 pub with_inserted : (l : ℕ) (bytes : List ℕ) (es : List Pair) (high key mid to : ℕ) → 1 ≤ length es → AreChildren bytes es → AreSound (IsTree l bytes) es high → next_low es high ≤ key → key < high
     → ((a b : ℕ) → IsTree l bytes (child_for es key) a b → (a ≤ mid) × (mid < b)) → inserted es mid to ≡ with_entry es key (mid, to)
 with_inserted l bytes [] high key mid to some are sound le lt within = absurd (omega arith)
@@ -40,12 +40,12 @@ with_inserted l bytes (e ∷ f ∷ es) high key mid to some are sound le lt with
           rw (k, b) (ap (λ (l : List Pair). e ∷ l) (with_inserted l bytes (f ∷ es) high key mid to (omega arith) are.2 sound.1 from lt within'))
     ]
 
--- the first entry has no part in the way to a key from the second one on
+-- from the second entry's low key on, the first entry plays no part
 child_behind : (e : Pair) (es : List Pair) (key : ℕ) → 1 ≤ length es → next_low es key ≤ key → child_for (e ∷ es) key ≡ child_for es key
 child_behind e [] key some le = absurd (omega arith)
 child_behind e (f ∷ es) key some le = let b : nat_lt key f.0 ≡ false = grind (arith, nat_tests, le) in (rw b refl)
 
--- behind one more entry a key has the old child, or the new one
+-- with one more entry, the key's child is the old one or the new one
 pub entry_child : (es : List Pair) (key mid to : ℕ) → 1 ≤ length es → child_for (with_entry es key (mid, to)) key ≡ (if nat_lt key mid then child_for es key else to)
 entry_child [] key mid to some = absurd (omega arith)
 entry_child (e ∷ []) key mid to some = refl

@@ -1,4 +1,4 @@
--- An index of no pairs.
+-- An index without pairs.
 use Rattle.std.proofs.Common.{◌≡◌, ℕ, List, [], refl, sym, ◌∙◌, ap, subst, arith}
 use Rattle.btree_pages.specs.Tree.{IsTree, IsTreeLeaf, pairs_under, IsSoundTree, pairs_of_tree}
 use Rattle.index_pages.specs.Chain.{key_end}

@@ -1,4 +1,4 @@
--- What is found among pairs was given.
+-- The slot of a pair that is found is given out.
 use Rattle.std.proofs.Common.{◌≡◌, ℕ, ◌<◌, true, false, nat_eq, inl, inr, List, [], ◌∷◌, Some, ap, arith}
 use Rattle.std.specs.Prelude.{nat_le, if◌then◌else◌}
 use Rattle.std.proofs.lemmas.Bool.Decides.{eqb_tells, leb_tells}

@@ -1,4 +1,4 @@
--- An insertion on its way, and its ends.
+-- An insertion under way, and how it ends.
 use Rattle.std.proofs.Common.{◌≡◌, ◌≢◌, ℕ, ◌≤◌, ◌⊎◌, Bool, true, false, inl, inr, List, Option, Result, Ok, Err, refl, sym, ◌∙◌, ap, subst, arith}
 use Rattle.std.specs.Prelude.{IsTrue}
 use Rattle.std.proofs.lemmas.Bool.{false≢true}
@@ -57,7 +57,7 @@ looks_logs tells Opens old now looks =
     }
 
 module _ (ix : Index) (tells : Bool) (Opens : List ℕ → List ℕ → Type 0) (t key : ℕ) where
-  -- So far logs and saves are as they were, and the data has grown at most.
+  -- So far logs and saves are as they were, and the data has at most grown.
   pub record Going (old now : PagesView) : Type 0 where
     pub shape : now.store.shape ≡ old.store.shape
     pub saves : now.counts ≡ old.counts
@@ -81,7 +81,7 @@ module _ (ix : Index) (tells : Bool) (Opens : List ℕ → List ℕ → Type 0) 
   pub alive_now : (old now : PagesView) → Going old now → IsAlive old.store → IsAlive now.store
   alive_now old now going alive = going.logs.dead ∙ alive
 
-  -- what a look at the data leaves
+  -- what may be left within a look at the data
   time_looks : (failed : Bool) (old mid now : PagesView) → Going old mid → Looks tells Opens failed mid now → IsTrue tells → IsAlive old.store
       → LeavesOnly (λ image. (bytes : List ℕ) × Opens image bytes × MayBecome ix key old.store.state.bytes bytes) old.store now.store
   time_looks failed old mid now going looks told alive =
@@ -102,7 +102,7 @@ module _ (ix : Index) (tells : Bool) (Opens : List ℕ → List ℕ → Type 0) 
 
   module _ (old mid now : PagesView) (going : Going old mid) (pages : List ℕ) (parts : List Part)
       (may : IsTrue tells → IsAlive old.store → MayBecome ix key old.store.state.bytes (applied parts mid.store.state.bytes)) where
-    -- what an action leaves
+    -- what may be left within an action
     time_acts : (r : Result (Unit {0}) PageFault) → Acts tells Opens t pages parts mid now r → IsTrue tells → IsAlive old.store
         → LeavesOnly (λ image. (bytes : List ℕ) × Opens image bytes × MayBecome ix key old.store.state.bytes bytes) old.store now.store
     time_acts r acts told alive =
@@ -113,7 +113,7 @@ module _ (ix : Index) (tells : Bool) (Opens : List ℕ → List ℕ → Type 0) 
           | inr behind ↦ (applied parts mid.store.state.bytes, behind, may told alive)
         ]) (acts.time told (alive_now old mid going alive)))
 
-    -- one that was done, and leaves the pairs
+    -- an action that was done and keeps the pairs
     pub going_act : (let r : Result (Unit {0}) PageFault = Ok tt in Acts tells Opens t pages parts mid now r)
         → (IsTrue tells → IsAlive old.store → Grows ix old.store.state.bytes (applied parts mid.store.state.bytes) × Rests ix old.store.state.bytes (applied parts mid.store.state.bytes)) → Going old now
     going_act acts grown = record {
@@ -125,7 +125,7 @@ module _ (ix : Index) (tells : Bool) (Opens : List ℕ → List ℕ → Type 0) 
       time = λ told alive. (let r : Result (Unit {0}) PageFault = Ok tt in time_acts r acts told alive);
     }
 
-    -- one that was refused
+    -- an action that was refused
     refused : (g h n : ℕ) → (let r : Result (Unit {0}) PageFault = Err (page.LogFull g h n) in Acts tells Opens t pages parts mid now r) → Going old now
     refused g h n acts = record {
       shape = acts.shape ∙ going.shape;
@@ -136,7 +136,7 @@ module _ (ix : Index) (tells : Bool) (Opens : List ℕ → List ℕ → Type 0) 
       time = λ told alive. (let r : Result (Unit {0}) PageFault = Err (page.LogFull g h n) in time_acts r acts told alive);
     }
 
-    -- it ends with the pair
+    -- the insertion ends with the pair
     pub inserts_done : (slot : ℕ) → (let r : Result (Unit {0}) PageFault = Ok tt in Acts tells Opens t pages parts mid now r)
         → (IsTrue tells → IsAlive old.store → (slot ≡ next_slot old.store.state.bytes) × Grows ix old.store.state.bytes (applied parts mid.store.state.bytes) × Gains ix key old.store.state.bytes (applied parts mid.store.state.bytes))
         → (let s : Result ℕ IndexFault = Ok slot in InsertCause tells ix t key old.store s) → (let s : Result ℕ IndexFault = Ok slot in Inserts tells Opens ix t key old now s)
@@ -152,7 +152,7 @@ module _ (ix : Index) (tells : Bool) (Opens : List ℕ → List ℕ → Type 0) 
       time = λ told alive. (let r : Result (Unit {0}) PageFault = Ok tt in time_acts r acts told alive);
     }
 
-  -- it ends without the pair
+  -- the insertion ends without the pair
   pub inserts_refused : (old now : PagesView) → Going old now → (fault : IndexFault) → (let s : Result ℕ IndexFault = Err fault in (is_insert_failed s ≡ false) × InsertCause tells ix t key old.store s)
       → ((n : ℕ) → fault ≡ index.PagesFull n → IsTrue tells → IsAlive old.store → (n ≤ next_page now.store.state.bytes) ⊎ (7 ≤ ix.level now.store.state.bytes)) → (let s : Result ℕ IndexFault = Err fault in Inserts tells Opens ix t key old now s)
   inserts_refused old now going fault cause full = record {
@@ -175,7 +175,7 @@ module _ (ix : Index) (tells : Bool) (Opens : List ℕ → List ℕ → Type 0) 
       made_of index.Dead well full told alive = going.made told alive
       made_of (index.Damaged bad) well full told alive = going.made told alive
 
-  -- the media failed
+  -- the medium failed
   inserts_look_media : (old mid now : PagesView) → Going old mid → Looks tells Opens true mid now → IsAlive old.store → (let s : Result ℕ IndexFault = Err index.Media in Inserts tells Opens ix t key old now s)
   inserts_look_media old mid now going looks alive =
       let dies = looks.dies refl in

@@ -1,4 +1,4 @@
--- What the cut of the root makes of the data.
+-- What splitting the root does to the data.
 use Rattle.std.proofs.Common.{◌≡◌, ◌≢◌, ℕ, suc, ◌+◌, ◌*◌, ◌^◌, ◌<◌, ◌≤◌, true, false, nat_lt, inl, inr, List, [], ◌∷◌, length, take, drop, sym, ◌∙◌, ap, subst, arith}
 use Rattle.std.proofs.lemmas.Bool.Decides.{leb_tells, eqb_tells}
 use Rattle.std.proofs.lemmas.List.{length-take-le, length-drop}
@@ -257,7 +257,7 @@ module _ (shape : Shape) (old : List ℕ) (half : ℕ) (long : length old ≡ da
         subst (λ (y : ℕ). IsUnder (suc level) grown y 1) (sym e) (right_named old grown front.next_page (front.next_page + 1) splits level)
   ]
 
-  -- what the cut of the root makes of the data
+  -- what splitting the root does to the data
   pub growing_grows : Grows tree old (applied (growing_parts front level pairs) old) × Rests tree old (applied (growing_parts front level pairs) old)
   unfolding grown
   growing_grows = (
@@ -279,7 +279,7 @@ module _ (shape : Shape) (old : List ℕ) (half : ℕ) (long : length old ≡ da
   unfolding grown
   grown_counts = (slot_now ∙ says.slots, page_now ∙ (let e : front.next_page + 2 ≡ suc (suc (next_page old)) = omega (arith, next_is) in e))
 
-  -- the half of the key is the root's child for it, has room, and has what is left to be done
+  -- the half that has the key is the root's child for it, has room, and has what is left to do
   pub grown_half : half_for (page_pairs old 1) front.next_page (front.next_page + 1) key ≡ page_for 1 (applied (growing_parts front level pairs) old) 1 key
   unfolding grown
   grown_half = sym (ap (λ (ps : List Pair). child_for ps key) named_pairs)

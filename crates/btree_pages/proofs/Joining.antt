@@ -1,4 +1,4 @@
--- Data along an insertion: what the steps make of it together.
+-- Data along an insertion: what its steps make of it together.
 use Rattle.std.proofs.Common.{ℕ, suc, ◌+◌, ◌≤◌, inl, inr, List, sym, ◌∙◌, ap, arith}
 use Rattle.std.proofs.lemmas.Bool.Decides.{leb_tells}
 use Rattle.record_slots.specs.Places.{next_slot, next_page, slot_of}
@@ -9,7 +9,7 @@ use Rattle.btree_pages.specs.Index.{tree, tree_below}
 use Rattle.btree_pages.specs.Tree.{pairs_of_tree}
 
 module _ (page level most : ℕ) (a b c : List ℕ) (limit : most ≤ next_page a + 9) where
-  -- an action behind others
+  -- an action after others
   pub grows_more : Grows (tree_below page level most) a b → Rests (tree_below page level most) a b → Grows tree b c → next_page c ≤ most → Grows (tree_below page level most) a c
   grows_more first rests second few = record {
     sound = (second.sound, few);
@@ -32,7 +32,7 @@ module _ (page level most : ℕ) (a b c : List ℕ) (limit : most ≤ next_page 
     fresh = ap (λ (s : ℕ). slot_of c s) (sym rests.slots) ∙ gains.fresh;
   }
 
-  -- what is left of an insertion behind the first actions
+  -- what is left of an insertion after the first actions
   pub grows_below : Grows tree a b → Rests tree a b → Grows (tree_below page level most) b c → Grows tree a c
   grows_below first rests second = record {
     sound = second.sound.0;

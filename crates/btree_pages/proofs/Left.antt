@@ -1,4 +1,4 @@
--- What is left to be done of an insertion decides on all of it.
+-- What is left of an insertion decides how all of it ends.
 use Rattle.std.proofs.Common.{◌≡◌, ℕ, ◌+◌, ◌-◌, ◌<◌, ◌≤◌, inl, inr, List, [], ◌∷◌, length, ◌∙◌, ap, arith}
 use Rattle.std.specs.Prelude.{filter}
 use Rattle.eaw_face.specs.State.{listed, count_on}
@@ -8,7 +8,7 @@ use Rattle.page_store.specs.Fits.{FitAll, IsFirstLacking, held_with, is_page_on}
 use Rattle.page_store.specs.Index.{Action}
 use Rattle.page_store.specs.Inserts.{ActionFits, AllFit, LackPages, LackRoom}
 
--- where these actions, with so many pages, end so, all end so with all pages
+-- if these actions end in some way with this many pages, all actions end that way with all pages
 pub record DecidesAll (store : StoreView) (t pages : ℕ) (all : List Action) (rest_pages : ℕ) (rest : List Action) : Type 0 where
   pub fit : AllFit store t rest_pages rest → AllFit store t pages all
   pub lack_pages : LackPages store t rest_pages rest → LackPages store t pages all
@@ -34,7 +34,7 @@ pub room_lacks : (store : StoreView) (t pages : ℕ) (all : List Action) (left :
     → IsFirstLacking store t action.pages g h n → LackRoom store t g h n pages all
 room_lacks store t pages all left action rest g h n decides enough lacking = decides.lack_room g h n (inl (enough, lacking))
 
--- room is as it was where numbers have logged what they had
+-- room stays the same if numbers have the same in their logs
 module _ (old now : StoreView) (t : ℕ) (shape : now.shape ≡ old.shape) (ranges : listed (now.ranges t) ≡ listed (old.ranges t)) where
   held_same : (pages : List ℕ) (g : ℕ) → held_with now t pages g ≡ held_with old t pages g
   held_same pages g = ap (λ (s : Shape). count_on s g (listed (now.ranges t)) + length (filter (is_page_on s.loggers g) pages)) shape ∙ ap (λ (l : List (ℕ × ℕ)). count_on old.shape g l + length (filter (is_page_on old.shape.loggers g) pages)) ranges

@@ -1,4 +1,4 @@
--- An insertion as a whole, where what is left of it behind its first steps ends so.
+-- An insertion as a whole, given how what is left of it after the first steps ends.
 use Rattle.std.proofs.Common.{◌≡◌, ℕ, ◌+◌, ◌-◌, ◌≤◌, Bool, List, Result, Ok, Err, sym, ◌∙◌, ap, subst, arith}
 use Rattle.std.specs.Prelude.{IsTrue}
 use Rattle.counted.specs.Causes.{Rose}

@@ -1,4 +1,4 @@
--- What a written page of the tree says.
+-- What a written page of the tree reads as.
 use Rattle.std.proofs.Common.{◌≡◌, ℕ, zero, suc, ◌+◌, ◌*◌, ◌<◌, ◌≤◌, List, ◌∷◌, length, drop, refl, sym, ◌∙◌, ap, arith}
 use Rattle.std.specs.Prelude.{slice_set}
 use Rattle.std.proofs.lemmas.List.{length-drop}
@@ -29,7 +29,7 @@ written_inner zero ps out is some = absurd (omega arith)
 written_inner (suc level) ps out is some =
     ap (λ (l : List ℕ). slice_set (slice_set l 0 2) 1 (suc level)) (is ∙ leaf_begins 0 ps) ∙ set_both (suc level) (drop 2 (leaf_bytes 0 ps))
 
--- what is read behind the first two bytes
+-- what is read after the first two bytes
 same_behind : (xs ys : List ℕ) (j n : ℕ) → drop 2 xs ≡ drop 2 ys → 2 ≤ j → little_from j n xs ≡ little_from j n ys
 same_behind xs ys zero n same le = absurd (omega arith)
 same_behind xs ys (suc zero) n same le = absurd (omega arith)

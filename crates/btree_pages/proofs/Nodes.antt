@@ -1,4 +1,4 @@
--- What a page of the tree says, pair by pair.
+-- A page of the tree, pair by pair.
 use Rattle.std.proofs.Common.{◌≡◌, ◌≢◌, ℕ, zero, suc, ◌-◌, ◌<◌, ◌≤◌, true, false, nat_eq, nat_lt, inl, inr, List, [], ◌∷◌, length, take, drop, Some, None, refl, sym, ◌∙◌, ap, arith}
 use Rattle.std.specs.Prelude.{slice_index}
 use Rattle.std.proofs.lemmas.Bool.Decides.{nat_tests}
@@ -10,7 +10,7 @@ use Rattle.btree_pages.specs.Descent.{child_for}
 use Rattle.btree_pages.specs.Leaf.{bound_in}
 use Rattle.btree_pages.specs.Node.{IsForm, IsNode, SaysNode}
 
--- the head of a page, and a page that is none of the tree
+-- the head of a page, and a page that is not one of the tree
 module _ (page : List ℕ) where
   pub says_node : (count link : ℕ) → link ≡ 0 → count ≤ 30 → IsForm (slice_index page 0) (slice_index page 1) count
       → count ≡ little_from 0 2 (take 510 (drop 2 page)) → link ≡ little_from 0 4 (take 508 (drop 4 page)) → SaysNode page (record { level = slice_index page 1; count = count })
@@ -58,7 +58,7 @@ module _ (page : List ℕ) where
         ap (λ (ps : List Pair). bound_in ps key) (two_steps k n lt) ∙ (rw b refl),
       )
 
-  -- the next one does not
+  -- the next entry does not
   pub child_later : (k n key : ℕ) → suc k < n → (pair_said page (suc k)).0 ≤ key
       → (child_for (pairs_from page k (n - k)) key ≡ child_for (pairs_from page (suc k) (n - suc k)) key) × (bound_in (pairs_from page k (n - k)) key ≡ bound_in (pairs_from page (suc k) (n - suc k)) key)
   child_later k n key lt e =
@@ -67,7 +67,7 @@ module _ (page : List ℕ) where
         ap (λ (ps : List Pair). bound_in ps key) (two_steps k n lt) ∙ (rw b (ap (λ (ps : List Pair). bound_in ps key) (sym (from_step page (suc k) n lt)))),
       )
 
-  -- there is no next one
+  -- there is no next entry
   pub child_last : (k n key : ℕ) → n ≡ suc k → (child_for (pairs_from page k (n - k)) key ≡ (pair_said page k).1) × (bound_in (pairs_from page k (n - k)) key ≡ None)
   child_last k n key e = (ap (λ (ps : List Pair). child_for ps key) (last_step k n e), ap (λ (ps : List Pair). bound_in ps key) (last_step k n e))
 

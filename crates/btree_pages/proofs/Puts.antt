@@ -1,21 +1,21 @@
--- Writes that lie apart.
+-- Writes to disjoint ranges.
 use Rattle.std.proofs.Common.{◌≡◌, ℕ, ◌+◌, ◌≤◌, List, [], ◌∷◌, length, refl, sym, ◌∙◌, subst}
 use Rattle.counted.specs.Bytes.{put, range}
 use Rattle.counted.proofs.Puts.{length-put}
 use Rattle.array_shape.specs.Logged.{Part, applied, AllFit}
 use Rattle.index_pages.proofs.Ranges.{Apart, range_away, range_here}
 
--- a range shares no byte with these
+-- a range shares no byte with these parts
 abbrev pub AwayAll : ℕ → ℕ → List Part → Type 0
 AwayAll at n [] = Unit {0}
 AwayAll at n (p ∷ ps) = Apart at n p.0 (length p.1) × AwayAll at n ps
 
--- no two of them share a byte
+-- no two parts share a byte
 abbrev pub AllApart : List Part → Type 0
 AllApart [] = Unit {0}
 AllApart (p ∷ ps) = AwayAll p.0 (length p.1) ps × AllApart ps
 
--- they stand in the data
+-- the parts lie within the data
 abbrev pub Stand : List Part → List ℕ → Type 0
 Stand [] d = Unit {0}
 Stand (p ∷ ps) d = (range d p.0 (length p.1) ≡ p.1) × Stand ps d

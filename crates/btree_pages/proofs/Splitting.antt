@@ -1,4 +1,4 @@
--- What splits make of a tree.
+-- What splits do to a tree.
 use Rattle.std.proofs.Common.{◌≡◌, ◌≢◌, ℕ, zero, suc, ◌<◌, ◌≤◌, true, false, nat_lt, inl, inr, List, [], ◌∷◌, ◌++◌, length, take, drop, refl, sym, ◌∙◌, ap, subst, arith, append_assoc}
 use Rattle.std.proofs.lemmas.Bool.Decides.{leb_tells}
 use Rattle.std.proofs.lemmas.List.{append-nil, take-append-drop, length-drop, length-take-le}
@@ -90,7 +90,7 @@ inner_half old new whole half ps is level low low' t long first r are =
       children = subst (λ (l : List Pair). AreChildren new l) (sym is.pairs_are) are;
     }
 
--- a cut page, where the pages below it are as they were
+-- a page that was split, with the pages below it as they were
 pub halves : (old new : List ℕ) → Keeps old new → (l whole left right low high : ℕ) → IsTree l old whole low high → IsCut old new whole left right
     → ((x : ℕ) → IsUnder l old x whole → x ≢ whole → page_bytes new x ≡ page_bytes old x)
     → AreHalves new l left right low (middle old whole) high (pairs_under l old whole)
@@ -182,7 +182,7 @@ children_with bytes (e ∷ f ∷ es) key p two given are =
       | inr h ↦ let b : nat_lt key f.0 ≡ false = h.0 in rw b (are.0, are.1, children_with bytes (f ∷ es) key p two given are.2)
     ]
 
--- what a split makes of the entries of the parent
+-- what a split does to the entries of the parent
 pub record Splits (old new : List ℕ) (l key : ℕ) (entry : Pair) (es : List Pair) (high : ℕ) : Type 0 where
   pub sound : AreSound (IsTree l new) (with_entry es key entry) high
   pub pairs : joined (pieces_with (pairs_under l new) (with_entry es key entry)) ≡ joined (pieces_with (pairs_under l old) es)
@@ -262,7 +262,7 @@ module _ (old new : List ℕ) (keeps : Keeps old new) (l c right key : ℕ) (cut
             }
       ]
 
--- a parent whose child is split
+-- a parent whose child was split
 pub parent_splits : (old new : List ℕ) → Keeps old new → (l parent key right low high : ℕ) → IsTree (suc l) old parent low high → high ≤ key_end → SplitsChild old new parent key right
     → ((x : ℕ) → IsUnder (suc l) old x parent → x ≢ parent → x ≢ child_for (page_pairs old parent) key → page_bytes new x ≡ page_bytes old x)
     → IsTree (suc l) new parent low high × (pairs_under (suc l) new parent ≡ pairs_under (suc l) old parent)
@@ -320,7 +320,7 @@ sound_tree_splits old new d l key right sound keeps front lt e splits kept =
       ap (λ (n : ℕ). pairs_under n new 1) (same ∙ e) ∙ r.1 ∙ ap (λ (n : ℕ). pairs_under n old 1) (sym e),
     )
 
--- the split of a root keeps all pairs
+-- splitting the root keeps all pairs
 pub sound_tree_grows : (old new : List ℕ) (left right : ℕ) → IsSoundTree old → Keeps old new → IsSuper 1 new → level_of old 1 < 7
     → SplitsRoot old new left right
     → ((x : ℕ) → 2 ≤ x → x < next_page old → page_bytes new x ≡ page_bytes old x)

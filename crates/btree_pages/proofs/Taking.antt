@@ -1,4 +1,4 @@
--- What an insertion makes of a tree.
+-- What an added pair does to a tree.
 use Rattle.std.proofs.Common.{◌≡◌, ◌≢◌, ℕ, suc, ◌<◌, ◌≤◌, List, length, None, refl, sym, ◌∙◌, ap, subst, arith}
 use Rattle.btree_pages.proofs.Ways.{graft, found_on_way}
 use Rattle.btree_pages.specs.Changes.{TakesPair}
@@ -31,7 +31,7 @@ leaf_takes old new keeps leaf key to low high takes t le lt none =
           (given_inserted new key to (page_pairs old leaf) takes.given takes.carries (given_kept old new keeps (page_pairs old leaf) t.given));
     }
 
--- a pair taken by the leaf of its key is inserted in the whole
+-- a pair added to the leaf of its key is inserted in the whole tree
 pub tree_takes : (old new : List ℕ) → Keeps old new → (l key to low high : ℕ) → IsTree l old 1 low high → low ≤ key → key < high → found (pairs_under l old 1) key ≡ None
     → TakesPair old new (page_for l old 1 key) key to
     → ((x : ℕ) → IsUnder l old x 1 → x ≢ page_for l old 1 key → page_bytes new x ≡ page_bytes old x)

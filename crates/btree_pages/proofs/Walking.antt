@@ -16,8 +16,8 @@ use Rattle.btree_pages.specs.OnWay.{IsOnWay, IsReached}
 use Rattle.btree_pages.proofs.Entries.{page_for_last}
 use Rattle.btree_pages.proofs.Left.{DecidesAll, all_left, one_done, pages_lack}
 
--- The data now has this page on the key's way, on this level and with these pairs; what is left to be done from there on decides on all that
--- was to be done, with all pages; and few new pages are taken.
+-- The data now has this page on the key's way, with this level and these pairs. What is left to do from there on decides, with all pages,
+-- how all that was to do ends. Few new pages are taken.
 pub record Walks (store : StoreView) (t pages key left : ℕ) (all : List Action) (most : ℕ) (now : List ℕ) (page level : ℕ) (pairs : List Pair) : Type 0 where
   pub d : ℕ
   pub way : IsOnWay now key d page level pairs
@@ -56,7 +56,7 @@ module _ (store : StoreView) (t pages key left : ℕ) (all : List Action) (most 
     pairs_are = are;
   }
 
-  -- a child with room is the next page
+  -- a child with room is the next page on the way
   pub walk_down : (below : List Pair) → below ≡ page_pairs now child → length below < 30 → Walks store t pages key left all most now child m below
   walk_down below are room =
       let count : count_of now child < 30 = omega (arith, room, ap (λ (ps : List Pair). length ps) are, length-page_pairs now child) in
@@ -73,7 +73,7 @@ module _ (store : StoreView) (t pages key left : ℕ) (all : List Action) (most 
     rest : List Action
     rest = actions_below m now child (half_for (page_pairs now child) child (next_page now) key) (suc (next_page now)) key
 
-    -- of a child without room the cut is due
+    -- a child without room is to be split
     pub walk_due : DecidesAll store t left all (pages - next_page now) (cutting child (next_page now) page ∷ actions_below m now child (half_for (page_pairs now child) child (next_page now) key) (suc (next_page now)) key)
     walk_due =
         let b : nat_lt (count_of now child) 30 ≡ false = grind (arith, nat_tests) in
@@ -81,7 +81,7 @@ module _ (store : StoreView) (t pages key left : ℕ) (all : List Action) (most 
         = step_to m now page child (next_page now) key child_there ∙ (rw b refl) in
         subst (λ (l : List Action). DecidesAll store t left all (pages - next_page now) l) is w.decides
 
-    -- behind the cut the half of the key is the next page
+    -- after the split, the half that has the key is the next page on the way
     pub walk_cut : (new : List ℕ) (half : ℕ) (below : List Pair) → half ≡ half_for (page_pairs now child) child (next_page now) key
         → ActionFits store t (pages - next_page now) (cutting child (next_page now) page) → next_page new ≡ suc (next_page now) → IsOnWay new key (suc w.d) half m below
         → actions_below m new half half (next_page new) key ≡ actions_below m now child half (suc (next_page now)) key
@@ -100,17 +100,17 @@ module _ (store : StoreView) (t pages key left : ℕ) (all : List Action) (most 
           few = omega (arith, w.few, next);
         }
 
--- at the leaf the pair is added, and nothing is left then
+-- at the leaf the pair is added, and then nothing is left
 pub walk_last : (store : StoreView) (t pages key left : ℕ) (all : List Action) (most : ℕ) (now : List ℕ) (page : ℕ) (pairs : List Pair) → Walks store t pages key left all most now page 0 pairs
     → DecidesAll store t left all (pages - next_page now) (adding now page ∷ [])
 walk_last store t pages key left all most now page pairs w = w.decides
 
--- a root with room is where it begins
+-- the insertion begins at a root with room
 pub root_first : (key : ℕ) (old : List ℕ) → count_of old 1 < 30 → actions_below (level_of old 1) old 1 1 (next_page old) key ≡ tree_actions old key
 root_first key old room = (let b : nat_lt (count_of old 1) 30 ≡ true = grind (arith, nat_tests) in rw b refl)
 
 module _ (store : StoreView) (t pages key : ℕ) (old : List ℕ) (full : 30 ≤ count_of old 1) where
-  -- the root is cut where it has no room
+  -- a root without room is split
   pub grow_due : DecidesAll store t (pages - next_page old) (tree_actions old key) (pages - next_page old) (growing old
       ∷ actions_below (level_of old 1) old 1 (half_for (page_pairs old 1) (next_page old) (suc (next_page old)) key) (suc (suc (next_page old))) key)
   grow_due =
@@ -118,11 +118,11 @@ module _ (store : StoreView) (t pages key : ℕ) (old : List ℕ) (full : 30 ≤
       let is : tree_actions old key ≡ growing old ∷ actions_below (level_of old 1) old 1 (half_for (page_pairs old 1) (next_page old) (suc (next_page old)) key) (suc (suc (next_page old))) key = (rw b refl) in
       subst (λ (l : List Action). DecidesAll store t (pages - next_page old) (tree_actions old key) (pages - next_page old) l) is (all_left store t (pages - next_page old) (tree_actions old key))
 
-  -- two pages are taken below level 7
+  -- below level 7 that takes two pages
   pub growing_takes : level_of old 1 < 7 → (growing old).takes ≡ 2
   growing_takes low = (let b : nat_lt (level_of old 1) 7 ≡ true = grind (arith, nat_tests) in rw b refl)
 
-  -- what is left behind the cut of the root
+  -- what is left after the root was split
   pub grown_decides : (new : List ℕ) (half level : ℕ) → level_of old 1 ≡ level → level < 7 → half ≡ half_for (page_pairs old 1) (next_page old) (suc (next_page old)) key
       → ActionFits store t (pages - next_page old) (growing old) → next_page new ≡ suc (suc (next_page old))
       → actions_below level new half half (next_page new) key ≡ actions_below level old 1 half (suc (suc (next_page old))) key
@@ -143,6 +143,6 @@ module _ (store : StoreView) (t pages key : ℕ) (old : List ℕ) (full : 30 ≤
       pages_lack store t (pages - next_page old) (tree_actions old key) (pages - next_page old) (growing old)
       (actions_below (level_of old 1) old 1 (half_for (page_pairs old 1) (next_page old) (suc (next_page old)) key) (suc (suc (next_page old))) key) grow_due few
 
-  -- a root of level 7 is not cut: no number of pages is enough
+  -- a root of level 7 cannot be split, however many pages there are
   pub growing_stops : 7 ≤ level_of old 1 → (growing old).takes ≡ first_slot_page old
   growing_stops high = (let b : nat_lt (level_of old 1) 7 ≡ false = grind (arith, nat_tests) in rw b refl)

@@ -1,4 +1,4 @@
--- The way down to a key, and what a change at its end makes of the whole tree.
+-- The way down to a key, and what a change at its end does to the whole tree.
 use Rattle.std.proofs.Common.{◌≡◌, ℕ, zero, suc, ◌<◌, ◌≤◌, true, false, nat_lt, inl, inr, List, [], ◌∷◌, ◌++◌, length, refl, sym, ◌∙◌, ap, subst, arith}
 use Rattle.std.proofs.lemmas.Bool.Decides.{leb_tells}
 use Rattle.std.proofs.lemmas.List.{append-nil}
@@ -18,7 +18,7 @@ use Rattle.page_store.specs.Pairs.{Pair, found}
 use Rattle.record_slots.specs.Places.{page_bytes, next_page}
 use Rattle.btree_pages.specs.TreeFacts.{tree_level}
 
--- a page on a key's way has a tree of its level, within bounds that have the key between them
+-- a page on a key's way has a tree of its level under it, within bounds between which the key lies
 pub record Way (bytes : List ℕ) (m q key low high : ℕ) : Type 0 where
   pub from : ℕ
   pub to : ℕ
@@ -61,7 +61,7 @@ way_of (suc d) m bytes key page low high t le lt =
     wider_way bytes m _ key (next_low (page_pairs bytes page) high) low high high (omega arith) (omega arith)
     (way_below d m bytes key (way_of d m bytes key) (page_pairs bytes page) high some t.0.children t.1 (omega arith) lt)
 
--- the pairs of a child answer for all of a page
+-- what a page's pairs say of a key is what those of the key's child say
 pub found_below : (f : ℕ → List Pair) (key : ℕ) (es : List Pair) (high : ℕ) → 1 ≤ length es → Tile (next_low es high) high (pieces_with f es) → next_low es high ≤ key → key < high
     → found (joined (pieces_with f es)) key ≡ found (f (child_for es key)) key
 found_below f key [] high some t le lt = absurd (omega arith)
@@ -74,7 +74,7 @@ found_below f key (e ∷ g ∷ es) high some t le lt =
           ∙ found_below f key (g ∷ es) high (omega arith) t.3 (omega (arith, h.1)) lt)
     ]
 
--- a lookup goes down on the key's way
+-- a look-up follows the key's way
 pub found_on_way : (d m : ℕ) (bytes : List ℕ) (key page low high : ℕ) → IsTree (above d m) bytes page low high → low ≤ key → key < high
     → found (pairs_under (above d m) bytes page) key ≡ found (pairs_under m bytes (page_for d bytes page key)) key
 found_on_way zero m bytes key page low high t le lt = refl
@@ -86,7 +86,7 @@ found_on_way (suc d) m bytes key page low high t le lt =
     found_below (pairs_under (above d m) bytes) key (page_pairs bytes page) high some tile (omega arith) lt
     ∙ found_on_way d m bytes key (child_for (page_pairs bytes page) key) w.from w.to w.tree w.from_key w.key_to
 
--- the children of a page are no root, and so are all pages below them
+-- the children of a page are not the root, nor are the pages below them
 under_some_two : (l : ℕ) (bytes : List ℕ) (q : ℕ) → ((page low high : ℕ) → 2 ≤ page → IsTree l bytes page low high → IsUnder l bytes q page → 2 ≤ q)
     → (es : List Pair) (high : ℕ) → AreChildren bytes es → AreSound (IsTree l bytes) es high → IsUnderSome (IsUnder l bytes q) es → 2 ≤ q
 under_some_two l bytes q ih [] high are sound u = absurd u
@@ -149,7 +149,7 @@ module _ (old new : List ℕ) (keeps : Keeps old new) (change : List Pair → Li
             ((first.0, rest.0), (let one = first.1 in let two = rest.1 in cc))
       ]
 
-  -- what is done to the tree of a page on the key's way is done to the whole tree, where all other pages are as they were
+  -- what happens to the tree under a page on the key's way happens to the whole tree, if all other pages are as they were
   pub graft : ((from to : ℕ) → IsTree m old q from to → from ≤ key → key < to → to ≤ bound → IsTree m new q from to × (pairs_under m new q ≡ change (pairs_under m old q)))
       → (d page low high : ℕ) → IsTree (above d m) old page low high → low ≤ key → key < high → high ≤ bound → q ≡ page_for d old page key
       → ((x : ℕ) → IsUnder (above d m) old x page → (IsUnder m old x q → ⊥) → page_bytes new x ≡ page_bytes old x)
@@ -173,7 +173,7 @@ module _ (old new : List ℕ) (keeps : Keeps old new) (change : List Pair → Li
         ap (λ (b : List ℕ). joined (pieces_with (pairs_under (above d m) new) (pairs_said b))) here ∙ below.1,
       )
 
--- a child that a page names was given
+-- the child that a page names is given out
 pub child_given : (bytes : List ℕ) (es : List Pair) (key : ℕ) → 1 ≤ length es → AreChildren bytes es → (2 ≤ child_for es key) × (child_for es key < next_page bytes)
 child_given bytes [] key some are = absurd (omega arith)
 child_given bytes (e ∷ []) key some are = (are.0, are.1)

@@ -44,7 +44,7 @@ front_says bytes front says = record { slots = says.next_slot; pages = says.next
 
 module _ (tells : Bool) (E : Shape → List ℕ → List ℕ → Type 0) (t key : ℕ) (v0 v1 : PagesView) (sound : IsTrue tells → IsAlive v0.store → IsSoundTree v0.store.state.bytes) (fits : key < 2 ^ 64)
     (looks : Looks tells (E v0.store.shape) false v0 v1) where
-  -- the root can't be read
+  -- the root cannot be read
   pub root_err : (v2 : PagesView) (fault : PageFault)
       → (let r : Result Node PageFault = Err fault in Looks tells (E v1.store.shape) (is_failed r) v1 v2 × TestCause tells (IsNode (page_bytes v1.store.state.bytes 1)) 1 v1.store r)
       → (let r : Result ℕ IndexFault = Err (as_index fault) in Inserts tells (E v0.store.shape) tree t key v0 v2 r)
@@ -108,7 +108,7 @@ module _ (tells : Bool) (E : Shape → List ℕ → List ℕ → Type 0) (t key 
     refused lack out = inserts_refused tree tells (E v0.store.shape) t key v0 v1 going1 (index.PagesFull (half - 1)) (refl, (alive, ap (λ (n : ℕ). n - 1) half_is, λ told. (slot_left told, lack told)))
         (λ n e told running. let e' : half - 1 ≡ n = cc in subst (λ (m : ℕ). (m ≤ next_page v1.store.state.bytes) ⊎ (7 ≤ level_of v1.store.state.bytes 1)) e' (out told))
 
-    -- it has all levels
+    -- it has the highest level
     pub root_high : level ≡ 7 → (let r : Result ℕ IndexFault = Err (index.PagesFull (half - 1)) in Inserts tells (E v0.store.shape) tree t key v0 v1 r)
     root_high high = refused
         (λ told. let stops = growing_stops v0.store t (index_pages_of v0.store.shape) key v0.store.state.bytes (many told) (omega (arith, high, level_is told)) in
@@ -168,7 +168,7 @@ module _ (tells : Bool) (E : Shape → List ℕ → List ℕ → Type 0) (t key 
             → Acts tells (E v0.store.shape) t (growing_pages front.next_page) (growing_parts front level pairs) v1 v2 r
         grow_start v2 r acts = subst (λ (sh : Shape). Acts tells (E sh) t (growing_pages front.next_page) (growing_parts front level pairs) v1 v2 r) looks.shape acts
 
-        -- the cut was refused
+        -- the split was refused
         pub grow_err : (v2 : PagesView) (fault : PageFault) → (let r : Result (Unit {0}) PageFault = Err fault in Acts tells (E v1.store.shape) t (growing_pages front.next_page) (growing_parts front level pairs) v1 v2 r)
             → (let r : Result ℕ IndexFault = Err (as_index fault) in Inserts tells (E v0.store.shape) tree t key v0 v2 r)
         grow_err v2 fault acts' =

@@ -1,4 +1,4 @@
--- What one action writes of a tree.
+-- What one action writes to a tree.
 use Rattle.std.specs.Prelude.{ℕ, suc, ◌≡◌, ◌<◌, ◌≤◌, nat_lt, if◌then◌else◌, List, [], ◌∷◌, take, drop, length}
 use Rattle.btree_pages.specs.Descent.{child_for}
 use Rattle.index_pages.specs.Keys.{key_at}
@@ -6,7 +6,7 @@ use Rattle.index_pages.specs.Page.{page_pairs, kind_of, level_of, link_of, count
 use Rattle.page_store.specs.Pairs.{Pair, inserted}
 use Rattle.record_slots.specs.Places.{next_page, next_slot, Carries}
 
--- a leaf with room takes one more pair, whose slot is given and carries the key
+-- a leaf with room takes one more pair, whose slot is given out and carries the key
 pub record TakesPair (old new : List ℕ) (leaf key to : ℕ) : Type 0 where
   pub room : count_of old leaf < 30
   pub kind : kind_of new leaf ≡ 1
@@ -16,14 +16,14 @@ pub record TakesPair (old new : List ℕ) (leaf key to : ℕ) : Type 0 where
   pub given : to < next_slot new
   pub carries : Carries new (key, to)
 
--- a page of the kind and level of another has these of its pairs
+-- a page has the kind and level of another, and these of its pairs
 pub record IsHalf (old new : List ℕ) (whole half : ℕ) (pairs : List Pair) : Type 0 where
   pub kind : kind_of new half ≡ kind_of old whole
   pub level : level_of new half ≡ level_of old whole
   pub link : link_of new half ≡ 0
   pub pairs_are : page_pairs new half ≡ pairs
 
--- a page with 30 pairs is cut: the first 15 stand in one page now, the last 15 in another
+-- a page with 30 pairs is split: the first 15 are now in one page, the last 15 in another
 pub record IsCut (old new : List ℕ) (whole left right : ℕ) : Type 0 where
   pub full : length (page_pairs old whole) ≡ 30
   pub left_is : IsHalf old new whole left (take 15 (page_pairs old whole))
@@ -33,13 +33,14 @@ pub record IsCut (old new : List ℕ) (whole left right : ℕ) : Type 0 where
 abbrev pub middle : List ℕ → ℕ → ℕ
 middle old whole = key_at (page_pairs old whole) 15
 
--- behind the entry of a key's child one more entry
+-- one more entry, after that of the key's child
 abbrev pub with_entry : List Pair → ℕ → Pair → List Pair
 with_entry [] key new = []
 with_entry (e ∷ []) key new = e ∷ new ∷ []
 with_entry (e ∷ f ∷ es) key new = if nat_lt key f.0 then e ∷ new ∷ f ∷ es else e ∷ with_entry (f ∷ es) key new
 
--- the key's child of an inner page with room is split: its upper half goes to a page of its own, which the inner page names behind it
+-- the key's child of an inner page with room is split: its upper half goes to a page of its own, which the inner page names right after the
+-- child
 pub record SplitsChild (old new : List ℕ) (parent key right : ℕ) : Type 0 where
   pub room : count_of old parent < 30
   pub kind : kind_of new parent ≡ 2
@@ -50,7 +51,7 @@ pub record SplitsChild (old new : List ℕ) (parent key right : ℕ) : Type 0 wh
   pub two : 2 ≤ right
   pub given : right < next_page new
 
--- the root is split: both halves go to pages of their own, which it names one level up
+-- the root is split: both halves go to pages of their own, which it names from one level up
 pub record SplitsRoot (old new : List ℕ) (left right : ℕ) : Type 0 where
   pub kind : kind_of new 1 ≡ 2
   pub level : level_of new 1 ≡ suc (level_of old 1)

@@ -1,4 +1,4 @@
--- What the tests of a tree tell.
+-- What the tests of a tree say.
 use Rattle.std.specs.Prelude.{ℕ, suc, ◌≡◌, ◌<◌, ◌≤◌, ◌⊎◌, Bool, true, false, List, [], ◌∷◌, Option, Some, None, Result, Ok, Err}
 use Rattle.record_slots.specs.Places.{next_slot, next_page, Carries, AreGiven, slot_page}
 use Rattle.record_slots.specs.declared.super_page.Super.{Super}
@@ -9,51 +9,51 @@ use Rattle.index_pages.specs.Chain.{key_end}
 use Rattle.btree_pages.specs.Failing.{SlotsFail, ChildFails, TreeFails}
 use Rattle.btree_pages.specs.Tree.{AreSound, IsTree}
 
--- an upper bound, where none is above all keys
+-- an upper bound; none means the bound above all keys
 abbrev pub high_of : Option ℕ → ℕ
 high_of None = key_end
 high_of (Some high) = high
 
--- the least key that may follow a last one, where none is the lower bound
+-- the least key that may follow a last one, or the lower bound if there is none
 abbrev pub least_of : ℕ → Option ℕ → ℕ
 least_of low None = low
 least_of low (Some last) = suc last
 
--- so many pages were given, and these are among them
+-- these pages are among the given ones, of which there are this many
 abbrev pub AreNamed : ℕ → List Pair → Type 0
 AreNamed pages [] = Unit {0}
 AreNamed pages (e ∷ es) = (2 ≤ e.1) × (e.1 < pages) × AreNamed pages es
 
--- its counts are those of the data
+-- the counts are those of the data
 pub record IsFrontOf (bytes : List ℕ) (front : Super) : Type 0 where
   pub slots : front.next_slot ≡ next_slot bytes
   pub pages : front.next_page ≡ next_page bytes
 
--- the media failed
+-- the medium failed
 abbrev pub is_media : {T : Type 0} → Result T CheckFault → Bool
 is_media (Err Media) = true
 is_media _ = false
 
--- A pair of a leaf: its slot is well, or a page answers for it.
+-- The test of a leaf's pair: its slot is sound, or this page is damaged.
 abbrev pub SlotCause : List ℕ → ℕ → Pair → Result (Unit {0}) CheckFault → Type 0
 SlotCause bytes page pair (Ok answer) = (pair.1 < next_slot bytes) × Carries bytes pair
 SlotCause bytes page pair (Err (Damaged bad)) =
     (¬ (pair.1 < next_slot bytes) × (bad ≡ page)) ⊎ ((pair.1 < next_slot bytes) × ¬ Carries bytes pair × (bad ≡ slot_page bytes pair.1))
 SlotCause bytes page pair (Err fault) = Unit {0}
 
--- all pairs of a leaf, or the page that answers for the first that fails
+-- the test of all pairs of a leaf: they are sound, or this page is damaged because of the first that fails
 abbrev pub SlotsCause : List ℕ → ℕ → List Pair → Result (Unit {0}) CheckFault → Type 0
 SlotsCause bytes page pairs (Ok answer) = AreGiven bytes pairs
 SlotsCause bytes page pairs (Err (Damaged bad)) = SlotsFail bytes page pairs bad
 SlotsCause bytes page pairs (Err fault) = Unit {0}
 
--- all children of a page, each so many levels above the leaves, or the first page below them that fails
+-- the test of all children of a page, each this many levels above the leaves: they are sound, or this is the first page below that fails
 abbrev pub ChildrenCause : ℕ → List ℕ → List Pair → ℕ → Result (Unit {0}) CheckFault → Type 0
 ChildrenCause l bytes es high (Ok answer) = AreSound (IsTree l bytes) es high
 ChildrenCause l bytes es high (Err (Damaged bad)) = ChildFails (IsTree l bytes) (TreeFails l bytes) es high bad
 ChildrenCause l bytes es high (Err fault) = Unit {0}
 
--- a page and all below it
+-- the test of a page and all pages below it
 abbrev pub TreeCause : ℕ → List ℕ → ℕ → ℕ → ℕ → Result (Unit {0}) CheckFault → Type 0
 TreeCause l bytes page low high (Ok answer) = IsTree l bytes page low high
 TreeCause l bytes page low high (Err (Damaged bad)) = TreeFails l bytes page low high bad

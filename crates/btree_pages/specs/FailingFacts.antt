@@ -1,4 +1,4 @@
--- The first page that fails is one, and there is none where the index is sound.
+-- At most one page is the first that fails, and if the index is sound there is none.
 use Rattle.std.proofs.Common.{◌≡◌, ℕ, zero, suc, inl, inr, List, [], ◌∷◌, sym, ◌∙◌}
 use Rattle.btree_pages.specs.Failing.{SlotsFail, IsTreeLeafHead, ChildFails, TreeFails, IsFirstDamagedOfTree}
 use Rattle.btree_pages.specs.Tree.{IsTreeLeaf, AreSound, next_low, IsTree, IsSoundTree}

@@ -56,7 +56,7 @@ module _ (old new : List ℕ) (keeps : Keeps old new) where
       let two = rest.1 in
       ((h.0, rest.0), cc)
 
-  -- a tree of which no page has changed
+  -- a tree none of whose pages has changed
   pub tree_kept : (l page low high : ℕ) → IsTree l old page low high → ((q : ℕ) → IsUnder l old q page → page_bytes new q ≡ page_bytes old q)
       → IsTree l new page low high × (pairs_under l new page ≡ pairs_under l old page)
   tree_kept zero page low high t same = (leaf_kept page low high (same page refl) t, ap pairs_said (same page refl))

@@ -1,4 +1,4 @@
--- The tree as an index: its pages, and what an insertion makes.
+-- The tree as an index: its pages, and the actions of an insertion.
 use Rattle.std.specs.Prelude.{ℕ, zero, suc, ◌≤◌, nat_lt, if◌then◌else◌, List, [], ◌∷◌, take, drop}
 use Rattle.record_slots.specs.Places.{next_slot, next_page, first_slot_page, slot_page}
 use Rattle.page_store.specs.Index.{Action, Index}
@@ -9,32 +9,32 @@ use Rattle.btree_pages.specs.Descent.{child_for}
 use Rattle.btree_pages.specs.Failing.{IsFirstDamagedOfTree}
 use Rattle.btree_pages.specs.Tree.{IsUnder, IsSoundTree, pairs_of_tree}
 
--- a pair is added: the next slot, the leaf, the super page
+-- adding a pair: the next slot, the leaf, the super page
 abbrev pub adding : List ℕ → ℕ → Action
 adding bytes leaf = record { pages = slot_page bytes (next_slot bytes) ∷ leaf ∷ 0 ∷ []; takes = 0 }
 
--- a full page is cut: the page, the next page, which takes the upper half, the parent, the super page
+-- splitting a full page: the page, the next page, which takes the upper half, the parent, the super page
 abbrev pub cutting : ℕ → ℕ → ℕ → Action
 cutting page next parent = record { pages = page ∷ next ∷ parent ∷ 0 ∷ []; takes = 1 }
 
--- A full root is cut: the next page and the one behind it, which take the halves, the root, the super page. There is no level above 7,
--- as if it took more pages than are left.
+-- Splitting a full root: the next two pages, which take the halves, the root, the super page. A root of level 7 cannot be split: the action
+-- counts as taking more pages than are left.
 abbrev pub growing : List ℕ → Action
 growing bytes = record {
   pages = next_page bytes ∷ suc (next_page bytes) ∷ 1 ∷ 0 ∷ [];
   takes = if nat_lt (level_of bytes 1) 7 then 2 else first_slot_page bytes;
 }
 
--- which of the halves of 30 pairs has the key's range: of them 15 go to the left
+-- which half of 30 pairs has the key in its range; the left half has 15
 abbrev pub half_for : List Pair → ℕ → ℕ → ℕ → ℕ
 half_for pairs left right key = if nat_lt key (key_at pairs 15) then left else right
 
--- and the pairs of that half
+-- the pairs of that half
 abbrev pub half_pairs : List Pair → ℕ → List Pair
 half_pairs pairs key = if nat_lt key (key_at pairs 15) then take 15 pairs else drop 15 pairs
 
--- The actions on the way down to a key, from behind a page so many levels above the leaves that has room. What this page said before
--- the insertion stands under the number now, and the next page to be given is next.
+-- The actions on the way down to a key, from a page with room that is this many levels above the leaves. What that page said before the
+-- insertion is now in page `now`, and `next` is the page that is given out next.
 abbrev pub actions_below : ℕ → List ℕ → ℕ → ℕ → ℕ → ℕ → List Action
 actions_below zero bytes page now next key = adding bytes now ∷ []
 actions_below (suc d) bytes page now next key =
@@ -45,7 +45,7 @@ actions_below (suc d) bytes page now next key =
     ∷ actions_below d bytes (child_for (page_pairs bytes page) key)
     (half_for (page_pairs bytes (child_for (page_pairs bytes page) key)) (child_for (page_pairs bytes page) key) next key) (suc next) key
 
--- from the root down
+-- the actions from the root down
 abbrev pub tree_actions : List ℕ → ℕ → List Action
 tree_actions bytes key =
     if nat_lt (count_of bytes 1) 30 then actions_below (level_of bytes 1) bytes 1 1 (next_page bytes) key
@@ -59,8 +59,8 @@ IsPageOfTree bytes page = IsUnder (level_of bytes 1) bytes page 1
 abbrev pub tree : Index
 tree = record { sound = IsSoundTree; fails = IsFirstDamagedOfTree; pairs = pairs_of_tree; level = λ bytes. level_of bytes 1; has_page = IsPageOfTree; actions = tree_actions }
 
--- The index for what is left of an insertion behind a page on its way, which has room and stands so many levels above the leaves: its
--- actions are those from there on, and of sound data no more than this many pages are given.
+-- The index for the rest of an insertion, from a page on its way that has room and is this many levels above the leaves. Its actions are
+-- those from there on, and sound data has at most this many pages given out.
 abbrev pub tree_below : ℕ → ℕ → ℕ → Index
 tree_below page level most = record {
   sound = λ bytes. IsSoundTree bytes × (next_page bytes ≤ most);

@@ -1,4 +1,4 @@
--- The leaf of a key, and what lies behind it.
+-- The leaf of a key, and what comes after it.
 use Rattle.std.specs.Prelude.{ℕ, ◌≡◌, ◌≢◌, nat_lt, if◌then◌else◌, List, [], ◌∷◌, Option, Some, None}
 use Rattle.record_slots.specs.Places.{AreGiven}
 use Rattle.page_store.specs.Pairs.{Pair, found, next}
@@ -7,7 +7,7 @@ use Rattle.index_pages.specs.Page.{page_pairs, pairs_said}
 use Rattle.btree_pages.specs.Descent.{leaf_for}
 use Rattle.btree_pages.specs.Tree.{pairs_of_tree}
 
--- the low key of the entry behind that of a key's child
+-- the low key of the entry after that of the key's child
 abbrev pub bound_in : List Pair → ℕ → Option ℕ
 bound_in [] key = None
 bound_in (e ∷ []) key = None
@@ -18,12 +18,12 @@ abbrev pub from_bound : List ℕ → Option ℕ → Option Pair
 from_bound bytes None = None
 from_bound bytes (Some low) = next (pairs_of_tree bytes) low
 
--- a leaf begins at this bound, and has a pair
+-- a leaf begins at this bound and has a pair
 abbrev pub IsBegin : List ℕ → Option ℕ → Type 0
 IsBegin bytes None = Unit {0}
 IsBegin bytes (Some low) = next (page_pairs bytes (leaf_for bytes low)) low ≢ None
 
--- these are the bytes of the key's leaf, which answers for the key; the leaf behind it begins at the bound, if there is one
+-- These are the bytes of the key's leaf, which decide what the key leads to. The next leaf begins at the bound, if there is one.
 pub record AtLeaf (bytes : List ℕ) (key : ℕ) (bound : Option ℕ) (leaf : List ℕ) : Type 0 where
   pub pairs : pairs_said leaf ≡ page_pairs bytes (leaf_for bytes key)
   pub given : AreGiven bytes (pairs_said leaf)
@@ -31,7 +31,7 @@ pub record AtLeaf (bytes : List ℕ) (key : ℕ) (bound : Option ℕ) (leaf : Li
   pub next_is : next (pairs_of_tree bytes) key ≡ or_else (next (pairs_said leaf) key) (from_bound bytes bound)
   pub begins : IsBegin bytes bound
 
--- in the leaf of the key this is the first pair from there on
+-- the first pair from the key on in the key's leaf, and the bound at which the next leaf begins
 pub record Reaches (bytes : List ℕ) (key : ℕ) (least : Option Pair) (bound : Option ℕ) : Type 0 where
   pub least_is : least ≡ next (page_pairs bytes (leaf_for bytes key)) key
   pub next_is : next (pairs_of_tree bytes) key ≡ or_else least (from_bound bytes bound)

@@ -9,7 +9,7 @@ pub mod Writes
 pub mod Checked
 pub mod Index
 pub mod Props
--- lemmas, which the laws of the index cite
+-- lemmas that the laws of the index cite
 pub mod TreeFacts
 pub mod Frames
 pub mod Resting

@@ -1,4 +1,4 @@
--- A page as a tree has it.
+-- A page of a tree.
 use Rattle.std.specs.Prelude.{ℕ, zero, suc, ◌≡◌, ◌≤◌, ◌⊎◌, List, ◌∷◌, drop}
 use Rattle.page_store.specs.Pairs.{Pair}
 use Rattle.index_pages.specs.Page.{kind_said, level_said, count_said, link_said}
@@ -9,23 +9,23 @@ use Rattle.btree_pages.specs.declared.page.Head.{Head}
 abbrev pub IsForm : ℕ → ℕ → ℕ → Type 0
 IsForm kind level count = ((kind ≡ 1) × (level ≡ 0)) ⊎ ((kind ≡ 2) × (1 ≤ level) × (level ≤ 7) × (1 ≤ count))
 
--- 512 bytes of a leaf or of an inner page, with at most 30 pairs and no link
+-- a leaf or an inner page, with at most 30 pairs and no link
 pub record IsNode (bytes : List ℕ) : Type 0 where
   pub form : IsForm (kind_said bytes) (level_said bytes) (count_said bytes)
   pub link : link_said bytes ≡ 0
   pub most : count_said bytes ≤ 30
 
--- they say this head
+-- the page has this head
 pub record SaysNode (bytes : List ℕ) (head : Head) : Type 0 where
   pub node : IsNode bytes
   pub level : head.level ≡ level_said bytes
   pub count : head.count ≡ count_said bytes
 
--- leaves are of kind 1, inner pages of kind 2
+-- leaves have kind 1, inner pages kind 2
 abbrev pub kind_for : ℕ → ℕ
 kind_for zero = 1
 kind_for (suc level) = 2
 
--- a page of this level with these pairs: what stands behind kind and level is as in a leaf without a link
+-- a page of this level with these pairs: after kind and level it is like a leaf without a link
 unfoldable pub node_bytes : ℕ → List Pair → List ℕ
 node_bytes level pairs = kind_for level ∷ level ∷ drop 2 (leaf_bytes 0 pairs)

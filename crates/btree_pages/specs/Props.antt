@@ -1,4 +1,4 @@
--- Soundness is a proposition: a struct can keep it.
+-- Soundness is a proposition, so a struct can keep it.
 use Rattle.std.specs.Prelude.{ℕ, zero, suc, List, [], ◌∷◌}
 use Rattle.std.specs.Coded.{×_prop, Unit-prop}
 use Rattle.std.proofs.Props.{props}

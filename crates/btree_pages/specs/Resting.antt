@@ -1,4 +1,4 @@
--- A tree whose pages are as they were, and whose slots carry their keys still.
+-- A tree whose pages are as they were and whose slots still carry their keys.
 use Rattle.std.proofs.Common.{◌≡◌, ℕ, zero, suc, List, [], ◌∷◌, ◌++◌, sym, ◌∙◌, ap, subst, arith}
 use Rattle.record_slots.specs.Super.{HasSuperMark, form_said, next_slot_said, next_page_said}
 use Rattle.record_slots.specs.Places.{page_bytes, next_slot, next_page, AreGiven, page_count}
@@ -12,7 +12,7 @@ use Rattle.btree_pages.specs.Frames.{tree_kept}
 use Rattle.btree_pages.specs.Tree.{IsTree, AreSound, next_low, pieces_with, pairs_under, IsSoundTree, pairs_of_tree}
 use Rattle.btree_pages.specs.TreeFacts.{tree_level, under_own}
 
--- what is written into slots leaves a sound tree as it is
+-- writes to slots leave a sound tree as it is
 pub sound_tree_rests : (old new : List ℕ) → IsSoundTree old → KeepsIndex old new → IsSoundTree new × (pairs_of_tree new ≡ pairs_of_tree old) × (level_of new 1 ≡ level_of old 1)
 unfolding pairs_of_tree
 sound_tree_rests old new sound keeps =

@@ -1,4 +1,4 @@
--- The tree: its root is page 1. An inner page has pairs of a low key and a child, a leaf pairs of a key and a slot.
+-- The tree, whose root is page 1. An inner page has pairs of a low key and a child, a leaf has pairs of a key and a slot.
 use Rattle.std.specs.Prelude.{ℕ, zero, suc, ◌≡◌, ◌≢◌, ◌<◌, ◌≤◌, ◌⊎◌, List, [], ◌∷◌}
 use Rattle.index_pages.specs.Chain.{key_end}
 use Rattle.index_pages.specs.Page.{kind_of, level_of, count_of, link_of, page_pairs}
@@ -6,7 +6,7 @@ use Rattle.index_pages.specs.Pieces.{Piece, joined}
 use Rattle.page_store.specs.Pairs.{Pair, Rise}
 use Rattle.record_slots.specs.Places.{next_page, IsSuper, AreGiven}
 
--- a leaf with the keys from the lower bound on and below the upper one: only the root may be empty
+-- a leaf with keys from the lower bound on and below the upper bound; only the root may be empty
 pub record IsTreeLeaf (bytes : List ℕ) (page low high : ℕ) : Type 0 where
   pub kind : kind_of bytes page ≡ 1
   pub level : level_of bytes page ≡ 0
@@ -16,12 +16,12 @@ pub record IsTreeLeaf (bytes : List ℕ) (page low high : ℕ) : Type 0 where
   pub rises : Rise low high (page_pairs bytes page)
   pub given : AreGiven bytes (page_pairs bytes page)
 
--- the children of these entries were given
+-- the children of these entries are pages that are given out
 abbrev pub AreChildren : List ℕ → List Pair → Type 0
 AreChildren bytes [] = Unit {0}
 AreChildren bytes (e ∷ es) = (2 ≤ e.1) × (e.1 < next_page bytes) × AreChildren bytes es
 
--- the low key of the next entry: the upper bound where there is none
+-- the low key of the next entry, or the upper bound if there is none
 abbrev pub next_low : List Pair → ℕ → ℕ
 next_low [] high = high
 next_low (e ∷ es) high = e.0
@@ -37,7 +37,7 @@ pub record IsInner (bytes : List ℕ) (level page low : ℕ) : Type 0 where
   pub rises : Rise low key_end (page_pairs bytes page)
   pub children : AreChildren bytes (page_pairs bytes page)
 
--- each child is sound between its own low key and the next one
+-- each child is sound from its own low key up to the next one
 abbrev pub AreSound : (ℕ → ℕ → ℕ → Type 0) → List Pair → ℕ → Type 0
 AreSound P [] high = Unit {0}
 AreSound P (e ∷ es) high = P e.1 e.0 (next_low es high) × AreSound P es high
@@ -47,12 +47,12 @@ abbrev pub IsTree : ℕ → List ℕ → ℕ → ℕ → ℕ → Type 0
 IsTree zero bytes page low high = IsTreeLeaf bytes page low high
 IsTree (suc l) bytes page low high = IsInner bytes (suc l) page low × AreSound (IsTree l bytes) (page_pairs bytes page) high
 
--- what each child holds, under its low key
+-- the pairs under each child, with its low key
 abbrev pub pieces_with : (ℕ → List Pair) → List Pair → List Piece
 pieces_with f [] = []
 pieces_with f (e ∷ es) = (e.0, f e.1) ∷ pieces_with f es
 
--- the pairs of the leaves, from left to right
+-- the pairs of the leaves from left to right
 abbrev pub pairs_under : ℕ → List ℕ → ℕ → List Pair
 pairs_under zero bytes page = page_pairs bytes page
 pairs_under (suc l) bytes page = joined (pieces_with (pairs_under l bytes) (page_pairs bytes page))
@@ -60,7 +60,7 @@ pairs_under (suc l) bytes page = joined (pieces_with (pairs_under l bytes) (page
 abbrev pub pieces_under : ℕ → List ℕ → ℕ → List Piece
 pieces_under l bytes page = pieces_with (pairs_under l bytes) (page_pairs bytes page)
 
--- data that is a tree
+-- data with a sound tree
 pub record IsSoundTree (bytes : List ℕ) : Type 0 where
   pub front : IsSuper 1 bytes
   pub level : level_of bytes 1 ≤ 7
@@ -69,7 +69,7 @@ pub record IsSoundTree (bytes : List ℕ) : Type 0 where
 unfoldable pub pairs_of_tree : List ℕ → List Pair
 pairs_of_tree bytes = pairs_under (level_of bytes 1) bytes 1
 
--- a page is among those of the tree of this level under a page
+-- a page is among the pages of the trees under these entries
 abbrev pub IsUnderSome : (ℕ → Type 0) → List Pair → Type 0
 IsUnderSome P [] = ⊥
 IsUnderSome P (e ∷ es) = P e.1 ⊎ IsUnderSome P es

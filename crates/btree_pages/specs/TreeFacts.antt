@@ -1,4 +1,4 @@
--- What a sound tree's pairs are.
+-- What the pairs of a sound tree are like.
 use Rattle.std.proofs.Common.{◌≡◌, ◌≢◌, ℕ, zero, suc, ◌<◌, ◌≤◌, inl, inr, List, [], ◌∷◌, length, refl, ap, subst, arith}
 use Rattle.btree_pages.specs.Tree.{AreChildren, next_low, AreSound, IsTree, pieces_with, pairs_under, pieces_under, IsSoundTree, pairs_of_tree, IsUnder, IsUnderSome}
 use Rattle.index_pages.proofs.Tiling.{tile_bounds, joined_rises}
@@ -30,7 +30,7 @@ pub length-pieces : (f : ℕ → List Pair) (es : List Pair) → length (pieces_
 length-pieces f [] = refl
 length-pieces f (e ∷ es) = ap suc (length-pieces f es)
 
--- where the first entry begins
+-- the first entry begins at the lower bound
 first_low : (low high : ℕ) (es : List Pair) → 1 ≤ length es → next_low es low ≡ low → next_low es high ≡ low
 first_low low high [] some e = absurd (omega arith)
 first_low low high (x ∷ es) some e = e
@@ -57,7 +57,7 @@ tree_facts (suc l) bytes page low high t =
     let len' = length-pieces (pairs_under l bytes) (page_pairs bytes page) in
     (joined_rises low high (pieces_under l bytes page) tile, λ (_ : page ≢ 1). tile_wide low high (pieces_under l bytes page) (omega (arith, t.0.some)) tile)
 
--- what the children of an inner page hold tiles its range
+-- the pairs under the children of an inner page tile its range
 pub tree_tiles : (l : ℕ) (bytes : List ℕ) (page low high : ℕ) → IsTree (suc l) bytes page low high → Tile low high (pieces_under l bytes page)
 tree_tiles l bytes = inner_tiles l bytes (tree_facts l bytes)
 
@@ -65,7 +65,7 @@ tree_tiles l bytes = inner_tiles l bytes (tree_facts l bytes)
 pub tree_rises : (l : ℕ) (bytes : List ℕ) (page low high : ℕ) → IsTree l bytes page low high → Rise low high (pairs_under l bytes page)
 tree_rises l bytes page low high t = (tree_facts l bytes page low high t).0
 
--- no tree but the root's is empty
+-- no tree but that of the root is empty
 pub tree_wide : (l : ℕ) (bytes : List ℕ) (page low high : ℕ) → IsTree l bytes page low high → page ≢ 1 → low < high
 tree_wide l bytes page low high t = (tree_facts l bytes page low high t).1
 
@@ -73,12 +73,12 @@ pub sound_tree_rises : (bytes : List ℕ) → IsSoundTree bytes → Rise 0 key_e
 unfolding pairs_of_tree
 sound_tree_rises bytes sound = tree_rises _ bytes 1 0 key_end sound.pages
 
--- the root of a tree says its level
+-- the root of a tree has the tree's level
 pub tree_level : (m : ℕ) (bytes : List ℕ) (q low high : ℕ) → IsTree m bytes q low high → level_of bytes q ≡ m
 tree_level zero bytes q low high t = t.level
 tree_level (suc m) bytes q low high t = t.0.level_is
 
--- its pages were given, or it is page 1
+-- its pages are given out, or page 1
 under_some_own : (l : ℕ) (bytes : List ℕ) (q : ℕ) → ((page low high : ℕ) → IsOwn bytes page → IsTree l bytes page low high → IsUnder l bytes q page → IsOwn bytes q)
     → (es : List Pair) (high : ℕ) → AreChildren bytes es → AreSound (IsTree l bytes) es high → IsUnderSome (IsUnder l bytes q) es → IsOwn bytes q
 under_some_own l bytes q ih [] high are sound u = absurd u

@@ -21,7 +21,7 @@ pub record IsRead (shape : Shape) (page level : ℕ) (pairs : List Pair) : Type 
   pub most : length pairs ≤ 30
   pub small : AreSmall pairs
 
--- a pair is added: the slot, absent under the key; the leaf with the pair; the counts
+-- adding a pair: the slot, absent with the key; the leaf with the pair; the counts
 abbrev pub adding_pages : ℕ → Super → ℕ → List ℕ
 adding_pages half front leaf = (half + front.next_slot / 8) ∷ leaf ∷ 0 ∷ []
 
@@ -31,7 +31,7 @@ adding_parts half front leaf pairs key =
     ∷ (address leaf 0, node_bytes 0 (inserted pairs key front.next_slot))
     ∷ (address 0 8, count_bytes (front.next_slot + 1) front.next_page) ∷ []
 
--- a full page is cut: it keeps the lower half; the next page, with the upper half; the parent, which names that; the counts
+-- splitting a full page: the page, which keeps the lower half; the next page with the upper half; the parent, which names that; the counts
 abbrev pub cutting_pages : ℕ → ℕ → ℕ → List ℕ
 cutting_pages page next parent = page ∷ next ∷ parent ∷ 0 ∷ []
 
@@ -42,7 +42,7 @@ cutting_parts front page level pairs parent above =
     ∷ (address parent 0, node_bytes (level + 1) (inserted above (key_at pairs 15) front.next_page))
     ∷ (address 0 8, count_bytes front.next_slot (front.next_page + 1)) ∷ []
 
--- the root is cut: two new pages, with its halves; the root, one level up, which names both; the counts
+-- splitting the root: two new pages with its halves; the root, one level up, which names both; the counts
 abbrev pub growing_pages : ℕ → List ℕ
 growing_pages next = next ∷ (next + 1) ∷ 1 ∷ 0 ∷ []
 

@@ -1,4 +1,4 @@
-// The test of the whole tree.
+// Tests the whole tree.
 ghost use Rattle.std.specs.Prelude.{◌≡◌, ◌≢◌, ◌<◌, ◌≤◌, ◌-◌, ◌^◌, ◌↔◌, suc, IsErrOf, IsTrue};
 ghost use Rattle.eaw_face.specs.Causes.{IsAlive};
 ghost use Rattle.record_slots.specs.Places.{next_slot, IsOfKey};
@@ -22,23 +22,23 @@ use index_pages::{
 use page_store::{CheckFault, Pages};
 use record_slots::{Slot, Super};
 
-// The form of the index that the super page of a tree says.
+// The form that the super page of a tree names.
 pub const FORM: u8 = 1;
 
 const FIRST_CHILD: u64 = 2;
 
 const SLOTS_IN_PAGE: u32 = 8;
 
-// A page of the tree, and the range of its keys.
+// A page of the tree and the range of its keys.
 #[derive(Clone, Copy)]
 struct Spot {
     page: u32,
     low: u64,
-    /// Above all its keys; `None` where no key is.
+    /// Above all its keys, or `None` if no key is.
     high: Option<u64>,
 }
 
-// Tests the super page, and then the pages of the tree from the root down, children from left to right.
+// Tests the super page and then the pages of the tree from the root down, children from left to right.
 pub fn check<S: EawStore>(pages: &mut Pages<S>) -> Result<(), CheckFault>
     ensures looks { Looks S.tells (S.opens (S.view pages.old.store).shape) (is_check_failed result)
         (pages_of (S.view pages.old.store) pages.old) (pages_of (S.view pages.new.store) pages.new) }
@@ -72,7 +72,7 @@ fn level_in(page: &[u8; PAGE_LEN]) -> u8
     page[1]
 }
 
-// Tests a page of this level, and all pages below it.
+// Tests a page of this level and all pages below it.
 #[cycle(under)]
 fn check_under<S: EawStore>(
     pages: &mut Pages<S>,
@@ -153,7 +153,7 @@ fn check_children<S: EawStore>(
     Ok(())
 }
 
-// Where the range of child `i` ends: at the next low key, or where that of the page ends.
+// Where the range of child `i` ends: at the next low key, or else where the page's own range ends.
 fn end_of(bytes: &[u8; PAGE_LEN], count: u16, i: u16, high: Option<u64>) -> Option<u64>
     requires count { count ≡ count_said bytes.now }
     requires most { count ≤ 30 }
@@ -179,7 +179,7 @@ fn is_leaf(bytes: &[u8; PAGE_LEN], count: u16, spot: &Spot) -> bool
     rises(bytes, count, spot.low, spot.high)
 }
 
-// The tests of an inner page: its low keys rise from the lower bound on, and its children are pages that were given.
+// The tests of an inner page: its low keys rise from the lower bound on, and its children are pages that are given out.
 fn is_inner(bytes: &[u8; PAGE_LEN], count: u16, low: u64, pages: u32) -> bool
     requires count { count ≡ count_said bytes.now }
     requires some { 1 ≤ count }
@@ -195,7 +195,7 @@ fn is_inner(bytes: &[u8; PAGE_LEN], count: u16, low: u64, pages: u32) -> bool
     are_named(bytes, count, pages)
 }
 
-// The keys of a page rise strictly, from the lower bound on and below the upper one.
+// The keys of a page rise strictly, from the lower bound on and below the upper bound.
 fn rises(bytes: &[u8; PAGE_LEN], count: u16, low: u64, high: Option<u64>) -> bool
     requires count { count ≡ count_said bytes.now }
     requires most { count ≤ 30 }
@@ -212,7 +212,7 @@ fn rises(bytes: &[u8; PAGE_LEN], count: u16, low: u64, high: Option<u64>) -> boo
     is_below(low, last, high)
 }
 
-// The key may follow the last one.
+// Whether the key may follow the last one.
 fn is_above(low: u64, last: Option<u64>, key: u64) -> bool
     ensures { IsTrue result ↔ (least_of low last ≤ key) }
 {
@@ -222,7 +222,7 @@ fn is_above(low: u64, last: Option<u64>, key: u64) -> bool
     }
 }
 
-// The last key is below the upper bound.
+// Whether the last key is below the upper bound.
 fn is_below(low: u64, last: Option<u64>, high: Option<u64>) -> bool
     requires { least_of low last ≤ 2 ^ 64 }
     ensures { IsTrue result ↔ (least_of low last ≤ high_of high) }
@@ -234,7 +234,7 @@ fn is_below(low: u64, last: Option<u64>, high: Option<u64>) -> bool
     }
 }
 
-// The children of a page are pages that were given.
+// Whether the children of a page are pages that are given out.
 fn are_named(bytes: &[u8; PAGE_LEN], count: u16, pages: u32) -> bool
     requires count { count ≡ count_said bytes.now }
     requires most { count ≤ 30 }
@@ -280,7 +280,7 @@ fn check_slots<S: EawStore>(
     Ok(())
 }
 
-// Tests the slot of a pair of a leaf: it was given, and carries the key.
+// Tests the slot of a pair in a leaf: it is given out and carries the key.
 fn check_slot<S: EawStore>(
     pages: &mut Pages<S>,
     page: u32,
@@ -314,7 +314,7 @@ fn check_slot<S: EawStore>(
     }
 }
 
-// What was read says a slot of this key.
+// Whether what was read is a slot of this key.
 fn is_of_key(said: &Option<Slot>, key: u64) -> bool
     ensures { IsTrue result ↔ IsOfKey key said.now }
 {

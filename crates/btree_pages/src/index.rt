@@ -8,10 +8,10 @@ use crate::{checking, insertion, look};
 use eaw_face::EawStore;
 use page_store::{CheckFault, IndexFault, KeyIndex, PageFault, Pages};
 
-/// An index that is a B+ tree of pages, whose root is page 1. A look-up reads the pages from the root down to the leaf of its key, eight at
-/// most, and the leaf behind it where the pair with the least key is asked for. An insertion cuts each full page on its way down, and then
-/// adds the pair. A cut is one nested top action of four parts: both halves, the page that names them, and the super page. The addition
-/// has three: the slot, the leaf and the super page.
+/// An index that is a B+ tree of pages whose root is page 1. A look-up reads the pages from the root down to the leaf of its key, eight at
+/// most. To find the pair with the least key from a bound on, it may also read the next leaf. An insertion splits each full page on its way
+/// down and then adds the pair. A split is one nested top action of four parts: both halves, the page that names them, and the super page.
+/// Adding the pair takes three: the slot, the leaf and the super page.
 #[derive(Clone, Copy, Debug)]
 pub struct BTreePages {}
 

@@ -1,4 +1,4 @@
-// Insertions into the tree: on the way down each full page is cut, and then the pair goes to its leaf.
+// Insertions into the tree: each full page on the way down is split, and then the pair goes to its leaf.
 ghost use Rattle.std.specs.Prelude.{◌≡◌, ◌≢◌, ◌+◌, ◌^◌, ◌<◌, ◌≤◌, None, IsErrOf, IsTrue, length};
 ghost use Rattle.eaw_face.specs.Causes.{IsAlive};
 ghost use Rattle.page_store.specs.Index.{slots_of};
@@ -22,7 +22,7 @@ use index_pages::{PAIRS_MAX, fetch_super, index_fault, index_page_count};
 use page_store::{IndexFault, Pages};
 use record_slots::Super;
 
-// Inserts a key that is not there. A full root is cut first.
+// Inserts a key that is absent. A full root is split first.
 pub fn insert<S: EawStore>(pages: &mut Pages<S>, tid: u8, key: u64) -> Result<u32, IndexFault>
     requires tid { tid < (S.view pages.old.store).shape.numbers }
     requires closed { IsAlive (S.view pages.old.store) → top_in pages.old.marks tid ≡ None }
@@ -63,7 +63,7 @@ pub fn insert<S: EawStore>(pages: &mut Pages<S>, tid: u8, key: u64) -> Result<u3
     insert_below(pages, tid, key, with_pages(front, 2), half)
 }
 
-// Some pages more were given.
+// The counts with `more` pages given out.
 fn with_pages(front: Super, more: u32) -> Super
     requires { front.next_page + more < 2 ^ 32 }
     ensures slot { result.next_slot ≡ front.next_slot }
@@ -75,7 +75,7 @@ fn with_pages(front: Super, more: u32) -> Super
     }
 }
 
-// Inserts a key from a page on its way on, which has room.
+// Inserts a key, going on from a page on its way that has room.
 fn insert_below<S: EawStore>(
     pages: &mut Pages<S>,
     tid: u8,

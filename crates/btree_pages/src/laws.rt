@@ -1,4 +1,4 @@
-// Laws of trees: each follows from the definitions alone.
+// Laws of trees, each of which follows from the definitions alone.
 ghost use Rattle.std.specs.Prelude.{◌≡◌, ◌≢◌, ◌<◌, ◌≤◌, ℕ, suc, List, [], None};
 ghost use Rattle.record_slots.specs.Places.{page_bytes, next_page, IsSuper, AreGiven};
 ghost use Rattle.page_store.specs.Index.{KeepsIndex};
@@ -12,8 +12,7 @@ ghost use Rattle.btree_pages.specs.Descent.{child_for, page_for, leaf_for};
 ghost use Rattle.btree_pages.specs.Failing.{IsFirstDamagedOfTree};
 ghost use Rattle.btree_pages.specs.Tree.{IsTree, pairs_under, pieces_under, IsSoundTree, pairs_of_tree};
 
-/// The children of an inner page tile its range, and the pairs of a sound tree rise strictly, with slots that were given and carry the
-/// keys.
+/// The children of an inner page tile its range. The pairs of a sound tree rise strictly, and their slots are given out and carry the keys.
 pub fn tree_rises()
     ensures tiles { (l : ℕ) (bytes : List ℕ) (page low high : ℕ) → IsTree (suc l) bytes page low high → Tile low high (pieces_under l bytes page) }
     ensures rises { (bytes : List ℕ) → IsSoundTree bytes → Rise 0 key_end (pairs_of_tree bytes) }
@@ -27,8 +26,8 @@ pub fn descent_finds()
         found (pairs_under (above d m) bytes page) key ≡ found (pairs_under m bytes (page_for d bytes page key)) key }
 {}
 
-/// What one action makes of a tree. An insertion in the key's leaf is one in all pairs; a split of a child on a key's way, and one of
-/// the root, keep all pairs. The data stays sound.
+/// What one action does to a tree. Adding a pair to the key's leaf inserts it among all pairs. Splitting a child on a key's way, or the
+/// root, keeps all pairs. The data stays sound.
 pub fn tree_changes_keep()
     ensures takes { (old new : List ℕ) (key to : ℕ) → IsSoundTree old → Keeps old new → IsSuper 1 new → key < key_end → found (pairs_of_tree old) key ≡ None →
         TakesPair old new (leaf_for old key) key to →
@@ -43,18 +42,18 @@ pub fn tree_changes_keep()
         IsSoundTree new × (pairs_of_tree new ≡ pairs_of_tree old) }
 {}
 
-/// What is written into slots, with their keys, leaves a tree as it is, and its level.
+/// Writes to slots that keep their keys leave the tree and its level as they are.
 pub fn slots_leave_the_tree()
     ensures { (old new : List ℕ) → IsSoundTree old → KeepsIndex old new → IsSoundTree new × (pairs_of_tree new ≡ pairs_of_tree old) × (level_of new 1 ≡ level_of old 1) }
 {}
 
-/// One page at most is the first that fails, and there is none where the data is sound.
+/// At most one page is the first that fails, and if the data is sound there is none.
 pub fn damage_is_first()
     ensures sound { (bytes : List ℕ) (bad : ℕ) → IsFirstDamagedOfTree bytes bad → IsSoundTree bytes → ⊥ }
     ensures one { (bytes : List ℕ) (bad other : ℕ) → IsFirstDamagedOfTree bytes bad → IsFirstDamagedOfTree bytes other → bad ≡ other }
 {}
 
-/// With a super page that is sound, page 1 with no pairs and no link is a sound tree of none.
+/// If the super page is sound, page 1 without pairs and without a link is a sound tree of no pairs.
 pub fn fresh_is_sound()
     ensures { (bytes : List ℕ) → IsSuper 1 bytes → kind_of bytes 1 ≡ 1 → level_of bytes 1 ≡ 0 → link_of bytes 1 ≡ 0 → count_of bytes 1 ≡ 0 →
         IsSoundTree bytes × (pairs_of_tree bytes ≡ []) }

@@ -1,4 +1,4 @@
-//! An index that is a B+ tree of pages: its root is page 1.
+//! An index that is a B+ tree of pages whose root is page 1.
 #![tactic(auto)]
 
 mod checking;

@@ -19,7 +19,7 @@ use page_store::{PageFault, Pages};
 
 pub const ROOT: u32 = 1;
 
-// The most pages on the way from the root down to a leaf.
+// The most pages on the way from the root to a leaf.
 pub const WAY_MAX: u32 = 8;
 
 /// A leaf on the way to a key.
@@ -27,7 +27,7 @@ pub const WAY_MAX: u32 = 8;
 pub struct Leaf {
     pub page: u32,
     pub count: u16,
-    /// The low key of what lies behind it.
+    /// The low key of what comes after it.
     pub bound: Option<u64>,
 }
 
@@ -118,7 +118,7 @@ pub fn find<S: EawStore>(pages: &mut Pages<S>, key: u64) -> Result<Option<u32>, 
     Ok(Some(slot as u32))
 }
 
-// The pairs of a key's leaf from that key on: the first of them, and where the next leaf begins.
+// What the leaf of a key says from that key on: its first such pair, and where the next leaf begins.
 #[derive(Clone, Copy)]
 struct Reached {
     page: u32,
@@ -126,7 +126,7 @@ struct Reached {
     bound: Option<u64>,
 }
 
-// Looks for the least pair from a key on in the leaf of that key.
+// Finds the least pair from a key on in the leaf of that key.
 fn reach<S: EawStore>(pages: &mut Pages<S>, from: u64) -> Result<Reached, PageFault>
     requires { IsTrue S.tells → IsAlive (S.view pages.old.store) → IsSoundTree (S.view pages.old.store).state.bytes }
     ensures looks { Looks S.tells (S.opens (S.view pages.old.store).shape) (is_failed result)
@@ -160,7 +160,7 @@ fn reach<S: EawStore>(pages: &mut Pages<S>, from: u64) -> Result<Reached, PageFa
     })
 }
 
-// The pair with the least key that is not below this one: in the leaf of that key, or in the leaf behind it.
+// The pair with the least key from this one on, in the leaf of that key or in the next leaf.
 pub fn next<S: EawStore>(pages: &mut Pages<S>, from: u64) -> Result<Option<(u64, u32)>, PageFault>
     requires { IsTrue S.tells → IsAlive (S.view pages.old.store) → IsSoundTree (S.view pages.old.store).state.bytes }
     ensures looks { Looks S.tells (S.opens (S.view pages.old.store).shape) (is_failed result)

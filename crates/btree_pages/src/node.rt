@@ -1,4 +1,4 @@
-// Pages of the tree as an insertion reads them.
+// Pages of the tree, as an insertion reads them.
 ghost use Rattle.std.specs.Prelude.{◌≡◌, ◌≢◌, ◌+◌, ◌<◌, ◌≤◌, IfOk, IsErrOf, IsTrue, length};
 ghost use Rattle.eaw_face.specs.Causes.{IsAlive};
 ghost use Rattle.record_slots.specs.Places.{page_bytes};
@@ -26,7 +26,7 @@ pub struct Node {
     pub pairs: Pairs,
 }
 
-// Reads a page with its pairs.
+// Reads a page and its pairs.
 pub fn fetch_node<S: EawStore>(pages: &mut Pages<S>, page: u32) -> Result<Node, PageFault>
     requires some { 1 ≤ page }
     requires inside { page < index_pages_of (S.view pages.old.store).shape }
@@ -52,7 +52,7 @@ pub fn fetch_node<S: EawStore>(pages: &mut Pages<S>, page: u32) -> Result<Node, 
     })
 }
 
-// The child whose range a key lies in.
+// The child whose range has the key.
 pub fn child_of(pairs: &[(u64, u64)], key: u64) -> u64
     requires { 1 ≤ length pairs.now }
     ensures { result ≡ child_for pairs.now key }
@@ -67,7 +67,7 @@ pub fn child_of(pairs: &[(u64, u64)], key: u64) -> u64
     child
 }
 
-// Reads the child of an inner page that has a key in its range.
+// Reads the child of an inner page whose range has the key.
 pub fn fetch_child<S: EawStore>(
     pages: &mut Pages<S>,
     node: &Node,

@@ -23,13 +23,13 @@ pub const LEVEL_MAX: u8 = 7;
 /// The head of a page of the tree.
 #[derive(Clone, Copy, Debug, PartialEq, Eq)]
 pub struct Head {
-    /// How many levels stand below it, 0 to 7: a leaf has none.
+    /// How many levels are below it, 0 to 7. A leaf has none.
     pub level: u8,
     /// How many pairs it has, at most 30.
     pub count: u16,
 }
 
-// The head of a page; `None` exactly where it is neither a leaf nor an inner page.
+// The head of a page, or `None` exactly when the page is neither a leaf nor an inner page.
 pub fn read_head(page: &[u8; PAGE_LEN]) -> Option<Head>
     ensures says { IfSome result (SaysNode page.now) }
     ensures other { IfNone result (¬ IsNode page.now) }
@@ -49,7 +49,7 @@ pub fn read_head(page: &[u8; PAGE_LEN]) -> Option<Head>
     Some(Head { level, count })
 }
 
-// Kind, level and count are those of a leaf or of an inner page.
+// Whether kind, level and count are those of a leaf or an inner page.
 fn is_form(kind: u8, level: u8, count: u16) -> bool
     ensures { IsTrue result ↔ IsForm kind level count }
 {
@@ -60,7 +60,7 @@ fn is_form(kind: u8, level: u8, count: u16) -> bool
     }
 }
 
-// The child whose range a key lies in, and the low key of the entry behind it.
+// The child whose range has the key, and the low key of the next entry.
 pub fn child_in(page: &[u8; PAGE_LEN], count: u16, key: u64) -> (u64, Option<u64>)
     requires count { count ≡ count_said page.now }
     requires some { 1 ≤ count }

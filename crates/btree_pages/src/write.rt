@@ -37,7 +37,7 @@ fn write_node(level: u8, pairs: &[(u64, u64)], out: &mut [u8; PAGE_LEN])
     }
 }
 
-// The pairs of a page that has room, and one more in its place.
+// The pairs of a page that has room, with one more in its place.
 fn with_pair(node: Node, key: u64, to: u32) -> Pairs
     requires { length node.pairs.items < 30 }
     ensures { result.items ≡ inserted node.pairs.items key to }
@@ -56,7 +56,7 @@ fn middle_of(pairs: &Pairs) -> u64
     pairs.as_slice()[HALF].0
 }
 
-// Adds a pair of the key and the next slot to its leaf, which has room.
+// Adds a pair of the key and the next slot to the key's leaf, which has room.
 pub fn add_pair<S: EawStore>(
     pages: &mut Pages<S>,
     tid: u8,
@@ -109,7 +109,8 @@ fn front_part(counts: &[u8; COUNTS_LEN]) -> PagePart<'_>
     }
 }
 
-// Cuts a full page below a parent that has room: its upper half goes to the next page, which the parent names with its first key.
+// Splits a full page below a parent that has room. Its upper half goes to the next page, which the parent names with the first key of that
+// half.
 pub fn cut_page<S: EawStore>(
     pages: &mut Pages<S>,
     tid: u8,
@@ -160,7 +161,7 @@ fn whole_page(page: u32, bytes: &[u8; PAGE_LEN]) -> PagePart<'_>
     PagePart { page, at: 0, bytes }
 }
 
-// Cuts a full root: its halves go to the next two pages, which it names one level up.
+// Splits a full root. Its halves go to the next two pages, which it then names from one level up.
 pub fn grow_root<S: EawStore>(
     pages: &mut Pages<S>,
     tid: u8,
@@ -201,7 +202,7 @@ pub fn grow_root<S: EawStore>(
     act_all(pages, tid, &parts)
 }
 
-// The half of a full page that has a key in its range: the lower half is in the left page now, the upper one in the right page.
+// The half of a full page whose range has the key. The lower half is now in the left page, the upper one in the right page.
 pub fn half_of(node: &Node, left: u32, right: u32, key: u64) -> Node
     requires { length node.now.pairs.items ≡ 30 }
     ensures page { result.page ≡ half_for node.now.pairs.items left right key }
@@ -224,7 +225,7 @@ pub fn half_of(node: &Node, left: u32, right: u32, key: u64) -> Node
     }
 }
 
-// The pairs of a half on their own.
+// A copy of the pairs of a half.
 fn copy_of(pairs: &[(u64, u64)]) -> Pairs
     requires { length pairs.now ≤ 30 }
     ensures { result.items ≡ pairs.now }

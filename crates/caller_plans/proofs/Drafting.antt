@@ -1,4 +1,4 @@
--- What one more line changes of what callers plan.
+-- What one more line changes in what callers plan.
 use Rattle.std.proofs.Common.{ℕ, zero, suc, ◌≡◌, ◌<◌, ◌+◌, Bool, true, false, nat_eq, if◌then◌else◌, List, [], ◌∷◌, ◌++◌, length, set, map, replicate, slice_get, Option, Some, None, is_some, inl, inr, refl, sym, ap, ◌∙◌, arith}
 use Rattle.std.proofs.Math.Path.{fun_ext}
 use Rattle.std.proofs.lemmas.Bool.{cases_eq, cond-true, cond-false, eq-eqb}
@@ -17,7 +17,7 @@ use Rattle.caller_plans.specs.declared.script.Reading.{Reading}
 use Rattle.caller_plans.specs.Plans.{planned, is_stray, within_after, calls_by, faults_from, plans_from}
 use Rattle.caller_plans.specs.Drafts.{empty_draft, is_within, one_within, are_within, drafted, all_drafted, Takes}
 
--- a stray call begins and ends nothing, and no plan has it
+-- a stray call begins and ends nothing, and is in no plan
 pub stray_within : (was : Bool) (call : Call) → is_stray was call ≡ true → within_after was call ≡ was
 stray_within true Begin stray = refl
 stray_within true call stray = cc
@@ -30,7 +30,7 @@ stray_planned None call calls stray = refl
 stray_planned (Some made) Begin calls stray = refl
 stray_planned (Some made) call calls stray = cc
 
--- one draft is set: it says whether its caller is within a transaction, and the others are as they were
+-- one draft was set: it says whether its caller is within a transaction, and the others are as they were
 within-here : (drafts : List Draft) (i : ℕ) (draft : Draft) → i < length drafts → are_within (set drafts i draft) i ≡ is_within draft
 within-here [] i draft lt = absurd (omega (arith, lt))
 within-here (was ∷ drafts) zero draft lt = refl
@@ -53,7 +53,7 @@ within-set drafts i draft now lt is = fun_ext (λ k. elim (cases_eq k i) [
   | inr ne ↦ within-apart drafts i k draft ne ∙ sym (cond-false (nat_eq k i) now (are_within drafts k) (apart k i ne))
 ])
 
--- what a caller is given that it has changes nothing
+-- to set a caller's state to what it was changes nothing
 pub within_same : (within : ℕ → Bool) (i : ℕ) (now : Bool) → now ≡ within i → within ≡ (λ other. if nat_eq other i then now else within other)
 within_same within i now is = fun_ext (λ k. elim (cases_eq k i) [
   | inl e ↦ ap within e ∙ (sym is ∙ sym (cond-true (nat_eq k i) now (within k) (eq-eqb k i e)))
@@ -65,14 +65,14 @@ set_same [] i was at = refl
 set_same (draft ∷ drafts) zero was at = ap (λ (d : Draft). d ∷ drafts) (let same : was ≡ draft = cc in same)
 set_same (draft ∷ drafts) (suc i) was at = ap (λ (others : List Draft). draft ∷ others) (set_same drafts i was at)
 
--- callers behind the one that calls make no call
+-- callers after the one that calls make no call
 drafted_past : (first caller : ℕ) (call : Call) (drafts : List Draft) (lines : List Line) → caller < first → all_drafted first drafts (Told caller call ∷ lines) ≡ all_drafted first drafts lines
 drafted_past first caller call [] lines lt = refl
 drafted_past first caller call (draft ∷ drafts) lines lt =
     ap (λ (calls : List Call). drafted draft calls ∷ all_drafted (suc first) drafts (Told caller call ∷ lines)) (cond-false (nat_eq caller first) (call ∷ calls_by first lines) (calls_by first lines) (apart caller first (λ e. omega (arith, e, lt))))
     ∙ ap (λ (others : List (List Plan)). drafted draft (calls_by first lines) ∷ others) (drafted_past (suc first) caller call drafts lines (omega (arith, lt)))
 
--- a draft that makes the call: its caller has the plans that it had with the call before the rest, and the others have theirs
+-- after a draft took the call, its caller has the plans that it had with the call before the rest, and the others have theirs
 pub drafted-set : (first i caller : ℕ) (call : Call) (drafts : List Draft) (was draft : Draft) (lines : List Line) → slice_get drafts i ≡ Some was → caller ≡ first + i
     → ((calls : List Call) → drafted draft calls ≡ drafted was (call ∷ calls))
     → all_drafted first (set drafts i draft) lines ≡ all_drafted first drafts (Told caller call ∷ lines)
@@ -86,7 +86,7 @@ drafted-set first (suc i) caller call (one ∷ drafts) was draft lines at is mak
     ap (λ (others : List (List Plan)). drafted one (calls_by first lines) ∷ others) (drafted-set (suc first) i caller call drafts was draft lines at (omega (arith, is)) makes)
     ∙ ap (λ (calls : List Call). drafted one calls ∷ all_drafted (suc first) drafts (Told caller call ∷ lines)) (sym (cond-false (nat_eq caller first) (call ∷ calls_by first lines) (calls_by first lines) (apart caller first (λ e. omega (arith, e, is)))))
 
--- a line of no call leaves what callers plan
+-- a line without a call leaves what callers plan
 drafted_silent : (first : ℕ) (drafts : List Draft) (line : Line) (lines : List Line) → ((caller : ℕ) → calls_by caller (line ∷ lines) ≡ calls_by caller lines)
     → all_drafted first drafts lines ≡ all_drafted first drafts (line ∷ lines)
 drafted_silent first [] line lines silent = refl
@@ -135,7 +135,7 @@ module _ (n caller : ℕ) (call : Call) (old new : Reading) (was : Draft) (at : 
             ∙ drafted-set 0 caller caller call old.drafts.items was was lines at (omega arith) (λ calls. ap (λ (ps : List Plan). was.plans ++ ps) (sym (stray_planned was.begun call calls stray)));
       }
 
-  -- the line of another call, which the draft has then
+  -- the line of another call, which the draft then has
   pub takes_added : (draft : Draft) → is_stray (is_within was) call ≡ false → new.faults ≡ old.faults → new.drafts.items ≡ set old.drafts.items caller draft
       → ((calls : List Call) → drafted draft calls ≡ drafted was (call ∷ calls)) → is_within draft ≡ within_after (is_within was) call → Takes n (Told caller call) old new
   takes_added draft proper faults drafts makes goes =
@@ -153,7 +153,7 @@ module _ (n caller : ℕ) (call : Call) (old new : Reading) (was : Draft) (at : 
         plans = λ lines. ap (λ (ds : List Draft). all_drafted 0 ds lines) drafts ∙ drafted-set 0 caller caller call old.drafts.items was draft lines at (omega arith) makes;
       }
 
--- callers that have made no call: none is within a transaction, and all their plans are those of the lines
+-- of callers that have made no call, none is within a transaction, and all their plans are those of the lines
 none_within : (n caller : ℕ) → are_within (replicate n empty_draft) caller ≡ false
 none_within zero caller = refl
 none_within (suc n) zero = refl
@@ -166,7 +166,7 @@ pub first_drafted : (first n : ℕ) (lines : List Line) → all_drafted first (r
 first_drafted first zero lines = refl
 first_drafted first (suc n) lines = ap (λ (others : List (List Plan)). planned None (calls_by first lines) ∷ others) (first_drafted (suc first) n lines)
 
--- the plans where no line is left
+-- the plans when no line is left
 pub drafted_last : (first : ℕ) (drafts : List Draft) → all_drafted first drafts [] ≡ map (λ (draft : Draft). drafted draft []) drafts
 drafted_last first [] = refl
 drafted_last first (draft ∷ drafts) = ap (λ (others : List (List Plan)). drafted draft [] ∷ others) (drafted_last (suc first) drafts)

@@ -1,4 +1,4 @@
--- What callers plan, as far as a script was read.
+-- What callers plan, as far as a script has been read.
 use Rattle.std.specs.Prelude.{ℕ, suc, ◌≡◌, ◌<◌, Bool, false, List, [], ◌∷◌, ◌++◌, length, slice_get, Option, Some, None, is_some, option_map, option_to_list}
 use Rattle.history.specs.declared.call.Call.{Call}
 use Rattle.script_text.specs.declared.line.Line.{Line}
@@ -18,11 +18,11 @@ empty_draft = record { plans = []; begun = None }
 abbrev pub is_within : Draft → Bool
 is_within draft = is_some draft.begun
 
--- all plans of the caller, where these calls are the rest
+-- all plans of the caller, if these calls are the rest
 abbrev pub drafted : Draft → List Call → List Plan
 drafted draft calls = draft.plans ++ planned draft.begun calls
 
--- the plan of these calls, if there are any, that ends so
+-- the plan of these calls, if there is one, with this end
 abbrev pub plan_ended : Option (List Call) → PlanEnd → List Plan
 plan_ended begun end = option_to_list (option_map (λ calls. plan_of calls end) begun)
 
@@ -34,21 +34,21 @@ one_within (Some draft) = is_within draft
 abbrev pub are_within : List Draft → ℕ → Bool
 are_within drafts caller = one_within (slice_get drafts caller)
 
--- all plans of the callers from this one on, where these lines are the rest
+-- all plans of the callers from this one on, if these lines are the rest
 abbrev pub all_drafted : ℕ → List Draft → List Line → List (List Plan)
 all_drafted caller [] lines = []
 all_drafted caller (draft ∷ drafts) lines = drafted draft (calls_by caller lines) ∷ all_drafted (suc caller) drafts lines
 
--- all faults, where these lines are the rest, from the n-th on
+-- all faults, if these lines are the rest, from the n-th on
 abbrev pub all_faults : ℕ → Reading → List Line → List LineFault
 all_faults n reading lines = reading.faults ++ faults_from n (are_within reading.drafts.items) lines
 
--- the line's caller is one of so many
+-- if the line is a call, its caller is one of this many
 abbrev pub IsAmong : ℕ → Line → Type 0
 IsAmong callers (Told caller call) = caller < callers
 IsAmong callers _ = Unit {0}
 
--- A line, the n-th, was taken: with any rest the faults and the plans are those that they were with the line before that rest.
+-- The n-th line was taken: for any rest, the faults and the plans are what they were for the line followed by that rest.
 pub record Takes (n : ℕ) (line : Line) (old new : Reading) : Type 0 where
   pub count : length new.drafts.items ≡ length old.drafts.items
   pub faults : (lines : List Line) → all_faults (suc n) new lines ≡ all_faults n old (line ∷ lines)

@@ -14,7 +14,7 @@ use Rattle.caller_plans.specs.declared.fate.LineFault.TheVariants as fault
 abbrev pub plan_of : List Call → PlanEnd → Plan
 plan_of calls end = record { calls = calls; end = end }
 
--- The transactions that a caller's calls make, outside of one, or where these calls were made in one that has begun. A call outside of a
+-- The transactions that a caller's calls make, from outside a transaction or after these calls of one that has begun. A call outside a
 -- transaction is passed over, and so is a begin within one.
 abbrev pub planned : Option (List Call) → List Call → List Plan
 planned None [] = []
@@ -26,14 +26,14 @@ planned (Some made) (Commit ∷ calls) = plan_of made end.Commit ∷ planned Non
 planned (Some made) (Abort ∷ calls) = plan_of made end.Abort ∷ planned None calls
 planned (Some made) (call ∷ calls) = planned (Some (made ++ call ∷ [])) calls
 
--- whether a caller is within a transaction after a call, where it was so before
+-- whether a caller is within a transaction after a call, given whether it was before
 abbrev pub within_after : Bool → Call → Bool
 within_after was Begin = true
 within_after was Commit = false
 within_after was Abort = false
 within_after was call = was
 
--- a call outside of a transaction, or a begin within one
+-- a call outside a transaction, or a begin within one
 abbrev pub is_stray : Bool → Call → Bool
 is_stray false Begin = false
 is_stray false call = true
@@ -46,7 +46,7 @@ calls_by caller [] = []
 calls_by caller (Told other call ∷ lines) = if nat_eq other caller then call ∷ calls_by caller lines else calls_by caller lines
 calls_by caller (line ∷ lines) = calls_by caller lines
 
--- the lines from the n-th on that are bad or stray, where these callers are within transactions
+-- the lines from the n-th on that are bad or stray, given which callers are within a transaction
 abbrev pub faults_from : ℕ → (ℕ → Bool) → List Line → List LineFault
 faults_from n within [] = []
 faults_from n within (Nothing ∷ lines) = faults_from (suc n) within lines
@@ -54,13 +54,13 @@ faults_from n within (Bad ∷ lines) = fault.Bad n ∷ faults_from (suc n) withi
 faults_from n within (Told caller call ∷ lines) =
     (if is_stray (within caller) call then fault.Stray n ∷ [] else []) ++ faults_from (suc n) (λ other. if nat_eq other caller then within_after (within caller) call else within other) lines
 
--- what each line says, where there are so many callers
+-- what each line says, with this many callers
 abbrev pub AllSay : ℕ → List (List ℕ) → List Line → Type 0
 AllSay callers [] [] = Unit {0}
 AllSay callers (bytes ∷ lines) (line ∷ said) = Says callers bytes line × AllSay callers lines said
 AllSay callers _ _ = ⊥
 
--- what each of so many callers plans, from this one on
+-- what each of n callers plans, from this one on
 abbrev pub plans_from : ℕ → ℕ → List Line → List (List Plan)
 plans_from caller zero lines = []
 plans_from caller (suc n) lines = planned None (calls_by caller lines) ∷ plans_from (suc caller) n lines

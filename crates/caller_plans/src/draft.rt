@@ -1,4 +1,4 @@
-// What a caller plans, as far as its calls were read.
+// What a caller plans, as far as its calls have been read.
 ghost use Rattle.std.specs.Prelude.{◌≡◌, List, [], ◌∷◌, ◌++◌, Some, None, IfOk, OnOk, option_map, false};
 ghost use Rattle.history.specs.declared.call.Call.{Call};
 ghost use Rattle.caller_plans.specs.Plans.{is_stray, within_after};
@@ -9,7 +9,7 @@ use counted::NoMemory;
 use history::Call;
 use std::alloc::Global;
 
-/// A caller's plans, and the calls of the transaction that it is within.
+/// A caller's plans so far, and the calls of the transaction that it is within.
 #[derive(Drop)]
 pub struct Draft {
     pub plans: Plans,
@@ -26,7 +26,7 @@ impl Draft {
         }
     }
 
-    /// Whether the call is outside of a transaction, or a begin within one.
+    /// Whether the call is outside a transaction, or is a begin within one.
     pub fn is_stray(&self, call: &Call) -> bool
         ensures { result ≡ is_stray (is_within self.now) call.now }
     {
@@ -80,7 +80,7 @@ impl Draft {
         Ok(())
     }
 
-    /// The plans of the caller, where it makes no more calls.
+    /// The plans of the caller, if it makes no more calls.
     pub fn ended(mut self) -> Result<Plans, NoMemory>
         ensures { IfOk result (λ plans. plans ≡ drafted self []) }
     {

@@ -1,4 +1,4 @@
-// What becomes of what a script says.
+// What becomes of the lines of a script.
 ghost use Rattle.std.specs.Prelude.{◌≡◌, [], ◌∷◌, ◌++◌, OnOk, OnErr};
 
 use counted::NoMemory;
@@ -9,24 +9,24 @@ use std::marker::Model;
 /// What became of a planned transaction.
 #[derive(Debug, Drop)]
 pub enum Fate {
-    /// It stands in the history under this number.
+    /// It is in the history under this number.
     Committed { at: u64 },
-    /// Its plan says so, or its script ended within it.
+    /// Its plan says so, or the script ended within it.
     Aborted,
-    /// One of its calls was refused so, and it was aborted.
+    /// One of its calls was refused with this reply, and it was aborted.
     Refused { reply: Reply },
 }
 
-/// A line of a script that is passed over, by its number, the first being 1.
+/// A line of a script that is passed over, with its number, counted from 1.
 #[derive(Clone, Copy, Debug, PartialEq, Eq)]
 pub enum LineFault {
-    /// It is no line.
+    /// It cannot be read.
     Bad { line: u64 },
-    /// Its caller is not within a transaction; or it is a begin, and its caller is.
+    /// It is a call outside a transaction, or a begin within one.
     Stray { line: u64 },
 }
 
-/// Lines that are passed over, by rising number.
+/// The lines that are passed over, by rising number.
 #[derive(Debug, Drop)]
 pub struct LineFaults {
     items: Vec<LineFault>,

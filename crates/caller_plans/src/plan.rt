@@ -56,7 +56,7 @@ pub enum PlanEnd {
     Unended,
 }
 
-/// A transaction as a script has it: the calls between its begin and its end, and how it ends.
+/// A transaction as a script has it: the calls between begin and end, and how it ends.
 #[derive(Debug, Drop)]
 pub struct Plan {
     pub calls: Asked,
@@ -87,7 +87,7 @@ impl Plans {
         }
     }
 
-    /// Where there is no memory, the plan is given back.
+    /// Adds a plan, or returns it if there is no memory.
     pub fn push(&mut self, plan: Plan) -> Result<(), Plan>
         ensures ok { OnOk result (self.new ≡ self.old ++ plan ∷ []) }
         ensures err { OnErr result (self.new ≡ self.old) }

@@ -1,4 +1,4 @@
-// What a script says to its callers.
+// What a script says for its callers.
 ghost use Rattle.std.specs.Prelude.{◌≡◌, ◌<◌, List, [], length, replicate, false, IfOk, OnOk};
 ghost use Rattle.script_io.specs.Lines.{lines_of};
 ghost use Rattle.script_text.specs.declared.line.Line.{Line};
@@ -15,16 +15,16 @@ use script_io::next_line;
 use script_text::{Line, read_line};
 use std::alloc::Global;
 
-/// What a script says to its callers.
+/// What a script says for its callers.
 #[derive(Debug, Drop)]
 pub struct Script {
     /// The lines that are passed over, by rising number.
     pub faults: LineFaults,
-    /// What each caller plans, in the order of the callers.
+    /// What each caller plans, by rising caller.
     pub plans: Vec<Plans>,
 }
 
-/// Reads the lines of a script, where there are so many callers.
+/// Reads the lines of a script for this many callers.
 pub fn read_script(alloc: Global, input: &[u8], callers: u8) -> Result<Script, NoMemory>
     ensures { IfOk result (λ script. (said : List Line) × AllSay callers (lines_of input.now) said
         × (script.faults ≡ faults_from 1 (λ caller. false) said) × (script.plans.items ≡ plans_from 0 callers said)) }
@@ -40,7 +40,7 @@ pub fn read_script(alloc: Global, input: &[u8], callers: u8) -> Result<Script, N
     reading.ended(alloc)
 }
 
-// What was read so far.
+// What has been read so far.
 #[derive(Drop)]
 struct Reading {
     faults: LineFaults,
@@ -62,7 +62,7 @@ impl Reading {
         })
     }
 
-    // Takes a line, which has this number.
+    // Takes the line with this number.
     fn take(&mut self, alloc: Global, number: u64, line: &Line) -> Result<(), NoMemory>
         requires { IsAmong (length self.old.drafts.items) line.now }
         ensures { OnOk result (Takes number line.now self.old self.new) }
@@ -85,7 +85,7 @@ impl Reading {
         self.drafts[usize::from(caller)].add(alloc, call)
     }
 
-    // What was read, where there is no line more.
+    // What was read, when no line is left.
     fn ended(self, alloc: Global) -> Result<Script, NoMemory>
         ensures faults { IfOk result (λ script. script.faults ≡ self.faults) }
         ensures plans { IfOk result (λ script. script.plans.items ≡ all_drafted 0 self.drafts.items []) }

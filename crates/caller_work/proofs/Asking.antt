@@ -1,4 +1,4 @@
--- What is heard of a call between a begin and its end.
+-- What comes of a call between begin and end.
 use Rattle.std.proofs.Common.{ℕ, ◌≡◌, Bool, true, false, List, [], ◌∷◌, ◌++◌, Option, Some, Result, Ok, Err, refl, sym, ap, ◌∙◌, subst}
 use Rattle.std.specs.Prelude.{IsFalse, IfOk, IfErr, unwrap_or}
 use Rattle.std.proofs.lemmas.Bool.{true≢false}
@@ -27,12 +27,12 @@ pub if_ok : {X E : Type 0} (r : Result X E) (P : X → Type 0) → ((x : X) → 
 if_ok (Ok x) P p = p x refl
 if_ok (Err e) P p = tt
 
--- a stop by a fault of the media is a reply that tells one
+-- a stop is a fault of the medium exactly when the reply is
 pub fault_heard : (reply : Reply) → fault_of (heard_of reply) ≡ is_media reply
 fault_heard says.Media = refl
 fault_heard _ = refl
 
--- and no reply stops a call as a locked key does
+-- and no reply to a call is a stop by a locked key
 pub busy_heard : (reply : Reply) → IfErr (heard_of reply) (λ stop. IsFalse (is_busy_stop stop))
 busy_heard says.Media = refl
 busy_heard says.Dead = refl
@@ -83,7 +83,7 @@ module _ {C : Type 0} (tells : Bool) (show : C → CoreView) (mars : MarsView C)
   limits_are : (show step.old).limits ≡ limits_of show mars
   limits_are = step.since.limits ∙ ap (λ (s : Setup C). (show s.first).limits) (setup_one step.setup mars.setup (sym step.setup_is ∙ setup))
 
-  -- this is heard of the call
+  -- what came of the call
   pub heard_at : (h : Heard) → heard_of reply ≡ Ok h → (before : List Call) → IsLive before was → IsHeard tells (limits_of show mars) before call now h
   heard_at heard.Granted e before live = record {
     granted = live.granted ++ (call, reply) ∷ [];

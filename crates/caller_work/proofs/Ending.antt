@@ -1,4 +1,4 @@
--- How the ends of workers come together.
+-- How the ends of workers are joined.
 use Rattle.std.proofs.Common.{◌≡◌, ◌⊎◌, ℕ, zero, suc, inl, inr, ⊎_elim, Bool, true, List, [], ◌∷◌, ◌++◌, length, Option, Some, None, arith, refl, sym, ap, ◌∙◌, subst}
 use Rattle.std.specs.Prelude.{IsTrue, Contains}
 use Rattle.std.proofs.lemmas.Bool.{true≢false}
@@ -52,15 +52,15 @@ worse_fault work.NoMemory work.MediaFault e = inr refl
 worse_fault work.NoMemory work.All e = absurd (true≢false (sym e))
 worse_fault work.NoMemory work.NoMemory e = absurd (true≢false (sym e))
 
--- what an end bears, a worse one bears too
+-- a worse end bears what an end bears
 pub bears_more : (end other : WorkEnd) (stop : Option Stop) → Bears end stop → Bears (worse end other) stop
 bears_more end other stop bears = (λ failed. worse_left end other (bears.0 failed), λ all. bears.1 (worse_all end other all).0)
 
--- and the end of the worker itself
+-- and also the end of the worker itself
 pub bears_own : (end : WorkEnd) (stop : Option Stop) → Bears (worse end (end_of stop)) stop
 bears_own end stop = (λ failed. worse_right end (end_of stop) (sym (fault_of_stop stop) ∙ failed), λ all. (worse_all end (end_of stop) all).1)
 
--- while all has ended so, any end bears it
+-- if all work so far came to its end, any end bears the stop
 pub bears_any : (end other : WorkEnd) (stop : Option Stop) → end ≡ work.All → Bears end stop → Bears other stop
 bears_any end other stop all bears = (λ failed. absurd (true≢false (sym (sym (ap is_fault all) ∙ bears.0 failed))), λ _. bears.1 all)
 
@@ -85,7 +85,7 @@ module _ {C : Type 0} where
   }
 
   module _ (tells : Bool) (show : C → CoreView) (mars : MarsView C) where
-    -- what is done stays so where all had ended
+    -- what is done stays so if all work had come to its end
     pub done_more : (end other : WorkEnd) (caller : ℕ) (plans : List Plan) (fates : List Fate) (pass : PassView C) → (end ≡ work.All) ⊎ (other ≡ end) → IsDone tells show mars end caller plans fates pass → IsDone tells show mars other caller plans fates pass
     done_more end other caller plans fates pass (inr same) done = subst (λ e. IsDone tells show mars e caller plans fates pass) (sym same) done
     done_more end other caller plans fates pass (inl all) done = record {
@@ -97,7 +97,7 @@ module _ {C : Type 0} where
       idle = λ _. done.idle all;
     }
 
-    -- a worker that is left, once it has ended
+    -- a worker that was left for last, once it has ended
     pub done_now : (end : WorkEnd) (caller : ℕ) (worker : Worker C) → IsLeft tells show mars caller worker → Bears end worker.stop → (end ≡ work.All → worker.stop ≡ None) → IsDone tells show mars end caller worker.plans worker.fates.items worker.pass
     done_now end caller worker left bears whole = record {
       number = left.number;

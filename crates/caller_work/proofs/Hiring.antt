@@ -20,12 +20,12 @@ module _ {C : Type 0} where
   length_dealt mars zero = refl
   length_dealt mars (suc n) = let i = length_dealt mars n in omega (arith, i, length-append (dealt mars.table mars.setup n) (record { table = mars.table; known = newcomer mars.setup n } ∷ []))
 
-  -- the last of the passes that are left to give out is there,
+  -- the last of the passes that are left to hand out is there,
   pub there_is : (mars : MarsView C) (n : ℕ) (left : List (PassView C)) (taken : Option (PassView C)) → left ≡ dealt mars.table mars.setup (n + 1) → IfNone taken (left ≡ []) → IsSome taken
   there_is mars n left None is none = absurd (let l = length_dealt mars (n + 1) in let e = ap length (sym none ∙ is) in omega arith)
   there_is mars n left (Some pass) is none = refl
 
-  -- and is that of its caller
+  -- and it is that of its caller
   pub it_is : (mars : MarsView C) (n : ℕ) (left : List (PassView C)) (pass : PassView C) → left ++ pass ∷ [] ≡ dealt mars.table mars.setup (n + 1) → (left ≡ dealt mars.table mars.setup n) × (pass ≡ record { table = mars.table; known = newcomer mars.setup n })
   it_is mars n left pass e =
       let one : n + 1 ≡ suc n = omega arith in

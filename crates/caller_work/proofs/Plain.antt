@@ -1,4 +1,4 @@
--- What is planned has calls of a table alone.
+-- What is planned has only calls of a table.
 use Rattle.std.proofs.Common.{◌≡◌, true, All, List, [], ◌∷◌, ◌++◌, Some, None, refl}
 use Rattle.std.specs.Prelude.{IsTrue}
 use Rattle.std.proofs.lemmas.List.Elements.{All-nil, All-cons, All-push}

@@ -1,4 +1,4 @@
--- Why a call is refused, from the step that refuses it.
+-- Why a call is refused, given the step that refuses it.
 use Rattle.std.proofs.Common.{◌≡◌, ℕ, zero, suc, ◌+◌, ◌-◌, ◌≤◌, inl, inr, Bool, true, false, ◌&&◌, List, [], ◌∷◌, ◌++◌, length, map, filter, take, drop, Option, Some, None, Ok, Err, refl, sym, ap, ◌∙◌, subst, arith, length-append, length-take, length-drop}
 use Rattle.std.specs.Prelude.{nat_lt, nat_le, unwrap_or, slice_index_or, if◌then◌else◌, not}
 use Rattle.std.specs.List.{fold, list_any}
@@ -49,7 +49,7 @@ same_saves one other (entry ∷ calls) e = same_saves (after one entry.0) (after
 pub saves_of : (state : State) (caller : ℕ) (calls : Granted) → calls_of state caller ≡ calls → length (view_of state caller).saves ≡ length (saves_after (asked_of calls))
 saves_of state caller calls e = ap (λ (c : Granted). length (worked (begun (records_of state)) c).saves) e ∙ same_saves (begun (records_of state)) (begun empty) calls refl
 
--- No more writes are there than puts and removals.
+-- There are no more writes than puts and removals.
 replaced_length : (write : Write) (writes : List Write) → length (replaced write writes) ≤ length writes + 1
 replaced_length write [] = omega arith
 replaced_length write (other ∷ writes) = go (is_of write.0 other && not (list_any (is_of write.0) writes)) (replaced_length write writes)
@@ -63,7 +63,7 @@ with_length floor write writes =
     let r = replaced_length write (drop floor writes) in
     omega (arith, length-append (take floor writes) (replaced write (drop floor writes)), length-take floor writes, length-drop floor writes)
 
--- the writes now and at each save are at most so many
+-- the writes now, and those at each save, are at most so many
 pub record AtMost (n : ℕ) (log : Log) : Type 0 where
   pub now : length log.writes ≤ n
   pub saved : (k : ℕ) → length (slice_index_or log.saved k []) ≤ n
@@ -143,7 +143,7 @@ filter_few p (x ∷ xs) = go (p x) (filter_few p xs)
     go true l = omega arith
     go false l = omega arith
 
--- how a refusal is heard
+-- a refusal keeps its reply
 pub refused_same : (reply other : Reply) → heard_of reply ≡ Ok (heard.Refused other) → reply ≡ other
 refused_same says.NoTransaction other e = cc
 refused_same says.Already other e = cc

@@ -37,7 +37,7 @@ some_same x y e = cc
 none_same : {A P : Type 0} (x : A) → None ≡ Some x → P
 none_same x e = absurd (cc)
 
--- a reply adds a fault of the media just where it tells one
+-- a reply adds a fault of the medium exactly when it reports one
 media_of : (call : Call) (reply : Reply) → has_media (hits_of call reply) ≡ is_media reply
 media_of call reply = at reply (is_begin call && not (is_refusal reply))
   where
@@ -82,7 +82,7 @@ put_in plans plan call one made key e =
     let put = is_put_of key call e in
     record { plan = plan; value = put.0; is_plan = one; is_put = subst (λ (c : Call). Contains plan.calls c) put.1 made }
 
--- which replies are no commits
+-- which replies are not those of commits
 refusal_none : (reply : Reply) → is_refusal reply ≡ true → is_committed reply ≡ false
 refusal_none (says.Committed n) e = absurd (true≢false (sym e))
 refusal_none _ e = refl
@@ -141,7 +141,7 @@ module _ {C : Type 0} (tells : Bool) (show : C → CoreView) (was now : Known C)
   pub met_on : (made : Call) (told : Reply) → HasMet was.hit made told → HasMet now.hit made told
   met_on made told met = subst (λ (hit : Granted). HasMet hit made told) (sym hit_is) (Contains-append_left was.hit (hits_of call reply) (made, told) met)
 
-  -- a refusal is met
+  -- a refusal is noted
   pub met_now : is_noted reply ≡ true → HasMet now.hit call reply
   met_now noted =
       let one : hits_of call reply ≡ (call, reply) ∷ [] = ap (λ (b : Bool). if b || (is_begin call && not (is_refusal reply)) then (call, reply) ∷ [] else []) noted in
@@ -166,7 +166,7 @@ module _ {C : Type 0} (tells : Bool) (show : C → CoreView) (was now : Known C)
   pub live_now : now.live ≡ (show step.new).state.live was.number
   live_now = ap (λ (k : Known C). k.live) step.after
 
-  -- what is live behind a call that was done
+  -- what is live after a call that was done
   pub live_done : is_refusal reply ≡ false → now.live ≡ live_with (unwrap_or was.live []) call reply
   live_done done = live_now ∙ step.steps.moves.own done ∙ ap (λ (o : Option Granted). live_with (unwrap_or o []) call reply) step.live
 
@@ -212,7 +212,7 @@ module _ {C : Type 0} (tells : Bool) (show : C → CoreView) (was now : Known C)
   doubt_now told = doubt_at told (moved told)
 
   module _ (limits : Limits) (plans : List Plan) (before : List Fate) (stands : Stands tells limits plans before false was) where
-    -- all but the plans' fates is so behind a call
+    -- everything but the fates holds after a call
     pub stands_with : (fates : List Fate) → (IsTrue tells → AreFated limits (HasMet now.hit) now.number plans fates now.mine) → ((key : ℕ) → is_put key call ≡ true → IsPutIn plans key)
         → (Doubted → (done : Done) → now.doubt ≡ Some done → IsUndecided plans fates done) → Stands tells limits plans fates (is_media reply) now
     stands_with fates fated puts undecided = record {
@@ -231,11 +231,11 @@ module _ {C : Type 0} (tells : Bool) (show : C → CoreView) (was now : Known C)
         let weak : AreFated limits (HasMet now.hit) was.number plans before was.mine = fated_weaker limits (HasMet was.hit) (HasMet now.hit) was.number met_on _ before was.mine (stands.fated told) in
         subst (λ (x : ℕ × List Done). AreFated limits (HasMet now.hit) x.0 plans before x.1) (λ i. (sym number_same i, sym mine i)) weak
 
-    -- also the fates, where it is no commit,
+    -- also the fates, if the call is no commit,
     pub stands_on : Commits tells was reply now → (call ≡ Commit → ⊥) → ((key : ℕ) → is_put key call ≡ true → IsPutIn plans key) → Stands tells limits plans before (is_media reply) now
     stands_on commits other puts = stands_with before (fated_on commits (λ told. commits_none other (moved told))) puts (λ d done e. absurd (other d.1))
 
-    -- or one that was not done,
+    -- or a commit that was not done;
     pub stands_undone : Commits tells was reply now → is_committed reply ≡ false → ((key : ℕ) → is_put key call ≡ true → IsPutIn plans key) → (plan : Plan) → IsNext plans before plan → plan.end ≡ end.Commit → IsLive plan.calls was
         → Stands tells limits plans before (is_media reply) now
     stands_undone commits none puts plan next ends live = stands_with before (fated_on commits (λ _. none)) puts (λ d done e.
@@ -249,7 +249,7 @@ module _ {C : Type 0} (tells : Bool) (show : C → CoreView) (was now : Known C)
         same : (m n : ℕ) → says.Committed m ≡ says.Committed n → m ≡ n
         same m n e = cc
 
-    -- and one that was done gives its plan a fate.
+    -- and a commit that was done gives its plan a fate.
     pub stands_done : (at : ℕ) → reply ≡ says.Committed at → Commits tells was reply now → ((key : ℕ) → is_put key call ≡ true → IsPutIn plans key) → (plan : Plan) → IsNext plans before plan → plan.end ≡ end.Commit → IsLive plan.calls was
         → Stands tells limits plans (before ++ fate.Committed at ∷ []) false now
     stands_done at is commits puts plan next ends live =

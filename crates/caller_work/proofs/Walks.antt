@@ -11,11 +11,11 @@ use Rattle.caller_work.specs.declared.stop.Heard.TheVariants as heard
 use Rattle.caller_plans.specs.declared.fate.Fate.{Fate}
 use Rattle.caller_work.specs.Standing.{IsNext, IsLive, IsHeard, AreHeard}
 
--- a list about one of its elements
+-- a list split at one of its elements
 split : {X : Type 0} (xs : List X) (i : ℕ) (x : X) → i < length xs → x ≡ get_or xs i x → xs ≡ take i xs ++ x ∷ drop (i + 1) xs
 split {X} xs i x within is = sym (take-append-drop i xs) ∙ ap (λ (l : List X). take i xs ++ l) (drop_more xs i x within ∙ ap (λ (y : X). y ∷ drop (i + 1) xs) (sym is))
 
--- the plan at the place of the first that has no fate
+-- the plan at the place of the first one without a fate
 pub next_at : (plans : List Plan) (fates : List Fate) (i : ℕ) (plan : Plan) → i < length plans → plan ≡ get_or plans i plan → length fates ≡ i → IsNext plans fates plan
 next_at plans fates i plan within is each = record {
   before = take i plans;
@@ -32,7 +32,7 @@ module _ (calls : List Call) (i : ℕ) (call : Call) (within : i < length calls)
   taken_more = take_more calls i call within ∙ ap (λ (x : Call). take i calls ++ x ∷ []) (sym is)
 
   module _ {C : Type 0} (tells : Bool) (limits : Limits) (plan : Plan) (same : plan.calls ≡ calls) (known : Known C) where
-    -- what was heard of a call that was not granted is heard of all
+    -- what came of a call that was not granted came of the whole plan
     pub heard_all : (h : Heard) → (h ≡ heard.Granted → ⊥) → IsHeard tells limits (take i calls) call known h → AreHeard tells limits plan known h
     heard_all heard.Granted never one = absurd (never refl)
     heard_all (heard.Busy holder) never one = (call, one)

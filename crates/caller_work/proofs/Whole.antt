@@ -34,7 +34,7 @@ alike true b f g = sym (f refl)
 alike false true f g = g refl
 alike false false f g = refl
 
--- what is met still stands
+-- a noted refusal still holds
 still : (limits : Limits) (callers : ℕ) (state : State) (notes : ℕ → Notes) (caller : ℕ) (call : Call) (reply : Reply) → MetStands limits callers state notes caller call reply → StillLacks limits state call reply
 still limits callers state notes caller (Put key value) (PagesFull n) s = s.1
 still limits callers state notes caller call (SlotsFull n) s = s.1

@@ -1,4 +1,4 @@
--- The workers of all callers, and what they leave.
+-- The workers of all callers and what they leave.
 use Rattle.std.specs.Prelude.{ℕ, ◌≡◌, ◌+◌, ◌-◌, ◌≤◌, ◌<◌, ◌⊎◌, Bool, IsTrue, List, [], length, slice_index_or, Contains, Option, Some, None, vec_capacity}
 use Rattle.core_face.specs.Core.{CoreView}
 use Rattle.mars_manager.specs.Notes.{has_media}
@@ -16,25 +16,25 @@ use Rattle.caller_work.specs.Fates.{ArePlain}
 use Rattle.caller_work.specs.Standing.{limits_of, is_failed, IsOf, Stands, IsIdle}
 use Rattle.caller_work.specs.Worked.{is_fault}
 
--- how a worker's work ended, where what was left for last is no end
+-- how a worker's work ended; to be left for last is not an end
 abbrev pub end_of : Option Stop → WorkEnd
 end_of None = work.All
 end_of (Some (stop.Busy holder)) = work.All
 end_of (Some stop.Media) = work.MediaFault
 end_of (Some _) = work.NoMemory
 
--- a fault of the media before want of memory
+-- the worse of two ends: a fault of the medium is worse than a lack of memory, and both are worse than none
 abbrev pub worse : WorkEnd → WorkEnd → WorkEnd
 worse work.MediaFault other = work.MediaFault
 worse work.All other = other
 worse work.NoMemory work.MediaFault = work.MediaFault
 worse work.NoMemory other = work.NoMemory
 
--- a fault of the media that stopped a worker is told, and all ended only where this worker did
+-- if a fault of the medium stopped this worker, the end is such a fault; and all work came to its end only if this worker's did
 abbrev pub Bears : WorkEnd → Option Stop → Type 0
 Bears end stop = (IsTrue (is_failed stop) → IsTrue (is_fault end)) × (end ≡ work.All → end_of stop ≡ work.All)
 
--- there is room for the fate of each plan, and none has one
+-- there is room for the fate of each plan, and no plan has one yet
 abbrev pub IsBlank : Job → Type 0
 IsBlank job = (job.fates.items ≡ []) × (length job.plans ≤ vec_capacity job.fates)
 
@@ -48,7 +48,7 @@ module _ {C : Type 0} where
     pub room : length plans ≤ vec_capacity worker.fates
     pub stop_is : worker.stop ≡ None
 
-  -- a worker behind its work, which may be left for last
+  -- a worker after its work, which may be left for last
   pub record IsLeft (tells : Bool) (show : C → CoreView) (mars : MarsView C) (caller : ℕ) (worker : Worker C) : Type 0 where
     pub number : worker.pass.known.number ≡ caller
     pub of : IsOf mars worker.pass
@@ -59,7 +59,7 @@ module _ {C : Type 0} where
     pub idle : IsIdle worker.pass.known worker.stop
     pub whole : worker.stop ≡ None → length worker.fates.items ≡ length worker.plans
 
-  -- what a caller's pass and its plans have come to
+  -- what a caller's pass and plans have come to
   pub record IsDone (tells : Bool) (show : C → CoreView) (mars : MarsView C) (end : WorkEnd) (caller : ℕ) (plans : List Plan) (fates : List Fate) (pass : PassView C) : Type 0 where
     pub number : pass.known.number ≡ caller
     pub failed : Bool
@@ -68,21 +68,21 @@ module _ {C : Type 0} where
     pub whole : end ≡ work.All → length fates ≡ length plans
     pub idle : end ≡ work.All → pass.known.live ≡ None
 
-  -- a fault of the media stopped one of the workers, or was met by one of the passes
+  -- a fault of the medium stopped one of the workers, or was met by one of the passes
   abbrev pub HasFailed : List (Worker C) → Type 0
   HasFailed workers = (worker : Worker C) × Contains workers worker × IsTrue (is_failed worker.stop)
 
   abbrev pub HasMetFault : List (PassView C) → Type 0
   HasMetFault passes = (pass : PassView C) × Contains passes pass × IsTrue (has_media pass.known.hit)
 
-  -- a fault that is told has such a cause
+  -- if the end is a fault, it has such a cause
   abbrev pub IsCaused : WorkEnd → List (Worker C) → Type 0
   IsCaused end workers = IsTrue (is_fault end) → HasFailed workers
 
   abbrev pub IsCausedBy : WorkEnd → List (PassView C) → Type 0
   IsCausedBy end passes = IsTrue (is_fault end) → HasMetFault passes
 
-  -- a worker that was left for last has worked once more, where all had ended so far
+  -- a worker that was left for last has worked once more, if all work so far came to its end
   pub record IsTried (end : WorkEnd) (was now : Worker C) (next : WorkEnd) : Type 0 where
     pub plans : now.plans ≡ was.plans
     pub table : now.pass.table ≡ was.pass.table

@@ -22,17 +22,17 @@ use Rattle.caller_work.specs.declared.stop.Heard.TheVariants as heard
 use Rattle.caller_work.specs.declared.worker.Worker.{Worker}
 use Rattle.caller_work.specs.Fates.{AreFated, IsUndecided, IsRefused, MayRefuse, ArePlain}
 
--- a fault of the media stopped a worker
+-- the worker was stopped by a fault of the medium
 abbrev pub is_media_stop : Stop → Bool
 is_media_stop stop.Media = true
 is_media_stop _ = false
 
--- a locked key stopped it
+-- the worker was stopped by a locked key
 abbrev pub is_busy_stop : Stop → Bool
 is_busy_stop (stop.Busy holder) = true
 is_busy_stop _ = false
 
--- the same, where it may not have been stopped
+-- the same for a worker that may not have been stopped
 abbrev pub is_failed : Option Stop → Bool
 is_failed None = false
 is_failed (Some stop) = is_media_stop stop
@@ -41,12 +41,12 @@ abbrev pub is_left : Option Stop → Bool
 is_left None = false
 is_left (Some stop) = is_busy_stop stop
 
--- an answer that is a stop by a fault of the media
+-- a result that is a stop by a fault of the medium
 abbrev pub fault_of : {X : Type 0} → Result X Stop → Bool
 fault_of (Ok x) = false
 fault_of (Err stop) = is_media_stop stop
 
--- how a worker takes a reply to a call of a plan
+-- what a worker makes of a reply to a call of a plan
 abbrev pub heard_of : Reply → Result Heard Stop
 heard_of says.Fine = Ok heard.Granted
 heard_of (says.Found value) = Ok heard.Granted
@@ -60,7 +60,7 @@ heard_of says.Dead = Err stop.Dead
 heard_of (says.Committed n) = Err stop.Dead
 heard_of reply = Ok (heard.Refused reply)
 
--- a call was refused so, and this is among what is hit
+-- a call was refused with this reply, and the notes have it
 abbrev pub HasMet : Granted → Call → Reply → Type 0
 HasMet hit call reply = Contains hit (call, reply)
 
@@ -71,7 +71,7 @@ pub record IsPutIn (plans : List Plan) (key : ℕ) : Type 0 where
   pub is_plan : Contains plans plan
   pub is_put : Contains plan.calls (Put key value)
 
--- the first of the plans that has no fate yet
+-- the first plan that has no fate yet
 pub record IsNext (plans : List Plan) (fates : List Fate) (plan : Plan) : Type 0 where
   pub before : List Plan
   pub behind : List Plan
@@ -82,64 +82,64 @@ module _ {C : Type 0} where
   abbrev pub limits_of : (C → CoreView) → MarsView C → Limits
   limits_of show mars = (show mars.setup.first).limits
 
-  -- a pass of this sharing
+  -- a pass of this shared core
   abbrev pub IsOf : MarsView C → PassView C → Type 0
   IsOf mars pass = (pass.table ≡ mars.table) × (pass.known.setup ≡ Some mars.setup)
 
-  -- the pass stays one of the same caller
+  -- the pass is still that of the same caller
   pub record IsSame (was now : PassView C) : Type 0 where
     pub table : now.table ≡ was.table
     pub number : now.known.number ≡ was.known.number
     pub setup : now.known.setup ≡ was.known.setup
 
-  -- Where the core tells its records, the transactions of the caller are just those of the plans with a fate that committed. Each key for
-  -- which the caller asked to put a value is planned. A fault of the media was met just where it failed so; and a transaction in doubt is
-  -- the first one without a fate.
+  -- If the core tells its records, the caller's transactions are exactly those of the plans with a fate that committed. Each key for which
+  -- the caller asked to put a value is planned. The pass met a fault of the medium exactly when `failed` says so, and then a transaction in
+  -- doubt is the first one without a fate.
   pub record Stands (tells : Bool) (limits : Limits) (plans : List Plan) (fates : List Fate) (failed : Bool) (known : Known C) : Type 0 where
     pub fated : IsTrue tells → AreFated limits (HasMet known.hit) known.number plans fates known.mine
     pub asked : (key : ℕ) → IsTrue (list_any (is_put key) known.asked) → IsPutIn plans key
     pub failed_is : has_media known.hit ≡ failed
     pub doubt : IsTrue tells → (done : Done) → known.doubt ≡ Some done → IsTrue failed × IsUndecided plans fates done
 
-  -- the live calls are just these calls
+  -- the live transaction has exactly these calls
   pub record IsLive (calls : List Call) (known : Known C) : Type 0 where
     pub granted : Granted
     pub live : known.live ≡ Some granted
     pub calls_are : map (λ (entry : Call × Reply). entry.0) granted ≡ calls
 
-  -- what was heard of a call, behind these calls of its transaction
+  -- what came of a call after these calls of its transaction
   abbrev pub IsHeard : Bool → Limits → List Call → Call → Known C → Heard → Type 0
   IsHeard tells limits before call known heard.Granted = IsLive (before ++ call ∷ []) known
   IsHeard tells limits before call known (heard.Refused reply) = IsTrue tells → MayRefuse limits before call reply × HasMet known.hit call reply
   IsHeard tells limits before call known (heard.Busy holder) = HasMet known.hit call (says.Busy holder)
 
-  -- what was heard of all calls of a plan
+  -- what came of all calls of a plan
   abbrev pub AreHeard : Bool → Limits → Plan → Known C → Heard → Type 0
   AreHeard tells limits plan known heard.Granted = IsLive plan.calls known
   AreHeard tells limits plan known (heard.Refused reply) = IsTrue tells → IsRefused limits (HasMet known.hit) plan reply
   AreHeard tells limits plan known (heard.Busy holder) = (call : Call) × HasMet known.hit call (says.Busy holder)
 
-  -- a plan was made, and has its fate; or the worker stopped
+  -- a plan was made and has its fate, or the worker stopped
   abbrev pub Comes : Bool → Limits → List Plan → List Fate → Known C → Result Fate Stop → Type 0
   Comes tells limits plans fates known (Ok fate) = Stands tells limits plans (fates ++ fate ∷ []) false known
   Comes tells limits plans fates known (Err stop) = Stands tells limits plans fates (is_media_stop stop) known
 
-  -- a call found another caller in its way
+  -- a call found a key locked by another caller
   abbrev pub IsHeldUp : Known C → Stop → Type 0
   IsHeldUp known (stop.Busy holder) = (call : Call) × HasMet known.hit call (says.Busy holder)
   IsHeldUp known _ = Unit {0}
 
-  -- nothing is live where the plan was made, or a locked key stopped it
+  -- no transaction is live if the plan was made or a locked key stopped it
   abbrev pub Ends : Known C → Result Fate Stop → Type 0
   Ends known (Ok fate) = known.live ≡ None
   Ends known (Err stop) = IsTrue (is_busy_stop stop) → (known.live ≡ None) × IsHeldUp known stop
 
-  -- nothing is live where a worker is not stopped for good
+  -- no transaction is live unless the worker is stopped for good
   abbrev pub IsIdle : Known C → Option Stop → Type 0
   IsIdle known None = known.live ≡ None
   IsIdle known (Some stop) = IsTrue (is_busy_stop stop) → (known.live ≡ None) × IsHeldUp known stop
 
-  -- a worker can begin, or go on where it was stopped by a locked key
+  -- a worker can begin, or can go on after it was stopped by a locked key
   pub record IsReady (tells : Bool) (show : C → CoreView) (mars : MarsView C) (worker : Worker C) : Type 0 where
     pub of : IsOf mars worker.pass
     pub plain : ArePlain worker.plans
@@ -148,7 +148,7 @@ module _ {C : Type 0} where
     pub front : length worker.fates.items ≤ length worker.plans
     pub stands : Stands tells (limits_of show mars) worker.plans worker.fates.items false worker.pass.known
 
-  -- A worker has worked. It is stopped, or each of its plans has a fate.
+  -- A worker has worked: it is stopped, or each of its plans has a fate.
   pub record HasWorked (tells : Bool) (show : C → CoreView) (mars : MarsView C) (was now : Worker C) : Type 0 where
     pub same : IsSame was.pass now.pass
     pub plans : now.plans ≡ was.plans

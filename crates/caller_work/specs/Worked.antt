@@ -17,7 +17,7 @@ use Rattle.caller_work.specs.declared.end.WorkEnd.{WorkEnd}
 use Rattle.caller_work.specs.declared.end.WorkEnd.TheVariants as work
 use Rattle.caller_work.specs.Fates.{AreFated, IsUndecided}
 
--- what a caller plans, and what became of it
+-- the list of one caller, empty if there is none
 abbrev pub of_caller : {A : Type 0} → List (List A) → ℕ → List A
 of_caller lists caller = slice_index_or lists caller []
 
@@ -30,20 +30,21 @@ pub record IsPlanned (plans : List (List Plan)) (key : ℕ) : Type 0 where
   pub is_plan : Contains mine plan
   pub is_put : Contains plan.calls (Put key value)
 
--- what a refusal shows while the media has not failed: slots, and pages for a put, that have run out are still lacking
+-- what a refusal shows as long as the medium has not failed: slots, and pages for a put, that had run out are still lacking
 abbrev pub StillLacks : Limits → State → Call → Reply → Type 0
 StillLacks limits state call (SlotsFull n) = IsFalse state.is_dead → state.index.next_slot ≡ limits.slots
 StillLacks limits state (Put key value) (PagesFull n) = IsFalse state.is_dead → (n ≤ state.index.next_page) ⊎ (7 ≤ state.index.level)
 StillLacks limits state call reply = Unit {0}
 
--- the media has failed just where the work ended so
+-- the work ended at a fault of the medium
 abbrev pub is_fault : WorkEnd → Bool
 is_fault work.MediaFault = true
 is_fault _ = false
 
--- Callers' plans were worked on, on a core that came to a later one. Where it tells its records: of each caller, what became of its plans
--- and which transactions of the history are its; nobody else has any. At the end of all work each plan has its fate, and nothing is live.
--- A transaction in doubt is one that its caller planned to commit. The index has just the keys of the opening and keys that were planned.
+-- Callers' plans were worked on, on a core that came to a later one. If it tells its records, then for each caller it is known what became
+-- of its plans and which transactions of the history are its own, and nobody else has any. At the end of all work each plan has its fate
+-- and nothing is live. A transaction in doubt is one that its caller planned to commit. Unless the medium failed, the index gained only
+-- keys that were planned.
 pub record Worked (tells : Bool) (plans : List (List Plan)) (first last : CoreView) (fates : List (List Fate)) (end : WorkEnd) : Type 0 where
   pub since : Since tells first last
   pub dead : last.state.is_dead ≡ is_fault end

@@ -28,14 +28,14 @@ use std::sync::Wait;
 use std::thread;
 use std::thread::Threads;
 
-// What a caller plans, and room for what becomes of it.
+// What a caller plans, and room for the fate of each plan.
 #[derive(Drop)]
 struct Job {
     plans: Plans,
     fates: Vec<Fate>,
 }
 
-// All that the work takes of memory, but for the sharing.
+// All memory that the work takes, except for sharing the core.
 #[derive(Drop)]
 struct Rooms<C> {
     jobs: Vec<Job>,
@@ -95,7 +95,7 @@ fn hire<C: Core + Drop>(
     workers
 }
 
-// All workers work, each in a thread of its own.
+// Lets all workers work, each on a thread of its own.
 fn work_all<R: Threads + Wait + Sync, C: Core + Drop + Send, G: Gate + Sync>(
     rt: &R,
     mars: &Mars<C>,
@@ -118,9 +118,9 @@ fn work_all<R: Threads + Wait + Sync, C: Core + Drop + Send, G: Gate + Sync>(
     );
 }
 
-/// Makes the planned transactions of all callers, each caller's by a worker of its own, and gives the core back with what became of each
-/// caller's plans. A transaction is tried so often where it finds a key locked, and then done last. Without memory to begin
-/// with, the core comes back as it was, and nothing was done.
+/// Makes the planned transactions of all callers, each caller's by a worker of its own, and returns the core with what became of each
+/// caller's plans. A transaction that finds a key locked is tried up to `tries` times and then done last. If there is no memory to begin
+/// with, the core comes back as it was and nothing was done.
 pub fn work<R: Threads + Wait + Sync, C: Core + Drop + Send, G: Gate + Sync>(
     rt: &R,
     alloc: Global,

@@ -17,7 +17,7 @@ use history::{Call, Reply};
 use mars_manager::{Mars, Pass};
 use std::sync::Wait;
 
-/// A transaction of a caller. The first is 1.
+/// The `nth` transaction of a caller, counted from 1.
 #[derive(Clone, Copy)]
 pub struct Spot {
     pub caller: u8,
@@ -59,7 +59,7 @@ pub fn abort<R: Wait, C: Core + Drop>(
     }
 }
 
-/// Commits a transaction with all calls of its plan, and answers its number.
+/// Commits a transaction with all calls of its plan and returns its number in the history.
 pub fn commit<R: Wait, C: Core + Drop>(
     rt: &R,
     mars: &Mars<C>,
@@ -81,7 +81,7 @@ pub fn commit<R: Wait, C: Core + Drop>(
     }
 }
 
-/// Makes a call between a begin and its end.
+/// Makes a call between begin and end.
 pub fn ask<R: Wait, C: Core + Drop>(
     rt: &R,
     mars: &Mars<C>,
@@ -98,7 +98,7 @@ pub fn ask<R: Wait, C: Core + Drop>(
     answer_of(mars.call_wait(rt, pass, call))
 }
 
-/// Makes the calls of a plan, one after another, as long as they are granted.
+/// Makes the calls of a plan one after another, as long as they are granted.
 pub fn ask_all<R: Wait, C: Core + Drop, G: Gate>(
     rt: &R,
     mars: &Mars<C>,

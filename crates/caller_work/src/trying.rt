@@ -1,4 +1,4 @@
-// A transaction from its begin to its end, tried once or more often.
+// A transaction from begin to end, in one try or more.
 ghost use Rattle.std.specs.Prelude.{◌≡◌, List, [], ◌∷◌, ◌++◌, Some, None, All, Contains, IsTrue, IsFalse, IfOk, IfErr, false};
 ghost use Rattle.caller_plans.specs.declared.plan.Plan.{Plan};
 ghost use Rattle.caller_plans.specs.declared.fate.Fate.{Fate};
@@ -16,7 +16,7 @@ use crossbeam_utils::Backoff;
 use mars_manager::{Mars, Pass};
 use std::sync::Wait;
 
-/// Ends a transaction whose calls were all granted, as its plan says.
+/// Ends a transaction whose calls were all granted as its plan says.
 pub fn end_as_planned<R: Wait, C: Core + Drop>(
     rt: &R,
     mars: &Mars<C>,
@@ -42,7 +42,7 @@ pub fn end_as_planned<R: Wait, C: Core + Drop>(
     }
 }
 
-/// Makes a plan in one try. It stops with `Busy` where another caller held a key, and has aborted then.
+/// Makes a plan in one try. If another caller held a key, the transaction is aborted and the stop is `Busy`.
 pub fn try_once<R: Wait, C: Core + Drop, G: Gate>(
     rt: &R,
     mars: &Mars<C>,
@@ -75,7 +75,7 @@ pub fn try_once<R: Wait, C: Core + Drop, G: Gate>(
     }
 }
 
-/// Makes a plan. It stops with `Busy` where each try did, and backs off before each next one.
+/// Makes a plan. It stops with `Busy` if each try did, and backs off between tries.
 pub fn make<R: Wait, C: Core + Drop, G: Gate>(
     rt: &R,
     mars: &Mars<C>,

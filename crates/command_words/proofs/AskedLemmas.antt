@@ -1,4 +1,4 @@
--- What the values of options say, and the subcommand.
+-- What the values of options say, and what the subcommand says.
 use Rattle.std.proofs.Common.{◌≡◌, ◌<◌, ◌≤◌, ◌^◌, ℕ, List, Option, Some, None, MatchOption, codes, false, option_map, sym, refl, ap, ap₂, ◌∙◌, arith, rules}
 use Rattle.std.specs.Fmt.{decimal}
 use Rattle.std.specs.Str.{bytes_eq}
@@ -25,19 +25,19 @@ inner is = cc is
 apart : {A : Type 0} (word other : Text) → bytes_eq word other ≡ false → word ≡ other → A
 apart word other differ same = absurd (cc ((bytes_eq-Decides word other).1 same, differ))
 
--- a value as it was read
+-- a value that was read
 pub number_read : (least most : ℕ) (default : Option ℕ) (first : Option Text) (value : Text) (read : Option ℕ) → first ≡ Some value → Reads (λ n. (least ≤ n) × (n ≤ most)) decimal value read
     → MatchOption read ((n : ℕ) → IsNumber least most default first n → ⊥) (IsNumber least most default first)
 number_read least most default first value None is h = rw is (λ n p. h n (p.0, p.1) p.2)
 number_read least most default first value (Some n) is h = rw is (h.0.0, h.0.1, h.1)
 
--- there is none
+-- the value is missing
 pub number_left : (least most : ℕ) (default : Option ℕ) (first : Option Text) → first ≡ None
     → MatchOption default ((n : ℕ) → IsNumber least most default first n → ⊥) (IsNumber least most default first)
 number_left least most None first is = rw is (λ n same. some_is_none (sym same))
 number_left least most (Some n) first is = rw is refl
 
--- a value and a default give one number
+-- a value and a default give at most one number
 one_number : (least most : ℕ) (default : Option ℕ) (first : Option Text) (m n : ℕ) → most < 2 ^ 32 → IsNumber least most default first m → IsNumber least most default first n → m ≡ n
 one_number least most default None m n fits is are = inner (sym is ∙ are)
 one_number least most default (Some value) m n fits is are = decimal_injective m n (omega (arith, is.1, fits)) (omega (arith, are.1, fits)) (sym is.2 ∙ are.2)
@@ -52,7 +52,7 @@ met_is : (m : ArgMatches) (name : Text) (options : List Row) → Some name ≡ s
     → subcommand_rows_of m ≡ Some (name, options)
 met_is m name options named has = pair_is _ _ _ name options named has
 
--- two that were met are one
+-- the subcommand that was found is determined
 pub one_met : (met : Option (Text × List Row)) (name other : Text) (options others : List Row) → met ≡ Some (name, options) → met ≡ Some (other, others)
     → (other ≡ name) × (others ≡ options)
 one_met met name other options others is also =
@@ -68,7 +68,7 @@ name_of Dump = codes "dump"
 name_of (Drill numbers) = codes "drill"
 name_of (Format numbers) = codes "format"
 
--- who says it has that name
+-- whoever says it has that name
 named : (name : Text) (options : List Row) (asked : Words) → Says name options asked → name ≡ name_of asked
 named name options Run says = says
 named name options (Callers numbers) says = says.0
@@ -77,7 +77,7 @@ named name options Dump says = says
 named name options (Drill numbers) says = says.0
 named name options (Format numbers) says = says.0
 
--- where the numbers are wrong nothing is asked for
+-- if the numbers are wrong, nothing is asked for
 pub no_callers : (options : List Row) → ((numbers : CallersNumbers) → GivesCallers options numbers → ⊥) → (asked : Words) → Says (codes "callers") options asked → ⊥
 no_callers options none (Callers numbers) says = none numbers says.1
 no_callers options none asked says = apart (codes "callers") (name_of asked) refl (named (codes "callers") options asked says)
@@ -90,7 +90,7 @@ pub no_format : (options : List Row) → ((numbers : FormatNumbers) → GivesNum
 no_format options none (Format numbers) says = none numbers says.1
 no_format options none asked says = apart (codes "format") (name_of asked) refl (named (codes "format") options asked says)
 
--- and so by whatever name and options the subcommand is met
+-- and so under whatever name and options the subcommand is found
 pub none_said : (m : ArgMatches) (word name : Text) (options : List Row) → name ≡ word → Some name ≡ subcommand_name_of m → Some options ≡ option_map (λ p. p.1) (subcommand_rows_of m)
     → ((asked : Words) → Says word options asked → ⊥) → (other : Text) (others : List Row) (asked : Words) → subcommand_rows_of m ≡ Some (other, others) → Says other others asked → ⊥
 none_said m word name options is named has none other others asked met says =
@@ -108,7 +108,7 @@ one_drill values numbers other are also = search (rules, one_number)
 one_format : (options : List Row) (numbers other : FormatNumbers) → GivesNumbers options numbers → GivesNumbers options other → numbers ≡ other
 one_format options numbers other are also = search (rules, one_number)
 
--- a name and options say one thing
+-- a name and options say at most one thing
 pub one_asked : (name : Text) (options : List Row) (asked other : Words) → Says name options asked → Says name options other → asked ≡ other
 one_asked name options Run Run says also = refl
 one_asked name options (Callers numbers) (Callers other) says also = ap Callers (one_callers options numbers other says.1 also.1)

@@ -8,7 +8,7 @@ use Rattle.std.proofs.lemmas.Slice.Eq.{bytes_eq-Decides}
 pub is_read : {E : Type 0} (read : Result ℕ E) (n : ℕ) → read ≡ Ok n → None ≡ result_ok read → ⊥
 is_read read n is none = let bad : None ≡ Some n = none ∙ ap result_ok is in cc bad
 
--- what was read is written as it stood there
+-- what was read is written as it was
 pub written_again : {E : Type 0} (read : Result ℕ E) (n number : ℕ) (again text : List ℕ) → read ≡ Ok n → Some number ≡ result_ok read
     → again ≡ decimal number → text ≡ decimal n → bytes_eq again text ≡ false → ⊥
 written_again read n number again text is some writes stands differ =

@@ -1,4 +1,4 @@
--- Words ask for one thing at most.
+-- Words ask for at most one thing.
 use Rattle.std.proofs.Common.{◌≡◌, List}
 use Rattle.clap.specs.Words.{Text, subcommand_of}
 use Rattle.command_words.specs.CommandLine.{command_line}

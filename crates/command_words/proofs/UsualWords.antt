@@ -22,7 +22,7 @@ use Rattle.command_words.specs.CommandLine.{command_line, format_shape, drill_sh
 use Rattle.command_words.specs.Asked.{AsksFor, AskForNothing, IsNumber}
 use Rattle.command_words.specs.declared.words.Words.TheVariants.{Run, Callers, Eaw, Dump, Drill, Format}
 
--- no flag
+-- the word is not a flag
 record IsPlain (word : Text) : Type 0 where
   other : bytes_eq word (45 ∷ 45 ∷ []) ≡ false
   long : long_of word ≡ None
@@ -42,7 +42,7 @@ plain_decimal (suc n) small = plain_of (decimal (suc n)) (omega (arith, first_de
 abbrev waits : Held → ℕ → Text → Walk
 waits held position id = record { held = held; waiting = option id; position = position; is_trailing = false; stopped = None }
 
--- it has it
+-- the option has its value
 abbrev after_value : Held → ℕ → Text → Rule → Text → Walk
 after_value held position id a word = record (waits held position id) {
   held = pushed id word held;
@@ -75,12 +75,12 @@ module _ (s : Shape) (names : Names) (held : Held) (position : ℕ) (id : Text) 
   value_passes rest = ap (λ k. or_else k (walk_fault s names (walked s.rules names (waits held position id) word) rest)) turn_passes
       ∙ ap (λ w. walk_fault s names w rest) (value_walked s.rules names held position id a word is plain)
 
--- what stands behind the walk of a subcommand
+-- what comes after the walk of a subcommand
 abbrev behind_walk : Shape → Walk → Kinds
 behind_walk s w = or_else (settle_fault s.rules s.args_override_self w.held)
     (or_else (defaults_fault (settled s.rules w.held).rows s.rules) (check_fault s (finished s.rules w.held) false))
 
--- where neither its walk nor what stands behind has a fault it has none
+-- if neither its walk nor what comes after has a fault, there is none
 level_passes : (s : Shape) (words : List Text) (w : Walk) → walk_fault s [] (walk_from nothing_held) words ≡ [] → walk s.rules [] nothing_held words ≡ w
     → behind_walk s w ≡ [] → level_fault s [] nothing_held words false [] ≡ []
 level_passes s words w passes is no_more = ap (λ k. or_else k (behind_walk s (walk s.rules [] nothing_held words))) passes ∙ ap (behind_walk s) is ∙ no_more
@@ -206,7 +206,7 @@ module _ (l n e p : Text) (plain_l : IsPlain l) (plain_n : IsPlain n) (plain_e :
   unfolding clap_on_literals
   met = ap (λ (w : Walk). Some (codes "format", finished format_built.rules w.held)) walk_is
 
-  -- the values are those that were given
+  -- the values are the ones that were given
   values : (first_of (codes "loggers") (finished format_built.rules with_p.held) ≡ Some l) × (first_of (codes "numbers") (finished format_built.rules with_p.held) ≡ Some n)
       × (first_of (codes "entries") (finished format_built.rules with_p.held) ≡ Some e) × (first_of (codes "pages") (finished format_built.rules with_p.held) ≡ Some p)
   unfolding clap_on_literals
@@ -276,7 +276,7 @@ joined_asks numbers small =
 abbrev stands : Held → ℕ → Walk
 stands held position = record { held = held; waiting = idle; position = position; is_trailing = false; stopped = None }
 
--- a word that no option names goes to the place where the walk stands
+-- a word that no option names goes to the position that the walk has reached
 module _ (s : Shape) (held : Held) (position : ℕ) (word : Text) (plain : IsPlain word) where
   unnamed_met : word_met s.rules [] false idle position word held ≡ (held, value)
   unnamed_met =

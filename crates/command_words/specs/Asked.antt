@@ -9,12 +9,12 @@ use Rattle.command_words.specs.declared.words.CallersNumbers.{CallersNumbers}
 use Rattle.command_words.specs.declared.words.Words.{Words}
 use Rattle.command_words.specs.declared.words.Words.TheVariants.{Run, Callers, Eaw, Dump, Drill, Format}
 
--- the number, from the least to the most, that a value is written as, in decimal; without the value it is the default, where there is one
+-- the number from `least` to `most` that a value spells in decimal; if the value is missing, the default, if there is one
 abbrev pub IsNumber : ℕ → ℕ → Option ℕ → Option Text → ℕ → Type 0
 IsNumber least most default None number = default ≡ Some number
 IsNumber least most default (Some value) number = (least ≤ number) × (number ≤ most) × (value ≡ decimal number)
 
--- the numbers that the options of `format` give, and for the others those of the default array
+-- the numbers that the options of `format` give, and those of the default array for the options that are missing
 pub record GivesNumbers (options : List Row) (given : FormatNumbers) : Type 0 where
   pub loggers : IsNumber 0 65535 (Some 4) (first_of (codes "loggers") options) given.loggers
   pub numbers : IsNumber 0 65535 (Some 8) (first_of (codes "numbers") options) given.numbers
@@ -26,12 +26,12 @@ pub record GivesDrill (values : List Row) (given : DrillNumbers) : Type 0 where
   pub seed : IsNumber 0 2147483647 None (first_of (codes "seed") values) given.seed
   pub count : IsNumber 1 100000 None (first_of (codes "count") values) given.count
 
--- the numbers that the value of `callers` and its option give
+-- the numbers that the value and the option of `callers` give
 pub record GivesCallers (options : List Row) (given : CallersNumbers) : Type 0 where
   pub callers : IsNumber 1 64 None (first_of (codes "callers") options) given.callers
   pub tries : IsNumber 1 1000000 (Some 100) (first_of (codes "tries") options) given.tries
 
--- the subcommand of this name, with its options, asks for that
+-- the subcommand with this name and these options asks for this
 abbrev pub Says : Text → List Row → Words → Type 0
 Says name options Run = name ≡ codes "run"
 Says name options (Callers numbers) = (name ≡ codes "callers") × GivesCallers options numbers
@@ -40,7 +40,7 @@ Says name options Dump = name ≡ codes "dump"
 Says name options (Drill numbers) = (name ≡ codes "drill") × GivesDrill options numbers
 Says name options (Format numbers) = (name ≡ codes "format") × GivesNumbers options numbers
 
--- clap takes the words, and the subcommand that it meets in them asks for that
+-- clap accepts the words, and the subcommand that it finds in them asks for this
 abbrev pub AsksFor : List Text → Words → Type 0
 AsksFor words asked = (fault_of command_line words ≡ [])
     × (name : Text) × (options : List Row) × (subcommand_of command_line words ≡ Some (name, options)) × Says name options asked

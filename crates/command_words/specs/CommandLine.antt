@@ -1,4 +1,4 @@
--- The command line of the program behind the image, in clap's terms.
+-- The command line of the program after the image, in clap's terms.
 use Rattle.std.specs.Prelude.{[], ◌∷◌, Some, true, false, map, codes}
 use Rattle.clap.specs.Words.{Text, Rule, Shape, App, new_rule}
 use Rattle.clap.specs.Simple.{new_shape}
@@ -7,24 +7,24 @@ use Rattle.clap.specs.Simple.{new_shape}
 abbrev pub option_of : Text → Rule
 option_of name = record (new_rule name) { long = Some name }
 
--- `format`, with its four options
+-- `format` with its four options
 abbrev pub format_shape : Shape
 format_shape =
     record (new_shape (codes "format")) { rules = map option_of (codes "loggers" ∷ codes "numbers" ∷ codes "entries" ∷ codes "pages" ∷ []) }
 
--- `drill`, with two words that no option names
+-- `drill` with two positional words
 abbrev pub drill_shape : Shape
 drill_shape = record (new_shape (codes "drill")) { rules = map new_rule (codes "seed" ∷ codes "count" ∷ []) }
 
--- `callers`, with one word that no option names, and one option
+-- `callers` with one positional word and one option
 abbrev pub callers_shape : Shape
 callers_shape = record (new_shape (codes "callers")) { rules = new_rule (codes "callers") ∷ option_of (codes "tries") ∷ [] }
 
--- the program: a subcommand has to stand there
+-- the program, which needs a subcommand
 abbrev pub mars_shape : Shape
 mars_shape = record (new_shape (codes "mars")) { is_leaf = false; no_binary_name = true; subcommand_required = true }
 
--- it is one of six, and there is no help
+-- the subcommand is one of six, and there is no help
 abbrev pub command_line : App
 command_line = record {
   top = record mars_shape { disable_help_flag = true; disable_help_subcommand = true };

@@ -1,4 +1,4 @@
--- A usual way to write what is asked for.
+-- Usual ways to write what is asked for.
 use Rattle.std.specs.Prelude.{◌<◌, ◌≤◌, ◌^◌, [], ◌∷◌, ◌++◌, List, codes}
 use Rattle.std.specs.Fmt.{decimal}
 use Rattle.clap.specs.Words.{Text}
@@ -6,7 +6,7 @@ use Rattle.command_words.specs.declared.words.CallersNumbers.{CallersNumbers}
 use Rattle.command_words.specs.declared.words.DrillNumbers.{DrillNumbers}
 use Rattle.command_words.specs.declared.words.FormatNumbers.{FormatNumbers}
 
--- `format`, with each of its options as two words
+-- `format` with each of its options as two words
 abbrev pub format_words : FormatNumbers → List Text
 format_words numbers = codes "format" ∷ codes "--loggers" ∷ decimal numbers.loggers ∷ codes "--numbers" ∷ decimal numbers.numbers
     ∷ codes "--entries" ∷ decimal numbers.entries ∷ codes "--pages" ∷ decimal numbers.pages ∷ []
@@ -23,7 +23,7 @@ pub record AreSmall (numbers : FormatNumbers) : Type 0 where
   pub small_entries : numbers.entries < 2 ^ 16
   pub small_pages : numbers.pages < 2 ^ 16
 
--- `drill`, with its two values
+-- `drill` with its two values
 abbrev pub drill_words : DrillNumbers → List Text
 drill_words numbers = codes "drill" ∷ decimal numbers.seed ∷ decimal numbers.count ∷ []
 
@@ -33,11 +33,11 @@ pub record AreOfDrill (numbers : DrillNumbers) : Type 0 where
   pub some : 1 ≤ numbers.count
   pub few : numbers.count ≤ 100000
 
--- `callers`, with its value alone
+-- `callers` with its value only
 abbrev pub callers_words : CallersNumbers → List Text
 callers_words numbers = codes "callers" ∷ decimal numbers.callers ∷ []
 
--- the same with its option behind
+-- the same followed by its option
 abbrev pub tries_words : CallersNumbers → List Text
 tries_words numbers = codes "callers" ∷ decimal numbers.callers ∷ codes "--tries" ∷ decimal numbers.tries ∷ []
 

@@ -7,7 +7,7 @@ ghost use Rattle.command_words.specs.CommandLine.{command_line, format_shape, dr
 use clap::{Arg, Command};
 use std::alloc::{AllocError, Global};
 
-/// The commands and their options. There is no help: what is wrong is told in one word.
+/// The commands and their options. There is no help: whatever is wrong is reported in one word.
 pub fn command_line<'a>(alloc: Global) -> Result<Command<'a>, AllocError>
     ensures { IfOk result (λ command. app_of command ≡ command_line) }
 {

@@ -8,12 +8,12 @@ ghost use Rattle.command_words.specs.declared.words.FormatNumbers.{FormatNumbers
 ghost use Rattle.command_words.specs.Asked.{AsksFor, AskForNothing};
 ghost use Rattle.command_words.specs.Usual.{format_words, joined_words, AreSmall, drill_words, AreOfDrill, callers_words, tries_words, AreOfCallers};
 
-/// Words ask for one thing at most.
+/// Words ask for at most one thing.
 pub fn one_command()
     ensures { (words : List Text) (asked other : Words) → AsksFor words asked → AsksFor words other → asked ≡ other }
 {}
 
-/// What is asked for by usual words, and by none.
+/// What usual words ask for. No words, and requests for help or the version, ask for nothing.
 pub fn usual_words()
     ensures run { AsksFor (codes "run" ∷ []) Words.Run }
     ensures callers { (numbers : CallersNumbers) → AreOfCallers numbers → numbers.tries ≡ 100 → AsksFor (callers_words numbers) (Words.Callers numbers) }

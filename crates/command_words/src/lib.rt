@@ -1,4 +1,4 @@
-//! The words of the command line, behind the one that names the image.
+//! The words of the command line after the one that names the image.
 #![tactic(auto)]
 
 mod command_line;

@@ -4,7 +4,7 @@ ghost use Rattle.command_words.specs.Reads.{Reads};
 
 use itoa::Buffer;
 
-/// A number in decimal, without a sign and without a leading zero: what std reads is written again and compared.
+/// A number in decimal, without a sign or a leading zero. What std reads is written again and compared.
 pub fn read_number(text: &str) -> Option<u32>
     ensures { Reads (λ n. n < 2 ^ 32) decimal text.now result }
 {
@@ -17,7 +17,7 @@ pub fn read_number(text: &str) -> Option<u32>
     }
 }
 
-/// The same from the least to the most.
+/// The same, from `least` to `most`.
 pub fn read_within(text: &str, least: u32, most: u32) -> Option<u32>
     ensures { Reads (λ n. (least ≤ n) × (n ≤ most)) decimal text.now result }
 {

@@ -13,21 +13,21 @@ use thiserror::Error;
 /// What the words ask for.
 #[derive(Clone, Copy, Debug, PartialEq, Eq)]
 pub enum Words {
-    /// To answer the lines of callers.
+    /// To answer the lines of callers by turns.
     Run,
-    /// To make the transactions of callers beside each other, and to write what came of them.
+    /// To make callers' transactions on threads, and to write what came of them.
     Callers(CallersNumbers),
     /// To answer raw commands.
     Eaw,
     /// To write the records.
     Dump,
-    /// To run a script that is drawn, and to write a summary.
+    /// To run a drawn script, and to write a summary.
     Drill(DrillNumbers),
-    /// To make an array of these numbers, whatever was there.
+    /// To make an array of these numbers, whatever was there before.
     Format(FormatNumbers),
 }
 
-/// The numbers of an array as they are asked for, in range or not.
+/// The numbers of an array as they are asked for, whether in range or not.
 #[derive(Clone, Copy, Debug, PartialEq, Eq)]
 pub struct FormatNumbers {
     /// Loggers.
@@ -49,12 +49,12 @@ pub struct DrillNumbers {
     pub count: u32,
 }
 
-/// Who works beside each other, and how often.
+/// How many callers work on threads, and how often they try.
 #[derive(Clone, Copy, Debug, PartialEq, Eq)]
 pub struct CallersNumbers {
     /// Callers, 1 to 64.
     pub callers: u8,
-    /// How often a transaction is tried that finds a key locked, 1 to 1,000,000.
+    /// How often a transaction that finds a key locked is tried, 1 to 1,000,000.
     pub tries: u32,
 }
 
@@ -70,7 +70,7 @@ const TRIES_MOST: u32 = 1_000_000;
 
 const TRIES_DEFAULT: u32 = 100;
 
-/// Why words were not read.
+/// Why words could not be read.
 #[derive(Clone, Copy, Debug, PartialEq, Eq, Error)]
 pub enum WordsFault {
     /// They ask for nothing that the program does.
@@ -80,8 +80,8 @@ pub enum WordsFault {
     NoMemory,
 }
 
-/// Reads the words behind the image's: `run`, `eaw`, `dump`, `callers` with their number and the option `tries`, `drill` with a seed and a
-/// count, or `format` with its options in any order, each option given once at most.
+/// Reads the words after the image's: `run`, `eaw`, `dump`, `callers` with a number and the option `tries`, `drill` with a seed and a
+/// count, or `format` with its options in any order. Each option is given at most once.
 pub fn read_words(alloc: Global, words: &[String]) -> Result<Words, WordsFault>
     ensures asked { IfOk result (AsksFor (map string_bytes words.now)) }
     ensures refused { IfErr result (λ fault. fault ≡ WordsFault.NoCommand → AskForNothing (map string_bytes words.now)) }
@@ -168,7 +168,7 @@ fn read_callers(options: &ArgMatches<'_>) -> Option<CallersNumbers>
     })
 }
 
-// The number of an option of `format`, or the default where it is not given.
+// The number of an option of `format`, or the default if it is not given.
 fn short_or(options: &ArgMatches<'_>, name: &str, default: u16) -> Option<u16>
     ensures { MatchOption result ((n : ℕ) → IsNumber 0 65535 (Some default) (first_of name.now (rows_of (found_of options.now))) n → ⊥)
         (IsNumber 0 65535 (Some default) (first_of name.now (rows_of (found_of options.now)))) }
@@ -177,7 +177,7 @@ fn short_or(options: &ArgMatches<'_>, name: &str, default: u16) -> Option<u16>
     Some(number as u16)
 }
 
-// The number of a value, from the least to the most; without the value the default, where there is one.
+// The number of a value, from `least` to `most`. If the value is missing, the default, if there is one.
 fn number_of(
     values: &ArgMatches<'_>,
     name: &str,

@@ -28,12 +28,12 @@ grows_longer old new grows = omega (arith, ap length grows.is, length-append old
 pub grows_same : (old new : List Done) → new ≡ old → Grows old new
 grows_same old new e = record { more = []; is = e ∙ sym (append-nil old) }
 
--- the one in doubt is behind them all
+-- the transaction in doubt comes after the others
 pub grows_doubt : (history : List Done) (doubt : Option Done) → Grows history (with_doubt history doubt)
 grows_doubt history None = grows_none history
 grows_doubt history (Some done) = record { more = done ∷ []; is = refl }
 
--- The first transactions of a history are the first ones of what it grows to,
+-- The first transactions of a history are the first ones of a history that extends it,
 pub prefix_on : (Old New : List ℕ → Table → Type 0) (base after : Table) (old new : List Done) (least fewer : ℕ) (image : List ℕ)
     → ((table : Table) → Old image table → New image table) → after ≡ base → Grows old new → fewer ≤ least → HasPrefix Old base old least image → HasPrefix New after new fewer image
 prefix_on Old New base after old new least fewer image opens same grows le has = record {
@@ -45,7 +45,7 @@ prefix_on Old New base after old new least fewer image opens same grows le has =
       (opens (records base (take has.count old)) has.opens));
 }
 
--- also of a state that continues another.
+-- also for a state that continues another.
 prefix_of : (mid new : CoreView) (least fewer : ℕ) (image : List ℕ) → Continues mid new → fewer ≤ least → HasPrefixOf mid.opens mid.state least image → HasPrefixOf new.opens new.state fewer image
 prefix_of mid new least fewer image on le has =
     prefix_on mid.opens new.opens mid.state.base new.state.base (with_doubt mid.state.history mid.state.doubt) (with_doubt new.state.history new.state.doubt)
@@ -64,7 +64,7 @@ continues_none core sound safe = record {
   now = safe;
 }
 
--- and one that continues another continues what that one does.
+-- and continuing is transitive.
 pub continues_on : (old mid new : CoreView) → Continues old mid → Continues mid new → Continues old new
 continues_on old mid new a b = record {
   limits = b.limits ∙ a.limits;
@@ -81,7 +81,7 @@ continues_on old mid new a b = record {
   now = b.now;
 }
 
--- a step's history goes on, by none or by one
+-- a step extends the history by one transaction or none
 after_grows : (old : State) (caller : ℕ) (reply : Reply) → Grows old.history (history_after old caller reply)
 after_grows old caller reply = go (is_committed reply)
   where
@@ -93,14 +93,14 @@ module _ (tells : Bool) (caller : ℕ) (call : Call) (old new : CoreView) (reply
   step_grows : Grows old.state.history new.state.history
   step_grows = subst (λ h. Grows old.state.history h) (sym steps.moves.history) (after_grows old.state caller reply)
 
-  -- Where the media has not failed before, nothing was in doubt; and else nothing changes.
+  -- If the medium has not failed before, nothing was in doubt; else nothing changes.
   doubt_if : (dead : Bool) → old.state.is_dead ≡ dead → StepIf old.limits dead old.state caller call reply new.state
       → Grows (with_doubt old.state.history old.state.doubt) (with_doubt new.state.history new.state.doubt)
   doubt_if true dead step = grows_same (with_doubt old.state.history old.state.doubt) (with_doubt new.state.history new.state.doubt) (ap (λ (s : State). with_doubt s.history s.doubt) step.1)
   doubt_if false alive step = subst (λ d. Grows (with_doubt old.state.history d) (with_doubt new.state.history new.state.doubt)) (sym (sound.certain alive))
       (grows_on old.state.history new.state.history (with_doubt new.state.history new.state.doubt) step_grows (grows_doubt new.state.history new.state.doubt))
 
-  -- A core continues by a step.
+  -- A step continues the core.
   pub continues_step : Continues old new
   continues_step = record {
     limits = steps.limits;
@@ -113,7 +113,7 @@ module _ (tells : Bool) (caller : ℕ) (call : Call) (old new : CoreView) (reply
     now = steps.now told;
   }
 
--- What was safe since a moment stays so: also what is left of the time since opens with at least as many transactions.
+-- What was safe since a moment stays so: what the later moments leave opens with at least as many transactions.
 pub safe_on : (old new : CoreView) (since least : ℕ) → Continues old new → since ≤ old.moment → least ≤ length old.state.history → IsSafe old since least → IsSafe new since least
 safe_on old new since least on le few safe image left = ⊎_elim
     (λ was. prefix_of old new least least image on (omega arith) (safe image was))
@@ -121,7 +121,7 @@ safe_on old new since least on le few safe image left = ⊎_elim
     (length old.state.history) least image (λ table opens. opens) refl (grows_none (with_doubt new.state.history new.state.doubt)) few anew)
     (on.time.only since image le left)
 
--- So all that was committed at some moment is there whenever power is lost from then on.
+-- So all that was committed at some moment is kept whenever power is lost from then on.
 pub kept_since : (entry new : CoreView) → Continues entry new → IsSafe entry entry.moment (length entry.state.history) → IsSafe new entry.moment (length entry.state.history)
 kept_since entry new on safe = safe_on entry new entry.moment (length entry.state.history) on (omega arith) (omega arith) safe
 

@@ -1,4 +1,4 @@
--- Each call has one reply, where the array is not full, does not fail, and memory is not short.
+-- Each call has one reply, unless the array is full or fails or memory runs out.
 use Rattle.std.proofs.Common.{◌≡◌, ℕ, inl, inr, Bool, true, false, Option, Some, None, sym, ap, ◌∙◌, arith}
 use Rattle.std.proofs.lemmas.Bool.{true≢false, both_ways, cases_order}
 use Rattle.history.specs.Table.{Granted, Work, has_save, Answers}
@@ -13,7 +13,7 @@ use Rattle.core_face.specs.Step.{Asks, StepAt, StepIf, Step}
 use Rattle.core_face.specs.Fate.{is_of_array}
 use Rattle.core_face.proofs.Fates.{lacks_of_array}
 
--- the one-thread table has one reply
+-- the one-thread table has one reply to each call
 answers_one : (work : Work) (call : Call) (one other : Reply) → Answers work call one → Answers work call other → one ≡ other
 answers_one work (Get key) one other a b = a ∙ sym b
 answers_one work (Put key value) one other a b = a ∙ sym b
@@ -23,7 +23,7 @@ answers_one work Save one other a b = a ∙ sym b
 answers_one work (Back n) one other a b = a.1 ∙ sym b.1
 answers_one work _ one other a b = absurd a
 
--- and one holder is the lowest
+-- and only one holder is the lowest
 pub busy_one : (old : State) (caller : ℕ) (call : Call) (one other : ℕ) → IsBusyWith old caller call one → IsBusyWith old caller call other → one ≡ other
 busy_one old caller call one other a b = elim (cases_order one other) [
   | inl is ↦ is
@@ -33,7 +33,7 @@ busy_one old caller call one other a b = elim (cases_order one other) [
   ]
 ]
 
--- the locks or the table answer it
+-- the locks or the table give the reply
 data Ours (limits : Limits) (old : State) (caller : ℕ) (call : Call) (reply : Reply) : Type 0 where
   held : (holder : ℕ) → IsBusyWith old caller call holder → reply ≡ Busy holder → Ours limits old caller call reply
   free : IsFree old caller call → Answers (view_of old caller) call reply → Ours limits old caller call reply
@@ -87,7 +87,7 @@ module _ (limits : Limits) (old : State) (caller : ℕ) where
   one_if true call one other new next ok ok' a b = a.0 ∙ sym b.0
   one_if false call one other new next ok ok' a b = one_at (old.live caller) call one other new next ok ok' a b
 
-  -- Two replies to a call in one state are equal, but for those of an array that is full or fails, and for want of memory.
+  -- Two replies to a call in one state are equal, except for those of an array that is full or fails, and for `NoMemory`.
   pub one_reply : (call : Call) (one other : Reply) (new next : State) → is_of_array one ≡ false → is_of_array other ≡ false
       → Step limits old caller call one new → Step limits old caller call other next → one ≡ other
   one_reply call one other new next ok ok' a b = one_if old.is_dead call one other new next ok ok' a b

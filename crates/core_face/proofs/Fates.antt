@@ -1,4 +1,4 @@
--- What a step comes to: the call is refused, or begins, grows or ends the caller's transaction; and what follows from that.
+-- What a step comes to: the call is refused, or it begins, extends or ends the caller's transaction. And what follows from that.
 use Rattle.std.proofs.Common.{◌≡◌, ◌||◌, Bool, ◌≢◌, ℕ, inl, inr, true, false, nat_eq, List, [], ◌∷◌, ◌++◌, ◌+◌, length, Option, Some, None, unwrap_or, refl, sym, ap, ◌∙◌}
 use Rattle.std.specs.Map.{update}
 use Rattle.std.specs.FinMap.{get}
@@ -16,11 +16,11 @@ use Rattle.core_face.specs.Step.{Says, Asks, StepAt, StepIf, Step, Runs}
 use Rattle.core_face.specs.Fate.{is_refusal, is_media, is_committed, is_of_array, history_after, live_with, Moves}
 
 pub data Fate (old : State) (caller : ℕ) (call : Call) (reply : Reply) (new : State) : Type 0 where
-  -- nothing of the callers changes
+  -- nothing changes for the callers
   refused : is_refusal reply ≡ true → is_media reply ≡ false → (index : Index) → new ≡ record old { index = index } → Fate old caller call reply new
   failed : reply ≡ Media → (index : Index) → new ≡ record old { index = index; is_dead = true } → Fate old caller call reply new
   began : call ≡ Begin → reply ≡ Fine → new ≡ with_live old caller (Some []) → Fate old caller call reply new
-  -- the reply is the one-thread table's
+  -- the reply is that of the one-thread table
   granted : (calls : Granted) → old.live caller ≡ Some calls → IsFree old caller call → Answers (view_of old caller) call reply
       → (index : Index) → new ≡ record (with_live old caller (Some (calls ++ (call, reply) ∷ []))) { index = index } → Fate old caller call reply new
   committed : (calls : Granted) → call ≡ Commit → reply ≡ Committed (length old.history + 1) → old.live caller ≡ Some calls
@@ -29,7 +29,7 @@ pub data Fate (old : State) (caller : ℕ) (call : Call) (reply : Reply) (new : 
       → new ≡ record (with_live old caller None) { doubt = Some (done_by old caller calls); index = index; is_dead = true } → Fate old caller call reply new
   aborted : call ≡ Abort → reply ≡ Fine → new ≡ with_live old caller None → Fate old caller call reply new
 
--- what lacks room is told by the array
+-- a refusal for lack of room is a reply of the array
 pub lacks_at_of_array : (limits : Limits) (old : State) (caller key : ℕ) (slot : Option ℕ) (reply : Reply) → LacksAt limits old caller key slot reply → is_of_array reply ≡ true
 lacks_at_of_array limits old caller key (Some slot) (LogFull g h n) lacks = refl
 lacks_at_of_array limits old caller key None (SlotsFull n) lacks = refl
@@ -102,7 +102,7 @@ refusal_none : (reply : Reply) → is_refusal reply ≡ true → is_committed re
 refusal_none (Committed n) e = absurd (true≢false (sym e))
 refusal_none _ e = refl
 
--- the replies of a table are neither refusals, nor a commit's, nor a fault
+-- a reply of the table is neither a refusal nor that of a commit or a fault
 record IsPlain (reply : Reply) : Type 0 where
   done : is_refusal reply ≡ false
   uncommitted : is_committed reply ≡ false
@@ -219,11 +219,11 @@ module _ (old : State) (caller : ℕ) (call : Call) (reply : Reply) (new : State
     refused = λ re ok. absurd (true≢false (sym re ∙ ap is_refusal r));
   }
 
--- So a step moves transactions so.
+-- So each step does this to transactions.
 pub step_moves : (limits : Limits) (old : State) (caller : ℕ) (call : Call) (reply : Reply) (new : State) → Step limits old caller call reply new → Moves old caller call reply new
 step_moves limits old caller call reply new step = fate_moves old caller call reply new (step_fate limits old caller new call reply step)
 
--- the base stays along a run
+-- a run keeps the base
 pub runs_base : (limits : Limits) (old : State) (lines : List (ℕ × Call × Reply)) (new : State) → Runs limits old lines new → new.base ≡ old.base
 runs_base limits old [] new e = ap (λ (s : State). s.base) e
 runs_base limits old (line ∷ lines) new (mid, step, runs) = runs_base limits mid lines new runs ∙ (step_moves limits old line.0 line.1 line.2 mid step).base

@@ -1,4 +1,4 @@
--- Which room an array has for writes, and what becomes of its index.
+-- How much room an array has for writes, and what calls make of its index.
 use Rattle.std.specs.Prelude.{ℕ, suc, ◌≡◌, ◌+◌, ◌-◌, ◌<◌, ◌≤◌, ◌⊎◌, Bool, false, nat_eq, length, filter, Option, Some, None, IsSome, unwrap_or}
 use Rattle.std.specs.FinMap.{get}
 use Rattle.std.specs.Map.{update}
@@ -10,8 +10,8 @@ use Rattle.history.specs.declared.call.Reply.{Reply}
 use Rattle.history.specs.declared.call.Reply.TheVariants.{Fine, LogFull, SlotsFull, PagesFull}
 use Rattle.core_face.specs.State.{State, Index, calls_of, view_of}
 
--- how many callers there may be; the slots of an array, its pages for the index, its loggers, the entries that each has for a caller,
--- and the logger of each slot
+-- how many callers there may be, the slots of an array, its pages for the index, its loggers, the entries that each of them has for a
+-- caller, and the logger of each slot
 pub record Limits : Type 0 where
   pub callers : ℕ
   pub slots : ℕ
@@ -32,12 +32,12 @@ is_write_on limits index g write = is_slot_on limits g (index.slot_of write.0)
 abbrev pub held_on : Limits → State → ℕ → ℕ → ℕ
 held_on limits state caller g = length (filter (is_write_on limits state.index g) (log_of (calls_of state caller)).writes)
 
--- a write of a key into this slot takes the entry of one since the last save, or finds one left
+-- a write of a key with this slot reuses the entry of a write since the last save, or finds a free entry
 abbrev pub HasEntry : Limits → State → ℕ → ℕ → ℕ → Type 0
 HasEntry limits old caller key slot =
     is_rewritten (log_of (calls_of old caller)) key ≡ false → held_on limits old caller (limits.logger_of slot) < limits.entries
 
--- the slot of a key, or the next one where the index lacks the key
+-- the slot of a key, or the next free one if the index lacks the key
 abbrev pub slot_for : Index → ℕ → ℕ
 slot_for index key = unwrap_or (index.slot_of key) index.next_slot
 
@@ -45,13 +45,13 @@ slot_for index key = unwrap_or (index.slot_of key) index.next_slot
 abbrev pub IsSeen : State → ℕ → ℕ → Type 0
 IsSeen old caller key = IsSome (get (view_of old caller).table key)
 
--- a call that writes finds an entry
+-- if the call writes, there is an entry for it
 abbrev pub Fits : Limits → State → ℕ → Call → Type 0
 Fits limits old caller (Put key value) = HasEntry limits old caller key (slot_for old.index key)
 Fits limits old caller (Del key) = IsSeen old caller key → HasEntry limits old caller key (slot_for old.index key)
 Fits limits old caller _ = Unit {0}
 
--- logger g holds h entries of the caller, and has no room for n more
+-- logger g holds h entries of the caller and has no room for n more
 pub record IsFull (limits : Limits) (old : State) (caller g h n : ℕ) : Type 0 where
   pub logger : g < limits.loggers
   pub held : h ≡ held_on limits old caller g
@@ -59,8 +59,8 @@ pub record IsFull (limits : Limits) (old : State) (caller g h n : ℕ) : Type 0 
   pub few : n ≤ 4
   pub full : limits.entries < h + n
 
--- A write of a key that has this slot, or none, is refused so. A new key needs a slot, pages for the splits of the index that are due,
--- and entries for each of its insertion's parts.
+-- Why a write of a key that has this slot, or none, is refused with this reply. A new key needs a slot, pages for the splits of the index
+-- that are due, and entries for each part of its insertion.
 abbrev pub LacksAt : Limits → State → ℕ → ℕ → Option ℕ → Reply → Type 0
 LacksAt limits old caller key (Some slot) (LogFull g h n) = (HasEntry limits old caller key slot → ⊥) × (g ≡ limits.logger_of slot) × (n ≡ 1) × IsFull limits old caller g h n
 LacksAt limits old caller key None (SlotsFull n) = (old.index.next_slot ≡ limits.slots) × (n ≡ limits.slots)
@@ -73,7 +73,7 @@ Lacks limits old caller (Put key value) reply = LacksAt limits old caller key (o
 Lacks limits old caller (Del key) reply = IsSeen old caller key × LacksAt limits old caller key (old.index.slot_of key) reply
 Lacks limits old caller _ reply = ⊥
 
--- the index gains the key with the next slot, where there is one
+-- the index gains the key with the next slot, if there is one
 pub record GainsKey (limits : Limits) (key : ℕ) (old new : Index) : Type 0 where
   pub left : old.next_slot < limits.slots
   pub slot_of : new.slot_of ≡ update nat_eq old.slot_of key (Some old.next_slot)
@@ -83,15 +83,15 @@ pub record KeepsKeys (old new : Index) : Type 0 where
   pub slot_of : new.slot_of ≡ old.slot_of
   pub slots : new.next_slot ≡ old.next_slot
 
--- at most nine pages more are given
+-- at most nine more pages are given out, within those of the index, and no level is lost
 pub record TakesPages (limits : Limits) (old new : Index) : Type 0 where
   pub later : old.next_page ≤ new.next_page
   pub few : new.next_page ≤ old.next_page + 9
   pub most : new.next_page ≤ limits.index_pages
   pub levels : old.level ≤ new.level
 
--- What a value for a key makes of the index, where that lacks the key. Where the log is full behind the insertion, the key stays. Where
--- pages ran out, all but one at most are given, or the index has as many levels as it may.
+-- What a put makes of an index that lacks the key. If the log is full after the insertion, the key stays. If pages ran out, at most one is
+-- left, or the index has as many levels as it may.
 abbrev pub Inserts : Limits → ℕ → Reply → Index → Index → Type 0
 Inserts limits key Fine old new = TakesPages limits old new × GainsKey limits key old new
 Inserts limits key (LogFull g h n) old new = TakesPages limits old new × (KeepsKeys old new ⊎ GainsKey limits key old new)

@@ -1,4 +1,4 @@
--- What a call of a caller is answered, and what it leaves.
+-- How a call of a caller is answered, and what it leaves.
 use Rattle.std.specs.Prelude.{ℕ, ◌≡◌, ◌+◌, ◌<◌, ◌≤◌, ◌⊎◌, Bool, true, false, IsTrue, IsFalse, List, [], ◌∷◌, ◌++◌, length, Option, Some, None}
 use Rattle.history.specs.Table.{Granted, Answers, has_save}
 use Rattle.history.specs.declared.call.Call.{Call}
@@ -9,19 +9,19 @@ use Rattle.core_face.specs.State.{State, Index, view_of, with_live, done_by}
 use Rattle.core_face.specs.Locked.{IsFree, IsBusyWith}
 use Rattle.core_face.specs.Room.{Limits, Fits, Lacks, Indexes}
 
--- most saves of a transaction
+-- the most saves that a transaction may have
 abbrev pub most_saves : ℕ
 most_saves = 32
 
--- it is answered with this reply, and leaves all as it was
+-- the reply is this one, and nothing changes
 abbrev pub Says : Reply → State → Reply → State → Type 0
 Says answer old reply new = (reply ≡ answer) × (new ≡ old)
 
--- another caller holds its keys
+-- another caller holds a stripe of the call
 abbrev pub IsHeld : State → ℕ → Call → Reply → State → Type 0
 IsHeld old caller call reply new = (holder : ℕ) × IsBusyWith old caller call holder × Says (Busy holder) old reply new
 
--- it is granted, with the one-thread table's reply on what the caller sees
+-- the call is granted, with the one-thread table's reply on what the caller sees
 abbrev pub Grants : Limits → Granted → State → ℕ → Call → Reply → State → Type 0
 Grants limits calls old caller call reply new = Answers (view_of old caller) call reply × Fits limits old caller call
     × (index : Index) × Indexes limits call reply old.index index × (new ≡ record (with_live old caller (Some (calls ++ (call, reply) ∷ []))) { index = index })
@@ -31,11 +31,11 @@ abbrev pub Refuses : Limits → State → ℕ → Call → Reply → State → T
 Refuses limits old caller call reply new = Lacks limits old caller call reply
     × (index : Index) × Indexes limits call reply old.index index × (new ≡ record old { index = index })
 
--- the media failed; what the index is then is open
+-- the medium failed, and the index may then be anything
 abbrev pub Fails : State → Reply → State → Type 0
 Fails old reply new = (reply ≡ Media) × (index : Index) × (new ≡ record old { index = index; is_dead = true })
 
--- the locks go before all that the array answers; memory may be short at any place
+-- the locks come before all that the array answers; memory may run out at any point
 abbrev pub Asks : Limits → Granted → State → ℕ → Call → Reply → State → Type 0
 Asks limits calls old caller call reply new = Says NoMemory old reply new ⊎ (IsHeld old caller call reply new
     ⊎ (IsFree old caller call × (Grants limits calls old caller call reply new ⊎ (Refuses limits old caller call reply new ⊎ Fails old reply new))))
@@ -44,12 +44,12 @@ abbrev pub Commits : Granted → State → ℕ → Reply → State → Type 0
 Commits calls old caller reply new =
     (reply ≡ Committed (length old.history + 1)) × (new ≡ record (with_live old caller None) { history = old.history ++ done_by old caller calls ∷ [] })
 
--- the media failed in a commit: the transaction is in doubt
+-- the medium failed in a commit, so the transaction is in doubt
 abbrev pub Doubts : Granted → State → ℕ → Reply → State → Type 0
 Doubts calls old caller reply new =
     (reply ≡ Media) × (index : Index) × (new ≡ record (with_live old caller None) { doubt = Some (done_by old caller calls); index = index; is_dead = true })
 
--- With the caller's live transaction as it is before it, where the media has not failed.
+-- A step with this as the caller's live transaction, if the medium has not failed before.
 abbrev pub StepAt : Limits → Option Granted → State → ℕ → Call → Reply → State → Type 0
 StepAt limits None old caller Begin reply new = (reply ≡ Fine) × (new ≡ with_live old caller (Some []))
 StepAt limits None old caller _ reply new = Says NoTransaction old reply new
@@ -62,7 +62,7 @@ StepAt limits (Some calls) old caller (Back n) reply new = (IsFalse (has_save (v
     ⊎ (IsTrue (has_save (view_of old caller).saves n) × Asks limits calls old caller (Back n) reply new)
 StepAt limits (Some calls) old caller call reply new = Asks limits calls old caller call reply new
 
--- Where the media has failed in an earlier call, each call is answered so.
+-- If the medium has failed in an earlier call, the reply is `Dead`.
 abbrev pub StepIf : Limits → Bool → State → ℕ → Call → Reply → State → Type 0
 StepIf limits true old caller call reply new = Says Dead old reply new
 StepIf limits false old caller call reply new = StepAt limits (old.live caller) old caller call reply new

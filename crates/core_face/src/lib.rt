@@ -1,4 +1,4 @@
-//! Callers by turns: what a call is answered and leaves, and what makes such steps.
+//! Callers by turns: what a call is answered and leaves, and the trait of what makes such steps.
 #![tactic(auto)]
 
 mod core_trait;

@@ -1,4 +1,4 @@
--- A number that is written into the log of a free number, and committed.
+-- A number that is written into the log of a free number and committed.
 use Rattle.std.proofs.Common.{◌≡◌, ℕ, ◌+◌, ◌^◌, ◌<◌, ◌≤◌, Bool, true, false, cond, inl, inr, ⊎_elim, List, [], ◌∷◌, ◌++◌, length, take, drop, Result, Ok, Err, refl, sym, ◌∙◌, ap, subst, arith, append_assoc}
 use Rattle.std.specs.Prelude.{IsTrue, OnOk, Option, Some, None}
 use Rattle.std.specs.Option.{option_map}
@@ -21,7 +21,7 @@ use Rattle.eaw_face.specs.declared.fault.EawFault.{EawFault}
 use Rattle.eaw_face.specs.declared.fault.EawFault.TheVariants.{UnknownTid, LogFull, Media, Dead}
 use Rattle.counter.specs.Counts.{number_in, with_number, Counts, CountsEither, LeavesCount, IsIdle, IsBroken}
 
--- each array has the counter
+-- each array has room for the counter
 pub roomy : (shape : Shape) → IsShape shape → 1032 ≤ data_len shape
 roomy shape is = omega (arith, is.some_pages, mul-le-mul_right shape.pages is.some_loggers)
 
@@ -32,7 +32,7 @@ module _ (bytes : List ℕ) (n : ℕ) (long : 1032 ≤ length bytes) where
   apart : with_number bytes n ≡ take 1024 bytes ++ (little_bytes 8 n ++ drop 1032 bytes)
   apart = append_assoc (take 1024 bytes) (little_bytes 8 n) (drop 1032 bytes)
 
-  -- it says the number, and the rest is as it was
+  -- the data is at the number, and the rest is as it was
   pub number_with : n < 2 ^ 64 → number_in (with_number bytes n) ≡ n
   number_with fits =
       little_from-take 0 8 8 (drop 1024 (with_number bytes n)) (omega arith)
@@ -45,7 +45,7 @@ module _ (bytes : List ℕ) (n : ℕ) (long : 1032 ≤ length bytes) where
   pub rest_with : drop 1032 (with_number bytes n) ≡ drop 1032 bytes
   rest_with = drop_at (take 1024 bytes ++ little_bytes 8 n) (drop 1032 bytes) 1032 (length-append (take 1024 bytes) (little_bytes 8 n) ∙ ap (λ (k : ℕ). k + 8) front_is)
 
--- an image that opens with this data counts
+-- an image that opens with this data is at its number
 pub counts_now : (Opens : List ℕ → List ℕ → Type 0) (bytes image : List ℕ) → Opens image bytes → Counts Opens bytes (number_in bytes) image
 counts_now Opens bytes image opens = record { now = bytes; opens = opens; says = refl; front = refl; rest = refl }
 
@@ -53,7 +53,7 @@ pub counts_with : (Opens : List ℕ → List ℕ → Type 0) (bytes image : List
 counts_with Opens bytes image n long fits opens =
     record { now = with_number bytes n; opens = opens; says = number_with bytes n long fits; front = front_with bytes n long; rest = rest_with bytes n long }
 
--- its write has one part
+-- writing the counter takes one part
 one_part : (n : ℕ) → parts_of_write 1024 (little_bytes 8 n) ≡ (1024, little_bytes 8 n) ∷ []
 unfolding parts_of_write
 one_part n = refl
@@ -65,12 +65,12 @@ few shape g = by (is_range_on shape g (1024, 8))
     by true = omega arith
     by false = omega arith
 
--- nothing is logged where there are no ranges
+-- nothing is logged if there are no ranges
 none_logged : {A B : Type 0} (f : List A → List B) (o : Option (List A)) → None ≡ option_map f o → o ≡ None
 none_logged f None is = refl
 none_logged f (Some l) is = cc
 
--- a write of it is refused only where the media has failed
+-- writing the counter is refused only if the medium has failed
 pub write_broken : (old new : StoreView) (n : ℕ) (fault : EawFault) → IsShape old.shape → IsIdle old → (let r : Result ℕ EawFault = Err fault in Cause old (log_write 0 1024 (little_bytes 8 n)) new.faults r) → IsBroken old new fault
 write_broken old new n (UnknownTid u) shaped idle cause = absurd (cause.2 (omega (arith, shaped.some_numbers)))
 write_broken old new n (LogFull g h k) shaped idle cause =
@@ -81,7 +81,7 @@ write_broken old new n (LogFull g h k) shaped idle cause =
 write_broken old new n Media shaped idle cause = cause.3
 write_broken old new n Dead shaped idle cause = cause
 
--- from the write into the log to its commit
+-- from the write to the log up to its commit
 module _ (tells : Bool) (Opens : Shape → List ℕ → List ℕ → Type 0) (old mid new : StoreView) (n : ℕ) (idle : IsIdle old)
     (outlines : IsTrue tells → old.is_dead ≡ false → old.ranges 0 ≡ option_map ranges_of (old.state.logs 0))
     (k : ℕ) (first : let r : Result ℕ EawFault = Ok k in Does tells (Opens old.shape) (log_write 0 1024 (little_bytes 8 n)) old mid r)
@@ -110,7 +110,7 @@ module _ (tells : Bool) (Opens : Shape → List ℕ → List ℕ → Type 0) (ol
       (weaker (λ image either. ⊎_elim (λ is. inl is) (λ is. inl is) either) (first.time told first.cause.0))
       (subst (λ (p : Shape × List ℕ × List ℕ). LeavesOnly (IsEither (Opens p.0) p.1 p.2) mid new) (λ i. (first.shape i, mid_bytes told i, committed told i)) (second.time told first.done.alive))
 
--- from the read to the number that was set
+-- from the read up to the new number
 pub raised : (Opens : Shape → List ℕ → List ℕ → Type 0) (old mid new : StoreView) (next : ℕ) → 1032 ≤ length old.state.bytes → next ≡ number_in old.state.bytes + 1 → next < 2 ^ 64
     → mid.shape ≡ old.shape → mid.state.bytes ≡ old.state.bytes → LeavesOnly (λ image. Opens old.shape image old.state.bytes) old mid
     → LeavesOnly (IsEither (Opens mid.shape) mid.state.bytes (with_number mid.state.bytes next)) mid new
@@ -125,7 +125,7 @@ raised Opens old mid new next long is fits shape bytes first second =
     (λ opens. inr (subst (λ (n : ℕ). Counts (Opens old.shape) old.state.bytes n image) is (counts_with (Opens old.shape) old.state.bytes image next long fits opens)))
     either) there)
 
--- what is left now of the data with the number
+-- what may now be left of the data with the new number
 pub left_now : (Opens : Shape → List ℕ → List ℕ → Type 0) (old mid new : StoreView) (next : ℕ) → 1032 ≤ length old.state.bytes → next < 2 ^ 64
     → mid.shape ≡ old.shape → mid.state.bytes ≡ old.state.bytes → new.shape ≡ mid.shape → new.state.bytes ≡ with_number mid.state.bytes next
     → ((image : List ℕ) → new.left_since new.moment image → Opens new.shape image new.state.bytes) → LeavesCount (Opens old.shape) old.state.bytes next new
@@ -133,7 +133,7 @@ left_now Opens old mid new next long fits shape bytes shape' bytes' only image l
     counts_with (Opens old.shape) old.state.bytes image next long fits
     (subst (λ (p : Shape × List ℕ). Opens p.0 image p.1) (λ i. let shapes : new.shape ≡ old.shape = shape' ∙ shape in let same : new.state.bytes ≡ with_number old.state.bytes next = bytes' ∙ ap (λ (b : List ℕ). with_number b next) bytes in (shapes i, same i)) (only image left))
 
--- what breaks behind a read breaks behind its start
+-- a fault after the read is a fault after its start
 pub broken_on : (old mid new : StoreView) (fault : EawFault) → mid.is_dead ≡ false → mid.faults ≡ old.faults → IsBroken mid new fault → IsBroken old new fault
 broken_on old mid new Media alive kept broken = omega arith
 broken_on old mid new Dead alive kept broken = absurd (false≢true (sym alive ∙ broken))

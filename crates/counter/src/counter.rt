@@ -14,24 +14,24 @@ use std::alloc::Global;
 use std::marker::Model;
 use thiserror::Error;
 
-// The counter stands at the front of page 2, the first of those that a fresh array has all zero.
+// The counter is at the front of page 2, the first page that is all zero in a fresh array.
 const COUNTER_AT: u64 = 1024;
 
-// The transaction number under which it is written.
+// The transaction number under which the counter is written.
 const NUMBER: u8 = 0;
 
 /// Why a counter was not raised.
 #[derive(Clone, Copy, Debug, PartialEq, Eq, Error)]
 pub enum CountFault {
-    /// It says the last number of eight bytes. Nothing was written.
+    /// The counter is at the largest number of eight bytes. Nothing was written.
     #[error("no number is left to count")]
     Last,
-    /// The media failed, in this call (`Media`) or in an earlier one (`Dead`). Open the array again: it says n or n + 1.
+    /// The medium failed, in this call (`Media`) or in an earlier one (`Dead`). Open the array again, and the counter is at n or n + 1.
     #[error("{0}")]
     Array(EawFault),
 }
 
-/// A counter in an array of editable atomic writes, eight bytes of its data, over any store of them.
+/// A counter in an array of editable atomic writes, over any store of them. It is eight bytes of the data.
 #[derive(Drop)]
 pub struct Counter<S: EawStore> {
     store: S,
@@ -48,13 +48,13 @@ impl<S: EawStore> Model for Counter<S> {
 }
 
 impl<M: Media> Counter<Eaw<M>> {
-    /// Opens the array that the media holds, as a loss of power left it. At an error the media is given back.
+    /// Opens the array that the medium holds, as a loss of power left it. An error returns the medium.
     pub fn open(alloc: Global, media: M) -> Result<Counter<Eaw<M>>, (AttachFault, M)>
-        // An image that opens with some data is opened with it.
+        // An image that opens with some data is opened with that data.
         ensures opens { IsTrue M.tells → (shape : _) (bytes : List ℕ) → Opens shape (M.view media).content.bytes bytes
             → IfOk result (λ counter. (⟦<Eaw<M> as EawStore>⟧.view counter).state.bytes ≡ bytes) }
         ensures alive { IfOk result (λ counter. IsAlive (⟦<Eaw<M> as EawStore>⟧.view counter)) }
-        // And where power is lost meanwhile, it opens with the same again.
+        // If power is lost meanwhile, it opens with the same data again.
         ensures keeps { IfOk result (λ counter. KeepsData M.tells (M.view media) (⟦<Eaw<M> as EawStore>⟧.view counter).moment (⟦<Eaw<M> as EawStore>⟧.view counter).left_since) }
         ensures keeps_on_err { IfErr result (λ failed. KeepsData M.tells (M.view media) (M.view failed.1).moment (M.view failed.1).left_since) }
         ensures cause { IfErr result (λ failed. AttachCause M.tells (M.view media) (M.view failed.1).faults failed.0) }
@@ -65,7 +65,7 @@ impl<M: Media> Counter<Eaw<M>> {
         }
     }
 
-    /// The media below.
+    /// The medium below.
     pub fn into_media(self) -> M
         ensures { IsBehind M.tells (⟦<Eaw<M> as EawStore>⟧.view self) (M.view result) }
     {
@@ -75,7 +75,7 @@ impl<M: Media> Counter<Eaw<M>> {
 }
 
 impl<S: EawStore> Counter<S> {
-    /// What it says.
+    /// The number that the counter is at.
     pub fn value(&mut self) -> Result<u64, EawFault>
         ensures says { IsTrue S.tells → IfOk result (λ n. n ≡ number_in (S.view self.old).state.bytes) }
         ensures same { IsTrue S.tells → OnOk result ((S.view self.new).state.bytes ≡ (S.view self.old).state.bytes) }
@@ -91,13 +91,13 @@ impl<S: EawStore> Counter<S> {
         Ok(LittleEndian::read_u64(&bytes))
     }
 
-    /// Raises it from n to n + 1, and gives n + 1.
+    /// Raises the counter from n to n + 1 and returns n + 1.
     pub fn add_one(&mut self) -> Result<u64, CountFault>
         ensures counted { IsTrue S.tells → IfOk result (λ n. n ≡ number_in (S.view self.old).state.bytes + 1) }
         ensures written { IsTrue S.tells → IfOk result (λ n. (S.view self.new).state.bytes ≡ with_number (S.view self.old).state.bytes n) }
-        // Whatever a loss of power leaves behind it says n + 1.
+        // Whatever a loss of power leaves afterwards is at n + 1.
         ensures now { IsTrue S.tells → IfOk result (λ n. LeavesCount (S.opens (S.view self.old).shape) (S.view self.old).state.bytes n (S.view self.new)) }
-        // At each moment of it, and whatever it answers, a loss of power leaves n or n + 1.
+        // At each moment of the call, whatever it answers, a loss of power leaves n or n + 1.
         ensures moments { IsTrue S.tells → IsAlive (S.view self.old)
             → LeavesOnly (CountsEither (S.opens (S.view self.old).shape) (S.view self.old).state.bytes (number_in (S.view self.old).state.bytes)) (S.view self.old) (S.view self.new) }
         ensures refused { IfErr result (IsRefused S.tells (S.view self.old) (S.view self.new)) }
@@ -115,7 +115,7 @@ impl<S: EawStore> Counter<S> {
         }
     }
 
-    // Writes the number into the log of a transaction, and commits it.
+    // Writes the number into the log of a transaction and commits it.
     fn set(&mut self, number: u64) -> Result<(), EawFault>
         requires { IsAlive (S.view self.old) }
         ensures written { IsTrue S.tells → OnOk result ((S.view self.new).state.bytes ≡ with_number (S.view self.old).state.bytes number) }

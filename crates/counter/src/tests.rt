@@ -7,7 +7,7 @@ use std::alloc::Global;
 use std::process::Abort;
 use std::test::Fail;
 
-// A fresh array of the least numbers, in memory.
+// A fresh array of the smallest numbers, in memory.
 fn fresh(alloc: Global) -> Option<MemoryMedia> {
     let shape = Shape::new(1, 1, 8, 4).ok()?;
     let zeros = vec![in alloc; 0; shape.media_len() as usize].ok()?;
@@ -22,7 +22,7 @@ fn open<M: Media + Drop>(alloc: Global, media: M) -> Option<Counter<Eaw<M>>> {
     Counter::open(alloc, media).ok()
 }
 
-// Raises a counter behind a fuse, and gives the answer and the media as it is then. There is none where it was not opened.
+// Raises a counter behind a fuse, and returns the answer and the medium as it is then, or `None` if the array was not opened.
 fn raise_behind(
     alloc: Global,
     image: &[u8],
@@ -55,7 +55,7 @@ fn leaves_n_or_one_more(rt: HostRuntime) -> Result<(), Fail> {
     let media = counter.into_media();
     let mut was_stopped = false;
     let mut was_raised = false;
-    // An opening makes 3 calls, and the rest is made by the read, the write into the log and the commit.
+    // An opening makes 3 calls. The read, the write to the log and the commit make the rest.
     for passes in 3..20 {
         let (answer, media) = raise_behind(alloc, media.bytes(), passes).ok_or("raise")?;
         for choice in [b"".as_slice(), b"\x00", b"\xFF", b"\xC3\x01"] {

@@ -1,4 +1,4 @@
--- A script that goes on by one transaction, or by two.
+-- A script that goes on by one transaction or by two.
 use Rattle.std.proofs.Common.{◌≡◌, ℕ, zero, suc, ◌+◌, ◌*◌, ◌-◌, ◌%◌, ◌<◌, ◌≤◌, List, ◌++◌, sym, ap, ◌∙◌, arith}
 use Rattle.std.specs.Prelude.{nat_le}
 use Rattle.std.proofs.lemmas.Bool.{cond-true, le-leb}
@@ -7,7 +7,7 @@ use Rattle.history.specs.declared.call.Call.{Call}
 use Rattle.drill_gen.specs.Draws.{drawn_on}
 use Rattle.drill_gen.specs.Drill.{drawn_from, alone, paired, transaction, one_by_one, in_pairs, drill}
 
--- draws go on from where others ended
+-- draws continue where others ended
 drawn_then : (x n m : ℕ) → drawn_on (drawn_on x n) m ≡ drawn_on x (m + n)
 drawn_then x n zero = ap (drawn_on x) (omega arith)
 drawn_then x n (suc m) = ap (λ (y : ℕ). (y * 1103515245 + 12345) % 2147483648) (drawn_then x n m) ∙ ap (drawn_on x) (let e : suc (m + n) ≡ suc m + n = omega arith in e)
@@ -23,7 +23,7 @@ pair_on : (seed i left n : ℕ) → left ≡ n + 2 → in_pairs seed i left ≡ 
 pair_on seed i left n is = ap (in_pairs seed i) (let e : left ≡ suc (suc n) = omega (arith, is) in e)
 
 module _ (seed i count : ℕ) (turns next whole : List (ℕ × Call)) (x : ℕ) (is : x ≡ drawn_on seed (5 * i)) where
-  -- a transaction more, and so many fewer behind it
+  -- one more transaction, and one fewer left
   pub single_more : i < count → next ≡ turns ++ alone (drawn_from x) → turns ++ one_by_one seed i (count - i) ≡ whole → next ++ one_by_one seed (i + 1) (count - (i + 1)) ≡ whole
   single_more lt now before =
       ap (λ (l : List (ℕ × Call)). l ++ one_by_one seed (i + 1) (count - (i + 1))) now

@@ -2,14 +2,14 @@
 ghost use Rattle.std.specs.Prelude.{◌≡◌, ◌<◌, ◌^◌, ◌+◌, ◌*◌, ◌%◌};
 ghost use Rattle.drill_gen.specs.Draws.{draw};
 
-/// Goes on from a number of 31 bits.
+/// Continues from a number of 31 bits.
 #[derive(Clone, Copy, Debug)]
 pub struct Draws {
     pub x: u64,
 }
 
 impl Draws {
-    /// The next number, which is below 32,768.
+    /// The next number, below 32,768.
     pub fn next(&mut self) -> u64
         requires { self.old.x < 2 ^ 31 }
         ensures small { self.new.x < 2 ^ 31 }

@@ -8,8 +8,8 @@ use crate::turns::Turns;
 use counted::NoMemory;
 use std::alloc::Global;
 
-/// The script of so many transactions, drawn from a seed below 2^31: in pairs of the callers 0 and 1 where there are two callers, with
-/// a last one without a partner as caller 0's; or each as caller 0's.
+/// The script of `transactions` transactions, drawn from a seed below 2^31. With at least two callers they come in pairs of callers 0 and
+/// 1, and a last one without a partner is caller 0's. Else all are caller 0's.
 pub fn script(alloc: Global, seed: u32, transactions: u32, callers: u8) -> Result<Turns, NoMemory>
     requires { seed < 2 ^ 31 }
     ensures { IfOk result (λ turns. turns ≡ drill seed transactions callers) }

@@ -1,4 +1,4 @@
-//! A large script without an input: transactions that are drawn from a seed.
+//! A large script that needs no input: transactions that are drawn from a seed.
 #![tactic(auto)]
 
 mod draws;

@@ -12,13 +12,13 @@ use history::Call;
 use itoa::Buffer;
 use record_slots::Value;
 
-// Keys are below it.
+// Keys are below this.
 const KEYS: u64 = 256;
 
-// One transaction in so many aborts.
+// One transaction in this many aborts.
 const ENDS: u64 = 8;
 
-/// Two puts, and how the transaction ends.
+/// Two puts and how the transaction ends.
 #[derive(Clone, Copy, Debug)]
 pub struct Transaction {
     pub first: Call,
@@ -26,7 +26,7 @@ pub struct Transaction {
     pub end: Call,
 }
 
-/// Draws a transaction, five times.
+/// Draws a transaction, which takes five draws.
 pub fn draw_transaction(draws: &mut Draws) -> Transaction
     requires { draws.old.x < 2 ^ 31 }
     ensures drawn { result ≡ drawn_from draws.old.x }
@@ -60,7 +60,7 @@ fn end_of(drawn: u64) -> Call
     }
 }
 
-// The letter v, and the number.
+// The letter `v` and the number.
 fn value_of(drawn: u64) -> Value
     requires { drawn < 32768 }
     ensures { result ≡ codes "v" ++ decimal drawn }

@@ -1,4 +1,4 @@
--- What comes of one line, from what comes of its command.
+-- What comes of one line, given what comes of its command.
 use Rattle.std.proofs.Common.{◌≡◌, ◌≤◌, ℕ, lit<, List, [], ◌∷◌, ◌++◌, Option, Some, None, Result, Ok, Err, inl, inr, ⊎_elim, refl, sym, subst, arith}
 use Rattle.std.specs.Prelude.{Bool, IsTrue, Contains}
 use Rattle.std.proofs.lemmas.List.Elements.{Contains-append_left, Contains-append_right}
@@ -23,7 +23,7 @@ use Rattle.eaw_script.specs.Performed.{Performed}
 use Rattle.eaw_script.specs.Progress.{Progress, Shows, Comes, moved}
 use Rattle.eaw_script.specs.Laws.{comes_none}
 
--- a line that is none, and one that tells a call: its command
+-- a bad line, and a line with a call: its command
 means_bad : (numbers : ℕ) (line : List ℕ) → SaysEaw numbers line Bad → Means numbers line bad
 means_bad numbers line says = subst (Means numbers line) says.2 says.1
 
@@ -38,7 +38,7 @@ means_told numbers line t call says = (says.2.0, says.2.1, subst (Means numbers 
 abbrev pub Reply : Type 0
 Reply = Result (Unit {0}) Stop
 
--- a script at this store, behind this past
+-- a script at this store, after this past
 abbrev pub at : StoreView → List (List ℕ) → Progress
 at store past = record { shape = store.shape; state = store.state; past = past; doubt = None }
 
@@ -48,7 +48,7 @@ shown store progress shows = λ i. record { shape = shows.shape i; state = shows
 shows_at : (store : StoreView) (past : List (List ℕ)) → Shows store (at store past)
 shows_at store past = record { shape = refl; state = refl; certain = refl }
 
--- what comes of a line over a store, from what comes of it behind each past
+-- what comes of a line over a store, given what comes of it after each past
 pub from_past : (Opens : Shape → List ℕ → List ℕ → Type 0) (old new : StoreView) (n : ℕ) (line text : List ℕ) (result : Reply)
     → ((past : List (List ℕ)) → Answers raw_script (Shows new) (Comes Opens old (at old past) new) (at old past) n line text result)
     → (progress : Progress) → Shows old progress → Answers raw_script (Shows new) (Comes Opens old progress new) progress n line text result
@@ -59,7 +59,7 @@ module _ (Opens : Shape → List ℕ → List ℕ → Type 0) (store : StoreView
   stays : Comes Opens store (at store past) store (at store past)
   stays = comes_none Opens store (at store past) (shows_at store past) only
 
-  -- a line that is passed over, and one that is none
+  -- a line that is passed over, and a bad one
   pub passed_over : (text : List ℕ) → text ≡ [] → SaysEaw store.shape.numbers line Nothing → Answers raw_script (Shows store) (Comes Opens store (at store past) store) (at store past) n line text (let r : Reply = Ok tt in r)
   passed_over text is says = (at store past, (nothing, means_nothing store.shape.numbers line says, (is, refl)), shows_at store past, stays)
 
@@ -108,7 +108,7 @@ module _ (tells : Bool) (tell : IsTrue tells) (Opens : Shape → List ℕ → Li
     pub performed_short : (text : List ℕ) → Answers raw_script (Shows new) (Comes Opens old (at old past) new) (at old past) n line text (let r : Reply = Err NoMemory in r)
     performed_short text = (moved (at old past) new.state, (answer_line t answer, gives), moved_on)
 
-  -- The media failed: what the command was to make may stand there or not.
+  -- The medium failed: what the command was to make may have become durable or not.
   module _ (e : Failed) (did : Performed tells (Opens old.shape) old new t raw (Err e)) (only : (image : List ℕ) → old.left_since old.moment image → Opens old.shape image old.state.bytes)
       (counts : (m : ℕ) (image : List ℕ) → m ≤ new.moment → new.left_since new.moment image → new.left_since m image) where
     pub failed : (text : List ℕ) → Answers raw_script (Shows new) (Comes Opens old (at old past) new) (at old past) n line text (let r : Reply = Err (Media t) in r)

@@ -1,4 +1,4 @@
--- Parts of a command's performance.
+-- Lemmas about doing a command.
 use Rattle.std.proofs.Common.{◌≡◌, ℕ, zero, suc, ◌<◌, ◌≤◌, List, [], ◌∷◌, length, sym, subst, arith}
 use Rattle.std.specs.Prelude.{Bool, Result}
 use Rattle.counted.specs.declared.Failed.{Failed}
@@ -15,7 +15,7 @@ part_len shape [] pos placed there = absurd (omega arith)
 part_len shape (r ∷ rs) zero placed there = let page = placed.0.page in omega arith
 part_len shape (r ∷ rs) (suc pos) placed there = part_len shape rs pos placed.1 (omega arith)
 
--- the same command, named otherwise
+-- the same command under another name
 pub performed_as : {tells : Bool} {Opens : List ℕ → List ℕ → Type 0} {old new : StoreView} {t : ℕ} {result : Result Answer Failed} (k raw : Raw) → raw ≡ k
     → Performed tells Opens old new t k result → Performed tells Opens old new t raw result
 performed_as {tells} {Opens} {old} {new} {t} {result} k raw is performed = subst (λ (x : Raw). Performed tells Opens old new t x result) (sym is) performed

@@ -1,4 +1,4 @@
--- What a number's raw command answers, and what it leaves.
+-- What a number's raw command is answered and leaves.
 use Rattle.std.specs.Prelude.{ℕ, ◌≡◌, ◌++◌, List, length, Option}
 use Rattle.counted.specs.Bytes.{range}
 use Rattle.array_shape.specs.declared.shape.Shape.{Shape}
@@ -9,12 +9,12 @@ use Rattle.script_text.specs.declared.answer.Answer.{Answer}
 use Rattle.script_text.specs.declared.answer.Answer.TheVariants.{Logged, Fine, Part, Data, Len, Held, Unknown, BadRange, Live, LogFull}
 use Rattle.eaw_script.specs.Tests.{asks, IsFull, Passes}
 
--- the state that it leaves where it is done: a question changes nothing
+-- the state after a command that was done; a question changes nothing
 abbrev pub done_by : Raw → State → State
 done_by (does command) old = after command old
 done_by _ old = old
 
--- its answer there: the length of the log behind a write, the bytes that were asked for, a count
+-- the answer to a command that was done: the length of the log after a write, the bytes that were asked for, or a count
 abbrev pub answer_to : Shape → Option (List (ℕ × ℕ)) → State → ℕ → Raw → Answer
 answer_to shape log old t (does (log_write u addr bytes)) = Logged (length (listed log ++ (asks shape log (does (log_write u addr bytes))).needed))
 answer_to shape log old t (does (read addr len)) = Data (range old.bytes addr len)
@@ -23,7 +23,7 @@ answer_to shape log old t log_len = Len (length (listed log))
 answer_to shape log old t (held logger) = Held (count_on shape logger (listed log))
 answer_to shape log old t _ = Fine
 
--- Number t, with this log, gets this answer. A refusal comes where its own test is the first that fails, and changes nothing.
+-- Number t, with this log, gets this answer. A refusal comes if its test is the first that fails, and changes nothing.
 abbrev pub AnswersWith : Shape → Option (List (ℕ × ℕ)) → State → ℕ → Raw → Answer → State → Type 0
 AnswersWith shape log old t raw Unknown new = ((asks shape log raw).known → ⊥) × (new ≡ old)
 AnswersWith shape log old t raw BadRange new = (asks shape log raw).known × ((asks shape log raw).there → ⊥) × (new ≡ old)

@@ -1,4 +1,4 @@
--- Laws of what a loss of power leaves of a script: over nothing and over one line behind another.
+-- Laws of what a loss of power leaves of a script: over no line, and over one line after another.
 use Rattle.std.proofs.Common.{ℕ, List, inl, refl, sym, subst, ◌∙◌, arith}
 use Rattle.counted.proofs.Going as going
 use Rattle.array_shape.specs.declared.shape.Shape.{Shape}

@@ -11,7 +11,7 @@ use Rattle.eaw_script.specs.Tests.{log_of, asks, Passes}
 use Rattle.eaw_script.specs.Answers.{AnswersWith, done_by}
 use Rattle.eaw_script.specs.Progress.{Progress}
 
--- the n-th line, which means this, is answered by this text, and leaves this
+-- the n-th line, which means this, is answered by this text and leaves this progress
 abbrev pub Gives : Progress → ℕ → Meaning → List ℕ → Progress → Type 0
 Gives old n nothing text new = (text ≡ []) × (new ≡ old)
 Gives old n bad text new = (text ≡ bad_line n) × (new ≡ old)
@@ -19,16 +19,16 @@ Gives old n (told t raw) text new =
     (answer : Answer) × (state : State) × AnswersWith old.shape (log_of old.state t) old.state t raw answer state × (text ≡ answer_line t answer)
     × (new ≡ record old { state = state; past = old.past ++ old.state.bytes ∷ [] })
 
--- the same of what the line's bytes mean, where there are as many transaction numbers as the shape has
+-- the same for what the bytes of a line mean, with the transaction numbers of the shape
 abbrev pub LineGives : Progress → ℕ → List ℕ → List ℕ → Progress → Type 0
 LineGives old n line text new = (meaning : Meaning) × Means old.shape.numbers line meaning × Gives old n meaning text new
 
--- the media fails in number t's command, which passes each test and asks the media: the data that it was to make is in doubt
+-- the medium fails in number t's command, which passes each test and uses the medium, so the data that it was to make is in doubt
 abbrev pub LineBreaks : Progress → List ℕ → ℕ → Progress → Type 0
 LineBreaks old line t new = (raw : Raw) × Means old.shape.numbers line (told t raw)
     × Passes old.shape (asks old.shape (log_of old.state t) raw) × (asks old.shape (log_of old.state t) raw).media
     × (new ≡ record old { doubt = Some (done_by raw old.state).bytes })
 
--- where memory is short, it is for the answer of a line that was done
+-- if memory runs out, it is for the answer of a line that was done
 abbrev pub raw_script : Script Progress
 raw_script = record { gives = LineGives; breaks = LineBreaks; stops = λ old n line new. (text : List ℕ) × LineGives old n line text new }

@@ -1,4 +1,4 @@
--- What the performance of one command of a script comes to.
+-- What comes of doing one command of a script.
 use Rattle.std.specs.Prelude.{ℕ, ◌≡◌, Bool, false, IsTrue, List, Result, Ok, Err, OnOk, OnErr, IfOk}
 use Rattle.counted.specs.Causes.{HasCause}
 use Rattle.counted.specs.declared.Failed.{Failed}
@@ -13,21 +13,21 @@ use Rattle.script_text.specs.declared.answer.Answer.TheVariants.{Unknown, LogFul
 use Rattle.eaw_script.specs.Tests.{asks, Passes}
 use Rattle.eaw_script.specs.Answers.{AnswersWith, done_by}
 
--- how a refusal of a store is told
+-- the answer for a refusal of the store
 abbrev pub refusal_of : EawFault → Result Answer Failed
 refusal_of (UnknownTid u) = Ok Unknown
 refusal_of (Full g h n) = Ok (LogFull g h n)
 refusal_of Media = Err (record {})
 refusal_of Dead = Err (record {})
 
--- the state that a command made: the one that there is now, and where the media failed the one that it was to make
+-- the state that a command made: the present one, or, if the medium failed, the one that it was to make
 abbrev pub made_by : State → State → Raw → Result Answer Failed → State
 made_by old new raw (Ok answer) = new
 made_by old new raw (Err failed) = done_by raw old
 
--- Number t's command on a store, of which an image that a loss of power leaves is opened so. Its answer is the model's; an error
--- comes only where the media failed, in a command that passed each test and asks the media. Whichever it is, each image that a
--- loss of power might have left anew opens with the data before the command or the data that it made.
+-- Number t's command on a store whose images open as Opens says. An answer is the model's. An error comes only if the medium failed, in a
+-- command that passed each test and uses the medium. In either case, each image that a loss of power might newly have left opens with the
+-- data before the command or the data that it made.
 pub record Performed (tells : Bool) (Opens : List ℕ → List ℕ → Type 0) (old new : StoreView) (t : ℕ) (raw : Raw) (result : Result Answer Failed) : Type 0 where
   pub shape : new.shape ≡ old.shape
   pub cause : HasCause old.faults new.faults result

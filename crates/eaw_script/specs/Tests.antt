@@ -1,4 +1,4 @@
--- What a raw command asks for, by its number's log alone: None where that holds none, else where its parts lie.
+-- What a raw command asks for, given only its number's log: None if the number holds none, else where its parts lie.
 use Rattle.std.specs.Prelude.{ℕ, ◌≡◌, ◌+◌, ◌<◌, ◌≤◌, List, [], length, Option, None, IsSome, ⊤}
 use Rattle.std.specs.Option.{option_map}
 use Rattle.array_shape.specs.declared.shape.Shape.{Shape}
@@ -13,8 +13,8 @@ use Rattle.script_text.specs.Eaw.{Raw, does, read_log, log_len, held}
 abbrev pub log_of : State → ℕ → Option (List (ℕ × ℕ))
 log_of state t = option_map ranges_of (state.logs t)
 
--- The tests of a command, in their order: the number holds a log, what is named is there, the number holds none, and each logger
--- has room for what is needed behind what is held. And whether the media is asked for something.
+-- The tests of a command in their order: the number holds a log, what is named exists, the number holds no log, and each logger has room
+-- for what is needed on top of what it holds. And whether the medium is used.
 pub record Asks : Type 1 where
   pub known : Type 0
   pub there : Type 0
@@ -23,12 +23,12 @@ pub record Asks : Type 1 where
   pub needed : List (ℕ × ℕ)
   pub media : Type 0
 
--- asks the media, and has no test
+-- no tests, and the medium is used
 abbrev pub untested : Asks
 untested = record { known = ⊤; there = ⊤; free = ⊤; held = []; needed = []; media = ⊤ }
 
--- A range lies in the data, an offset is at most the log's length, a position is below it and an edit lies within its part, and a
--- logger is one of the array's. Parts that are dropped or counted, and a commit of none, ask nothing of the media.
+-- A range lies in the data; an offset is at most the log's length; a position is below that, and an edit lies within its part; a logger is
+-- one of the array's. Discarding or counting parts does not use the medium, nor does committing none.
 abbrev pub asks : Shape → Option (List (ℕ × ℕ)) → Raw → Asks
 asks shape log (does (log_write t addr bytes)) =
     record untested { there = addr + length bytes ≤ data_len shape; held = listed log; needed = ranges_of (parts_of_write addr bytes) }
@@ -50,7 +50,7 @@ asks shape log _ = untested
 abbrev pub HasRoom : Shape → Asks → ℕ → Type 0
 HasRoom shape asked g = count_on shape g asked.held + count_on shape g asked.needed ≤ shape.entries
 
--- it is the first that has none: it holds so many parts of the number, and as many more are needed
+-- logger g is the first without room: it holds h parts of the number, and n more are needed
 abbrev pub IsFull : Shape → Asks → ℕ → ℕ → ℕ → Type 0
 IsFull shape asked g h n = (g < shape.loggers) × (h ≡ count_on shape g asked.held) × (n ≡ count_on shape g asked.needed)
     × (shape.entries < h + n) × ((k : ℕ) → k < g → HasRoom shape asked k)

@@ -1,7 +1,7 @@
-// Where the bytes of a command stand.
+// Buffers for the bytes of a command.
 use script_text::BLOCK;
 
-// How many bytes a part has at most.
+// The most bytes that a part has.
 pub const PART: usize = 512;
 
 /// Room for the bytes that a command writes or reads, and for those of a logged part.

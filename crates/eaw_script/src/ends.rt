@@ -1,4 +1,4 @@
-// Commands that end a log, or a rest of it.
+// Commands that end a log, or what it has from an offset on.
 ghost use Rattle.std.specs.Prelude.{◌≡◌, ◌<◌, false};
 ghost use Rattle.eaw_face.specs.Command.{commit, abort, nested_top, partial_abort};
 ghost use Rattle.script_text.specs.Eaw.{does};
@@ -24,7 +24,7 @@ pub fn commit<S: EawStore>(store: &mut S, number: u8) -> Result<Answer<'static>,
     }
 }
 
-/// Drops a log.
+/// Discards a log.
 pub fn abort<S: EawStore>(store: &mut S, number: u8) -> Result<Answer<'static>, Failed>
     requires number { number < (S.view store.old).shape.numbers }
     requires alive { (S.view store.old).is_dead ≡ false }
@@ -61,7 +61,7 @@ pub fn nested<S: EawStore>(
     }
 }
 
-/// Drops what a log has from an offset on.
+/// Discards what a log has from an offset on.
 pub fn partial<S: EawStore>(
     store: &mut S,
     number: u8,

@@ -1,4 +1,4 @@
-// A command of a script.
+// Does a command of a script.
 ghost use Rattle.std.specs.Prelude.{ℕ, ◌≡◌, ◌<◌, false, List};
 ghost use Rattle.script_text.specs.Eaw.{Raw, IsTextOf};
 ghost use Rattle.script_text.specs.EawLines.{ShowsCall};
@@ -12,7 +12,7 @@ use counted::Failed;
 use eaw_face::EawStore;
 use script_text::{Answer, EawCall, bytes_of};
 
-/// Does a number's command, where it passes each test. The bytes that it writes or reads stand in the buffers.
+/// Does a number's command if it passes each test. The bytes that it writes or reads are in the buffers.
 pub fn perform<'a, S: EawStore>(
     store: &mut S,
     number: u8,

@@ -71,7 +71,7 @@ pub fn log_len<S: EawStore>(store: &S, number: u8) -> Answer<'static>
     Answer::Len(store.log_len(number))
 }
 
-/// How many of them one logger holds.
+/// How many of its parts a logger holds.
 pub fn held<S: EawStore>(store: &S, number: u8, logger: u8) -> Answer<'static>
     requires number { number < (S.view store.now).shape.numbers }
     requires alive { (S.view store.now).is_dead ≡ false }

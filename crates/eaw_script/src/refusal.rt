@@ -5,7 +5,7 @@ use counted::Failed;
 use eaw_face::EawFault;
 use script_text::Answer;
 
-/// How a refusal of a store is told. A store that is dead has met a fault of the media before.
+/// The answer for a refusal of the store. A store that is dead has met a fault of the medium before.
 pub fn refusal(fault: EawFault) -> Result<Answer<'static>, Failed>
     ensures { result ≡ refusal_of fault }
 {

@@ -32,7 +32,7 @@ pub fn log_write<S: EawStore>(
     }
 }
 
-/// Writes by itself, under a number that is free.
+/// Writes at once, without a log, under a number that is free.
 pub fn atomic<S: EawStore>(
     store: &mut S,
     number: u8,
@@ -56,7 +56,7 @@ pub fn atomic<S: EawStore>(
     }
 }
 
-/// Writes over bytes of a logged part.
+/// Overwrites bytes of a logged part.
 pub fn edit_log<S: EawStore>(
     store: &mut S,
     number: u8,

@@ -1,4 +1,4 @@
--- Lists of records that compare as the same are one list.
+-- Lists of records that compare as equal are equal.
 use Rattle.std.proofs.Common.{◌≡◌, ℕ, Bool, List, refl, ap, Decides}
 use Rattle.std.specs.Prelude.{nat_eq}
 use lib.Pointwise.{pointwise}

@@ -1,4 +1,4 @@
--- How many writes of some keys there are, behind one write more and behind a way back.
+-- How many writes satisfy p, after one more write and after a way back.
 use Rattle.std.proofs.Common.{◌≡◌, ℕ, ◌+◌, ◌≤◌, Bool, true, false, cond, ◌&&◌, ◌||◌, List, [], ◌∷◌, ◌++◌, length, filter, take, drop, refl, sym, ap, ◌∙◌, arith, length-append, take-append-drop}
 use Rattle.std.specs.Prelude.{not, if◌then◌else◌}
 use Rattle.std.specs.List.{list_any}
@@ -7,7 +7,7 @@ use Rattle.std.proofs.lemmas.List.Elements.{filter-append}
 use Rattle.history.specs.Writes.{Write, is_of, replaced, with_write}
 
 module _ (p : Write → Bool) where
-  -- so many of the writes pass
+  -- how many of the writes satisfy p
   counted : List Write → ℕ
   counted writes = length (filter p writes)
 
@@ -28,7 +28,7 @@ module _ (p : Write → Bool) where
   counted-append writes more = ap length (filter-append p writes more) ∙ length-append (filter p writes) (filter p more)
 
   module _ (alike : (one other : Write) → one.0 ≡ other.0 → p one ≡ p other) (write : Write) where
-    -- a write is counted where none of its key is there
+    -- a write is counted if there was none of its key
     new_if : Bool → ℕ
     new_if true = 0
     new_if false = one_if (p write)
@@ -55,7 +55,7 @@ module _ (p : Write → Bool) where
         let same : counted (take floor writes ++ drop floor writes) ≡ counted writes = ap counted (take-append-drop floor writes) in
         omega (arith, e, f, h, same)
 
-    -- A write whose key was written behind the floor leaves the count,
+    -- A write whose key was written after the floor leaves the count as it is,
     pub length-filter-rewritten : (floor : ℕ) (writes : List Write) → list_any (is_of write.0) (drop floor writes) ≡ true
         → length (filter p (with_write floor write writes)) ≡ length (filter p writes)
     unfolding counted new_if
@@ -74,7 +74,7 @@ module _ (p : Write → Bool) where
         go true = refl
         go false = refl
 
-  -- a front has no more of them
+  -- a prefix has no more of them
   pub length-filter-front : (n : ℕ) (writes : List Write) → length (filter p (take n writes)) ≤ length (filter p writes)
   unfolding counted
   length-filter-front n writes =

@@ -9,7 +9,7 @@ use Rattle.history.specs.declared.call.Reply.{Reply}
 use Rattle.history.specs.declared.transaction.Done.{Done}
 use Rattle.history.proofs.OneMore.{IsRightFrom-push, worked-push, IsLegal-push, records-push}
 
--- one call more that is answered right
+-- one more call that gets the right reply
 pub right-next : (work : Work) (calls : Granted) (i : ℕ) (entry : Call × Reply) → i < length calls → entry ≡ get_or calls i entry
     → IsRightFrom work (take i calls) → Answers (worked work (take i calls)) entry.0 entry.1 → IsRightFrom work (take (i + 1) calls)
 right-next work calls i entry within at right answers =
@@ -20,13 +20,13 @@ pub worked-next : (work : Work) (calls : Granted) (i : ℕ) (entry : Call × Rep
 worked-next work calls i entry within at =
     ap (worked work) (take_more calls i entry within ∙ ap (λ (e : Call × Reply). take i calls ++ e ∷ []) (sym at)) ∙ worked-push work (take i calls) entry.0 entry.1
 
--- each of the calls that are right is answered right
+-- each of the calls that are right gets the right reply
 pub right_at : (work : Work) (calls : Granted) (i : ℕ) (entry : Call × Reply) → i < length calls → IsRightFrom work calls → Answers (worked work (take i calls)) (get_or calls i entry).0 (get_or calls i entry).1
 right_at work [] i entry within right = absurd (omega (arith, within))
 right_at work (first ∷ calls) zero entry within right = right.0
 right_at work (first ∷ calls) (suc i) entry within right = right_at (after work first.0) calls i entry (omega (arith, within)) right.1
 
--- one transaction more that has the next number and is right
+-- one more transaction that has the next number and is right
 pub legal-next : (base : Table) (history : List Done) (i : ℕ) (done : Done) → i < length history → done ≡ get_or history i done
     → IsLegal base (take i history) → done.at ≡ i + 1 → IsRight (records base (take i history)) done.calls → IsLegal base (take (i + 1) history)
 legal-next base history i done within at legal number right =
@@ -53,15 +53,15 @@ pub legal_at : (base : Table) (history : List Done) (i : ℕ) (done : Done) → 
 legal_at base history i done within legal = let both = legal_from_at 1 base history i done within legal in (omega (arith, both.0), both.1)
 
 module _ (start : Work) (calls : Granted) (i : ℕ) (entry : Call × Reply) (within : i < length calls) (at : entry ≡ get_or calls i entry) (work : Work) (made : work ≡ worked start (take i calls)) where
-  -- as a loop over the calls has it: one call more is made,
+  -- As a loop over the calls has it, one more call is made,
   pub made-next : (later : Work) → later ≡ after work entry.0 → later ≡ worked start (take (i + 1) calls)
   made-next later is = is ∙ ap (λ (w : Work). after w entry.0) made ∙ sym (worked-next start calls i entry within at)
 
-  -- and was answered right;
+  -- which got the right reply,
   pub stays_right : IsRightFrom start (take i calls) → Answers work entry.0 entry.1 → IsRightFrom start (take (i + 1) calls)
   stays_right right answers = right-next start calls i entry within at right (subst (λ w. Answers w entry.0 entry.1) made answers)
 
-  -- or it was not, and the calls are not right.
+  -- or it did not, and the calls are not right.
   pub is_wrong : (Answers work entry.0 entry.1 → ⊥) → IsRightFrom start calls → ⊥
   is_wrong wrong right = wrong (subst (λ w. Answers w entry.0 entry.1) (sym made)
       (subst (λ (e : Call × Reply). Answers (worked start (take i calls)) e.0 e.1) (sym at) (right_at start calls i entry within right)))
@@ -73,7 +73,7 @@ module _ (base : Table) (history : List Done) (i : ℕ) (done : Done) (within : 
   pub stays_legal : IsLegal base (take i history) → done.at ≡ i + 1 → IsRight table done.calls → IsLegal base (take (i + 1) history)
   stays_legal legal number right = legal-next base history i done within at legal number (subst (λ t. IsRight t done.calls) made right)
 
-  -- another number, or calls that are not right, are not of a legal history
+  -- with another number or with calls that are not right, the history is not legal
   pub is_misnumbered : (done.at ≡ i + 1 → ⊥) → IsLegal base history → ⊥
   is_misnumbered other legal = other (subst (λ (d : Done). d.at ≡ i + 1) (sym at) (legal_at base history i done within legal).0)
 

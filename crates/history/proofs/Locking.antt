@@ -1,4 +1,4 @@
--- Strict locking: what a transaction answers and leaves hangs on what it touched alone, and it changes nothing else.
+-- Strict locking: what a transaction replies and leaves depends only on what it touched, and it changes nothing else.
 use Rattle.std.proofs.Common.{◌≡◌, ℕ, zero, suc, ◌+◌, ◌-◌, Bool, true, false, cond, ◌&&◌, nat_eq, nat_lt, nat_le, List, [], ◌∷◌, ◌++◌, length, take, get_or, Option, Some, None, refl, sym, ap, subst, ◌∙◌, arith, lt-ltb, eq-eqb}
 use Rattle.std.proofs.lemmas.Bool.{or_left, or_right, false_from_ne_true}
 use Rattle.history.specs.Writes.{Table, set_or_remove, rows_within}
@@ -10,7 +10,7 @@ use Rattle.history.specs.declared.call.Reply.{Reply}
 use Rattle.history.specs.declared.call.Reply.TheVariants.{Saved, Listed}
 use Rattle.history.proofs.Tables.{agree-set, off-set, agree_all}
 
--- two lists of tables, pair by pair
+-- two lists of tables are related pair by pair
 abbrev Pairwise : (Table → Table → Type 0) → List Table → List Table → Type 0
 Pairwise P [] [] = Unit {0}
 Pairwise P [] (y ∷ ys) = ⊥
@@ -44,12 +44,12 @@ module _ (P : Table → Table → Type 0) where
   pairs-get zero (x ∷ xs) (y ∷ ys) a b pairs pair = pairs.0
   pairs-get (suc n) (x ∷ xs) (y ∷ ys) a b pairs pair = pairs-get n xs ys a b pairs.1 pair
 
--- The two agree at the keys, and the second is as some table at every other key.
+-- The two tables agree at the keys, and the second is like the start at every other key.
 record IsLike (keys : ℕ → Bool) (start one other : Table) : Type 0 where
   same : Agree keys one other
   off : AgreeOff keys other start
 
--- so are the tables of two transactions, and their saves, pair by pair
+-- so are the tables of two transactions and their saves, pair by pair
 record IsAlike (keys : ℕ → Bool) (start : Table) (one other : Work) : Type 0 where
   tables : IsLike keys start one.table other.table
   saves : Pairwise (IsLike keys start) one.saves other.saves
@@ -146,7 +146,7 @@ module _ (calls : Granted) (one other : Table) (agree : Agree (has_touched calls
   pub locked_right : IsRight one calls → IsRight other calls
   locked_right right = right-alike (has_touched calls) other calls (begun one) (begun other) all_within (begun-alike (has_touched calls) one other agree) right
 
-  -- Then what they leave of the two agrees at what they touched.
+  -- Then what they leave of the two tables agrees at what they touched.
   pub locked_same : Agree (has_touched calls) (left_by one calls) (left_by other calls)
   locked_same = (worked-alike (has_touched calls) other calls (begun one) (begun other) all_within (begun-alike (has_touched calls) one other agree)).tables.same
 
@@ -157,7 +157,7 @@ untouched_kept calls table =
     (begun-alike (has_touched calls) table table (λ key at. refl))).tables.off
 
 module _ (table : Table) (committed calls : Granted) (apart : (stripe : ℕ) → touched committed stripe ≡ true → touched calls stripe ≡ true → ⊥) where
-  -- a transaction changes nothing that another touched, where the two touched no common stripe
+  -- a transaction changes nothing that another touched, if no stripe was touched by both
   pub agrees_after : Agree (has_touched calls) table (left_by table committed)
   agrees_after key at = sym (untouched_kept committed table key (false_from_ne_true (has_touched committed key) (λ both. apart (stripe_of key) both at)))
 
@@ -165,6 +165,6 @@ module _ (table : Table) (committed calls : Granted) (apart : (stripe : ℕ) →
   pub right_after : IsRight table calls → IsRight (left_by table committed) calls
   right_after right = locked_right calls table (left_by table committed) agrees_after right
 
-  -- and they then leave the same at what they touched.
+  -- and they still leave the same at what they touched.
   pub same_after : Agree (has_touched calls) (left_by table calls) (left_by (left_by table committed) calls)
   same_after = locked_same calls table (left_by table committed) agrees_after

@@ -45,7 +45,7 @@ touched-push [] call reply stripe = or_none (touches call stripe)
 touched-push (entry ∷ calls) call reply stripe =
     ap (λ (b : Bool). touches entry.0 stripe || b) (touched-push calls call reply stripe) ∙ or_next (touches entry.0 stripe) (touched calls stripe) (touches call stripe)
 
--- calls stay right by one more that is answered from what they leave
+-- calls stay right with one more, whose reply is right for what they leave
 pub IsRightFrom-push : (work : Work) (calls : Granted) (call : Call) (reply : Reply)
     → IsRightFrom work calls → Answers (worked work calls) call reply → IsRightFrom work (calls ++ (call, reply) ∷ [])
 IsRightFrom-push work [] call reply right answers = (answers, tt)
@@ -59,11 +59,11 @@ IsRight-push table calls call reply right answers = IsRightFrom-push (begun tabl
 pub records-push : (base : Table) (history : List Done) (done : Done) → records base (history ++ done ∷ []) ≡ left_by (records base history) done.calls
 records-push base history done = fold-push (λ (was : Table) (next : Done). left_by was next.calls) base history done
 
--- the records of a history go on from those of its first transactions
+-- the records of a longer history are those of its first transactions, changed by the others
 pub records-append : (base : Table) (history more : List Done) → records base (history ++ more) ≡ records (records base history) more
 records-append base history more = fold-append (λ (was : Table) (next : Done). left_by was next.calls) base history more
 
--- a history stays legal by a transaction with the next number that is right on its records
+-- a history stays legal with one more transaction, if that has the next number and is right on the records
 pub IsLegalFrom-push : (n : ℕ) (base : Table) (history : List Done) (done : Done)
     → IsLegalFrom n base history → done.at ≡ length history + n → IsRight (records base history) done.calls → IsLegalFrom n base (history ++ done ∷ [])
 IsLegalFrom-push n base [] done legal at right = (omega arith, right, tt)
@@ -78,6 +78,6 @@ IsLegalFrom-front : (n : ℕ) (base : Table) (history more : List Done) → IsLe
 IsLegalFrom-front n base [] more legal = tt
 IsLegalFrom-front n base (done ∷ history) more legal = (legal.0, legal.1, IsLegalFrom-front (n + 1) (left_by base done.calls) history more legal.2)
 
--- the first transactions of a legal history are a legal history
+-- a prefix of a legal history is legal
 pub IsLegal-front : (base : Table) (history more : List Done) → IsLegal base (history ++ more) → IsLegal base history
 IsLegal-front base history more legal = IsLegalFrom-front 1 base history more legal

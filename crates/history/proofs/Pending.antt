@@ -17,7 +17,7 @@ pub all_written-append : (table : Table) (writes more : List Write) → all_writ
 all_written-append table [] more = refl
 all_written-append table (write ∷ writes) more = all_written-append (write_into table write) writes more
 
--- the same is found in two tables at a key, also behind the same writes
+-- if two tables agree at a key, they agree there after the same writes
 pub get-written_same : (key : ℕ) (writes : List Write) (one other : Table) → get one key ≡ get other key → get (all_written one writes) key ≡ get (all_written other writes) key
 get-written_same key [] one other same = same
 get-written_same key (write ∷ writes) one other same = get-written_same key writes (write_into one write) (write_into other write) (elim (cases_eq key write.0) [
@@ -25,7 +25,7 @@ get-written_same key (write ∷ writes) one other same = get-written_same key wr
   | inr ne ↦ get-set_there one write.0 write.1 key ne ∙ same ∙ sym (get-set_there other write.0 write.1 key ne)
 ])
 
--- writes of other keys leave what is found at a key
+-- writes of other keys change nothing at a key
 pub get-written_apart : (key : ℕ) (writes : List Write) (table : Table) → list_any (is_of key) writes ≡ false → get (all_written table writes) key ≡ get table key
 get-written_apart key [] table none = refl
 get-written_apart key (write ∷ writes) table none =
@@ -33,7 +33,7 @@ get-written_apart key (write ∷ writes) table none =
     get-written_apart key writes (write_into table write) parts.1
     ∙ get-set_there table write.0 write.1 key (λ is. true≢false (sym (eq-eqb write.0 key (sym is)) ∙ parts.0))
 
--- A write in the place of the last one of its key is that write behind them all.
+-- To replace the last write of a key comes to writing after all of them.
 in_place : (write other : Write) (writes : List Write) (table : Table) → other.0 ≡ write.0 → list_any (is_of write.0) writes ≡ false
     → all_written table (write ∷ writes) ≡ write_into (all_written table (other ∷ writes)) write
 in_place write other writes table is none = same_table (all_written table (write ∷ writes)) (write_into (all_written table (other ∷ writes)) write) (λ q. elim (cases_eq q write.0) [
@@ -57,7 +57,7 @@ replaced_written write [] table = refl
 replaced_written write (other ∷ writes) table =
     replaced_next write other writes table (is_of write.0 other && not (list_any (is_of write.0) writes)) refl (replaced_written write writes (write_into table other))
 
--- so one write more is that write behind them all, whichever of them stay as they are
+-- so one more write comes to writing after all of them, whatever the floor
 pub all_written-with_write : (floor : ℕ) (write : Write) (writes : List Write) (table : Table)
     → all_written table (with_write floor write writes) ≡ write_into (all_written table writes) write
 all_written-with_write floor write writes table =
@@ -69,7 +69,7 @@ map-push : {A B : Type 0} (f : A → B) → (xs : List A) (x : A) → map f (xs 
 map-push f [] x = refl
 map-push f (y ∷ xs) x = ap (λ (l : List _). f y ∷ l) (map-push f xs x)
 
--- The log, written into a table, is what the transaction has, and each of its saves what it saved.
+-- The log, written into a table, gives what the transaction has, and each save of the log gives what was saved.
 pub record IsShown (table : Table) (log : Log) (work : Work) : Type 0 where
   pub now : work.table ≡ all_written table log.writes
   pub saves : work.saves ≡ map (all_written table) log.saved
@@ -78,7 +78,7 @@ module _ (base : Table) where
   same_heights : (log : Log) (work : Work) → IsShown base log work → length work.saves ≡ length log.saved
   same_heights log work shown = ap length shown.saves ∙ length-map log.saved (all_written base)
 
-  -- as many saves
+  -- as many saves in the log as in the transaction
   pub same_saves : (log : Log) (work : Work) (n : ℕ) → IsShown base log work → has_save work.saves n ≡ has_save log.saved n
   same_saves log work n shown = ap (λ (height : ℕ). nat_lt 0 n && nat_le n height) (same_heights log work shown)
 
@@ -115,7 +115,7 @@ module _ (base : Table) where
       subst (λ r. IsShown base (log_after log (Del key) r) (record { table = remove work.table key; saves = work.saves })) (sym re)
       (shown-written log work (key, None) shown)
 
-  -- what is shown stays shown by a call that is answered right
+  -- what is shown stays shown after a call that gets the right reply
   pub shown-after : (log : Log) (work : Work) (call : Call) (reply : Reply) → Answers work call reply → IsShown base log work → IsShown base (log_after log call reply) (after work call)
   shown-after log work Begin reply answers shown = shown
   shown-after log work (Get key) reply answers shown = shown
@@ -140,7 +140,7 @@ module _ (base : Table) where
   shown_through (entry ∷ calls) log work right shown =
       shown_through calls (log_after log entry.0 entry.1) (after work entry.0) right.1 (shown-after log work entry.0 entry.1 right.0 shown)
 
-  -- The log of calls that are right shows what they leave, and what they saved.
+  -- The log of right calls shows what they leave and what they saved.
   pub log_shows : (calls : Granted) → IsRight base calls → IsShown base (log_of calls) (worked (begun base) calls)
   log_shows calls right = shown_through calls (record { writes = []; saved = [] }) (begun base) right (record { now = refl; saves = refl })
 

@@ -18,7 +18,7 @@ use Rattle.std.proofs.lemmas.Bool.{and_parts, ltb-true, leb-true}
 use Rattle.std.proofs.lemmas.List.{length-map, take-map, get_or-map, drop_more}
 use Rattle.history.proofs.Tables.{get-set, same_table}
 
--- a scan of the records finds what a look-up does
+-- to search the records in order is to look them up
 found_alike : (q : ℕ) (rows : List (ℕ × List ℕ)) → find nat_cmp q rows ≡ lookup (is_at (nat_cmp q)) rows
 found_alike q [] = refl
 found_alike q (row ∷ rows) = ap (cond (is_eq (nat_cmp q row.0)) (Some row.1)) (found_alike q rows)
@@ -26,19 +26,19 @@ found_alike q (row ∷ rows) = ap (cond (is_eq (nat_cmp q row.0)) (Some row.1)) 
 pub get-table_in : (memory : BTreeMap ℕ (List ℕ)) (q : ℕ) → get (table_in memory) q ≡ tree.get nat_cmp memory q
 get-table_in memory q = get-from_entries nat_cmp_total memory.entries q ∙ found_alike q memory.entries
 
--- a write in memory is one into the table
+-- a write in memory is a write into the table
 pub table_in-written : (old new : BTreeMap ℕ (List ℕ)) (key : ℕ) (value : Option (List ℕ)) → tree.Updates nat_cmp old new key value → table_in new ≡ set_or_remove (table_in old) key value
 table_in-written old new key value updates = same_table (table_in new) (set_or_remove (table_in old) key value) (λ q.
     get-table_in new q ∙ updates.0 q ∙ ap (λ (b : Bool). cond b value (tree.get nat_cmp old q)) (unsigned_tied key q)
     ∙ ap (cond (nat_eq key q) value) (sym (get-table_in old q)) ∙ sym (get-set (table_in old) key value q))
 
--- there is such a save in memory
+-- a save of the table is one in memory
 pub within_saves : (saves : List (BTreeMap ℕ (List ℕ))) (n : ℕ) → has_save (map table_in saves) n ≡ true → (0 < n) × (n ≤ length saves)
 within_saves saves n is =
     let both : (nat_lt 0 n ≡ true) × (nat_le n (length saves) ≡ true) = and_parts (nat_lt 0 n) (nat_le n (length saves)) (sym (ap (λ (k : ℕ). nat_lt 0 n && nat_le n k) (length-map saves table_in)) ∙ is) in
     (ltb-true 0 n both.0, leb-true n (length saves) both.1)
 
--- a copy of a save is that save, where there is one
+-- a copy of a save is that save, if there is one
 pub back_in_memory : (table copy item : BTreeMap ℕ (List ℕ)) (saves : List (BTreeMap ℕ (List ℕ))) (n : ℕ) → has_save (map table_in saves) n ≡ true
     → item ≡ get_or saves (n - 1) item → copy.entries ≡ item.entries
     → ◌≡◌ {A = Work} (record { table = table_in copy; saves = map table_in (take n saves) }) (after (record { table = table_in table; saves = map table_in saves }) (Back n))
@@ -55,7 +55,7 @@ map-push : (memories : List (BTreeMap ℕ (List ℕ))) (memory : BTreeMap ℕ (L
 map-push [] memory = refl
 map-push (first ∷ memories) memory = ap (λ (l : List Table). table_in first ∷ l) (map-push memories memory)
 
--- a copy of the table is its last save
+-- a copy of the table becomes the last save
 pub saved_in_memory : (table copy : BTreeMap ℕ (List ℕ)) (saves : List (BTreeMap ℕ (List ℕ))) → copy.entries ≡ table.entries → map table_in (saves ++ copy ∷ []) ≡ map table_in saves ++ table_in table ∷ []
 saved_in_memory table copy saves same = map-push saves copy ∙ ap (λ (rows : List (ℕ × List ℕ)). map table_in saves ++ table_of rows ∷ []) same
 
@@ -63,7 +63,7 @@ no_rows : (rows : List (ℕ × List ℕ)) → length rows ≡ 0 → rows ≡ []
 no_rows [] none = refl
 no_rows (row ∷ rows) none = absurd (omega (arith, none))
 
--- rising records are those of their table
+-- records by strictly rising key are those of their table
 pub entries-table_of : (rows : List (ℕ × List ℕ)) → IsStrictlySortedBy nat_cmp (keys_of rows) → entries (table_of rows) ≡ rows
 unfolding IsStrictlySortedBy
 entries-table_of [] rises = no_rows (entries (table_of [])) (sym (len-entries (table_of [])) ∙ len-empty nat_cmp (List ℕ))
@@ -74,7 +74,7 @@ entries-table_of (row ∷ (next ∷ rows)) rises =
     first : nat_cmp row.0 next.0 ≡ Less → put nat_cmp row.0 row.1 (next ∷ rows) ≡ row ∷ (next ∷ rows)
     first below = rw below refl
 
--- one record more in front
+-- one more record in front
 pub table_of-next : (rows : List (ℕ × List ℕ)) (i : ℕ) (row : ℕ × List ℕ) → i < length rows → row ≡ get_or rows (length rows - 1 - i) row
     → table_of (drop (length rows - (i + 1)) rows) ≡ insert (table_of (drop (length rows - i) rows)) row.0 row.1
 table_of-next rows i row within at =

@@ -1,4 +1,4 @@
--- Each save is the front of the next, and the last of them is the front of the writes.
+-- Each save is a prefix of the next, and the last is a prefix of the writes.
 use Rattle.std.proofs.Common.{◌≡◌, ℕ, zero, suc, ◌-◌, ◌<◌, ◌≤◌, Bool, true, false, nat_lt, nat_le, List, [], ◌∷◌, ◌++◌, length, take, drop, get_or, Some, None, refl, sym, ap, subst, ◌∙◌, arith, length-append, take-take}
 use Rattle.std.specs.Prelude.{if◌then◌else◌}
 use Rattle.std.specs.List.{fold}
@@ -12,7 +12,7 @@ use Rattle.history.specs.declared.call.Call.TheVariants.{Begin, Get, Put, Del, S
 use Rattle.history.specs.declared.call.Reply.{Reply}
 use Rattle.history.specs.declared.call.Reply.TheVariants.{Fine}
 
--- one list of writes is the front of another
+-- one list of writes is a prefix of another
 pub record IsFront (front whole : List Write) : Type 0 where
   pub within : length front ≤ length whole
   pub is : take (length front) whole ≡ front
@@ -26,7 +26,7 @@ front_through one two three a b = record {
   is = sym (take-take (length one) (length two) three a.within) ∙ ap (take (length one)) b.is ∙ a.is;
 }
 
--- each of them is the front of the next, from the first to the last
+-- each is a prefix of the next, from the first to the last
 Rises : List Write → List (List Write) → List Write → Type 0
 Rises low [] high = IsFront low high
 Rises low (save ∷ saves) high = IsFront low save × Rises save saves high
@@ -36,7 +36,7 @@ unfolding Rises
 rises-push low [] high rises = (rises, front_self high)
 rises-push low (save ∷ saves) high rises = (rises.0, rises-push save saves high rises.1)
 
--- the last of them
+-- the last of them, or low if there is none
 last_of : List Write → List (List Write) → List Write
 last_of low [] = low
 last_of low (save ∷ saves) = last_of save saves
@@ -54,7 +54,7 @@ unfolding Rises last_of
 rises_last low [] high rises = (front_self low, rises)
 rises_last low (save ∷ saves) high rises = let rest = rises_last save saves high rises.1 in ((rises.0, rest.0), rest.1)
 
--- an end of which the last is the front does as well
+-- the end may be replaced by one of which the last is a prefix
 rises_to : (low : List Write) (saves : List (List Write)) (high : List Write) → Rises low saves (last_of low saves) → IsFront (last_of low saves) high → Rises low saves high
 unfolding Rises last_of
 rises_to low [] high rises front = front
@@ -130,7 +130,7 @@ rising : (calls : Granted) → IsRising (log_of calls)
 unfolding Rises
 rising calls = rising_through calls (record { writes = []; saved = [] }) (record { within = omega arith; is = refl })
 
--- Each save is the front of the writes,
+-- Each save is a prefix of the writes,
 pub save_is_front : (calls : Granted) (n : ℕ) → has_save (log_of calls).saved n ≡ true → IsFront (save_at (log_of calls).saved n) (log_of calls).writes
 save_is_front calls n is =
     let saved : List (List Write) = (log_of calls).saved in
@@ -139,10 +139,10 @@ save_is_front calls n is =
     let within : n ≤ length saved = leb-true n (length saved) both.1 in
     (rises-take (n - 1) [] saved (log_of calls).writes (omega (arith, some, within)) (rising calls)).1
 
--- also where there is none yet the last of them is, so
+-- so is the last one, even if there is none yet,
 pub last_is_front : (calls : Granted) → IsFront (save_at (log_of calls).saved (length (log_of calls).saved)) (log_of calls).writes
 last_is_front calls = subst (λ front. IsFront front (log_of calls).writes) (sym (last_save (log_of calls))) (rises_last [] (log_of calls).saved (log_of calls).writes (rising calls)).1
 
--- there are no fewer writes than stay as they are.
+-- so the writes that can no longer be replaced are among the writes.
 pub floor_within : (calls : Granted) → floor_of (log_of calls) ≤ length (log_of calls).writes
 floor_within calls = (last_is_front calls).within

@@ -14,7 +14,7 @@ tied q k = elim (cases_eq q k) [
   | inr ne ↦ unsigned_tied q k ∙ ne_eqb q k ne ∙ sym (ne_eqb k q (λ e. ne (sym e)))
 ]
 
--- what is found after a write
+-- what is found at a key after a write
 pub get-set : (table : Table) (k : ℕ) (v : Option (List ℕ)) (q : ℕ) → get (set_or_remove table k v) q ≡ cond (nat_eq k q) v (get table q)
 get-set table k None q = get-remove nat_cmp_total table k q ∙ ap (λ (b : Bool). cond b None (get table q)) (tied q k)
 get-set table k (Some v) q = get-insert nat_cmp_total table k v q ∙ ap (λ (b : Bool). cond b (Some v) (get table q)) (tied q k)
@@ -25,11 +25,11 @@ get-set_here table k v = get-set table k v k ∙ ap (λ (b : Bool). cond b v (ge
 pub get-set_there : (table : Table) (k : ℕ) (v : Option (List ℕ)) (q : ℕ) → q ≢ k → get (set_or_remove table k v) q ≡ get table q
 get-set_there table k v q ne = get-set table k v q ∙ ap (λ (b : Bool). cond b v (get table q)) (ne_eqb k q (λ e. ne (sym e)))
 
--- tables in which the same is found are one
+-- tables in which the same is found are equal
 pub same_table : (one other : Table) → ((q : ℕ) → get one q ≡ get other q) → one ≡ other
 same_table one other same = same_map nat_cmp_total nat_cmp-IsAntisymmetric one other same
 
--- to remove a key that is absent is to do nothing
+-- removing an absent key changes nothing
 pub remove_absent : (table : Table) (key : ℕ) → get table key ≡ None → remove table key ≡ table
 remove_absent table key none = same_table (remove table key) table (λ q. elim (cases_eq q key) [
   | inl is ↦ ap (get (remove table key)) is ∙ get-set_here table key None ∙ sym (ap (get table) is ∙ none)
@@ -44,10 +44,10 @@ module _ (keys : ℕ → Bool) where
   pub agree-set : (one other : Table) (k : ℕ) (v : Option (List ℕ)) → Agree keys one other → Agree keys (set_or_remove one k v) (set_or_remove other k v)
   agree-set one other k v agree q within = get-set one k v q ∙ ap (cond (nat_eq k q) v) (agree q within) ∙ sym (get-set other k v q)
 
-  -- a write of a key of the set is none outside it
+  -- a write of a key of the set changes nothing outside it
   pub off-set : (one other : Table) (k : ℕ) (v : Option (List ℕ)) → keys k ≡ true → AgreeOff keys one other → AgreeOff keys (set_or_remove one k v) other
   off-set one other k v within agree q out = get-set_there one k v q (apart keys k q within out) ∙ agree q out
 
--- tables that agree on all keys are one
+-- tables that agree on all keys are equal
 pub agree_all : (keys : ℕ → Bool) (one other : Table) → ((key : ℕ) → keys key ≡ true) → Agree keys one other → one ≡ other
 agree_all keys one other all agree = same_table one other (λ q. agree q (all q))

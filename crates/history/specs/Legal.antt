@@ -1,4 +1,4 @@
--- Histories, and which are legal: each transaction is right on what those before it leave.
+-- Histories, and which of them are legal: each transaction is right on what those before it leave.
 use Rattle.std.specs.Prelude.{ℕ, ◌≡◌, ◌+◌, List, [], ◌∷◌, ◌++◌, Option, Some, None}
 use Rattle.std.specs.List.{fold}
 use Rattle.history.specs.Writes.{Table}
@@ -14,11 +14,11 @@ abbrev pub IsLegalFrom : ℕ → Table → List Done → Type 0
 IsLegalFrom n base [] = Unit {0}
 IsLegalFrom n base (done ∷ history) = (done.at ≡ n) × IsRight base done.calls × IsLegalFrom (n + 1) (left_by base done.calls) history
 
--- the first has the number 1
+-- the same, numbered from 1
 abbrev pub IsLegal : Table → List Done → Type 0
 IsLegal base history = IsLegalFrom 1 base history
 
--- a history with the transaction in doubt, if there is one, as a last one
+-- a history with the transaction in doubt, if there is one, as its last
 abbrev pub with_doubt : List Done → Option Done → List Done
 with_doubt history None = history
 with_doubt history (Some done) = history ++ done ∷ []

@@ -1,4 +1,4 @@
--- What a transaction has written so far, as a list that a way back cuts.
+-- What a transaction has written so far, as a list that a way back truncates.
 use Rattle.std.specs.Prelude.{ℕ, ◌-◌, Bool, if◌then◌else◌, List, [], ◌∷◌, ◌++◌, length, take, drop, slice_index_or, Some, None}
 use Rattle.std.specs.List.{fold, list_any}
 use Rattle.history.specs.Writes.{Write, is_of, with_write}
@@ -8,16 +8,16 @@ use Rattle.history.specs.declared.call.Call.TheVariants.{Put, Del, Save, Back}
 use Rattle.history.specs.declared.call.Reply.{Reply}
 use Rattle.history.specs.declared.call.Reply.TheVariants.{Fine}
 
--- the writes now, and as they were at each save, the first save first
+-- the writes now, and those at each save, the first save first
 pub record Log : Type 0 where
   pub writes : List Write
   pub saved : List (List Write)
 
--- the writes at save n, of saves that are counted from 1; none where there is no such save
+-- the writes at save n, counted from 1, or none if there is no such save
 abbrev pub save_at : List (List Write) → ℕ → List Write
 save_at saved n = slice_index_or saved (n - 1) []
 
--- how many writes stay as they are: those of the last save
+-- how many writes can no longer be replaced: those of the last save
 abbrev pub floor_of : Log → ℕ
 floor_of log = length (save_at log.saved (length log.saved))
 
@@ -25,11 +25,11 @@ floor_of log = length (save_at log.saved (length log.saved))
 abbrev pub is_rewritten : Log → ℕ → Bool
 is_rewritten log key = list_any (is_of key) (drop (floor_of log) log.writes)
 
--- one write more, which takes the place of one of its key since the last save
+-- one more write, which replaces one of its key since the last save
 abbrev pub written : Log → Write → Log
 written log write = record log { writes = with_write (floor_of log) write log.writes }
 
--- the log after a granted call; the removal of a record that is not there writes nothing
+-- the log after a granted call; removing a record that is not there writes nothing
 abbrev pub log_after : Log → Call → Reply → Log
 log_after log (Put key value) reply = written log (key, Some value)
 log_after log (Del key) Fine = written log (key, None)

@@ -1,4 +1,4 @@
--- What a table in memory stands for, while calls are made on it once more.
+-- What a table in memory stands for during a replay.
 use Rattle.std.specs.Prelude.{ℕ, List, map}
 use Rattle.std.specs.BTreeMap.{BTreeMap}
 use Rattle.history.specs.Writes.{Table}
@@ -9,6 +9,6 @@ use Rattle.history.specs.declared.replay.Replay.{Replay}
 abbrev pub table_in : BTreeMap ℕ (List ℕ) → Table
 table_in rows = table_of rows.entries
 
--- with the tables that were saved
+-- the table and the tables at its saves
 abbrev pub work_in : Replay → Work
 work_in replay = record { table = table_in replay.table; saves = map table_in replay.saves.items }

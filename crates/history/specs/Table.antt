@@ -1,4 +1,4 @@
--- The one-thread table: what it answers, and what calls leave of it.
+-- The one-thread table: its replies, and what calls leave of it.
 use Rattle.std.specs.Prelude.{ℕ, ◌≡◌, ◌+◌, ◌-◌, Bool, ◌&&◌, nat_lt, nat_le, if◌then◌else◌, IsTrue, List, [], ◌∷◌, ◌++◌, length, take, slice_index_or, Option, Some, None}
 use Rattle.std.specs.List.{fold}
 use Rattle.std.specs.FinMap.{get, insert, remove}
@@ -12,7 +12,7 @@ use Rattle.history.specs.declared.call.Reply.TheVariants.{Fine, Found, Absent, L
 abbrev pub Granted : Type 0
 Granted = List (Call × Reply)
 
--- a table as a transaction has it, and the tables that it saved, the first save first
+-- a table as a transaction sees it, and its tables at the saves, the first save first
 pub record Work : Type 0 where
   pub table : Table
   pub saves : List Table
@@ -30,11 +30,11 @@ abbrev pub removed : Option (List ℕ) → Reply
 removed None = Absent
 removed (Some value) = Fine
 
--- there is such a save, where they are counted from 1
+-- there is such a save, counted from 1
 abbrev pub has_save : {A : Type 0} → List A → ℕ → Bool
 has_save saves n = nat_lt 0 n && nat_le n (length saves)
 
--- The table answers the call so. A begin, a commit and an abort are no calls of a table.
+-- The reply is the table's to this call. Begin, commit and abort are no calls of a table.
 abbrev pub Answers : Work → Call → Reply → Type 0
 Answers work (Get key) reply = reply ≡ found (get work.table key)
 Answers work (Put key value) reply = reply ≡ Fine
@@ -44,7 +44,7 @@ Answers work Save reply = reply ≡ Saved (length work.saves + 1)
 Answers work (Back n) reply = IsTrue (has_save work.saves n) × (reply ≡ Fine)
 Answers work _ reply = ⊥
 
--- the table after a call; a way back takes the table of that save, and forgets the later saves
+-- the table after a call; a way back restores the table of that save and forgets the later saves
 abbrev pub after : Work → Call → Work
 after work (Put key value) = record { table = insert work.table key value; saves = work.saves }
 after work (Del key) = record { table = remove work.table key; saves = work.saves }
@@ -52,16 +52,16 @@ after work Save = record { table = work.table; saves = work.saves ++ work.table 
 after work (Back n) = if has_save work.saves n then record { table = slice_index_or work.saves (n - 1) work.table; saves = take n work.saves } else work
 after work _ = work
 
--- what calls leave
+-- what granted calls leave
 abbrev pub worked : Work → Granted → Work
 worked work calls = fold (λ was entry. after was entry.0) work calls
 
--- these replies are given to these calls, one after another
+-- these calls get these replies, one after another
 abbrev pub IsRightFrom : Work → Granted → Type 0
 IsRightFrom work [] = Unit {0}
 IsRightFrom work (entry ∷ entries) = Answers work entry.0 entry.1 × IsRightFrom (after work entry.0) entries
 
--- a transaction that is begun on a table gets these replies
+-- the replies are right: a transaction that begins on the table gets them
 abbrev pub IsRight : Table → Granted → Type 0
 IsRight table calls = IsRightFrom (begun table) calls
 

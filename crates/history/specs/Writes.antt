@@ -1,14 +1,14 @@
--- Tables of records, and writes into them.
+-- Tables of records, and writes to them.
 use Rattle.std.specs.Prelude.{ℕ, nat_eq, nat_le, ◌&&◌, not, if◌then◌else◌, Bool, List, [], ◌∷◌, ◌++◌, filter, take, drop, Option, Some, None}
 use Rattle.std.specs.List.{list_any}
 use Rattle.std.specs.Ordering.{nat_cmp}
 use Rattle.std.specs.FinMap.{FinMap, insert, remove, entries}
 
--- a value at each of some keys
+-- a value for each of some keys
 abbrev pub Table : Type 0
 Table = FinMap nat_cmp (List ℕ)
 
--- a key, and the value that it gets, or none where its record is removed
+-- a key and its new value, or none if its record is removed
 abbrev pub Write : Type 0
 Write = ℕ × Option (List ℕ)
 
@@ -19,7 +19,7 @@ set_or_remove table key (Some value) = insert table key value
 abbrev pub write_into : Table → Write → Table
 write_into table write = set_or_remove table write.0 write.1
 
--- written one after another
+-- the table after writes, one after another
 abbrev pub all_written : Table → List Write → Table
 all_written table [] = table
 all_written table (write ∷ writes) = all_written (write_into table write) writes
@@ -28,19 +28,19 @@ all_written table (write ∷ writes) = all_written (write_into table write) writ
 abbrev pub is_of : ℕ → Write → Bool
 is_of key write = nat_eq write.0 key
 
--- a write in the place of the last one of its key, or behind them all
+-- a write in the place of the last one of its key, or else after all of them
 abbrev pub replaced : Write → List Write → List Write
 replaced write [] = write ∷ []
 replaced write (other ∷ writes) =
     if is_of write.0 other && not (list_any (is_of write.0) writes) then write ∷ writes else other ∷ replaced write writes
 
--- the writes after one more, which takes the place of one of its key behind the first so many
+-- the writes with one more, which replaces one of its key after the first `floor` writes
 abbrev pub with_write : ℕ → Write → List Write → List Write
 with_write floor write writes = take floor writes ++ replaced write (drop floor writes)
 
 abbrev pub is_within : ℕ → ℕ → ℕ × List ℕ → Bool
 is_within low high row = nat_le low row.0 && nat_le row.0 high
 
--- the records from one key to another, both of them included, by rising keys
+-- the records from one key to another, both included, by rising key
 abbrev pub rows_within : ℕ → ℕ → Table → List (ℕ × List ℕ)
 rows_within low high table = filter (is_within low high) (entries table)

@@ -11,24 +11,24 @@ pub enum Call {
     /// The records from one key to another, both included.
     Scan { low: u64, high: u64 },
     Save,
-    /// Back to a save, which are counted from 1.
+    /// Back to a save, counted from 1.
     Back { save: u32 },
     Commit,
     Abort,
 }
 
-/// What a call is answered.
+/// The reply to a call.
 #[derive(Debug, PartialEq, Eq, Drop)]
 pub enum Reply {
-    /// A begin, a put, the removal of a record that was there, a way back, or an abort was done.
+    /// A begin, a put, the removal of an existing record, a way back, or an abort was done.
     Fine,
     Found(Value),
     /// There is no such record.
     Absent,
     Listed(Rows),
-    /// The transaction has so many saves now.
+    /// The transaction now has this many saves.
     Saved(u32),
-    /// The transaction has this number, the first being 1.
+    /// The number of the transaction in the history, counted from 1.
     Committed(u64),
     NoTransaction,
     /// A begin within a transaction.
@@ -37,19 +37,19 @@ pub enum Reply {
     NoSave { save: u32 },
     /// The transaction has 32 saves already.
     SavesFull,
-    /// Another caller's transaction holds a key of the call's stripe: the lowest such caller.
+    /// Another caller's transaction has touched a stripe of the call. `holder` is the lowest such caller.
     Busy { holder: u8 },
-    /// The logger holds so many parts of the transaction, and the call needs so many more than fit.
+    /// The logger holds `held` parts of the transaction and has no room for the `needed` ones of the call.
     LogFull { logger: u8, held: u16, needed: u16 },
-    /// The key is new, and so many slots, which are all, were given.
+    /// The key is new, and all `slots` slots are given out.
     SlotsFull { slots: u32 },
-    /// The key is new, and the index has too few of its pages left; so many there are.
+    /// The key is new, and too few of the index's `pages` pages are left.
     PagesFull { pages: u32 },
-    /// The media failed.
+    /// The medium failed.
     Media,
-    /// The media has failed in an earlier call.
+    /// The medium has failed in an earlier call.
     Dead,
     NoMemory,
-    /// A page that was read breaks the layout. It comes only of a store that does not tell its data.
+    /// A page that was read breaks the layout. Only a store that does not tell its data gives this reply.
     Damaged { page: u32 },
 }

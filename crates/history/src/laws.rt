@@ -1,20 +1,20 @@
-// Laws of calls and locks: each follows from the definitions alone.
+// Laws of calls and locks, each of which follows from the definitions alone.
 ghost use Rattle.std.specs.Prelude.{◌≡◌, IsTrue, ℕ};
 ghost use Rattle.history.specs.Writes.{Table, all_written};
 ghost use Rattle.history.specs.Table.{Granted, IsRight, left_by};
 ghost use Rattle.history.specs.Locks.{touched, has_touched, Agree, AgreeOff};
 ghost use Rattle.history.specs.Log.{log_of};
 
-/// Calls that are right on a table are right, with the same replies, on each table that agrees with it at what they touched. What
-/// they leave of the two agrees there too, and elsewhere they change nothing.
+/// Calls that are right on a table are right, with the same replies, on each table that agrees with it at the keys that they touched. What
+/// they leave of the two tables agrees there too, and nothing else is changed.
 pub fn strict_locking()
     ensures right { (calls : Granted) (one other : Table) → Agree (has_touched calls) one other → IsRight one calls → IsRight other calls }
     ensures same { (calls : Granted) (one other : Table) → Agree (has_touched calls) one other → Agree (has_touched calls) (left_by one calls) (left_by other calls) }
     ensures elsewhere { (calls : Granted) (table : Table) → AgreeOff (has_touched calls) (left_by table calls) table }
 {}
 
-/// When a transaction commits, the calls of another that touched no stripe of it stay right, and leave the same at what they touched:
-/// nothing that the other read or wrote is changed.
+/// When a transaction commits, the calls of another transaction that touched none of its stripes stay right and leave the same at what they
+/// touched. Nothing that the other read or wrote is changed.
 pub fn others_stay_right()
     ensures right { (table : Table) (committed calls : Granted) → ((stripe : ℕ) → IsTrue (touched committed stripe) → IsTrue (touched calls stripe) → ⊥)
         → IsRight table calls → IsRight (left_by table committed) calls }
@@ -24,7 +24,7 @@ pub fn others_stay_right()
         → Agree (has_touched calls) table (left_by table committed) }
 {}
 
-/// The log of right calls, written into the table on which they are right, is what they leave.
+/// The log of right calls, written into the table on which they are right, gives the table that they leave.
 pub fn logs_show_what_is_seen()
     ensures { (table : Table) (calls : Granted) → IsRight table calls → left_by table calls ≡ all_written table (log_of calls).writes }
 {}

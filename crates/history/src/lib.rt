@@ -1,4 +1,4 @@
-//! Calls on a table and their replies, transactions of them, and histories of transactions.
+//! Calls on a table and their replies, the transactions that they form, and histories of transactions.
 #![tactic(auto)]
 
 mod call;

@@ -1,4 +1,4 @@
-// Histories made once more, on a table in memory.
+// Replays a history on a table in memory.
 ghost use Rattle.std.specs.Prelude.{◌≡◌, ◌↔◌, ◌+◌, length, IsTrue, IfOk, OnOk};
 ghost use Rattle.std.specs.FinMap.{get, entries, insert, remove};
 ghost use Rattle.history.specs.Writes.{rows_within};
@@ -15,14 +15,14 @@ use record_slots::Value;
 use std::alloc::Global;
 use std::collections::BTreeMap;
 
-/// A table, and its copies at the saves of a transaction, the first save first.
+/// A table and its copies at the saves of a transaction, the first save first.
 #[derive(Drop)]
 struct Replay {
     table: BTreeMap<u64, Value>,
     saves: Vec<BTreeMap<u64, Value>>,
 }
 
-/// The records after a history, by rising keys. Where a key stands twice among the first records, the former counts.
+/// The records after a history, by rising key. If a key stands twice in `base`, the first record counts.
 pub fn play(history: &History, base: &Rows, alloc: Global) -> Result<Rows, NoMemory>
     ensures { IfOk result (λ rows. rows ≡ entries (records (table_of base.now) history.now)) }
 {
@@ -33,8 +33,8 @@ pub fn play(history: &History, base: &Rows, alloc: Global) -> Result<Rows, NoMem
     replay.rows(alloc)
 }
 
-/// Whether the history is legal on these first records: each transaction has the next number, and its replies are those of a table
-/// that has been through the transactions before it.
+/// Whether the history is legal on the records of `base`: each transaction has the next number, and its replies are those of a table that
+/// has been through the transactions before it.
 pub fn is_legal(history: &History, base: &Rows, alloc: Global) -> Result<bool, NoMemory>
     ensures { IfOk result (λ legal. IsTrue legal ↔ IsLegal (table_of base.now) history.now) }
 {
@@ -73,7 +73,7 @@ impl Replay {
         Ok(())
     }
 
-    // Makes the calls of a transaction while their replies are those of the table. Whether all are.
+    // Makes the calls of a transaction as long as their replies are those of the table, and returns whether all are.
     fn is_right(&mut self, calls: &Calls, alloc: Global) -> Result<bool, NoMemory>
         ensures right { IfOk result (λ right. IsTrue right ↔ IsRight (work_in self.old).table calls.now) }
         ensures made { IfOk result (λ right. IsTrue right → (work_in self.new).table ≡ left_by (work_in self.old).table calls.now) }
@@ -88,7 +88,7 @@ impl Replay {
         Ok(true)
     }
 
-    // Whether the table answers the call so.
+    // Whether this is the table's reply to the call.
     fn answers(&self, call: &Call, reply: &Reply, alloc: Global) -> Result<bool, NoMemory>
         ensures { IfOk result (λ right. IsTrue right ↔ Answers (work_in self.now) call.now reply.now) }
     {
@@ -248,7 +248,7 @@ fn is_found(reply: &Reply, value: &Value) -> bool
 fn table_from(rows: &[(u64, Value)], alloc: Global) -> Result<BTreeMap<u64, Value>, NoMemory>
     ensures { IfOk result (λ table. table_in table ≡ table_of rows.now) }
 {
-    // From the last one on, so that the first of two with one key stays.
+    // From the last row on, so that of two rows with one key the first stays.
     let mut table = BTreeMap::new(alloc);
     for i in 0..rows.len() {
         let row = &rows[rows.len() - 1 - i];

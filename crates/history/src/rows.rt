@@ -37,7 +37,7 @@ impl Rows {
         Ok(())
     }
 
-    /// The same records once more.
+    /// A copy of the records.
     pub fn copy(&self) -> Result<Rows, NoMemory>
         ensures { IfOk result (λ copy. copy ≡ self.now) }
     {

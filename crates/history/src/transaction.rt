@@ -37,7 +37,7 @@ impl Calls {
         ensures ok { OnOk result (self.new ≡ self.old ++ (call, reply) ∷ []) }
         ensures err { OnErr result (self.new ≡ self.old) }
     {
-        // Many transactions have one call, so the first takes room for itself alone. `Vec` would take room for four.
+        // Many transactions have one call, so the first takes room for itself only. `Vec` would take room for four.
         if self.entries.is_empty() {
             self.entries.reserve_exact(1)?;
         }
@@ -56,7 +56,7 @@ impl Calls {
         }
     }
 
-    /// Takes the last call off.
+    /// Removes and returns the last call.
     pub fn pop(&mut self) -> Option<(Call, Reply)>
         ensures last { self.old ≡ self.new ++ option_to_list result }
         ensures empty { IsNone result ↔ (self.old ≡ []) }
@@ -71,7 +71,7 @@ impl Calls {
     }
 }
 
-/// A committed transaction: its caller, its calls, and its number, the first being 1.
+/// A committed transaction: its caller, its calls, and its number, counted from 1.
 #[derive(Debug, Drop)]
 pub struct Done {
     pub caller: u8,
@@ -103,7 +103,7 @@ impl History {
         }
     }
 
-    /// Where there is no memory, the transaction is given back.
+    /// Appends a transaction, or returns it if there is no memory.
     pub fn push(&mut self, done: Done) -> Result<(), Done>
         ensures ok { OnOk result (self.new ≡ self.old ++ done ∷ []) }
         ensures err { OnErr result (self.new ≡ self.old) }
@@ -115,7 +115,7 @@ impl History {
         }
     }
 
-    /// Takes the last transaction off.
+    /// Removes and returns the last transaction.
     pub fn pop(&mut self) -> Option<Done>
         ensures last { self.old ≡ self.new ++ option_to_list result }
         ensures empty { IsNone result ↔ (self.old ≡ []) }

@@ -13,27 +13,27 @@ abbrev pub fault_line : LineFault → List ℕ
 fault_line (Bad n) = bad_line n
 fault_line (Stray n) = codes "stray line " ++ decimal n ++ 10 ∷ []
 
--- a transaction of the history: its number and caller, and then the replies to its calls
+-- the lines of a transaction of the history: its number and caller, and then the replies to its calls
 abbrev pub done_lines : Done → List ℕ
 done_lines done = codes "txn " ++ decimal done.at ++ codes " caller " ++ decimal done.caller ++ 10 ∷ flat_map (λ (entry : _). reply_line done.caller entry.1) done.calls
 
--- what is told of a caller's n-th plan that is not in the history
+-- the line of a caller's n-th plan, unless it is in the history
 abbrev pub fate_line : ℕ → ℕ → Fate → List ℕ
 fate_line caller n (Committed at) = []
 fate_line caller n Aborted = told_line caller (codes "aborted " ++ decimal n)
 fate_line caller n (Refused reply) = told_line caller (codes "refused " ++ decimal n ++ 32 ∷ reply_text reply)
 
--- of a caller's plans, from the n-th on
+-- the lines of a caller's plans, from the n-th on
 abbrev pub fate_lines : ℕ → ℕ → List Fate → List ℕ
 fate_lines caller n [] = []
 fate_lines caller n (fate ∷ fates) = fate_line caller n fate ++ fate_lines caller (suc n) fates
 
--- and of all callers' plans, from this caller on
+-- the lines of all callers' plans, from this caller on
 abbrev pub all_fate_lines : ℕ → List (List Fate) → List ℕ
 all_fate_lines caller [] = []
 all_fate_lines caller (fates ∷ others) = fate_lines caller 1 fates ++ all_fate_lines (suc caller) others
 
--- a record's line
+-- the line of a record
 abbrev pub rec_line : ℕ × List ℕ → List ℕ
 rec_line row = codes "rec " ++ (decimal row.0 ++ 32 ∷ (row.1 ++ 10 ∷ []))
 

@@ -9,7 +9,7 @@ use counted::NoMemory;
 use history::Reply;
 use script_text::write_reply_text;
 
-/// Appends a line for each of the caller's plans that was aborted or refused. At `Err` some of them may stand there.
+/// Appends a line for each of the caller's plans that was aborted or refused. At `Err` some of them may have been appended.
 pub fn write_fates(text: &mut Vec<u8>, caller: u8, fates: &[Fate]) -> Result<(), NoMemory>
     ensures { OnOk result (text.new.items ≡ text.old.items ++ fate_lines caller 1 fates.now) }
 {

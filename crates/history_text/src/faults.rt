@@ -9,7 +9,7 @@ use caller_plans::LineFault;
 use counted::NoMemory;
 use script_text::write_bad_line;
 
-/// Appends a line for each line that was passed over. At `Err` some of them may stand there.
+/// Appends a line for each line that was passed over. At `Err` some of them may have been appended.
 pub fn write_faults(text: &mut Vec<u8>, faults: &[LineFault]) -> Result<(), NoMemory>
     ensures { OnOk result (text.new.items ≡ text.old.items ++ flat_map fault_line faults.now) }
 {

@@ -8,7 +8,7 @@ use counted::NoMemory;
 use history::Rows;
 use record_slots::Value;
 
-/// Appends a line for each record. At `Err` some of them may stand there.
+/// Appends a line for each record. At `Err` some of them may have been appended.
 pub fn write_records(text: &mut Vec<u8>, rows: &Rows) -> Result<(), NoMemory>
     ensures { OnOk result (text.new.items ≡ text.old.items ++ flat_map rec_line rows.now) }
 {
@@ -18,7 +18,7 @@ pub fn write_records(text: &mut Vec<u8>, rows: &Rows) -> Result<(), NoMemory>
     Ok(())
 }
 
-/// Appends a record's line. At `Err` a front of it may stand there.
+/// Appends the line of a record. At `Err` a front of it may have been appended.
 pub fn write_row(text: &mut Vec<u8>, key: u64, value: &Value) -> Result<(), NoMemory>
     ensures { OnOk result (text.new.items ≡ text.old.items ++ rec_line (key, value.now)) }
 {

@@ -9,7 +9,7 @@ use counted::NoMemory;
 use history::{Calls, Done, History};
 use script_text::write_reply;
 
-/// Appends the lines of each transaction. At `Err` some of them may stand there.
+/// Appends the lines of each transaction. At `Err` some of them may have been appended.
 pub fn write_history(text: &mut Vec<u8>, history: &History) -> Result<(), NoMemory>
     ensures { OnOk result (text.new.items ≡ text.old.items ++ flat_map done_lines history.now) }
 {
@@ -27,7 +27,7 @@ fn write_done(text: &mut Vec<u8>, done: &Done) -> Result<(), NoMemory>
     Ok(())
 }
 
-// Appends the line of a transaction's number and caller.
+// Appends the line with a transaction's number and caller.
 fn write_head(text: &mut Vec<u8>, done: &Done) -> Result<(), NoMemory>
     ensures { OnOk result (text.new.items ≡ text.old.items ++ (codes "txn " ++ decimal done.now.at ++ codes " caller " ++ decimal done.now.caller ++ 10 ∷ [])) }
 {

@@ -1,4 +1,4 @@
--- Texts that are written behind one another into a buffer.
+-- Texts that are written into a buffer one after another.
 use Rattle.std.proofs.Common.{◌≡◌, ℕ, suc, ◌+◌, ◌<◌, List, [], ◌∷◌, ◌++◌, length, set, take, ap, ◌∙◌, arith, codes, refl, length-take, length-drop}
 use Rattle.std.proofs.Math.Seq.{take-suc-set}
 use Rattle.std.proofs.lemmas.List.{append_assoc}
@@ -6,7 +6,7 @@ use Rattle.std.proofs.lemmas.Slice.{take-put_mid}
 use Rattle.mars.specs.Ending.{line_of}
 use borrow.Rule.Slice.PartMut.{put_mid, mid_of, same_len_mid}
 
--- a text and the end of a line behind the first six bytes
+-- after the first six bytes, a text and the end of the line
 pub behind_six : (buf six piece text : List ℕ) (len k : ℕ) → take 6 buf ≡ six → piece ≡ text → len ≡ length piece → k ≡ len → 6 + len < length buf
     → take (7 + len) (set (put_mid 6 k buf piece) (6 + len) 10) ≡ six ++ (text ++ 10 ∷ [])
 behind_six buf six piece text len k is same long wide room =
@@ -18,7 +18,7 @@ behind_six buf six piece text len k is same long wide room =
     ∙ append_assoc (take 6 buf) piece (10 ∷ [])
     ∙ (λ i. is i ++ (same i ++ 10 ∷ []))
 
--- the line of a text that is there
+-- the line of a text that is not empty
 pub line_is : (text : List ℕ) → 0 < length text → line_of text ≡ codes "mars: " ++ (text ++ 10 ∷ [])
 line_is [] some = absurd (omega (arith, some))
 line_is (byte ∷ bytes) some = refl

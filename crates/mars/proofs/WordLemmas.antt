@@ -4,7 +4,7 @@ use Rattle.std.proofs.Math.Seq.{take-length}
 use Rattle.mars.specs.Choice.{IsCommand}
 use Rattle.command_words.specs.Asked.{AskForNothing}
 
--- two words, and those behind them
+-- two words and those after them
 pub split_two : {X : Type 0} (xs : List X) (second : X) → 2 ≤ length xs → second ≡ get_or xs 1 second
     → (first : X) × (xs ≡ first ∷ second ∷ take (length xs - 2) (drop 2 xs))
 split_two [] second long is = absurd (omega (arith, long))
@@ -17,7 +17,7 @@ split_two (x ∷ y ∷ ys) second long is =
 inner : {first second third fourth : List ℕ} {rest behind : List (List ℕ)} → first ∷ second ∷ rest ≡ third ∷ fourth ∷ behind → rest ≡ behind
 inner same = cc same
 
--- a line whose words behind the image ask for nothing is no command
+-- a line whose words after the image ask for nothing is no command
 pub no_command : (line : List (List ℕ)) (first second : List ℕ) (rest : List (List ℕ)) → line ≡ first ∷ second ∷ rest → AskForNothing rest
     → (name : List ℕ) (words : List (List ℕ)) → IsCommand line name words → ⊥
 no_command line first second rest is nothing name words command =

@@ -1,4 +1,4 @@
--- What is told at the end, on standard error.
+-- What is written at the end, on standard error.
 use Rattle.std.specs.Prelude.{ℕ, List, [], ◌∷◌, ◌++◌, codes}
 use Rattle.mars_shell.specs.Fault.{status_text}
 use Rattle.mars_shell.specs.declared.status.Status.{Status}
@@ -7,6 +7,6 @@ abbrev pub line_of : List ℕ → List ℕ
 line_of [] = []
 line_of (byte ∷ bytes) = codes "mars: " ++ (byte ∷ bytes ++ 10 ∷ [])
 
--- one line, and none of a good run
+-- one line, or none for a good run
 abbrev pub error_line : Status → List ℕ
 error_line status = line_of (status_text status)

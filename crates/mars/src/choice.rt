@@ -9,13 +9,13 @@ use std::alloc::Global;
 /// The image of a run.
 #[derive(Clone, Copy, Debug, PartialEq, Eq)]
 pub enum Image<'a> {
-    /// A fresh array in memory, which nobody keeps.
+    /// A fresh array in memory, which is lost at the end.
     Memory,
-    /// The file at this path, of at least so many bytes. Where that is none, it is not made.
+    /// The file at this path, of at least `least` bytes. If `least` is 0, a missing file is not created.
     File { path: &'a str, least: u64 },
 }
 
-/// The image that the words of a command line name, the program's own first, and the words behind it. No file has been touched
+/// The image that the words of a command line name, and the words after it. The first word is the program's own. No file has been touched
 /// yet.
 pub fn choose<'a>(alloc: Global, line: &'a [String]) -> Result<(Image<'a>, &'a [String]), Status>
     ensures chosen { IfOk result (λ chosen. (name : List ℕ) × IsCommand (map string_bytes line.entry.now) name (map string_bytes chosen.1.now)
@@ -35,7 +35,7 @@ pub fn choose<'a>(alloc: Global, line: &'a [String]) -> Result<(Image<'a>, &'a [
     Ok((image, words))
 }
 
-// The image of this name, for these words.
+// The image of this name for these words.
 fn image_of<'a>(alloc: Global, name: &'a str, words: &[String]) -> Result<Image<'a>, Status>
     ensures image { IfOk result (IsImage name.entry.now (map string_bytes words.now)) }
     ensures refused { IfErr result (λ status. status ≡ Status.NoMemory) }

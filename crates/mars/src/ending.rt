@@ -1,4 +1,4 @@
-// What is told at the end.
+// The report at the end.
 ghost use Rattle.std.specs.Prelude.{◌≡◌, ◌++◌, List, ℕ, Bool, IsTrue};
 ghost use Rattle.counted.specs.Causes.{Rose};
 ghost use Rattle.script_io.specs.Written.{IsWritten};
@@ -9,10 +9,10 @@ use mars_shell::{Status, fault_text};
 use outside::Sink;
 use script_io::write_front;
 
-/// Tells a status on standard error, in a line of its own where it is not good, and gives the number that the program ends with.
+/// Writes a status to `errors`, as a line unless it is `Good`, and returns the number that the program ends with.
 pub fn tell<K: Sink>(status: &Status, errors: &mut K) -> u8
     ensures number { result ≡ status_number status.now }
-    // The line is cut short only where the sink failed.
+    // The line is cut short only if the sink failed.
     ensures told { (cut : Bool) × (part : List ℕ) × IsWritten cut part (error_line status.now)
         × (IsTrue cut → Rose (K.faults errors.old) (K.faults errors.new))
         × (IsTrue K.tells → K.written errors.new ≡ K.written errors.old ++ part) }
@@ -22,7 +22,7 @@ pub fn tell<K: Sink>(status: &Status, errors: &mut K) -> u8
     status.number()
 }
 
-// It is formed without memory, of which none may be left.
+// The line is formed without memory, since there may be none left.
 fn error_line<'a>(status: &Status, line: &'a mut [u8; 80]) -> &'a [u8]
     ensures { result.now ≡ error_line status.now }
 {

@@ -10,7 +10,7 @@ use eaw_device::format;
 use pcm_media::MemoryMedia;
 use std::alloc::Global;
 
-// Room for the record of the calls that `format` makes, and of a short run. Past it the record grows as the run does.
+// Room for the record of the calls of `format` and of a short run. Beyond it the record grows with the run.
 const CALLS: u64 = 1024;
 
 const WRITTEN: u64 = 262_144;
@@ -24,12 +24,12 @@ pub fn fresh_image(alloc: Global) -> Result<MemoryMedia, NoMemory>
     let mut media = MemoryMedia::new(alloc, &zeros, CALLS, WRITTEN)?;
     match format(&mut media, &shape) {
         Ok(()) => Ok(media),
-        // A media in memory with no call listed fails only where memory for its record does.
+        // A medium in memory with no failing call listed fails only if there is no memory for its record.
         Err(_) => Err(NoMemory),
     }
 }
 
-/// An image of no bytes, which stands for a file that is not there.
+/// An image of no bytes, which stands for a file that does not exist.
 pub fn no_image(alloc: Global) -> Result<MemoryMedia, NoMemory>
     ensures { IfOk result (λ media. media ≡ fresh_memory [] 0 0) }
 {

@@ -1,4 +1,4 @@
-//! The program: it makes the real source, sink and image, and hands them to the whole run.
+//! The program: it makes the real source, sink and image and hands them to the whole run.
 #![tactic(auto)]
 
 mod choice;
@@ -27,7 +27,7 @@ fn main(rt: HostRuntime) -> ExitCode {
     ExitCode::from(tell(&status, &mut errors))
 }
 
-// The words are looked at before an image is.
+// The words are read before the image is touched.
 fn whole<R>(rt: &R) -> Status
 where
     R: AllocGlobal + Env + Files<File = File> + Input + Print + Threads + Wait + Sync,
@@ -47,7 +47,7 @@ where
     }
 }
 
-// A run over a file. One that is not there, and is not to be made, is an image of no bytes.
+// A run over a file. A missing file that is not to be created is an image of no bytes.
 fn run_on_file<R>(rt: &R, words: &[String], path: &str, least: u64) -> Status
 where
     R: AllocGlobal + Files<File = File> + Input + Print + Threads + Wait + Sync,
@@ -59,7 +59,7 @@ where
     }
 }
 
-// A run over an image that nobody keeps.
+// A run over an image that is lost at the end.
 fn run_in_memory<R>(rt: &R, words: &[String], image: Result<MemoryMedia, NoMemory>) -> Status
 where
     R: AllocGlobal + Input + Print + Threads + Wait + Sync,

@@ -47,7 +47,7 @@ use Rattle.mars_core.proofs.Entering.{index_room, room_granted}
 use Rattle.mars_core.proofs.Prefixes.{StoreLaws, sound_after, safe_dead, safe_alive}
 use Rattle.mars_core.proofs.Stepping.{ShowsPages, or_false, or_true, media_none, moves_refused, moves_granted, step_of, asks_at, steps_of, time_same, counts_is, saves_at, returns_at, enters_at}
 
--- what is known of an index
+-- what is known about an index
 pub record IndexLaws (index : below.Index) : Type 0 where
   pub counts : (bytes : List ℕ) → index.sound bytes → below.HasCounts bytes
 
@@ -71,7 +71,7 @@ plain_of Dead = refl
 plain_of (Damaged page) = refl
 plain_of NoMemory = refl
 
--- the media failed, or it did not
+-- a refusal without a fault of the medium
 abbrev Well : TableFault → Type 0
 Well f = let r : Result Answer TableFault = Err f in is_failed r ≡ false
 
@@ -139,7 +139,7 @@ module _ (tells : Bool) (Opens : Shape → List ℕ → List ℕ → Type 0) (in
     named u = named_is s.index (index.pairs p.store.state.bytes) (log_of (calls_of s u)).writes (λ key. ap (λ (x : Index). x.slot_of key) shows.indexed)
         (subst (λ (ws : List Write). shown.AreNamed (index.pairs p.store.state.bytes) ws) (tied.mirrors.writes u) (tells_writes.named told alive u))
 
-    -- the data behind it is within the array
+    -- the data after the call is within the array
     module _ (result : Result Answer TableFault) (works : Works tells (Opens p.store.shape) index t call p q result) where
       sound_new : IsAlive q.store → index.sound q.store.state.bytes
       sound_new = sound_after tells Opens index one p q old_laws new_laws told works.shape alive tied.index_sound _ _ (works.time told alive)
@@ -210,7 +210,7 @@ module _ (tells : Bool) (Opens : Shape → List ℕ → List ℕ → Type 0) (in
         (moves_granted s new t calls call answer.told base history dead_same is live of works.granted works.plain) (λ failed. absurd (false≢true (sym (media_none answer.told works.granted) ∙ failed)))
         (λ _. (works.faults refl).1) step (λ told. time told (Ok answer) works) safe_new
 
-  -- it was refused
+  -- the call was refused
   module _ (f : TableFault) (works : (let r : Result Answer TableFault = Err f in Works tells (Opens p.store.shape) index t call p q r)) (live : new.live ≡ s.live) where
     module _ (well : Well f) where
       living_still : IsAlive q.store
@@ -228,7 +228,7 @@ module _ (tells : Bool) (Opens : Shape → List ℕ → List ℕ → Type 0) (in
             (subst (λ (x : Index). Indexes (limits_of p.store.shape) call (reply_to f) (index_of (keys_of index p.store.state.bytes)) x) (sym shows_new.indexed)
             (indexes_refused p.store.shape (keys_of index p.store.state.bytes) (keys_of index q.store.state.bytes) (within told (Err f) works living_still) Answer t call f of well (works.indexed told alive well)))
 
-        -- by its cause
+        -- for its cause
         asks_fault : (g : TableFault) → Well g → (let r : Result Answer TableFault = Err g in Cause tells index (command_of t call) p r) → Indexes (limits_of p.store.shape) call (reply_to g) s.index new.index
             → Asks (limits_of p.store.shape) calls s t call (reply_to g) new
         asks_fault (SlotsFull n) well cause made = inr (inr (
@@ -294,7 +294,7 @@ module _ (tells : Bool) (Opens : Shape → List ℕ → List ℕ → Type 0) (in
           (moves_refused s new t call (reply_to f) base history live (dead_still ∙ sym (ap (λ (b : Bool). s.is_dead || b) (media_of f well) ∙ or_false s.is_dead)) (refusal_of f) (plain_of f))
           (λ failed. absurd (false≢true (sym (media_of f well) ∙ failed))) (λ _. (works.faults well).1) step_still (λ told. time told (Err f) works) safe_still
 
-  -- the media failed
+  -- the medium failed
   module _ (works : (let r : Result Answer TableFault = Err Media in Works tells (Opens p.store.shape) index t call p q r)) (live : new.live ≡ s.live) where
     died : new.is_dead ≡ true
     died = shows_new.dead ∙ (works.dies refl).0

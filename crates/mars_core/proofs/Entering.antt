@@ -1,4 +1,4 @@
--- What loggers hold of callers behind a call: no more than they have entries.
+-- What loggers hold of callers after a call: no more than they have entries for.
 use Rattle.std.proofs.Common.{◌≡◌, ◌≤◌, ◌<◌, ℕ, inl, inr, Bool, true, cond, nat_eq, List, [], ◌∷◌, ◌++◌, length, filter, take, Option, Some, None, unwrap_or, refl, sym, ap, subst, ◌∙◌, arith}
 use Rattle.std.specs.Map.{update}
 use Rattle.std.proofs.lemmas.Bool.{cases_eq}
@@ -21,23 +21,23 @@ use Rattle.mars_core.proofs.Indexing.{Slots}
 use Rattle.mars_core.proofs.Mirroring.{calls_here, calls_there}
 use Rattle.mars_core.proofs.Rooming.{written_room}
 
--- the key has a slot then, and a write of it finds an entry
+-- the key then has a slot, and a write of it finds an entry
 abbrev pub HasSlot : Limits → State → ℕ → Index → ℕ → Type 0
 HasSlot limits s t ix key = (slot : ℕ) × (ix.slot_of key ≡ Some slot) × HasEntry limits s t key slot
 
--- a call that writes, with this reply, finds one
+-- if the call with this reply writes, it finds an entry
 abbrev pub Enters : Limits → State → ℕ → Index → Call → Reply → Type 0
 Enters limits s t ix (Put key value) answer = HasSlot limits s t ix key
 Enters limits s t ix (Del key) Fine = HasSlot limits s t ix key
 Enters limits s t ix _ answer = Unit {0}
 
--- a way back is to a save
+-- a way back goes to a save
 abbrev pub Returns : List (List Write) → Call → Type 0
 Returns saved (Back n) = has_save saved n ≡ true
 Returns saved _ = Unit {0}
 
 module _ (limits : Limits) (s : State) (named : (caller : ℕ) → AreNamed s.index (log_of (calls_of s caller)).writes) where
-  -- what loggers hold stays the same where the index gains a key at most
+  -- what loggers hold stays the same if the index gains at most a key
   pub held_index : (ix : Index) → Slots limits s.index ix → (caller g : ℕ) → held_on limits (record s { index = ix }) caller g ≡ held_on limits s caller g
   held_index ix (inl same) caller g = ap (λ (f : ℕ → Option ℕ). length (filter (λ (write : Write). is_slot_on limits g (f write.0)) (log_of (calls_of s caller)).writes)) same
   held_index ix (inr (key, none, gains)) caller g =
@@ -59,7 +59,7 @@ module _ (limits : Limits) (s : State) (named : (caller : ℕ) → AreNamed s.in
           subst (λ (cs : Granted). length (filter (is_write_on limits ix (limits.logger_of slot)) (log_of cs).writes) < limits.entries) at
           (subst (λ (n : ℕ). n < limits.entries) (sym (held_index ix slots t (limits.logger_of slot))) (entry (ap (λ (cs : Granted). log.is_rewritten (log_of cs) write.0) at ∙ anew)))) g (first g)
 
-      -- the caller's own behind the call
+      -- what they hold of the caller itself after the call
       own_room : (call : Call) (answer : Reply) → Enters limits s t ix call answer → Returns (log_of calls).saved call
           → (g : ℕ) → length (filter (is_write_on limits ix g) (log_after (log_of calls) call answer).writes) ≤ limits.entries
       own_room (Put key value) answer enters returns g = wrote (key, Some value) enters g
@@ -84,7 +84,7 @@ module _ (limits : Limits) (s : State) (named : (caller : ℕ) → AreNamed s.in
             (subst (λ (cs : Granted). length (filter (is_write_on limits ix g) (log_of cs).writes) ≤ limits.entries) (sym (calls_there s new t (Some (calls ++ (call, answer) ∷ [])) live caller ne)) (index_room caller g))
       ]
 
--- a caller's transaction that is begun, or ends, holds nothing
+-- a caller whose transaction begins or ends has nothing in the loggers
 pub room_empty : (limits : Limits) (s new : State) (t : ℕ) (calls : Option Granted) → unwrap_or calls [] ≡ [] → HasHeld limits s → new.index ≡ s.index → new.live ≡ update nat_eq s.live t calls → HasHeld limits new
 room_empty limits s new t calls none room indexed live caller g = elim (cases_eq caller t) [
   | inl e ↦ subst (λ (v : ℕ). held_on limits new v g ≤ limits.entries) (sym e)

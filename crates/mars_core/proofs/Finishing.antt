@@ -1,4 +1,4 @@
--- The end of a transaction: a commit, an abort, and a fault of the media in them.
+-- The end of a transaction: a commit, an abort, and a fault of the medium in either.
 use Rattle.std.proofs.Common.{◌≡◌, ◌+◌, ◌⊎◌, ℕ, inl, inr, Bool, true, false, nat_eq, List, [], ◌∷◌, ◌++◌, length, IsTrue, Option, Some, None, unwrap_or, Result, Ok, Err, refl, sym, ap, subst, ◌∙◌}
 use Rattle.std.specs.Option.{option_to_list}
 use Rattle.std.specs.Map.{update}
@@ -40,7 +40,7 @@ use Rattle.mars_core.proofs.Entering.{room_empty}
 use Rattle.mars_core.proofs.Prefixes.{StoreLaws, prefix_all, prefix_more, sound_after, safe_dead, safe_alive}
 use Rattle.mars_core.proofs.Stepping.{ShowsPages, or_false, or_true, moves_refused, step_of, steps_of, steps_same, time_same}
 
--- what was pushed last is what is taken off
+-- what was pushed last is what is removed
 no_tail : {A : Type 0} (x : A) (xs : List A) → x ∷ xs ≡ [] → ⊥
 no_tail x xs e = absurd (cc)
 
@@ -68,7 +68,7 @@ last_is (a ∷ xs) (b ∷ ys) x (Some z) e none =
     let rest = last_is xs ys x (Some z) (tails a b (xs ++ x ∷ []) (ys ++ z ∷ []) e) (λ never. absurd (cc)) in
     ((λ i. heads a b (xs ++ x ∷ []) (ys ++ z ∷ []) e i ∷ rest.0 i), rest.1)
 
--- a transaction's end is refused by the media alone
+-- only the medium refuses the end of a transaction
 pub commit_fails : (tells : Bool) (index : below.Index) (p : PagesView) (t : ℕ) → IsAlive p.store → (f : TableFault) → (let r : Result (Unit {0}) TableFault = Err f in Cause tells index (commit t) p r) → f ≡ fault.Media
 commit_fails tells index p t alive fault.Media cause = refl
 commit_fails tells index p t alive fault.Dead cause = absurd (false≢true (sym alive ∙ cause))
@@ -187,7 +187,7 @@ module _ (tells : Bool) (Opens : Shape → List ℕ → List ℕ → Type 0) (in
         }) (λ failed. absurd (false≢true failed)) (λ _. (does.faults refl).1) step
         (λ told. time_commit done done_is (let r : Result (Unit {0}) TableFault = Ok tt in r) does live told (no_doubt told)) safe_new)
 
-  -- the media failed in it
+  -- the medium failed in the commit
   module _ (done : Done) (done_is : done ≡ done_by s t calls) (does : (let r : Result (Unit {0}) TableFault = Err fault.Media in Does tells (Opens p.store.shape) index (commit t) p q r))
       (live : new.live ≡ update nat_eq s.live t None) (history : new.history ≡ s.history) (doubt : new.doubt ≡ Some done) where
     died : new.is_dead ≡ true

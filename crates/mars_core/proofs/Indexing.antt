@@ -1,4 +1,4 @@
--- What a call makes of the index, as callers see it.
+-- What a call does to the index, as callers see it.
 use Rattle.std.proofs.Common.{◌≡◌, ◌≤◌, ◌⊎◌, ℕ, inl, inr, Bool, true, false, cond, nat_eq, nat_lt, List, [], ◌∷◌, length, Option, Some, None, unwrap_or, Result, Ok, Err, refl, sym, ap, subst, ◌∙◌, arith, eq-eqb, ne_eqb, eqb-true}
 use Rattle.std.specs.Prelude.{IsFalse}
 use Rattle.std.proofs.lemmas.Map.{update_here}
@@ -23,7 +23,7 @@ use Rattle.core_face.specs.Room.{Limits, GainsKey, KeepsKeys, TakesPages, Insert
 use Rattle.mars_core.specs.Over.{limits_of, index_of}
 use Rattle.mars_core.specs.Works.{command_of, IsOfTable, reply_to}
 
--- no more slots and pages are given than an array of this shape has
+-- no more slots and pages are given out than an array of this shape has
 pub record IsWithin (shape : Shape) (keys : Keys) : Type 0 where
   pub slots : keys.next_slot ≤ below.slots_of shape
   pub pages : keys.next_page ≤ below.index_pages_of shape
@@ -32,7 +32,7 @@ pub is_within : (shape : Shape) (bytes : List ℕ) (keys : Keys) → length byte
     → keys.next_slot ≡ next_slot bytes → keys.next_page ≡ next_page bytes → IsWithin shape keys
 is_within shape bytes keys long counts s p = record { slots = omega (arith, counts.slots, long, s); pages = omega (arith, counts.pages, long, p) }
 
--- a key that is inserted leads to what was inserted, and the others to what they did
+-- an inserted key has the inserted slot, and the others have the slots that they had
 found-inserted : (ps : List Pair) (key to other : ℕ) → found ps key ≡ None → found (inserted ps key to) other ≡ cond (nat_eq key other) (Some to) (found ps other)
 found-inserted [] key to other none = refl
 found-inserted (p ∷ ps) key to other none = in_front (nat_lt key p.0) (nat_eq p.0 key) refl none (found-inserted ps key to other)
@@ -110,7 +110,7 @@ module _ (shape : Shape) (old new : Keys) (within : IsWithin shape new) where
   indexes_granted t Abort answer told of fine same = absurd of
   indexes_granted t Begin answer told of fine same = absurd of
 
--- the keys stay, or one that the index lacked is gained
+-- the keys stay, or the index gains one that it lacked
 abbrev pub Slots : Limits → Index → Index → Type 0
 Slots limits old new = (new.slot_of ≡ old.slot_of) ⊎ ((key : ℕ) × (old.slot_of key ≡ None) × GainsKey limits key old new)
 
@@ -143,7 +143,7 @@ pub indexes_slots : (limits : Limits) (call : Call) (answer : Reply) (old new : 
 indexes_slots limits (Put key value) answer old new indexes = at_slots limits key (old.slot_of key) answer old new refl indexes
 indexes_slots limits _ answer old new same = inl (ap (λ (x : Index). x.slot_of) same)
 
--- behind a granted call the index has the key of a put, with the slot that it had for it, or the next one
+-- after a granted put the index has the key, with the slot that it had or the next one
 pub slot_after : (limits : Limits) (key : ℕ) (o : Option ℕ) (old new : Index) → old.slot_of key ≡ o → IndexesAt limits key o Fine old new
     → (slot : ℕ) × (new.slot_of key ≡ Some slot) × (slot ≡ unwrap_or o old.next_slot)
 slot_after limits key None old new is (t, k) = (old.next_slot, ap (λ (f : ℕ → Option ℕ). f key) k.slot_of ∙ update_here old.slot_of key (Some old.next_slot), refl)

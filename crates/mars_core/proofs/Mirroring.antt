@@ -1,4 +1,4 @@
--- The model of records beside the state of callers by turns.
+-- The model of records next to the state of callers by turns.
 use Rattle.std.proofs.Common.{◌≡◌, ◌≢◌, ◌≤◌, ◌<◌, ◌+◌, ℕ, inl, inr, Bool, true, false, cond, nat_eq, nat_le, ◌&&◌, List, [], ◌∷◌, ◌++◌, length, take, Option, Some, None, unwrap_or, refl, sym, ap, subst, ◌∙◌, eq-eqb, ne_eqb, le-leb, lt-ltb}
 use Rattle.std.specs.Prelude.{is_some}
 use Rattle.std.specs.FinMap.{get}
@@ -28,7 +28,7 @@ with_one_here f t x = ap (λ (b : Bool). cond b x (f t)) (eq-eqb t t refl)
 with_one_apart : {A : Type 0} (f : ℕ → A) (t : ℕ) (x : A) (u : ℕ) → u ≢ t → with_one f t x u ≡ f u
 with_one_apart f t x u ne = ap (λ (b : Bool). cond b x (f u)) (ne_eqb u t ne)
 
--- what a state of records has of one number
+-- two states of records agree on one number
 abbrev SameAt : TableState → TableState → ℕ → Type 0
 SameAt one other u = (one.writes u ≡ other.writes u) × (one.saved u ≡ other.saved u)
 
@@ -80,7 +80,7 @@ module _ (s : TableState) (t : ℕ) where
   pub has_save_is : (saved : List (List Write)) (n : ℕ) → 0 < n → n ≤ length saved → has_save saved n ≡ true
   has_save_is saved n some there = (λ i. lt-ltb 0 n some i && nat_le n (length saved)) ∙ le-leb n (length saved) there
 
-  -- its own has the log behind the call
+  -- what its own number has follows the log after the call
   pub own : (call : Call) (answer : Reply) (own : Log) → IsOfTable call → Replies s t call answer → HasSaves (length (s.saved t)) call → HasLog s t own
       → HasLog (after (command_of t call) s) t (log_after own call answer)
   own (Get key) answer l of replies saves has = has
@@ -102,14 +102,14 @@ module _ (s : TableState) (t : ℕ) where
   own Abort answer l of replies saves has = absurd of
   own Begin answer l of replies saves has = absurd of
 
--- the calls of each caller behind a change of one
+-- each caller's calls, after one caller's have changed
 pub calls_here : (old new : State) (t : ℕ) (calls : Option Granted) → new.live ≡ update nat_eq old.live t calls → calls_of new t ≡ unwrap_or calls []
 calls_here old new t calls live = ap (λ (f : ℕ → Option Granted). unwrap_or (f t) []) live ∙ ap (λ (o : Option Granted). unwrap_or o []) (update_here old.live t calls)
 
 pub calls_there : (old new : State) (t : ℕ) (calls : Option Granted) → new.live ≡ update nat_eq old.live t calls → (u : ℕ) → u ≢ t → calls_of new u ≡ calls_of old u
 calls_there old new t calls live u ne = ap (λ (f : ℕ → Option Granted). unwrap_or (f u) []) live ∙ ap (λ (o : Option Granted). unwrap_or o []) (update_apart old.live t calls u ne)
 
--- the log of each caller behind a change of one
+-- each caller's log, after one caller's has changed
 logs_after : (b : TableState) (old new : State) (t : ℕ) (calls : Option Granted) → new.live ≡ update nat_eq old.live t calls
     → HasLog b t (log_of (unwrap_or calls [])) → ((u : ℕ) → u ≢ t → HasLog b u (log_of (calls_of old u))) → (u : ℕ) → HasLog b u (log_of (calls_of new u))
 logs_after b old new t calls live here there u = elim (cases_eq u t) [
@@ -118,7 +118,7 @@ logs_after b old new t calls live here there u = elim (cases_eq u t) [
 ]
 
 module _ (below : TableState) (old : State) (mirrors : Mirrors below old) where
-  -- behind a call that changes what its own number has, to another log of its caller
+  -- after a call that changes only what its own number has, to another log of its caller
   pub mirrors_at : (after : TableState) (new : State) (t : ℕ) (calls : Option Granted) → new.live ≡ update nat_eq old.live t calls → after.table ≡ records_of new
       → HasLog after t (log_of (unwrap_or calls [])) → ((u : ℕ) → u ≢ t → SameAt after below u) → Mirrors after new
   mirrors_at behind new t calls live table here there = record {
@@ -130,7 +130,7 @@ module _ (below : TableState) (old : State) (mirrors : Mirrors below old) where
       all : (u : ℕ) → HasLog behind u (log_of (calls_of new u))
       all = logs_after behind old new t calls live here (λ u ne. ((there u ne).0 ∙ mirrors.writes u, (there u ne).1 ∙ mirrors.saved u))
 
-  -- behind a granted call
+  -- after a granted call
   pub mirrors_granted : (new : State) (t : ℕ) (calls : Granted) (call : Call) (answer : Reply) → old.live t ≡ Some calls → new.live ≡ update nat_eq old.live t (Some (calls ++ (call, answer) ∷ []))
       → records_of new ≡ records_of old → IsOfTable call → Replies below t call answer → HasSaves (length (below.saved t)) call → Mirrors (after (command_of t call) below) new
   mirrors_granted new t calls call answer is live same of replies saves =
@@ -141,7 +141,7 @@ module _ (below : TableState) (old : State) (mirrors : Mirrors below old) where
       (apart below t call)
 
   module _ (t : ℕ) (right : IsRight (records_of old) (calls_of old t)) where
-    -- a number sees what its caller does
+    -- a number sees what its caller sees
     pub seen_is : seen_by below t ≡ (view_of old t).table
     seen_is = (λ i. all_written (mirrors.table i) (mirrors.writes t i)) ∙ sym (left_is_written (records_of old) (calls_of old t) right)
 
@@ -152,7 +152,7 @@ module _ (below : TableState) (old : State) (mirrors : Mirrors below old) where
     pub has_saves : (n : ℕ) → has_save (view_of old t).saves n ≡ has_save (below.saved t) n
     has_saves n = has_same_saves (records_of old) (calls_of old t) n right ∙ ap (λ (ls : List (List Write)). has_save ls n) (sym (mirrors.saved t))
 
-    -- so the reply on what it sees is the one-thread table's
+    -- so the reply for what it sees is that of the one-thread table
     pub answers : (call : Call) (answer : Reply) → IsOfTable call → Replies below t call answer → HasSaves (length (below.saved t)) call → Answers (view_of old t) call answer
     answers (Get key) answer of replies saves = replies ∙ ap (λ (table : Table). found (get table key)) seen_is
     answers (Put key value) answer of replies saves = replies

@@ -33,7 +33,7 @@ use Rattle.mars_core.specs.Kept.{Mirrors, HasHeld, IsTied, IsKept}
 use Rattle.mars_core.specs.Seats.{Seats, live_in}
 use Rattle.mars_core.proofs.Prefixes.{StoreLaws, safe_alive}
 
--- rows without a key beyond the last one lie within all keys
+-- if no row has a key above the largest u64, all rows are within all keys
 all_within : (es : List (ℕ × List ℕ)) → ((q : ℕ) → 2 ^ 64 - 1 < q → find nat_cmp q es ≡ None) → filter (is_within 0 (2 ^ 64 - 1)) es ≡ es
 all_within [] none = refl
 all_within (e ∷ es) none = elim (cases_lt (2 ^ 64 - 1) e.0) [
@@ -66,7 +66,7 @@ none_above low high (p ∷ ps) q rises le =
     last low high [] le = le
     last low high (p ∷ ps) rises = omega (arith, rises.0, last (suc p.0) high ps rises.1)
 
--- the records of a sound index have no key beyond the last one
+-- the records of a sound index have no key above the largest u64
 pub no_key_above : (index : below.Index) (bytes : List ℕ) → Rise 0 (2 ^ 64) (index.pairs bytes) → (q : ℕ) → 2 ^ 64 - 1 < q → get (shown.table_of index bytes) q ≡ None
 unfolding shown.table_of
 no_key_above index bytes rises q lt = get-table_in bytes (index.pairs bytes) q ∙ ap (record_at bytes) (none_above 0 (2 ^ 64) (index.pairs bytes) q rises (omega (arith, lt)))
@@ -84,7 +84,7 @@ scan_gives_back tells Opens t p q alive T f looks same = record {
 no_log : (new : State) → ((t : ℕ) → new.live t ≡ None) → (t : ℕ) → calls_of new t ≡ []
 no_log new idle t = ap (λ (o : Option Granted). unwrap_or o []) (idle t)
 
--- A core over records that nobody has written, with the rows of a scan.
+-- A core over records to which nobody has written, with the rows of a scan.
 module _ (tells : Bool) (Opens : Shape → List ℕ → List ℕ → Type 0) (index : below.Index) (p q : PagesView) (new_laws : StoreLaws tells Opens q.store) (rises : index.sound p.store.state.bytes → Rise 0 (2 ^ 64) (index.pairs p.store.state.bytes))
     (alive : IsAlive p.store) (sound : IsTrue tells → index.sound p.store.state.bytes) (idle : IsTrue tells → (t : ℕ) → (state_of index p).writes t ≡ []) (unsaved : IsTrue tells → (t : ℕ) → (state_of index p).saved t ≡ [])
     (looks : LooksAs tells (Opens p.store.shape) 0 false p q) (same : IsTrue tells → state_of index q ≡ state_of index p) (rows : List (ℕ × List ℕ)) (scanned : IsTrue tells → rows ≡ rows_within 0 (2 ^ 64 - 1) (seen_by (state_of index p) 0))
@@ -117,7 +117,7 @@ module _ (tells : Bool) (Opens : Shape → List ℕ → List ℕ → Type 0) (in
     sound_new : index.sound q.store.state.bytes
     sound_new = subst index.sound (sym bytes_same) (sound told)
 
-    -- it is the state of a core that was opened
+    -- its state is that of a core that was just opened
     opened_is : state_at index q.store (table_of rows) history (live_in seats) None ≡ opened (shown.table_of index p.store.state.bytes) (index_of (keys_of index p.store.state.bytes))
     opened_is = λ i. record { base = table_is i; history = empty i; live = λ t. none t i; doubt = None; is_dead = lives i; index = index_of (keys_of index (bytes_same i)) }
 

@@ -17,7 +17,7 @@ use Rattle.core_face.specs.Core.{IsSafe}
 use Rattle.mars_core.specs.Held.{core_over}
 use Rattle.mars_core.specs.Kept.{IsTied}
 
--- the laws of a store, of one view
+-- the laws of a store, for one view
 pub record StoreLaws (tells : Bool) (Opens : Shape → List ℕ → List ℕ → Type 0) (store : StoreView) : Type 0 where
   pub long : IsTrue tells → length store.state.bytes ≡ data_len store.shape
   pub some : IsTrue tells → IsAlive store → LeavesSome store
@@ -49,7 +49,7 @@ no_more history None = omega arith
 no_more history (Some done) = longer history (done ∷ [])
 
 module _ (Op : List ℕ → Table → Type 0) (image : List ℕ) where
-  -- the records of the history are those of its transactions, whichever is in doubt
+  -- the whole history is a prefix, whichever transaction is in doubt
   pub prefix_all : (base : Table) (history : List Done) (doubt : Option Done) → Op image (records base history) → HasPrefix Op base (with_doubt history doubt) (length history) image
   prefix_all base history doubt opens = record {
     count = length history;
@@ -58,7 +58,7 @@ module _ (Op : List ℕ → Table → Type 0) (image : List ℕ) where
     opens = subst (λ (hs : List Done). Op image (records base hs)) (sym (first_are history doubt)) opens;
   }
 
-  -- with a further transaction, in doubt or not
+  -- with one more transaction, in doubt or not
   pub prefix_more : (base : Table) (history : List Done) (done : Done) → Op image (records base (history ++ done ∷ [])) → HasPrefix Op base (history ++ done ∷ []) (length history) image
   prefix_more base history done opens = record {
     count = length (history ++ done ∷ []);
@@ -87,7 +87,7 @@ module _ (tells : Bool) (Opens : Shape → List ℕ → List ℕ → Type 0) (in
         go image now (inr (inl o)) = from image o.bytes now o.opened o.sound
         go image now (inr (inr o)) = from image o.bytes now o.opened o.sound
 
-  -- Where the media failed: what may be left now is what might have been left before, or within the call.
+  -- If the medium failed, what may be left now is what might have been left before or within the call.
   pub safe_dead : (s new : State) → table_of index p.store.state.bytes ≡ records_of s → new.base ≡ s.base → new.history ≡ s.history
       → LeavesOnly (HasPrefixOf (OpensWith (Opens q.store.shape) index) new (length s.history)) p.store q.store
       → IsSafe (core_over Opens index q.store new) q.store.moment (length new.history)

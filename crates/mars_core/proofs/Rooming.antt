@@ -42,7 +42,7 @@ pub named_is : (index : Index) (pairs : List Pair) (writes : List Write) → ((k
 named_is index pairs [] same named = tt
 named_is index pairs (write ∷ writes) same named = (subst (λ (o : Option ℕ). IsSome o) (sym (same write.0)) named.0, named_is index pairs writes same named.1)
 
--- A state s over what pages show; its index is that of the data.
+-- A state s over what pages show, whose index is that of the data.
 module _ (index : below.Index) (p : PagesView) (s : State) (indexed : s.index ≡ index_of (keys_of index p.store.state.bytes)) (mirrors : Mirrors (state_of index p) s)
     (held : (t g : ℕ) → shown.held_on p t g ≡ length (filter (shown.is_write_on p.store.shape (index.pairs p.store.state.bytes) g) ((state_of index p).writes t))) where
   -- what a logger holds
@@ -90,7 +90,7 @@ module _ (index : below.Index) (p : PagesView) (s : State) (indexed : s.index �
     fits_is Abort of fits = tt
     fits_is Begin of fits = tt
 
-    -- Refusals of a full array. No logger holds more than it has.
+    -- Refusals of a full array, if no logger holds more than it has entries for.
     module _ (room : HasHeld (limits_of p.store.shape) s) where
       full_is : (g h n : ℕ) → table_causes.IsShort p t g h n → IsFull (limits_of p.store.shape) s t g h n
       full_is g h n short = record {
@@ -172,7 +172,7 @@ module _ (index : below.Index) (p : PagesView) (s : State) (indexed : s.index �
       page_lacks Abort n of lacks most = absurd lacks
       page_lacks Begin n of lacks most = absurd lacks
 
--- a write that finds an entry leaves no logger with more than it has
+-- a write that finds an entry leaves no logger with more than it has entries for
 module _ (limits : Limits) (ix : Index) (write : Write) (slot : ℕ) (at : ix.slot_of write.0 ≡ Some slot) (l : Log)
     (has : log.is_rewritten l write.0 ≡ false → length (filter (is_write_on limits ix (limits.logger_of slot)) l.writes) < limits.entries) where
   pub written_room : (g : ℕ) → length (filter (is_write_on limits ix g) l.writes) ≤ limits.entries → length (filter (is_write_on limits ix g) (log.written l write).writes) ≤ limits.entries

@@ -13,21 +13,21 @@ pub length-push : (seats : Seats) (one : Option Granted) (n : ℕ) → length se
 length-push [] one n is = omega (arith, is)
 length-push (other ∷ seats) one n is = omega (arith, is, length-push seats one (length seats) refl)
 
--- one caller more, without a live transaction
+-- one more caller, without a live transaction
 pub none-push : (seats : Seats) → ((caller : ℕ) → live_in seats caller ≡ None) → (caller : ℕ) → live_in (seats ++ None ∷ []) caller ≡ None
 none-push [] none zero = refl
 none-push [] none (suc caller) = refl
 none-push (one ∷ seats) none zero = none zero
 none-push (one ∷ seats) none (suc caller) = none-push seats (λ other. none (suc other)) caller
 
--- beyond the callers there is none
+-- beyond the callers there is no live transaction
 pub none_beyond : (seats : Seats) (caller : ℕ) → length seats ≤ caller → live_in seats caller ≡ None
 none_beyond [] caller le = refl
 none_beyond (one ∷ seats) zero le = absurd (omega (arith, le))
 none_beyond (one ∷ seats) (suc caller) le = none_beyond seats caller (omega (arith, le))
 
 module _ (seats : Seats) (caller : ℕ) (call : Call) where
-  -- the caller itself is none of those before n that hold a stripe of the call
+  -- the caller itself is not one of those before n that hold a stripe of the call
   pub free_own : (n : ℕ) → ((holder : ℕ) → holder < n → Blocks (bare seats) caller call holder → ⊥) → n ≡ caller
       → (holder : ℕ) → holder < n + 1 → Blocks (bare seats) caller call holder → ⊥
   free_own n before own holder lt blocks = elim (cases_eq holder n) [
@@ -35,7 +35,7 @@ module _ (seats : Seats) (caller : ℕ) (call : Call) where
     | inr ne ↦ before holder (omega (arith, lt, ne)) blocks
   ]
 
-  -- nor one whose mask shares no bit with the call's
+  -- nor is one whose mask shares no bit with the call's
   pub free_apart : (n mask : ℕ) → ((holder : ℕ) → holder < n → Blocks (bare seats) caller call holder → ⊥) → IsMaskOf (calls_at seats n) mask → bit_and mask (mask_of call) ≡ 0
       → (holder : ℕ) → holder < n + 1 → Blocks (bare seats) caller call holder → ⊥
   free_apart n mask before is none holder lt blocks = elim (cases_eq holder n) [
@@ -43,7 +43,7 @@ module _ (seats : Seats) (caller : ℕ) (call : Call) where
     | inr ne ↦ before holder (omega (arith, lt, ne)) blocks
   ]
 
-  -- nor one beyond them all
+  -- nor is one beyond all callers
   pub free_all : (n : ℕ) → length seats ≤ n → ((holder : ℕ) → holder < n → Blocks (bare seats) caller call holder → ⊥) → (holder : ℕ) → Blocks (bare seats) caller call holder → ⊥
   free_all n all before holder blocks = elim (cases_lt holder n) [
     | inl lt ↦ before holder lt blocks

@@ -1,4 +1,4 @@
--- Calls that the records are not asked for: refusals before them, and a begin.
+-- Calls that do not reach the records: refusals before them, and a begin.
 use Rattle.std.proofs.Common.{◌≡◌, ◌≤◌, ◌<◌, ℕ, inl, inr, Bool, true, false, nat_eq, nat_lt, nat_le, List, [], length, IsTrue, Option, Some, None, unwrap_or, refl, sym, ap, subst, ◌∙◌, arith}
 use Rattle.std.specs.Prelude.{is_some}
 use Rattle.std.specs.Map.{update}
@@ -33,7 +33,7 @@ use Rattle.mars_core.proofs.Entering.{room_empty}
 use Rattle.mars_core.proofs.Prefixes.{StoreLaws, safe_alive}
 use Rattle.mars_core.proofs.Stepping.{ShowsPages, or_false, step_of, asks_at, steps_same, steps_of, counts_is, saves_at}
 
--- an option that is some
+-- an option that has a value
 pub some_of : {A : Type 0} (o : Option A) → is_some o ≡ true → (x : A) × (o ≡ Some x)
 some_of None e = absurd (false≢true e)
 some_of (Some x) e = (x, refl)
@@ -43,7 +43,7 @@ none_of None e = refl
 none_of (Some x) e = absurd (false≢true (sym e))
 
 module _ (live : ℕ → Option Granted) (t : ℕ) where
-  -- a change to what was there is none
+  -- an update to the value that was there changes nothing
   pub update_same : (x : Option Granted) → live t ≡ x → update nat_eq live t x ≡ live
   update_same x is = λ i q. each q i
     where
@@ -53,7 +53,7 @@ module _ (live : ℕ → Option Granted) (t : ℕ) where
         | inr ne ↦ update_apart live t x q ne
       ]
 
-  -- of two changes the second stays
+  -- of two updates the second counts
   pub update_twice : (x y : Option Granted) → update nat_eq (update nat_eq live t x) t y ≡ update nat_eq live t y
   update_twice x y = λ i q. each q i
     where
@@ -63,14 +63,14 @@ module _ (live : ℕ → Option Granted) (t : ℕ) where
         | inr ne ↦ update_apart (update nat_eq live t x) t y q ne ∙ update_apart live t x q ne ∙ sym (update_apart live t y q ne)
       ]
 
-  -- a change and a change back
+  -- an update and its undoing
   pub changed_back : (x y : Option Granted) (mid new : ℕ → Option Granted) → mid ≡ update nat_eq live t x → new ≡ update nat_eq mid t y → live t ≡ y → new ≡ live
   changed_back x y mid new first second is = second ∙ ap (λ (f : ℕ → Option Granted). update nat_eq f t y) first ∙ update_twice x y ∙ update_same y is
 
   pub changed_twice : (x y : Option Granted) (mid new : ℕ → Option Granted) → mid ≡ update nat_eq live t x → new ≡ update nat_eq mid t y → new ≡ update nat_eq live t y
   changed_twice x y mid new first second = second ∙ ap (λ (f : ℕ → Option Granted). update nat_eq f t y) first ∙ update_twice x y
 
--- Who holds the keys of a call does not hang on what its own caller touched.
+-- Which callers hold the keys of a call does not depend on what its own caller touched.
 module _ (s mid : State) (t : ℕ) (x : Option Granted) (live : mid.live ≡ update nat_eq s.live t x) (call : Call) where
   blocks_to : (holder : ℕ) → Blocks mid t call holder → Blocks s t call holder
   blocks_to holder (ne, stripe, own, at) = (ne, stripe, own, subst (λ (cs : Granted). touched cs stripe ≡ true) (calls_there s mid t x live holder ne) at)
@@ -113,7 +113,7 @@ module _ (tells : Bool) (Opens : Shape → List ℕ → List ℕ → Type 0) (in
     save_step Abort answer refused = absurd refused
     save_step Begin answer refused = absurd refused
 
-  -- refused for its saves
+  -- refused because of its saves
   pub save_refused : (answer : Reply) → IsSaveRefusal (length (p.counts t)) call answer → Steps tells t call (core_over Opens index p.store s) (core_over Opens index p.store s) answer
   save_refused answer refused =
       let kind = refusal call answer refused in
@@ -134,19 +134,19 @@ module _ (tells : Bool) (Opens : Shape → List ℕ → List ℕ → Type 0) (in
     has : HasSaves (length ((state_of index p).saved t)) call
     has = subst (λ (n : ℕ). HasSaves n call) (sym (counts_is index p t)) saves
 
-    -- for want of memory
+    -- for lack of memory
     pub memory_refused : Steps tells t call (core_over Opens index p.store s) (core_over Opens index p.store new) NoMemory
     memory_refused = steps_same tells Opens index p s new t call NoMemory same kept.safe refl refl refl (λ told.
         step_of (limits_of p.store.shape) (Some calls) s s t call NoMemory (shows.dead ∙ alive) is (asks_at (limits_of p.store.shape) calls s s t call NoMemory of
         (saves_at index p s shows (tied told).mirrors (tells_writes.held told alive) t ((tied told).sound.right t) call has) (inl (refl, refl))))
 
-    -- while another caller holds its keys
+    -- because another caller holds its keys
     pub busy_refused : (holder : ℕ) → IsBusyWith s t call holder → Steps tells t call (core_over Opens index p.store s) (core_over Opens index p.store new) (Busy holder)
     busy_refused holder busy = steps_same tells Opens index p s new t call (Busy holder) same kept.safe refl refl refl (λ told.
         step_of (limits_of p.store.shape) (Some calls) s s t call (Busy holder) (shows.dead ∙ alive) is (asks_at (limits_of p.store.shape) calls s s t call (Busy holder) of
         (saves_at index p s shows (tied told).mirrors (tells_writes.held told alive) t ((tied told).sound.right t) call has) (inr (inl (holder, busy, (refl, refl))))))
 
--- all is kept by a change that is none
+-- the invariant holds after no change
 pub kept_same : (tells : Bool) (Opens : Shape → List ℕ → List ℕ → Type 0) (index : below.Index) (p : PagesView) (s new : State) (count count' : ℕ) (rows : List (ℕ × List ℕ))
     → IsKept tells Opens index p count rows s → count' ≡ count → new ≡ s → IsKept tells Opens index p count' rows new
 kept_same tells Opens index p s new count count' rows kept counts same =

@@ -1,4 +1,4 @@
--- From what records do, a step of the core.
+-- A step of the core, given what the records do.
 use Rattle.std.proofs.Common.{◌≡◌, ◌<◌, ◌⊎◌, ℕ, inl, inr, Bool, true, false, ◌||◌, nat_eq, List, [], ◌∷◌, ◌++◌, length, filter, IsTrue, Option, Some, None, unwrap_or, refl, sym, ap, subst, ◌∙◌}
 use Rattle.std.specs.Prelude.{IsFalse, is_some, if◌then◌else◌}
 use Rattle.std.specs.FinMap.{get}
@@ -56,7 +56,7 @@ pub or_true : (b : Bool) → (b || true) ≡ true
 or_true true = refl
 or_true false = refl
 
--- what a refused call moves: nothing
+-- a refused call moves nothing
 pub moves_refused : (s new : State) (t : ℕ) (call : Call) (answer : Reply) → new.base ≡ s.base → new.history ≡ s.history → new.live ≡ s.live → new.is_dead ≡ (s.is_dead || is_media answer)
     → is_refusal answer ≡ true → is_committed answer ≡ false → Moves s t call answer new
 moves_refused s new t call answer base history live dead refusal plain = record {
@@ -96,7 +96,7 @@ moves_granted s new t calls call answer base history dead is live of granted pla
   refused = λ refusal _. absurd (false≢true (sym granted ∙ refusal));
 }
 
--- a step of a core that is not dead, of a caller with these calls
+-- a step of a core that is not dead, by a caller with these calls
 pub step_of : (limits : Limits) (calls : Option Granted) (s new : State) (t : ℕ) (call : Call) (answer : Reply) → s.is_dead ≡ false → s.live t ≡ calls → StepAt limits calls s t call answer new → Step limits s t call answer new
 step_of limits calls s new t call answer alive is at =
     subst (λ (b : Bool). StepIf limits b s t call answer new) (sym alive) (subst (λ (o : Option Granted). StepAt limits o s t call answer new) (sym is) at)
@@ -134,7 +134,7 @@ module _ (tells : Bool) (Opens : Shape → List ℕ → List ℕ → Type 0) (in
     now = now;
   }
 
-  -- a refusal that leaves all as it was
+  -- a refusal that leaves everything as it was
   pub steps_same : (p : PagesView) (s new : State) (t : ℕ) (call : Call) (answer : Reply) → new ≡ s → (IsTrue tells → IsSafe (core_over Opens index p.store s) p.store.moment (length s.history))
       → is_refusal answer ≡ true → is_media answer ≡ false → is_committed answer ≡ false → (IsTrue tells → Step (limits_of p.store.shape) s t call answer s)
       → Steps tells t call (core_over Opens index p.store s) (core_over Opens index p.store new) answer
@@ -143,7 +143,7 @@ module _ (tells : Bool) (Opens : Shape → List ℕ → List ℕ → Type 0) (in
       (steps_of p p s s t call answer refl (moves_refused s s t call answer refl refl refl (sym (ap (λ (b : Bool). s.is_dead || b) no_media ∙ or_false s.is_dead)) refusal plain)
       (λ failed. absurd (false≢true (sym no_media ∙ failed))) (λ _. refl) step (λ told. stays p.store.moment p.store.left_since _) safe)
 
-  -- what a loss of power leaves within a call that leaves the table
+  -- what a loss of power leaves within a call that does not change the table
   pub time_same : (p q : PagesView) (s new : State) (A B : Table) → q.store.shape ≡ p.store.shape → A ≡ records_of s → B ≡ records_of s → new.base ≡ s.base → new.history ≡ s.history
       → LeavesOnly (λ image. OpensWith (Opens p.store.shape) index image A ⊎ OpensWith (Opens p.store.shape) index image B) p.store q.store
       → LeavesOnly (HasPrefixOf (OpensWith (Opens q.store.shape) index) new (length s.history)) p.store q.store
@@ -160,13 +160,13 @@ module _ (tells : Bool) (Opens : Shape → List ℕ → List ℕ → Type 0) (in
       go image (inl o) = opened image A a o
       go image (inr o) = opened image B b o
 
--- the number of saves is that of counts
+-- there are as many saves as counts
 pub counts_is : (index : below.Index) (p : PagesView) (t : ℕ) → length ((state_of index p).saved t) ≡ length (p.counts t)
 counts_is index p t = length-map _ shown.writes_of ∙ length-map (p.counts t) _
 
 module _ (index : below.Index) (p : PagesView) (s : State) (shows : ShowsPages index p s) (mirrors : Mirrors (state_of index p) s)
     (held : (t g : ℕ) → held_on p t g ≡ length (filter (is_write_on p.store.shape (index.pairs p.store.state.bytes) g) ((state_of index p).writes t))) (t : ℕ) (right : IsRight (records_of s) (calls_of s t)) where
-  -- the saves that a call finds are those of its caller
+  -- the saves that a call finds are its caller's
   pub saves_at : (call : Call) → HasSaves (length ((state_of index p).saved t)) call → SavesAt s t call
   saves_at Save saves = subst (λ (n : ℕ). n < 32) (saves_are (state_of index p) s mirrors t right) saves
   saves_at (Back n) saves = has_saves (state_of index p) s mirrors t right n ∙ has_save_is (state_of index p) t ((state_of index p).saved t) n saves.0 saves.1
@@ -190,7 +190,7 @@ module _ (index : below.Index) (p : PagesView) (s : State) (shows : ShowsPages i
   returns_at calls at Abort saves = tt
   returns_at calls at Begin saves = tt
 
-  -- a call that writes finds an entry
+  -- if a call writes, it finds an entry
   pub enters_at : (call : Call) (answer : Reply) (ix : Index) → IsOfTable call → table_causes.Fits index p (command_of t call) → Replies (state_of index p) t call answer
       → Indexes (limits_of p.store.shape) call answer s.index ix → Enters (limits_of p.store.shape) s t ix call answer
   enters_at (Put key value) answer ix of fits replies indexes =

@@ -56,14 +56,14 @@ module _ (calls : Granted) (mask : ℕ) (call : Call) (is : IsMaskOf calls mask)
   both_bits : (stripe : ℕ) → bit_at (bit_and mask (mask_of call)) stripe ≡ min (cond (touched calls stripe) 1 0) (cond (touches call stripe) 1 0)
   both_bits stripe = bit_at_and mask (mask_of call) stripe ∙ ap (λ (n : ℕ). min n (bit_at (mask_of call) stripe)) (is stripe) ∙ ap (min (cond (touched calls stripe) 1 0)) (mask_of_call call stripe)
 
-  -- where the masks share no bit, the call touches no stripe that was touched
+  -- if the masks share no bit, the call touches no stripe that was touched
   pub masks_apart : bit_and mask (mask_of call) ≡ 0 → (stripe : ℕ) → touches call stripe ≡ true → touched calls stripe ≡ true → ⊥
   masks_apart none stripe own at =
       let bit : min (cond (touched calls stripe) 1 0) (cond (touches call stripe) 1 0) ≡ 0 = sym (both_bits stripe) ∙ ap (λ (n : ℕ). bit_at n stripe) none ∙ bit_at-zero stripe in
       let one : min 1 1 ≡ 0 = subst (λ b. min (cond b 1 0) 1 ≡ 0) at (subst (λ b. min (cond (touched calls stripe) 1 0) (cond b 1 0) ≡ 0) own bit) in
       omega (arith, one)
 
--- a number passes a test, or none below n does
+-- some number below n passes a test, or none does
 search_below : (n : ℕ) (P : ℕ → Bool) → ((i : ℕ) × (P i ≡ true)) ⊎ ((i : ℕ) → i < n → P i ≡ false)
 search_below zero P = inr (λ i lt. absurd (omega (arith, lt)))
 search_below (suc n) P = elim (search_below n P) [
@@ -89,7 +89,7 @@ no_bits true false e = refl
 no_bits false true e = refl
 no_bits false false e = refl
 
--- where they share one, it touches such a stripe
+-- if the masks share a bit, the call touches such a stripe
 pub masks_meet : (calls : Granted) (mask : ℕ) (call : Call) → IsMaskOf calls mask → mask_of call < 2 ^ 64 → bit_and mask (mask_of call) ≢ 0
     → (stripe : ℕ) × (touches call stripe ≡ true) × (touched calls stripe ≡ true)
 masks_meet calls mask call is small some = elim (search_below 64 (λ stripe. touches call stripe && touched calls stripe)) [

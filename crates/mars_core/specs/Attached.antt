@@ -1,4 +1,4 @@
--- Why a core does not begin, and what it then leaves of the store.
+-- Why a core does not begin, and how it then leaves the store.
 use Rattle.std.specs.Prelude.{ℕ, ◌≡◌, Bool, true, false, IsTrue, IsFalse, List}
 use Rattle.counted.specs.Causes.{Rose}
 use Rattle.eaw_face.specs.StoreView.{StoreView, LeavesOnly}
@@ -14,12 +14,12 @@ abbrev pub is_media_fault : CoreFault → Bool
 is_media_fault Media = true
 is_media_fault _ = false
 
--- of data that is told the page is the first that fails
+-- if the store tells its data, the page is the first that fails
 abbrev pub CoreCause : Bool → Index → StoreView → CoreFault → Type 0
 CoreCause tells index old (Damaged page) = IsTrue tells → index.fails old.state.bytes page
 CoreCause tells index old _ = Unit {0}
 
--- why records were not taken, or not read
+-- why records could not be taken, or not be read
 abbrev pub attach_fault : AttachRecords → CoreFault
 attach_fault (table.Damaged page) = Damaged page
 attach_fault _ = Media
@@ -29,7 +29,7 @@ scan_fault (fault.Damaged page) = Damaged page
 scan_fault fault.NoMemory = NoMemory
 scan_fault _ = Media
 
--- The store that is given back, where the media failed or did not. Whatever a loss of power might have left meanwhile opens with the data
+-- The store that is given back, after a fault of the medium or none. Whatever a loss of power might have left meanwhile opens with the data
 -- that it had.
 pub record GivesBack (tells : Bool) (Opens : List ℕ → List ℕ → Type 0) (failed : Bool) (old new : StoreView) : Type 0 where
   pub shape : new.shape ≡ old.shape

@@ -1,4 +1,4 @@
--- What a core holds, and what it shows of that.
+-- What a core holds, and what it shows of it.
 use Rattle.std.specs.Prelude.{ℕ, List, Option}
 use Rattle.array_shape.specs.declared.shape.Shape.{Shape}
 use Rattle.eaw_face.specs.StoreView.{StoreView}
@@ -15,8 +15,8 @@ use Rattle.core_face.specs.Core.{CoreView}
 use Rattle.mars_core.specs.Over.{limits_of, index_of}
 use Rattle.mars_core.specs.Seats.{Seats, live_in}
 
--- The records below, over a store; the rows of the records at the opening; the callers' live transactions; the transactions committed
--- since; and the one in doubt.
+-- The records over a store, the rows of the records at the opening, the callers' live transactions, the transactions committed since, and
+-- the one in doubt.
 pub record Held (S : Type 0) : Type 0 where
   pub records : Shown S
   pub base : List (ℕ × List ℕ)
@@ -24,7 +24,7 @@ pub record Held (S : Type 0) : Type 0 where
   pub history : List Done
   pub doubt : Option Done
 
--- the state of these records at the opening, transactions committed since, live ones, and one in doubt, over what a store shows
+-- the state with these records at the opening, transactions committed since, live ones and one in doubt, over what a store shows
 abbrev pub state_at : Index → StoreView → Table → List Done → (ℕ → Option Granted) → Option Done → State
 state_at index store base history live doubt = record {
   base = base;

@@ -1,4 +1,4 @@
--- What a core keeps true.
+-- The invariant of a core.
 use Rattle.std.specs.Prelude.{ℕ, ◌≡◌, ◌≤◌, Bool, IsTrue, List, length}
 use Rattle.std.specs.FinMap.{entries}
 use Rattle.array_shape.specs.declared.shape.Shape.{Shape}
@@ -16,25 +16,25 @@ use Rattle.core_face.specs.Core.{IsSafe}
 use Rattle.mars_core.specs.Over.{limits_of}
 use Rattle.mars_core.specs.Held.{core_over}
 
--- The records below have the table of the history, and of each number the writes and the saves of its caller's granted calls.
+-- The records below have the table of the history and, for each number, the writes and saves of its caller's granted calls.
 pub record Mirrors (below : TableState) (state : State) : Type 0 where
   pub table : below.table ≡ records_of state
   pub writes : (caller : ℕ) → below.writes caller ≡ (log_of (calls_of state caller)).writes
   pub saved : (caller : ℕ) → below.saved caller ≡ (log_of (calls_of state caller)).saved
 
--- no logger holds more of a caller than it has entries
+-- no logger holds more of a caller than it has entries for
 abbrev pub HasHeld : Limits → State → Type 0
 HasHeld limits state = (caller g : ℕ) → held_on limits state caller g ≤ limits.entries
 
--- while the store is not dead
+-- what holds while the store is not dead
 pub record IsTied (index : Index) (pages : PagesView) (state : State) : Type 0 where
   pub index_sound : index.sound pages.store.state.bytes
   pub mirrors : Mirrors (state_of index pages) state
   pub sound : IsSound state
   pub room : HasHeld (limits_of pages.store.shape) state
 
--- There is a seat for each number; the rows at the opening are those of a table; what the records show is tied to the state; and
--- whatever may be left now opens with the whole history.
+-- There is a seat for each number. The rows at the opening are those of a table. What the records show is tied to the state. Whatever may
+-- be left now opens with the whole history.
 pub record IsKept (tells : Bool) (Opens : Shape → List ℕ → List ℕ → Type 0) (index : Index) (pages : PagesView) (count : ℕ) (rows : List (ℕ × List ℕ)) (state : State) : Type 0 where
   pub seats : count ≡ pages.store.shape.numbers
   pub in_order : IsTrue tells → entries (table_of rows) ≡ rows

@@ -1,4 +1,4 @@
--- The stripes that were touched, as the bits of a number.
+-- Sets of stripes as the bits of a number.
 use Rattle.std.specs.Prelude.{ℕ, ◌≡◌, ◌^◌, ◌-◌, if◌then◌else◌}
 use Rattle.std.specs.Int.{bit_at}
 use Rattle.history.specs.Table.{Granted}
@@ -14,6 +14,6 @@ mask_of (Del key) = 2 ^ stripe_of key
 mask_of (Scan low high) = 2 ^ 64 - 1
 mask_of _ = 0
 
--- the bit of each stripe says whether the calls touched it
+-- each stripe's bit says whether the calls touched it
 abbrev pub IsMaskOf : Granted → ℕ → Type 0
 IsMaskOf calls mask = (stripe : ℕ) → bit_at mask stripe ≡ (if touched calls stripe then 1 else 0)

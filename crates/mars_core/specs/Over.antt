@@ -1,4 +1,4 @@
--- A core over a store: what it shows of that, and how it begins.
+-- A core over a store: what it shows of it, and how it begins.
 use Rattle.std.specs.Prelude.{ℕ, ◌≡◌, Bool, IsTrue, List, [], None}
 use Rattle.array_shape.specs.declared.shape.Shape.{Shape}
 use Rattle.eaw_face.specs.StoreView.{StoreView, LeavesOnly}
@@ -20,7 +20,7 @@ limits_of shape = record { callers = shape.numbers; slots = slots_of shape; inde
 abbrev pub index_of : Keys → face.Index
 index_of keys = record { slot_of = found keys.pairs; next_slot = keys.next_slot; next_page = keys.next_page; level = keys.level }
 
--- The core shows its store; and while that is not dead, its data is a sound index with the records of the history.
+-- The core shows its store. While the store is not dead, its data is a sound index with the records of the history.
 pub record IsOver (tells : Bool) (Opens : List ℕ → List ℕ → Type 0) (index : Index) (store : StoreView) (core : CoreView) : Type 0 where
   pub limits : core.limits ≡ limits_of store.shape
   pub faults : core.faults ≡ store.faults
@@ -32,8 +32,8 @@ pub record IsOver (tells : Bool) (Opens : List ℕ → List ℕ → Type 0) (ind
   pub sound : IsTrue tells → IsAlive store → index.sound store.state.bytes
   pub table : IsTrue tells → IsAlive store → table_of index store.state.bytes ≡ records_of core.state
 
--- It begins with the records of the store's data, which is a sound index; whatever a loss of power might have left meanwhile opens with
--- that data's records.
+-- The core begins with the records of the store's data, which is a sound index. Whatever a loss of power might have left meanwhile opens
+-- with that data.
 pub record Begins (tells : Bool) (Opens : List ℕ → List ℕ → Type 0) (index : Index) (old new : StoreView) (core : CoreView) : Type 0 where
   pub over : IsOver tells Opens index new core
   pub alive : IsAlive new

@@ -10,19 +10,19 @@ use Rattle.core_face.specs.State.{State}
 abbrev pub Seats : Type 0
 Seats = List (Option Granted)
 
--- beyond the callers there is none
+-- a caller's live transaction; beyond the callers there is none
 abbrev pub live_in : Seats → ℕ → Option Granted
 live_in seats caller = option_and_then (λ calls. calls) (slice_get seats caller)
 
--- the granted calls of a caller
+-- a caller's granted calls, none if it has no live transaction
 abbrev pub calls_at : Seats → ℕ → Granted
 calls_at seats caller = unwrap_or (live_in seats caller) []
 
--- one caller has this live transaction now, or none
+-- this caller's live transaction is now this one, or none, and the others' are as they were
 pub record Seated (old : Seats) (caller : ℕ) (calls : Option Granted) (new : Seats) : Type 0 where
   pub count : length new ≡ length old
   pub live : live_in new ≡ update nat_eq (live_in old) caller calls
 
--- a state of which these live transactions alone are told
+-- a state with these live transactions and nothing else
 abbrev pub bare : Seats → State
 bare seats = record { base = empty; history = []; live = live_in seats; doubt = None; is_dead = false; index = record { slot_of = λ key. None; next_slot = 0; next_page = 0; level = 0 } }

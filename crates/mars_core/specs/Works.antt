@@ -1,4 +1,4 @@
--- A call of a transaction, as records make it.
+-- A call of a transaction, as the records make it.
 use Rattle.std.specs.Prelude.{ℕ, ◌≡◌, ◌≤◌, ◌<◌, ◌+◌, ◌⊎◌, Bool, true, IsTrue, IsFalse, List, length, filter, Result, OnOk, OnErr, IfOk}
 use Rattle.std.specs.FinMap.{get}
 use Rattle.counted.specs.Causes.{Rose}
@@ -23,7 +23,7 @@ use Rattle.record_table.specs.declared.fault.TableFault.TheVariants.{SlotsFull, 
 use Rattle.core_face.specs.Fate.{is_refusal, is_committed}
 use Rattle.mars_core.specs.declared.asking.Answer.{Answer}
 
--- the call of records that a caller's call makes; a begin is none, and looks at nothing
+-- the call of records for a caller's call; a begin has none, so a look stands for it
 abbrev pub command_of : ℕ → Call → TableCommand
 command_of t (Get key) = look t key
 command_of t (Put key value) = put t key value
@@ -35,14 +35,14 @@ command_of t Commit = commit t
 command_of t Abort = abort t
 command_of t Begin = look t 0
 
--- a call that records answer
+-- a call that the records answer
 abbrev pub IsOfTable : Call → Type 0
 IsOfTable Begin = ⊥
 IsOfTable Commit = ⊥
 IsOfTable Abort = ⊥
 IsOfTable _ = Unit {0}
 
--- the reply on what the number sees
+-- the reply, from what the number sees
 abbrev pub Replies : TableState → ℕ → Call → Reply → Type 0
 Replies s t (Get key) answer = answer ≡ found (get (seen_by s t) key)
 Replies s t (Put key value) answer = answer ≡ Fine
@@ -63,7 +63,7 @@ reply_to Dead = reply.Dead
 reply_to (Damaged page) = reply.Damaged page
 reply_to NoMemory = reply.NoMemory
 
--- The records made the call as number t. Its answer has two equal replies, and no refusal.
+-- The records made the call as number t. Its answer has the same reply twice, which is no refusal.
 pub record Works (tells : Bool) (Opens : List ℕ → List ℕ → Type 0) (index : Index) (t : ℕ) (call : Call) (old new : PagesView) (result : Result Answer TableFault) : Type 0 where
   pub shape : new.store.shape ≡ old.store.shape
   pub cause : Cause tells index (command_of t call) old result
@@ -79,19 +79,19 @@ pub record Works (tells : Bool) (Opens : List ℕ → List ℕ → Type 0) (inde
   pub plain : IfOk result (λ answer. IsFalse (is_committed answer.told))
   pub replies : IsTrue tells → IfOk result (λ answer. Replies (state_of index old) t call answer.told)
 
--- a save or a way back finds these saves of its transaction: fewer than 32, or the one that it names
+-- a save or a way back finds what it needs: fewer than 32 saves, or the one that it names
 abbrev pub HasSaves : ℕ → Call → Type 0
 HasSaves saves Save = saves < 32
 HasSaves saves (Back n) = (0 < n) × (n ≤ saves)
 HasSaves saves _ = Unit {0}
 
--- it does not, and is refused so
+-- it does not, and this is the refusal
 abbrev pub IsSaveRefusal : ℕ → Call → Reply → Type 0
 IsSaveRefusal saves Save answer = (32 ≤ saves) × (answer ≡ reply.SavesFull)
 IsSaveRefusal saves (Back n) answer = ((0 < n) × (n ≤ saves) → ⊥) × (answer ≡ reply.NoSave n)
 IsSaveRefusal saves _ answer = ⊥
 
--- what records show of the writes that numbers have not committed, while their store is not dead: how many a logger holds, and that the
+-- what records show of the writes that numbers have not committed, while their store is not dead: how many each logger holds, and that the
 -- index has their keys
 pub record IsShown (tells : Bool) (index : Index) (old : PagesView) : Type 0 where
   pub held : IsTrue tells → IsAlive old.store → (t g : ℕ) → held_on old t g ≡ length (filter (is_write_on old.store.shape (index.pairs old.store.state.bytes) g) ((state_of index old).writes t))

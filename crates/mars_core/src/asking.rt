@@ -1,4 +1,4 @@
-// Calls of a transaction, made by the records.
+// Makes the calls of a transaction on the records.
 ghost use Rattle.std.specs.Prelude.{◌≡◌, ◌<◌, ◌≤◌, ℕ, length, IfSome, IfNone, IsErrOf, IsTrue};
 ghost use Rattle.eaw_face.specs.Causes.{IsAlive};
 ghost use Rattle.history.specs.declared.call.Call.TheVariants.{Get, Put, Del, Scan, Save, Back};
@@ -13,17 +13,17 @@ use record_slots::Value;
 use record_table::{Records, TableFault};
 use std::alloc::Global;
 
-// How often a transaction may save.
+// How many saves a transaction may have.
 const MOST_SAVES: u32 = 32;
 
-/// A reply of the one-thread table, once to be told and once to be kept among the granted calls.
+/// A reply of the one-thread table, once to give and once to keep with the granted calls.
 #[derive(Drop)]
 pub struct Answer {
     pub told: Reply,
     pub kept: Reply,
 }
 
-// The refusal of a call for the saves of its transaction, of which there are so many.
+// The refusal of a call because of the saves of its transaction, of which there are this many.
 pub fn refused_save(saves: u32, call: &Call) -> Option<Reply>
     ensures refused { IfSome result (IsSaveRefusal saves call.now) }
     ensures has { IfNone result (HasSaves saves call.now) }
@@ -126,7 +126,7 @@ fn del<S: EawStore, K: KeyIndex>(
     }
 }
 
-// The memory for the rows, which are told and kept, is taken here.
+// The memory for the rows, both those to give and those to keep, is taken here.
 fn scan<S: EawStore, K: KeyIndex>(
     alloc: Global,
     records: &mut Records<S, K>,

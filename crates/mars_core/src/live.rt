@@ -1,4 +1,4 @@
-// A live transaction: its granted calls, and the stripes that they touched.
+// A live transaction: its granted calls and the stripes that they touched.
 ghost use Rattle.std.specs.Prelude.{◌≡◌, [], ◌∷◌, ◌++◌, List, IfOk, OnOk, OnErr};
 ghost use Rattle.history.specs.Table.{Granted};
 ghost use Rattle.history.specs.declared.call.Call.{Call};
@@ -39,7 +39,7 @@ impl Live {
         }
     }
 
-    /// The calls of a transaction again, which touched these stripes.
+    /// A transaction again, from its calls and the stripes that they touched.
     pub fn of(calls: Calls, mask: u64) -> Live
         requires { IsMaskOf calls mask }
         ensures { result ≡ calls }
@@ -54,7 +54,7 @@ impl Live {
         self.mask
     }
 
-    /// Adds a call with its reply. At an error nothing has changed.
+    /// Adds a call with its reply. An error changes nothing.
     pub fn push(&mut self, call: &Call, reply: Reply) -> Result<(), NoMemory>
         ensures ok { OnOk result (self.new ≡ self.old ++ (call.now, reply) ∷ []) }
         ensures err { OnErr result (self.new ≡ self.old) }
@@ -64,7 +64,7 @@ impl Live {
         Ok(())
     }
 
-    /// Takes the last call off again; the others touched these stripes.
+    /// Removes the last call. `mask` has the stripes that the others touched.
     pub fn pop(&mut self, mask: u64)
         requires { (calls : Granted) × (call : Call) × (reply : Reply) × (self.old ≡ calls ++ (call, reply) ∷ []) × IsMaskOf calls mask }
         ensures { (calls : Granted) (entry : Call × Reply) → self.old ≡ calls ++ entry ∷ [] → self.new ≡ calls }

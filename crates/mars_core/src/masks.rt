@@ -4,7 +4,7 @@ ghost use Rattle.mars_core.specs.Masks.{mask_of};
 
 use history::Call;
 
-// A key's stripe is what its division by 64 leaves, and a scan touches all stripes.
+// A key's stripe is the key modulo 64. A scan touches all stripes.
 pub fn mask_of(call: &Call) -> u64
     ensures { result ≡ mask_of call.now }
 {

@@ -25,7 +25,7 @@ pub fn removed(was: bool) -> Reply
     if was { Reply::Fine } else { Reply::Absent }
 }
 
-// The refusal of a call of records.
+// A refusal of the records, as a reply.
 pub fn reply_to(fault: &TableFault) -> Reply
     ensures { result ≡ reply_to fault.now }
 {

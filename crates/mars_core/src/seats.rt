@@ -1,4 +1,4 @@
-// The callers: for each its live transaction, if it has one.
+// The callers, each with its live transaction if it has one.
 ghost use Rattle.std.specs.Prelude.{◌≡◌, ◌<◌, ◌≤◌, [], ◌∷◌, ◌++◌, List, ℕ, Some, None, IfOk, IfSome, IfNone, OnOk, OnErr, is_some, length};
 ghost use Rattle.history.specs.Table.{Granted};
 ghost use Rattle.history.specs.declared.call.Call.{Call};
@@ -30,7 +30,7 @@ impl Model for Seats {
 }
 
 impl Seats {
-    /// So many callers, without a live transaction.
+    /// `count` callers without a live transaction.
     pub fn new(alloc: Global, count: u8) -> Result<Seats, NoMemory>
         ensures { IfOk result (λ seats. (length seats ≡ count) × ((caller : ℕ) → live_in seats caller ≡ None)) }
     {
@@ -80,7 +80,7 @@ impl Seats {
         }
     }
 
-    /// Takes the last call of the caller's live transaction off again; the others touched these stripes.
+    /// Removes the last call of the caller's live transaction. `mask` has the stripes that the others touched.
     pub fn pop(&mut self, caller: u8, mask: u64)
         requires inside { caller < length self.old }
         requires last { (calls : Granted) × (call : Call) × (reply : Reply) × (live_in self.old caller ≡ Some (calls ++ (call, reply) ∷ [])) × IsMaskOf calls mask }
@@ -105,7 +105,7 @@ impl Seats {
         }
     }
 
-    /// Takes the caller's live transaction out.
+    /// Removes and returns the caller's live transaction.
     pub fn take(&mut self, caller: u8) -> Option<Live>
         requires { caller < length self.old }
         ensures live { result ≡ live_in self.old caller }
@@ -122,7 +122,7 @@ impl Seats {
         self.live[usize::from(caller)] = None;
     }
 
-    /// Gives the caller this live transaction.
+    /// Makes this the caller's live transaction.
     pub fn put(&mut self, caller: u8, live: Live)
         requires { caller < length self.old }
         ensures { Seated self.old caller (Some live) self.new }
@@ -130,7 +130,7 @@ impl Seats {
         self.live[usize::from(caller)] = Some(live);
     }
 
-    /// The lowest of the other callers whose live transaction touched a stripe of the call.
+    /// The lowest other caller whose live transaction has touched a stripe of the call.
     pub fn holder(&self, caller: u8, call: &Call) -> Option<u8>
         requires { length self.now ≤ 64 }
         ensures busy { IfSome result (IsBusyWith (bare self.now) caller call.now) }

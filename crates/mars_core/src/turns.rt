@@ -1,4 +1,4 @@
-// Callers by turns, over records.
+// Callers by turns over records.
 ghost use Rattle.std.specs.Prelude.{◌≡◌, ◌<◌, [], ℕ, Some, None, IfOk, IfErr, MatchOption, IsTrue, is_some, length};
 ghost use Rattle.std.specs.FinMap.{entries};
 ghost use Rattle.eaw_face.specs.Causes.{IsAlive};
@@ -28,8 +28,8 @@ use record_table::{AttachRecords, Records, TableFault};
 use std::alloc::Global;
 use std::marker::Model;
 
-/// Callers that take turns on records over a store, under an index. Each call locks the stripe of its key (of 64), and a scan all
-/// stripes, until its transaction ends.
+/// Callers that take turns on records over a store, under an index. Each call locks the stripe of its key (of 64), and a scan locks all
+/// stripes, until the transaction ends.
 #[derive(Drop)]
 pub struct Core<S: EawStore, K: KeyIndex> {
     alloc: Global,
@@ -37,7 +37,7 @@ pub struct Core<S: EawStore, K: KeyIndex> {
     base: Rows,
     seats: Seats,
     history: History,
-    /// The transaction whose commit met a fault of the media: it may be there or not.
+    /// The transaction whose commit met a fault of the medium. It may be durable or not.
     doubt: Option<Done>,
 }
 
@@ -56,8 +56,8 @@ impl<S: EawStore, K: KeyIndex> Model for Core<S, K> {
 }
 
 impl<S: EawStore, K: KeyIndex> Core<S, K> {
-    /// A core over a store that is not dead and has logged nothing: it begins with the records of the store's data. The store is given
-    /// back where they are no sound index, where the media failed, and for want of memory.
+    /// A core over a store that is not dead and has logged nothing. It begins with the records of the store's data. An error returns the
+    /// store: the data is not a sound index, the medium failed, or memory ran out.
     pub fn attach(alloc: Global, room: SaveRoom, store: S) -> Result<Core<S, K>, (CoreFault, S)>
         requires alive { IsAlive (S.view store) }
         requires idle { (t : ℕ) → listed ((S.view store).ranges t) ≡ [] }
@@ -88,7 +88,7 @@ impl<S: EawStore, K: KeyIndex> Core<S, K> {
         &self.base
     }
 
-    /// The transaction whose commit met a fault of the media.
+    /// The transaction whose commit met a fault of the medium.
     pub fn doubt(&self) -> Option<&Done>
         ensures { MatchOption result (self.now.doubt ≡ None) (λ done. self.now.doubt ≡ Some done.now) }
     {
@@ -143,7 +143,7 @@ impl<S: EawStore, K: KeyIndex> Core<S, K> {
         Reply::Fine
     }
 
-    // A call of a transaction on the records.
+    // Makes a call of a transaction on the records.
     fn ask(&mut self, caller: u8, call: &Call) -> Reply
         requires inside { caller < (S.view self.old.records.store).shape.numbers }
         requires alive { IsAlive (S.view self.old.records.store) }
@@ -158,7 +158,7 @@ impl<S: EawStore, K: KeyIndex> Core<S, K> {
         if let Some(refusal) = refused_save(self.records.saves(caller), call) {
             return refusal;
         }
-        // The call is kept before it is made, so that nothing is written for which there is no memory.
+        // The call is kept before it is made, so that nothing is written that there is no memory to keep.
         let before = self.seats.touched(caller);
         match self.seats.push(caller, call) {
             Ok(()) => {}
@@ -195,7 +195,7 @@ impl<S: EawStore, K: KeyIndex> Core<S, K> {
             unreachable!();
         };
         let mask = live.touched();
-        // The history takes the transaction first, so that nothing is committed for which it has no memory.
+        // The history takes the transaction first, so that nothing is committed that there is no memory to keep.
         match self.history.push(Done {
             caller,
             calls: live.into_calls(),
@@ -264,7 +264,7 @@ impl<S: EawStore, K: KeyIndex> Steps for Core<S, K> {
     }
 }
 
-// Takes the records at the opening, and makes room for the callers.
+// Reads the records at the opening and makes room for the callers.
 fn begin_over<S: EawStore, K: KeyIndex>(
     alloc: Global,
     records: Records<S, K>,
@@ -297,7 +297,7 @@ fn begin_over<S: EawStore, K: KeyIndex>(
     })
 }
 
-// Why records were not taken.
+// Why records could not be taken.
 fn attach_fault(fault: &AttachRecords) -> CoreFault
     ensures { result ≡ attach_fault fault.now }
 {
@@ -308,7 +308,7 @@ fn attach_fault(fault: &AttachRecords) -> CoreFault
     }
 }
 
-// Why they were not read.
+// Why the records could not be read.
 fn scan_fault(fault: &TableFault) -> CoreFault
     ensures { result ≡ scan_fault fault.now }
 {

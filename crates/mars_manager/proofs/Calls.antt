@@ -1,4 +1,4 @@
--- What a whole turn tells, from what its steps tell and from the core's step.
+-- What a whole turn guarantees, given what its steps guarantee and what the core's step does.
 use Rattle.std.proofs.Common.{◌≡◌, ℕ, ◌+◌, Bool, true, false, List, [], ◌∷◌, ◌++◌, length, Option, Some, None, refl, sym, ap, ◌∙◌, subst, arith, map, length-append}
 use Rattle.std.specs.Prelude.{IsTrue, MatchBool, unwrap_or}
 use Rattle.std.specs.FinMap.{get}
@@ -51,7 +51,7 @@ answer_none work Save reply answers = ap is_committed answers
 answer_none work (Back n) reply answers = ap is_committed answers.1
 answer_none work _ reply answers = absurd answers
 
--- where the core tells its records, a commit's number is told
+-- if the core tells its records, the reply to a commit has its number
 number_at : (old : State) (caller : ℕ) (call : Call) (reply : Reply) (new : State) → Fate old caller call reply new → is_committed reply ≡ true → reply ≡ Committed (length old.history + 1)
 number_at old caller call reply new (refused refusal sure index e) is = absurd (true≢false (sym is ∙ refusal_none reply refusal))
 number_at old caller call reply new (failed r index e) is = absurd (true≢false (sym is ∙ ap is_committed r))
@@ -129,7 +129,7 @@ module _ {C : Type 0} (f : Face C) where
   abbrev Sat : Type 0
   Sat = Me (Option C) (View C)
 
-  -- the seat once the core is home again
+  -- the seat once the core is back in its slot
   pub homed : (m0 m1 m2 m3 : Sat) (k : Known C) (core new : C) (a : Option C) → m0 ≡ (shared_view (k ∷ []) None, []) → m1 ≡ (shared_view m0.0.passes (Some core), out core) → m2 ≡ (m1.0, (0, a) ∷ rest m1.1)
       → m3 ≡ (m2.0, (0, Some new) ∷ rest m2.1) → m3 ≡ (shared_view (k ∷ []) (Some core), out new)
   homed m0 m1 m2 m3 k core new a e0 e1 e2 e3 =
@@ -138,7 +138,7 @@ module _ {C : Type 0} (f : Face C) where
       let H : Sat → Sat = λ m. (shared_view m.0.passes (Some core), out core) in
       e3 ∙ ap F e2 ∙ ap (λ (m : Sat). F (G m)) e1 ∙ ap (λ (m : Sat). F (G (H m))) e0
 
-  -- the seat once the length is told
+  -- the seat once the length is published
   pub told_seat : (m3 m4 : Sat) (k : Known C) (call : Call) (reply : Reply) (core new : C) → m3 ≡ (shared_view (k ∷ []) (Some core), out new) → ((c : C) → m3.1 ≡ out c → m4 ≡ (shared_view (map (shown f call reply c) m3.0.passes) (Some c), m3.1))
       → m4 ≡ (shared_view (shown f call reply new k ∷ []) (Some new), out new)
   told_seat m3 m4 k call reply core new e tells =

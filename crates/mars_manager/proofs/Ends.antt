@@ -72,7 +72,7 @@ module _ {C : Type 0} (f : Face C) (setup : Setup C) where
   abbrev count : ℕ → List (View C) → ℕ
   count n vs = total (λ (v : View C). times n v.passes) vs
 
-  -- the rule at the start
+  -- the rule holds at the start
   pub begins : Rule f setup (opening (0 ∷ 0 ∷ []) (None ∷ []) (opener Vacant setup))
   begins = inl (record { words = refl; homes = refl; views = refl })
 
@@ -167,7 +167,7 @@ module _ {C : Type 0} (f : Face C) (setup : Setup C) where
   not_holder : (s : St) (core : C) (x : IsHeld core s) (id : ℕ) (v : V) → get_elem? s.views id ≡ some v → v.held ≡ None → x.seat ≢ id
   not_holder s core x id v at idle e = some≢none core (sym x.holds ∙ ap (λ (u : V). u.held) (same_at s.views id x.holder v (subst (λ i. get_elem? s.views i ≡ some x.holder) e x.there) at) ∙ idle)
 
-  -- the views after a pass was dealt out, one by one
+  -- the views after a pass was dealt out
   after_deal : (P : ℕ → V → Type 0) (vs : List V) (id : ℕ) (left right : V) → P id left → ((j : ℕ) → P j right) → ((j : ℕ) (v : V) → get_elem? vs j ≡ some v → P j v) → (j : ℕ) (v : V) → get_elem? (set vs id left ++ right ∷ []) j ≡ some v → P j v
   after_deal P vs id left right a b each j v e =
       ⊎_elim
@@ -276,7 +276,7 @@ module _ {C : Type 0} (f : Face C) (setup : Setup C) where
   gathers_keeps id other ks ls s rule at apart there =
       inr (inr (gathered_by s id other ks ls (is_open f setup s id (shared_view ks None) rule at refl) at apart (sym (set_else s.views id other (shared_view (ks ++ ls) None) apart) ∙ there)))
 
-  -- what the end tells of the core in the slot
+  -- what is known of the core in the slot at the end
   pub record Ended (ks : List (Known C)) (core : C) : Type 0 where
     pub notes : ℕ → Notes
     pub fit : AllFit setup (f.show core).state notes ks
@@ -303,7 +303,7 @@ module _ {C : Type 0} (f : Face C) (setup : Setup C) where
       absurd (omega arith))
       h.place
 
-  -- the moves, at a seat that is known
+  -- the moves at a given seat
   pub begins_as : (slots id : ℕ) (m : Sat) → m ≡ (opener Vacant setup, []) → Allows (Rule f setup) slots id m 0 (λ _. 1) (λ _. began (step slots 0 1 0 none) m 1)
   begins_as slots id m e = subst (λ (m : Sat). Allows (Rule f setup) slots id m 0 (λ _. 1) (λ _. began (step slots 0 1 0 none) m 1)) (sym e) (begins_keeps slots id)
 

@@ -17,7 +17,7 @@ pub gained_slots : (first now : Index) (keys : List ℕ) → Gained first keys n
 gained_slots first now [] g = let e = g.1 in omega arith
 gained_slots first now (key ∷ keys) g = let i = gained_slots first g.0 keys g.1 in let e = g.4 in omega arith
 
--- a key that an index lacks is none of those that it has gained, and it was lacking at first
+-- a key that an index lacks is none of those that it has gained, and the index lacked it at first
 apart_one : (key other : ℕ) (before now : Index) → now.slot_of ≡ update nat_eq before.slot_of key (Some before.next_slot) → now.slot_of other ≡ None → other ≢ key
 apart_one key other before now set lacks same =
     some_none before.next_slot (sym (update_here before.slot_of key (Some before.next_slot)) ∙ ap (λ (f : ℕ → Option ℕ). f key) (sym set) ∙ subst (λ k. now.slot_of k ≡ None) same lacks)

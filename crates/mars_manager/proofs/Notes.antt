@@ -1,4 +1,4 @@
--- What is so of what callers have asked for and met, along steps.
+-- What holds along steps of what callers have asked for and met.
 use Rattle.std.proofs.Common.{◌≡◌, ◌≢◌, ◌⊎◌, ◌||◌, ◌&&◌, ℕ, ◌-◌, ◌<◌, ◌≤◌, inl, inr, ⊎_elim, List, [], ◌∷◌, ◌++◌, Bool, true, false, not, Option, Some, None, refl, sym, ap, ◌∙◌, subst, arith, eqb, eq-eqb, ne_eqb}
 use Rattle.std.specs.Prelude.{nat_eq, IsTrue, IsFalse, unwrap_or, if◌then◌else◌}
 use Rattle.std.specs.List.{list_any}
@@ -64,7 +64,7 @@ index_moves limits (Back n) reply old new i = same_index limits (Back n) old new
 index_moves limits Commit reply old new i = same_index limits Commit old new i
 index_moves limits Abort reply old new i = same_index limits Abort old new i
 
--- where all slots are given, no key is gained
+-- if all slots are given out, no key is gained
 slots_stay : (limits : Limits) (call : Call) (old new : Index) → IndexMoves limits call old new → old.next_slot ≡ limits.slots → new.next_slot ≡ limits.slots
 slots_stay limits call old new moves full = ⊎_elim (λ keeps. keeps.slots ∙ full) (λ gains. let l = gains.3.left in absurd (omega arith)) moves.keys
 
@@ -83,7 +83,7 @@ gained_same : (first : Index) (keys : List ℕ) (old new : Index) → KeepsKeys 
 gained_same first [] old new keeps g = (keeps.slot_of ∙ g.0, keeps.slots ∙ g.1)
 gained_same first (key ∷ keys) old new keeps g = (g.0, g.1, g.2, keeps.slot_of ∙ g.3, keeps.slots ∙ g.4)
 
--- what a reply says of the state before a step, and of the index behind it
+-- what a reply says of the state before a step and of the index after it
 abbrev pub Told : Limits → State → ℕ → State → Call → Reply → Type 0
 Told limits old caller new call (Busy holder) = Blocks old caller call holder
 Told limits old caller new call (SlotsFull n) = (n ≡ limits.slots) × (new.index.next_slot ≡ limits.slots)
@@ -196,7 +196,7 @@ module _ (limits : Limits) (old : State) (caller : ℕ) (new : State) where
   pub step_left : (call : Call) (reply : Reply) → Step limits old caller call reply new → Left limits old caller new call reply
   step_left call reply step = left_if old.is_dead call reply refl step
 
--- the notes of one caller are others
+-- the notes with those of one caller replaced
 abbrev pub put_note : (ℕ → Notes) → ℕ → Notes → ℕ → Notes
 put_note notes caller note other = if eqb other caller then note else notes other
 
@@ -206,7 +206,7 @@ note_here notes caller note = ap (λ b. if b then note else notes caller) (eq-eq
 pub note_apart : (notes : ℕ → Notes) (caller : ℕ) (note : Notes) (other : ℕ) → other ≢ caller → put_note notes caller note other ≡ notes other
 note_apart notes caller note other ne = ap (λ b. if b then note else notes other) (ne_eqb other caller ne)
 
--- a call more, with its reply
+-- the notes of a caller with one more call and its reply
 abbrev pub added : Notes → Call → Reply → Option Done → Notes
 added note call reply doubt = record { asked = note.asked ++ call ∷ []; hit = note.hit ++ hits_of call reply; doubt = doubt }
 
@@ -257,7 +257,7 @@ hits_media call reply e =
     let hit : hits_of call reply ≡ one = ap (λ b. if b then one else []) (or_left (is_noted reply) (is_begin call && not (is_refusal reply)) (media_noted reply e)) in
     ap has_media hit ∙ or_left (is_media reply) false e
 
--- a reply adds a fault of the media just where it tells one
+-- a reply adds a fault of the medium only if it reports one
 media_hits : (call : Call) (reply : Reply) → has_media (hits_of call reply) ≡ true → is_media reply ≡ true
 media_hits call reply = go (is_noted reply || (is_begin call && not (is_refusal reply)))
   where
@@ -296,11 +296,11 @@ module _ (callers : ℕ) (old new : State) (caller : ℕ) (call : Call) (reply :
       (sym (list_any-append (λ entry. is_media entry.1) (notes caller).hit (hits_of call reply)) ∙ sym (ap has_media hits_here) ∙ subst (λ c. has_media (hits c) ≡ true) same e)))
       (λ (ne : other ≢ caller). or_left old.is_dead (is_media reply) (met.met other (sym (ap (λ (n : Notes). has_media n.hit) (note_apart notes caller note other ne)) ∙ e)))
 
-  -- the media has failed just where a caller was told so, also behind a step
+  -- after a step, too, the medium has failed exactly when a caller was told so
   pub met_step : IsDeadAsMet callers new (put_note notes caller note)
   met_step = record { cause = cause_now; met = met_now }
 
--- and where nobody has called
+-- and also if nobody has called
 pub none_met : (callers : ℕ) (state : State) → state.is_dead ≡ false → IsDeadAsMet callers state (λ caller. record { asked = []; hit = []; doubt = None })
 none_met callers state alive = record {
   cause = λ dead. absurd (true≢false (sym dead ∙ alive));
@@ -438,7 +438,7 @@ module _ (limits : Limits) (callers : ℕ) (first : Index) (old new : State) (ca
       (λ (same : other ≡ caller). subst (λ c. (notes' c).doubt ≡ doubt_of c new.doubt) (sym same) (ap (λ (n : Notes). n.doubt) (note_here notes caller (added (notes caller) call reply (doubt_of caller new.doubt)))))
       (λ (ne : other ≢ caller). ap (λ (n : Notes). n.doubt) (note_apart notes caller (added (notes caller) call reply (doubt_of caller new.doubt)) other ne) ∙ noted.doubt other ∙ doubt_stays old.is_dead refl step other ne)
 
-  -- and it is of one of these callers.
+  -- and it belongs to one of these callers.
   owner_now : (done : Done) → new.doubt ≡ Some done → done.caller < callers
   owner_now done is = ⊎_elim
       (λ e. noted.owner done (sym e ∙ is))
@@ -448,7 +448,7 @@ module _ (limits : Limits) (callers : ℕ) (first : Index) (old new : State) (ca
   pub noted_step : AreNoted limits callers first new notes'
   noted_step = record { live = live_now; keys = keys_now; stand = stand_now; doubt = doubt_now; owner = owner_now }
 
--- where nobody has called
+-- if nobody has called
 pub none_noted : (limits : Limits) (callers : ℕ) (state : State) → ((caller : ℕ) → state.live caller ≡ None) → state.is_dead ≡ false → state.doubt ≡ None
     → AreNoted limits callers state.index state (λ caller. record { asked = []; hit = []; doubt = None })
 none_noted limits callers state none alive certain = record {

@@ -1,4 +1,4 @@
--- Histories along steps, and what holds of a core since it was shared.
+-- Histories along steps, and what holds for a core since it was shared.
 use Rattle.std.proofs.Common.{◌≡◌, ◌≢◌, ◌||◌, ℕ, [], ◌∷◌, ◌++◌, length, Bool, true, false, refl, sym, ap, ◌∙◌, subst, arith, eq-eqb, ne_eqb}
 use Rattle.std.specs.Prelude.{nat_eq, IsTrue, IsFalse, MatchBool, if◌then◌else◌}
 use Rattle.std.proofs.lemmas.List.{append-nil}
@@ -15,7 +15,7 @@ use Rattle.core_face.proofs.Continuing.{grows_none, continues_none, continues_st
 use Rattle.mars_manager.specs.Pass.{commits_of}
 use Rattle.mars_manager.specs.Sharing.{CanShare, Since}
 
--- a step's history goes on, by none or by one
+-- a step extends the history by one transaction or none
 pub after_grows : (old : State) (caller : ℕ) (reply : Reply) → Grows old.history (history_after old caller reply)
 after_grows old caller reply = go (is_committed reply)
   where
@@ -37,7 +37,7 @@ own_commits old caller reply = go (is_committed reply)
         ∙ ap (λ l. commits_of caller old.history ++ l) (one_of caller (done_by old caller (calls_of old caller)) true (eq-eqb caller caller refl))
     go false = refl
 
--- and another's stay.
+-- and another caller's stay.
 pub other_commits : (old : State) (caller other : ℕ) (reply : Reply) → other ≢ caller → commits_of other (history_after old caller reply) ≡ commits_of other old.history
 other_commits old caller other reply apart = go (is_committed reply)
   where
@@ -47,7 +47,7 @@ other_commits old caller other reply apart = go (is_committed reply)
         ∙ append-nil (commits_of other old.history)
     go false = refl
 
--- A core that can be shared is one that it has come to,
+-- A core that can be shared has come to itself,
 pub since_shared : (tells : Bool) (callers : ℕ) (core : CoreView) → CanShare tells callers core → Since tells core core
 since_shared tells callers core can = record {
   limits = refl;

@@ -45,7 +45,7 @@ abbrev pub top_of : {A : Type 0} → List (ℕ × Option A) → Option A
 top_of [] = None
 top_of (x ∷ xs) = x.1
 
--- what a seat carries
+-- what the holder of the turn carries
 abbrev pub out : {A : Type 0} → A → List (ℕ × Option A)
 out x = (0, Some x) ∷ []
 
@@ -87,14 +87,14 @@ module _ {C : Type 0} (f : Face C) (setup : Setup C) where
       ⊎_elim (λ (x : IsOpening setup s). let e = at_only (opener Opening setup) id v (subst (λ l. get_elem? l id ≡ some v) x.views at) in opening≢shared (ap (λ (u : V). u.stage) e ∙ two)) (λ (k : IsKept f setup s). k) y)
       rule
 
-  -- two seats that stand for one pass are one seat
+  -- seats that stand for the same pass are the same seat
   pub one_seat : (s : St) → IsKept f setup s → (n i j : ℕ) (v w : V) → get_elem? s.views i ≡ some v → get_elem? s.views j ≡ some w → 0 < times n v.passes → 0 < times n w.passes → i ≡ j
   one_seat s h n i j v w e o a b = dite (ℕ_discrete i j) (λ (same : i ≡ j). same) (λ (ne : i ≢ j). let t = total_two (λ (v : View C). times n v.passes) s.views i j v w ne e o in let u = h.once n in absurd (omega arith))
 
   same_at : (vs : List V) (i : ℕ) (v w : V) → get_elem? vs i ≡ some v → get_elem? vs i ≡ some w → v ≡ w
   same_at vs i v w a b = some-injective v w (sym a ∙ b)
 
-  -- the counts, where a seat stands for the same passes after a step
+  -- the counts stay if a seat stands for the same passes after a step
   same_count : (n : ℕ) (vs : List V) (id : ℕ) (v w : V) → get_elem? vs id ≡ some v → times n w.passes ≡ times n v.passes → count n (set vs id w) ≡ count n vs
   same_count n vs id v w at e = let t = total_set (λ (v : View C). times n v.passes) vs id v w at in omega arith
 
@@ -397,7 +397,7 @@ module _ {C : Type 0} (f : Face C) (setup : Setup C) where
         (refl, ((let l = grows_longer k.seen (f.show h.core).state.history mine.seen in let e = h.told in omega arith), (let o = mine.heard in let e = h.told in omega arith), tt)),
       )
 
-  -- the moves, at a seat that is known
+  -- the moves at a given seat
 
   pub takes_turn_as : (slots id turn : ℕ) (k : Known C) (m : Sat) → m ≡ (shared_view (k ∷ []) None, []) → turn ≡ k.number + 1
       → Allows (Rule f setup) slots id m 0 (λ n. either (eqb n 0) turn n) (takes_turn f (step slots 0 0 turn none) m)

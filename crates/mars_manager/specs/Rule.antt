@@ -1,5 +1,5 @@
--- The rule of the table, and what each step tells. Word 0 is the turn: 0, or one more than the number of the pass that has it. Word 1 is
--- the length of the history that was told last. The slot has the core while the turn is free.
+-- The rule of the table, and what each step guarantees. Word 0 is the turn: 0, or one more than the number of the pass that has it. Word 1
+-- is the length of the history as last published. The slot has the core while the turn is free.
 use Rattle.std.specs.Prelude.{ℕ, ◌≡◌, ◌≢◌, ◌⊎◌, ◌+◌, ◌<◌, ◌≤◌, Bool, IsTrue, List, [], ◌∷◌, map, length, slice_index, Option, Some, None}
 use mathlib.Core.Option.{some}
 use lib.ListN.{get_elem?}
@@ -22,12 +22,12 @@ pub record Face (C : Type 0) : Type 1 where
   pub show : C → CoreView
 
 module _ {C : Type 0} where
-  -- no pass has seen or heard more
+  -- no pass has seen or heard of a longer history
   abbrev pub AllHeard : ℕ → List (Known C) → Type 0
   AllHeard n [] = Unit {0}
   AllHeard n (known ∷ others) = (length known.seen ≤ n) × (known.heard ≤ n) × AllHeard n others
 
-  -- each pass is of a sharing of at least so many callers
+  -- each pass belongs to a core that is shared by at least so many callers
   abbrev pub AreAbove : ℕ → List (Known C) → Type 0
   AreAbove n [] = Unit {0}
   AreAbove n (known ∷ others) = ((setup : Setup C) → known.setup ≡ Some setup → n ≤ setup.callers) × AreAbove n others
@@ -39,13 +39,13 @@ module _ {C : Type 0} where
   total count [] = 0
   total count (one ∷ others) = count one + total count others
 
-  -- the turn is free, and the core is at home
+  -- the turn is free, and the core is in its slot
   pub record IsFree (core : C) (s : State (Option C) (View C)) : Type 0 where
     pub turn : slice_index s.words 0 ≡ 0
     pub home : get_elem? s.homes 0 ≡ some (some (Some core))
     pub nobody : (i : ℕ) (v : View C) → get_elem? s.views i ≡ some v → v.held ≡ None
 
-  -- one seat alone has the turn: that of the pass with the number. It has told of this core.
+  -- just one seat has the turn, that of the pass with this number, and it last reported this core
   pub record IsHeld (core : C) (s : State (Option C) (View C)) : Type 0 where
     pub number : ℕ
     pub seat : ℕ
@@ -56,7 +56,7 @@ module _ {C : Type 0} where
     pub has : 0 < times number holder.passes
     pub others : (i : ℕ) (v : View C) → i ≢ seat → get_elem? s.views i ≡ some v → v.held ≡ None
 
-  -- before the opener has given the turn for the first time, there is no other seat
+  -- nothing has happened yet: the only seat is the opener's
   pub record IsFresh (setup : Setup C) (s : State (Option C) (View C)) : Type 0 where
     pub words : s.words ≡ 0 ∷ 0 ∷ []
     pub homes : s.homes ≡ some None ∷ []
@@ -68,8 +68,8 @@ module _ {C : Type 0} where
     pub views : s.views ≡ opener Opening setup ∷ []
 
   module _ (f : Face C) where
-    -- From then on: of the core that was told of last, told is the length of its history, what each pass knows is so of it, and it is one
-    -- that the shared core has come to. Each caller has its pass once.
+    -- From the opening on: the core that was reported last is one that the shared core has come to. The length of its history is published,
+    -- and what each pass knows is true of it. No caller has two passes.
     pub record IsKept (setup : Setup C) (s : State (Option C) (View C)) : Type 0 where
       pub core : C
       pub notes : ℕ → Notes
@@ -91,7 +91,7 @@ module _ {C : Type 0} where
     abbrev pub Rule : Setup C → State (Option C) (View C) → Type 0
     Rule setup s = IsFresh setup s ⊎ (IsOpening setup s ⊎ IsKept setup s)
 
-    -- what a pass knows behind a step that it made
+    -- what a pass knows after a step that it made
     abbrev pub shown : Call → Reply → C → Known C → Known C
     shown call reply core known = known_after known (f.show core).state call reply
 
@@ -106,7 +106,7 @@ module _ {C : Type 0} where
       pub doubt : IsTrue f.tells → (n : ℕ) → (notes n).doubt ≡ doubt_of n (f.show core).state.doubt
       pub few : (k : ℕ) → 0 < times k m.0.passes → k < (f.show core).limits.callers
 
-    -- What a step tells, by the step, the seat before, the number found and the seat after. Where the turn was not free, another pass had
+    -- What a step guarantees, by the step, the seat before, the number found and the seat after. If the turn was not free, another pass had
     -- it, and the seat stays as it was.
     abbrev pub takes_turn : Step (Option C) → Me (Option C) (View C) → ℕ → Me (Option C) (View C) → Type 0
     takes_turn st m r n = (r ≡ 0 → Took m n) × (r ≢ 0 → (n ≡ m) × (r < 256) × ((k : ℕ) → r ≡ k + 1 → times k m.0.passes ≡ 0) × AreAbove r m.0.passes)
@@ -117,7 +117,7 @@ module _ {C : Type 0} where
   abbrev pub began : Step (Option C) → Me (Option C) (View C) → ℕ → Me (Option C) (View C) → Type 0
   began st m r n = n ≡ (view Opening m.0.passes None, (0, None) ∷ [])
 
-  -- the opener and each later holder give the turn alike
+  -- the opener and each later holder give up the turn in the same way
   abbrev pub gives_turn : Step (Option C) → Me (Option C) (View C) → ℕ → Me (Option C) (View C) → Type 0
   gives_turn st m r n = n ≡ (shared_view m.0.passes None, [])
 

@@ -9,12 +9,12 @@ use Rattle.mars_manager.specs.declared.setup.Setup.{Setup}
 use Rattle.mars_manager.specs.Pass.{newcomer}
 
 module _ {C : Type 0} where
-  -- the passes of the callers n, n + 1 and so on
+  -- the passes of `count` callers from n on
   abbrev pub newcomers : Setup C → ℕ → ℕ → List (Known C)
   newcomers setup n zero = []
   newcomers setup n (suc count) = newcomer setup n ∷ newcomers setup (suc n) count
 
-  -- all but the first of the passes, and the first
+  -- all passes but the first
   abbrev pub behind : List (Known C) → List (Known C)
   behind [] = []
   behind (known ∷ others) = others
@@ -23,7 +23,7 @@ module _ {C : Type 0} where
   front [] = []
   front (known ∷ others) = known ∷ []
 
-  -- the first of the passes; none of them stands for no caller
+  -- the first of the passes; if there is none, a pass that belongs to no shared core
   abbrev pub first_of : List (Known C) → Known C
   first_of [] = record { number = 0; setup = None; seen = []; mine = []; live = None; heard = 0; asked = []; hit = []; doubt = None }
   first_of (known ∷ others) = known
@@ -34,19 +34,19 @@ module _ {C : Type 0} where
   abbrev pub shared_view : List (Known C) → Option C → View C
   shared_view passes held = view Shared passes held
 
-  -- the opener's, with all passes
+  -- the opener's seat, with all passes
   abbrev pub opener : Stage → Setup C → View C
   opener stage setup = view stage (newcomers setup 0 setup.callers) None
 
-  -- one pass, without the turn
+  -- a seat of one pass that does not have the turn
   abbrev pub IsIdle : ℕ → Me (Option C) (View C) → Type 0
   IsIdle caller me = (known : Known C) × (me ≡ (shared_view (known ∷ []) None, [])) × (known.number ≡ caller)
 
-  -- the opener's, once all passes are dealt out
+  -- the opener's seat, once all passes are dealt out
   abbrev pub IsEmpty : Me (Option C) (View C) → Type 0
   IsEmpty me = me ≡ (shared_view [] None, [])
 
-  -- of two seats one
+  -- two seats joined into one
   abbrev pub joined : View C → View C → View C
   joined one other = view one.stage (one.passes ++ other.passes) one.held
 

@@ -1,4 +1,4 @@
--- What holds of a core while it is shared, and what a call does.
+-- What holds for a core while it is shared, and what a call does.
 use Rattle.std.specs.Prelude.{ℕ, ◌≡◌, ◌≤◌, Bool, false, IsTrue, MatchBool, List, [], ◌∷◌, ◌++◌, length, Some, None, unwrap_or}
 use Rattle.counted.specs.Causes.{Rose}
 use Rattle.atomic_table.specs.Seated.{TableId}
@@ -17,13 +17,13 @@ use Rattle.mars_manager.specs.declared.view.Known.{Known}
 use Rattle.mars_manager.specs.Notes.{Notes, doubt_of, IsDeadAsMet, AreNoted}
 use Rattle.mars_manager.specs.Pass.{PassView, AreSo, known_after}
 
--- what contracts see of a shared core: its table, and how it was shared
+-- what contracts see of a shared core: its table and how it was shared
 pub record MarsView (C : Type 0) : Type 0 where
   pub table : TableId
   pub setup : Setup C
 
--- A core that can be shared among so many callers: it has not failed, nothing was done on it, and where it tells its records, they
--- are sound, and what a loss of power may leave now opens with them.
+-- A core that can be shared among so many callers: it has not failed, and nothing was done on it. If it tells its records, they are sound,
+-- and what a loss of power may leave now opens with them.
 pub record CanShare (tells : Bool) (callers : ℕ) (core : CoreView) : Type 0 where
   pub alive : core.state.is_dead ≡ false
   pub history : core.state.history ≡ []
@@ -32,9 +32,9 @@ pub record CanShare (tells : Bool) (callers : ℕ) (core : CoreView) : Type 0 wh
   pub sound : IsTrue tells → IsSound core.state
   pub now : IsTrue tells → IsSafe core core.moment 0
 
--- From the core that was shared to a later one: it has the same limits and the same records at the opening, its media has failed just
--- where it is dead, and where it tells its records, it continues that one: so the prefix law holds of it from each moment from which it
--- held before.
+-- From the core that was shared to a later one: it has the same limits and the same records at the opening, and its medium has failed
+-- exactly when it is dead. If it tells its records, it continues the first one, so the prefix law holds from each moment from which it held
+-- before.
 pub record Since (tells : Bool) (first core : CoreView) : Type 0 where
   pub limits : core.limits ≡ first.limits
   pub base : core.state.base ≡ first.state.base
@@ -43,9 +43,9 @@ pub record Since (tells : Bool) (first core : CoreView) : Type 0 where
   pub continues : IsTrue tells → Continues first core
 
 module _ {C : Type 0} where
-  -- A call that got the turn is one step of a core that the shared one has come to. What the pass had seen begins that core's history, and
-  -- its caller's live calls were the pass's, as was its transaction in doubt where the core tells its records; and what the pass knows then
-  -- is what is so behind the step.
+  -- A call that got the turn is one step of a core that the shared one has come to. What the pass had seen is a prefix of that core's
+  -- history. Its live calls were its caller's, and so was its transaction in doubt, if the core tells its records. What the pass knows then
+  -- is true after the step.
   pub record Called (tells : Bool) (show : C → CoreView) (was : Known C) (call : Call) (reply : Reply) (now : Known C) : Type 0 where
     pub setup : Setup C
     pub old : C
@@ -60,8 +60,8 @@ module _ {C : Type 0} where
     pub dead : IsTrue (show old).state.is_dead → (reply ≡ Dead) × (new ≡ old)
     pub after : now ≡ known_after was (show new).state call reply
 
-  -- What these passes know is so of the core that comes back, and what their callers have asked for and met is noted. On any core, the media
-  -- has failed just where a caller was told so.
+  -- What these passes know is true of the core that comes back, and what their callers have asked for and met is in the notes. On any core,
+  -- the medium has failed exactly when a caller was told so.
   pub record AreGathered (tells : Bool) (show : C → CoreView) (setup : Setup C) (core : C) (passes : List (PassView C)) : Type 0 where
     pub notes : ℕ → Notes
     pub each : AreSo setup (show core).state notes passes
@@ -76,14 +76,14 @@ module _ {C : Type 0} where
   abbrev pub done_of : Known C → ℕ → Done
   done_of was at = record { caller = was.number; calls = unwrap_or was.live []; at = at }
 
-  -- A commit: the last transaction that the pass has seen then is its caller's, with just its live calls; just that one is new among its
-  -- own; and where the core tells its records, its number was told.
+  -- A commit: the last transaction that the pass has then seen is its caller's, with exactly its live calls, and it is the only new one
+  -- among the caller's own. If the core tells its records, the reply has its number.
   pub record HasCommitted (tells : Bool) (was : Known C) (reply : Reply) (now : Known C) : Type 0 where
     pub before : List Done
     pub seen : now.seen ≡ before ++ done_of was (length now.seen) ∷ []
     pub mine : now.mine ≡ was.mine ++ done_of was (length now.seen) ∷ []
     pub told : IsTrue tells → reply ≡ Committed (length now.seen)
 
-  -- at a commit that is so, and at each other reply the pass's own transactions are the same
+  -- that at a commit; at any other reply the caller's own transactions stay the same
   abbrev pub Commits : Bool → Known C → Reply → Known C → Type 0
   Commits tells was reply now = MatchBool (is_committed reply) (HasCommitted tells was reply now) (now.mine ≡ was.mine)

@@ -1,8 +1,8 @@
-//! Many threads share one core by turns, with no lock and with no wait inside a call.
+//! Many threads share one core by turns, without a lock and without waiting inside a call.
 //!
-//! `Mars::share` gives each caller a `Pass`. A call tries once for the turn: where another pass has it, it answers `Again` and has changed
-//! nothing; else it is one step of the core. Whatever the threads do, there is one history, and what a pass has seen of it only grows.
-//! `Mars::close` takes all passes, and gives the core back. `Mars::call_wait` alone may wait: it calls until it gets the turn.
+//! `Mars::share` gives each caller a `Pass`. A call tries once for the turn. If another pass has it, the call answers `Again` and has
+//! changed nothing. Else it is one step of the core. Whatever the threads do, there is one history, and what a pass has seen of it only
+//! grows. `Mars::close` takes all passes and returns the core. Only `Mars::call_wait` may wait: it tries until it gets the turn.
 #![tactic(auto)]
 
 mod laws;

@@ -29,7 +29,7 @@ pub struct Again {
     pub holder: u8,
 }
 
-/// One core that threads share by turns. To a contract it is its table, and how it was shared.
+/// One core that threads share by turns. Contracts see its table and how it was shared.
 #[derive(Drop)]
 pub struct Mars<C: Core + Drop> {
     table: Table<Option<C>, View<C>, Setup<C>, Turns<C>, Global>,
@@ -49,14 +49,14 @@ impl<C: Core + Drop> Model for Mars<C> {
 // 0, or one more than the number of the pass that has the turn.
 const TURN: usize = 0;
 
-// The length of the history that was told last.
+// The length of the history as last published.
 const TOLD: usize = 1;
 
 // The slot of the core.
 const CORE: usize = 0;
 
 impl<C: Core + Drop> Mars<C> {
-    /// Shares a core among the callers 0 to `callers` - 1. Without memory the core comes back.
+    /// Shares a core among the callers 0 to `callers` - 1. If there is no memory, the core comes back.
     pub fn share(alloc: Global, core: C, callers: u8) -> Result<(Mars<C>, Passes<C>), (NoMemory, C)>
         requires { CanShare C.tells callers (C.view core) }
         ensures shared { IfOk result (λ r. r.0 ≡ record { table = r.1.table; setup = record { callers = callers; first = core } }) }
@@ -83,7 +83,7 @@ impl<C: Core + Drop> Mars<C> {
         Ok((mars, passes))
     }
 
-    // Brings the core home, and deals out the passes.
+    // Puts the core into its slot and deals out the passes.
     fn deal(
         &self,
         core: C,
@@ -113,7 +113,7 @@ impl<C: Core + Drop> Mars<C> {
         Passes { list, opener: seat }
     }
 
-    /// One try for the turn, and with it one step of the core.
+    /// Tries once for the turn and, if it gets it, makes one step of the core.
     pub fn call(&self, pass: &mut Pass<C>, call: &Call) -> Result<Reply, Again>
         requires { pass.old.table ≡ self.now.table }
         ensures table { pass.new.table ≡ pass.old.table }
@@ -140,7 +140,7 @@ impl<C: Core + Drop> Mars<C> {
         Ok(reply)
     }
 
-    // Tells the length of the history, and which call was made and how it was answered.
+    // Publishes the length of the history, and records which call was made and its reply.
     fn tell<B: Telling>(
         &self,
         seat: &mut Seat<Option<C>, View<C>>,
@@ -157,7 +157,7 @@ impl<C: Core + Drop> Mars<C> {
         self.table.shared.store::<Tell<B>>(seat, TOLD, told);
     }
 
-    /// The length of the history that was told last.
+    /// The length of the history as last published.
     pub fn look(&self, pass: &mut Pass<C>) -> u64
         requires { pass.old.table ≡ self.now.table }
         ensures table { pass.new.table ≡ pass.old.table }
@@ -168,7 +168,7 @@ impl<C: Core + Drop> Mars<C> {
         self.table.shared.load::<Look>(&mut pass.seat, TOLD)
     }
 
-    /// Gives the core back, once the passes of all callers are at hand.
+    /// Returns the core, once the passes of all callers are at hand.
     pub fn close(self, passes: Passes<C>) -> C
         requires own { passes.table ≡ self.table }
         requires all { HasEach self.setup.callers passes.list }
@@ -189,7 +189,7 @@ impl<C: Core + Drop> Mars<C> {
         core
     }
 
-    /// Calls until it gets the turn. It alone may wait, and backs off while another pass has the turn.
+    /// Tries until it gets the turn. Only this call may wait: it backs off while another pass has the turn.
     pub fn call_wait<R: Wait>(&self, rt: &R, pass: &mut Pass<C>, call: &Call) -> Reply
         requires { pass.old.table ≡ self.now.table }
         ensures table { pass.new.table ≡ pass.old.table }

@@ -1,11 +1,11 @@
-// What the rule keeps of a seat. No value of it is made.
+// What the rule keeps about a seat. No value of it is ever made.
 use crate::setup::Setup;
 use history::{Call, Calls, Done, History};
 use std::collections::LinkedList;
 
-/// What a pass knows: its caller's number, how the core was shared, the history that was told at its last turn, the transactions of its
-/// caller in that history, the granted calls of its caller's live transaction, the length of the history when it last looked, the calls
-/// that its caller has made, those of them that began a transaction or were refused, and its caller's transaction in doubt.
+/// What a pass knows: its caller's number, how the core was shared, the history at its last turn, its caller's transactions in that
+/// history, the granted calls of its caller's live transaction, the length of the history when it last looked, the calls that its caller
+/// has made, those of them that began a transaction or were refused, and its caller's transaction in doubt.
 pub struct Known<C> {
     pub number: u8,
     pub setup: Option<Setup<C>>,
@@ -22,12 +22,12 @@ pub struct Known<C> {
 pub enum Stage {
     /// The slot of the core is empty.
     Vacant,
-    /// The opener has the first turn, and brings the core.
+    /// The opener has the first turn and brings the core.
     Opening,
     Shared,
 }
 
-/// The passes that a seat stands for, and the core as it last told of it while it has the turn.
+/// The passes that a seat stands for, and, while it has the turn, the core as it last reported it.
 pub struct View<C> {
     pub stage: Stage,
     pub passes: LinkedList<Known<C>>,

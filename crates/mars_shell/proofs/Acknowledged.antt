@@ -1,4 +1,4 @@
--- What was told as committed stands in the history.
+-- What was acknowledged as committed stands in the history.
 use Rattle.std.proofs.Common.{Bool, ◌≡◌, ℕ, ◌+◌, ◌<◌, ◌≤◌, ◌^◌, List, [], ◌∷◌, ◌++◌, length, get_or, Option, Some, None, inl, inr, refl, sym, ap, subst, ◌∙◌, arith}
 use Rattle.std.specs.Prelude.{Contains, codes}
 use Rattle.std.specs.Fmt.{decimal}
@@ -31,7 +31,7 @@ use Rattle.mars_shell.proofs.Answering.{takes_grows}
 first : List ℕ → ℕ
 first text = get_or text 0 0
 
--- no reply but that of a commit has its text
+-- only the reply of a commit has its text
 same_reply : (reply : Reply) (caller n : ℕ) → n < 2 ^ 64 → (reply_text reply ++ 10 ∷ []) ++ row_lines caller reply ≡ codes "committed " ++ (decimal n ++ 10 ∷ []) → (k : ℕ) × (reply ≡ Committed k) × (n ≤ k)
 unfolding first
 same_reply (Committed k) caller n fits is = (
@@ -66,7 +66,7 @@ same_reply Dead caller n fits is = absurd (let h = ap first is in omega (arith, 
 same_reply NoMemory caller n fits is = absurd (let h = ap first is in omega (arith, h))
 same_reply (Damaged page) caller n fits is = absurd (let h = ap first is in omega (arith, h))
 
--- a caller's line in two pieces, at its first space
+-- a caller's line, split at its first space
 line_is : (caller : ℕ) (reply : Reply) → reply_line caller reply ≡ decimal caller ++ 32 ∷ ((reply_text reply ++ 10 ∷ []) ++ row_lines caller reply)
 unfolding reply_line
 line_is caller reply =
@@ -82,7 +82,7 @@ same_line caller other reply n few less fits is =
     (sym (line_is other reply) ∙ sym is ∙ told_is caller n) in
     same_reply reply other n fits both.1
 
--- a reply's line has bytes, and begins with a digit
+-- a reply's line is not empty and begins with a digit
 not_empty : (caller n : ℕ) → caller < 2 ^ 64 → reply_line caller (Committed n) ≡ [] → ⊥
 not_empty caller n few is = let long = ap length (sym (told_is caller n) ∙ is) in omega (arith, decimal_nonempty caller few, simp length-append at long)
 
@@ -96,7 +96,7 @@ not_bad caller n m few is =
     let digit = digit_at (decimal caller) 0 all (decimal_nonempty caller few) in
     omega (arith, digit.1, ap first both.0)
 
--- a table answers none of its calls as a commit
+-- a table's reply to a call is never that of a commit
 found_is_no_commit : (o : Option (List ℕ)) (k : ℕ) → Committed k ≡ found o → ⊥
 found_is_no_commit None k is = cc
 found_is_no_commit (Some value) k is = cc
@@ -116,7 +116,7 @@ table_commits_nothing work Begin k is = is
 table_commits_nothing work Commit k is = is
 table_commits_nothing work Abort k is = is
 
--- a commit is told with the length of the history behind it
+-- a commit is answered with the length of the history after it
 committed_long : (old : State) (caller : ℕ) (call : Call) (k : ℕ) (new : State) → Fate old caller call (Committed k) new → k ≡ length new.history
 committed_long old caller call k new (refused is sure index e) = absurd (cc)
 committed_long old caller call k new (failed is index e) = absurd (cc)

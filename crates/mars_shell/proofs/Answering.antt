@@ -1,4 +1,4 @@
--- What comes of one line, from what comes of its call.
+-- What comes of one line, given what comes of its call.
 use Rattle.std.proofs.Common.{◌≡◌, ℕ, Bool, true, false, List, [], ◌∷◌, ◌++◌, Result, Ok, Err, inl, inr, refl, sym, ap, subst, ◌∙◌}
 use Rattle.std.specs.Prelude.{IsTrue, if◌then◌else◌}
 use Rattle.std.proofs.lemmas.List.{append-nil}
@@ -30,7 +30,7 @@ grows_if : (old new : List Done) (done : Done) (b : Bool) → new ≡ (if b then
 grows_if old new done true is = record { more = done ∷ []; is = is }
 grows_if old new done false is = record { more = []; is = is ∙ sym (append-nil old) }
 
--- the history goes on in each step
+-- each step extends the history or keeps it
 pub takes_grows : (old : Turns) (caller : ℕ) (call : Call) (reply : Reply) (new : Turns) → Takes old caller call reply new → Grows old.state.history new.state.history
 takes_grows old caller call reply new takes =
     grows_if old.state.history new.state.history (done_by old.state caller (calls_of old.state caller)) (is_committed reply) (step_moves old.limits old.state caller call reply new.state takes.1).history
@@ -42,7 +42,7 @@ module _ (core : CoreView) (callers n : ℕ) (line : List ℕ) (turns : Turns) (
   nothing : Comes core core turns
   nothing = (stands.is, continues_none core stands.sound stands.safe)
 
-  -- a line that is passed over, and one that is none
+  -- a line that is passed over, and one that is refused
   pub passed_over : (text : List ℕ) → text ≡ [] → Says callers line Nothing → Answers call_script (Stands core) (Comes core core) turns n line text (let r : Answer = Ok tt in r)
   passed_over text is says = (turns, (Nothing, says_here Nothing says, (is, refl)), stands, nothing)
 
@@ -68,7 +68,7 @@ module _ (core : CoreView) (callers n : ℕ) (line : List ℕ) (turns : Turns) (
     stand : Stands later after
     stand = record { is = refl; sound = on.sound; safe = on.now }
 
-    -- a call of a caller, whose reply was told or not
+    -- a call of a caller, whose reply was written or not
     pub called : (before text : List ℕ) (result : Answer) → before ≡ [] → Replied caller reply before text result → Answers call_script (Stands later) (Comes core later) turns n line text result
     called before text (Ok x) none replied =
         (after, (Told caller call, says_here (Told caller call) says, (reply, replied.0, takes, replied.1 ∙ ap (λ (front : List ℕ). front ++ reply_line caller reply) none)), stand, come)

@@ -24,7 +24,7 @@ module _ (tells : Bool) (told : IsTrue tells) (old : View) (only_now : (image : 
     (input : List ℕ) (ended : Ended) (cut : Bool) (text : List ℕ)
     (ran : Ran raw_script (Shows store') (Comes Opens store (begun store.shape store.state) store') (begun store.shape store.state) (lines_of input) ended cut text)
     (alive : ended ≡ All → store'.is_dead ≡ false) where
-  -- no number holds a log yet
+  -- no number is live yet
   first_is : begun store.shape store.state ≡ begun store.shape (record { bytes = settled_data store.shape old.content.bytes; logs = λ t. None })
   first_is = λ i. begun store.shape (record { bytes = attached.bytes told i; logs = λ t. attached.unlogged t i })
 

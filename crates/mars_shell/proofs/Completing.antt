@@ -1,4 +1,4 @@
--- What can be done is done, or memory was short.
+-- What can be done is done, unless memory runs out.
 use Rattle.array_image.specs.Decided.{settled_data}
 use Rattle.std.proofs.Common.{◌≡◌, ℕ, ◌≤◌, ◌⊎◌, inl, inr, List, [], length, Bool, refl, ap, subst, ◌∙◌, arith}
 use Rattle.counted.specs.Causes.{Rose}
@@ -27,7 +27,7 @@ use Rattle.mars_shell.specs.declared.status.Status.TheVariants.{Good, Usage, Too
 use Rattle.row_bytes.proofs.OneShape.{one_shape}
 use Rattle.mars_shell.proofs.Forming.{damage_is_no_soundness}
 
--- what the words ask for, at a status that is not that of other words
+-- what the words ask for, at a status other than Usage
 pub words_say : (words : List (List ℕ)) (status : Status) (Unread : Type 0) (Holds : Words → Type 0) (asked : Words) → (status ≡ Usage → ⊥) → AsksFor words asked → Holds asked → WordsSay words status Unread Holds
 words_say words Usage Unread Holds asked other asks holds = absurd (other refl)
 words_say words NoMemory Unread Holds asked other asks holds = inr (asked, asks, holds)
@@ -41,7 +41,7 @@ words_say words (BadRow logger tid) Unread Holds asked other asks holds = (asked
 words_say words NotMars Unread Holds asked other asks holds = (asked, asks, holds)
 words_say words (BadShape which given) Unread Holds asked other asks holds = (asked, asks, holds)
 
--- the same of callers, at each status
+-- the same for callers, at each status
 pub callers_say : (words : List (List ℕ)) (status : Status) (Unread : Type 0) (Holds : Words → Type 0) (numbers : CallersNumbers) → AsksFor words (Callers numbers) → Holds (Callers numbers) → WordsSay words status Unread Holds
 callers_say words Usage Unread Holds numbers asks holds = inr (Callers numbers, asks, tt, holds)
 callers_say words NoMemory Unread Holds numbers asks holds = inr (Callers numbers, asks, holds)
@@ -61,7 +61,7 @@ no_excess media shape callers array enough is =
     let same : shape ≡ is.0 = one_shape (header_of media.content.bytes) shape is.0 array.header is.1.header in
     omega (arith, enough, is.2, ap (λ (s : Shape). s.numbers) same)
 
--- a header that says a shape is not wrong
+-- a header that says a shape is in range
 not_bad_in : (bytes : List ℕ) (size : ℕ) (shape : Shape) (which : ShapeNumber) (given : ℕ) → SaysShape bytes shape → size ≡ media_len shape → IsBadIn bytes size which given → ⊥
 not_bad_in bytes size shape Loggers given says sized bad = let r = shape.in_range in bad.0 (omega (arith, r.some_loggers, says.numbers.loggers_are), omega (arith, r.most_loggers, says.numbers.loggers_are))
 not_bad_in bytes size shape Numbers given says sized bad = let r = shape.in_range in bad.1 (omega (arith, r.some_numbers, says.numbers.numbers_are), omega (arith, r.most_numbers, says.numbers.numbers_are))
@@ -82,11 +82,11 @@ no_damage media shape page holds is =
     let own = subst (λ (s : Shape). (index_in s media).sound (settled_data s media.content.bytes)) same holds.sound in
     damage_is_no_soundness (settled_data is.0 media.content.bytes) page is.2 own
 
--- a count that stands still has not risen
+-- a count that is as it was has not risen
 pub no_rise : Rose 0 0 → ⊥
 no_rise rose = omega (arith, rose)
 
--- of a command that reads no input
+-- a command that reads no input
 pub nothing_read : (status : Status) → (IsEarly status → ⊥) → InputSays status [] []
 nothing_read Good late = (omega arith, refl)
 nothing_read Usage late = absurd (late tt)

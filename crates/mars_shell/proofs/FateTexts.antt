@@ -13,7 +13,7 @@ pub nothing_left : {X : Type 0} (xs : List X) → drop (length xs) xs ≡ []
 nothing_left [] = refl
 nothing_left (x ∷ xs) = nothing_left xs
 
--- one caller's lines, and those of the callers behind it
+-- one caller's lines, and those of the callers after it
 pub one_more : (text : List ℕ) (all : List (List Fate)) (caller : ℕ) (d : List Fate) → caller < length all →
     (text ++ fate_lines caller 1 (slice_index_or all caller d)) ++ all_fate_lines (suc caller) (drop (suc caller) all) ≡ text ++ all_fate_lines caller (drop caller all)
 one_more text all caller d less =

@@ -1,4 +1,4 @@
--- The making of a fresh array: what might have been left since the entry, and its status.
+-- Making a fresh array: what might have been left since the entry, and its status.
 use Rattle.std.proofs.Common.{◌≡◌, ℕ, inl, ⊎_elim, List, Bool, refl, subst, arith}
 use Rattle.std.specs.Prelude.{IsTrue}
 use Rattle.pcm_media.specs.Images.{MayLeave}
@@ -17,6 +17,6 @@ pub half_fresh : (tells : Bool) (told : IsTrue tells) (shape : Shape) (old new :
 half_fresh tells told shape old new only_now time image left =
     ⊎_elim (λ was. inl (image, only_now image told was, refl)) (λ half. half) (time.only old.moment image (omega arith) left)
 
--- words that ask for it are none that ask for nothing
+-- words that ask for a format do not ask for nothing
 pub no_usage : (asked : FormatNumbers) (size : ℕ) (status : Status) (Untold Untouched : Type 0) → FormatSays asked size status Untold Untouched → status ≡ Usage → ⊥
 no_usage asked size status Untold Untouched says is = subst (λ (s : Status). FormatSays asked size s Untold Untouched) is says

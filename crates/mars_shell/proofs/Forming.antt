@@ -1,4 +1,4 @@
--- Which index data has, and work under that.
+-- Which index the data has, and work under that index.
 use Rattle.std.proofs.Common.{◌≡◌, ℕ, zero, suc, Bool, true, inl, List, refl, sym, ap, subst, ◌∙◌, length, arith, Result, Ok, Err}
 use Rattle.std.specs.Prelude.{IsTrue}
 use Rattle.counted.proofs.Going as going
@@ -24,7 +24,7 @@ use Rattle.mars_shell.specs.Forms.{index_of_form, index_at}
 use Rattle.mars_shell.specs.Run.{begun_on}
 use Rattle.mars_shell.specs.Served.{SaysForm, opens_of, Untaken, Served, Serves, Told, Tells}
 
--- the index that a super page of this form says
+-- the index that a super page of this form names
 pub of_form : (form : ℕ) (bytes : List ℕ) → form_said (page_bytes bytes 0) ≡ form → index_at bytes ≡ index_of_form form
 unfolding index_at
 of_form form bytes is = ap index_of_form is
@@ -34,12 +34,12 @@ sound_is_own zero bytes sound = of_form 0 bytes sound.front.form_is
 sound_is_own (suc zero) bytes sound = of_form 1 bytes sound.front.form_is
 sound_is_own (suc (suc form)) bytes sound = of_form 0 bytes sound.front.form_is
 
--- data that is sound under the index of other data says that index too
+-- data that is sound under the index of other data names that index too
 pub sound_says : (old new : List ℕ) → (index_at old).sound new → index_at new ≡ index_at old
 unfolding index_at
 sound_says old new sound = sound_is_own (form_said (page_bytes old 0)) new sound
 
--- a super page that is sound of neither form fails first
+-- a super page that is sound for neither form is the first page to fail
 fails_first : (form : ℕ) (bytes : List ℕ) → (IsSuper 0 bytes → ⊥) → (IsSuper 1 bytes → ⊥) → (index_of_form form).fails bytes 0
 fails_first zero bytes none other = inl (none, refl)
 fails_first (suc zero) bytes none other = inl (other, refl)
@@ -59,13 +59,13 @@ pub damage_is_no_soundness : (bytes : List ℕ) (page : ℕ) → (index_at bytes
 unfolding index_at
 damage_is_no_soundness bytes page fails sound = not_both (form_said (page_bytes bytes 0)) bytes page fails sound
 
--- the cause of data is that of equal data
+-- a cause for some data is one for equal data
 moved_cause : (index : Index) (old mid : StoreView) → mid.state.bytes ≡ old.state.bytes → (fault : CoreFault) → CoreCause true index mid fault → CoreCause true index old fault
 moved_cause index old mid is (Damaged page) cause = λ told. subst (λ (b : List ℕ). index.fails b page) is (cause told)
 moved_cause index old mid is Media cause = tt
 moved_cause index old mid is NoMemory cause = tt
 
--- the store's data said the index, and then work was done under that
+-- the store's data named the index, and then work was done under it
 module _ (tells : Bool) (told : IsTrue tells) (Opens : Shape → List ℕ → List ℕ → Type 0) (form : ℕ) (old mid : StoreView) (says : SaysForm tells (Opens old.shape) form old mid) where
   abbrev index : Index
   index = index_of_form form
@@ -117,7 +117,7 @@ module _ (tells : Bool) (told : IsTrue tells) (Opens : Shape → List ℕ → Li
       now = λ image left. subst (λ (b : List ℕ). Opens old.shape image b) bytes_are (subst (λ (s : Shape). Opens s image mid.state.bytes) says.shape (said.now image left));
     }
 
-    -- it was done under the store's own index
+    -- the work was done under the store's own index
     pub serves_on : (Says : Ended → Limits → face.State → face.State → Type 0) (result : Result Ended CoreFault) (cut : Bool) (text : List ℕ) → Serves Says Opens (index_of_form form) mid result cut text new
         → Serves Says Opens (index_at old.state.bytes) old result cut text new
     serves_on Says (Ok ended) cut text served = subst (λ (i : Index). Served (Says ended) Opens i old ended new) (sym own) (served_on (Says ended) ended served)

@@ -1,4 +1,4 @@
--- A fresh array is a sound tree, of no records.
+-- A fresh array is a sound tree without records.
 use Rattle.std.proofs.Common.{◌≡◌, ℕ, ◌*◌, ◌<◌, ◌≤◌, List, take, refl, ap, ◌∙◌, arith}
 use Rattle.std.proofs.Math.Nat.{le-mul_of_pos_right}
 use Rattle.array_shape.specs.declared.shape.Shape.{Shape}

@@ -1,4 +1,4 @@
--- Callers' work beside each other over the records of a store, from what a core makes of it.
+-- The work of callers on threads over the records of a store, from what a core makes of it.
 use Rattle.std.proofs.Common.{◌≡◌, ℕ, zero, suc, ◌≤◌, List, [], ◌∷◌, None, length, Bool, false, Result, Ok, Err, refl, sym, ap, subst, ◌∙◌, arith}
 use Rattle.std.specs.Prelude.{IsTrue, All}
 use Rattle.std.specs.FinMap.{entries}
@@ -48,7 +48,7 @@ as_many caller (suc callers) said = ap suc (as_many (suc caller) callers said)
 pub unbroken : (ended : Ended) → ended ≡ ends.All → IsBrokenOff ended → ⊥
 unbroken ended all broken = subst IsBrokenOff all broken
 
--- the same told of equal things
+-- the same text for equal things
 pub retold : (ended : Ended) (cut : Bool) (text : List ℕ) (faults faults' : List LineFault) (history history' : List Done) (base base' : List (ℕ × List ℕ)) (fates fates' : List (List Fate))
     → faults ≡ faults' → history ≡ history' → base ≡ base' → fates ≡ fates'
     → TellsWork ended cut text (work_text faults history fates (entries (records (rows.table_of base) history))) (flat_map done_lines history)
@@ -77,7 +77,7 @@ module _ (tells : Bool) (Opens : Shape → List ℕ → List ℕ → Type 0) (in
         record { count = has.count; at_least = omega arith; at_most = has.at_most; opens = has.opens };
   }
 
-  -- memory was short before the work
+  -- memory ran out before the work
   pub untold : (new : StoreView) → IsTrue tells → new ≡ mid → Untaken Opens index old fault.NoMemory false [] new
   untold new told same = record { whole = refl; silent = refl; cause = tt; time = subst (λ (v : StoreView). LeavesOnly (λ image. Opens old.shape image old.state.bytes) old v) (sym same) (begins.time told) }
 
@@ -86,7 +86,7 @@ module _ (tells : Bool) (told : IsTrue tells) (core last : CoreView) (callers : 
   counted : length plans ≡ callers
   counted = ap length plans_are ∙ as_many 0 callers said
 
-  -- while the work did not break off, the core lives
+  -- the core lives if the work came to its end
   pub living : end ≡ work.All → last.state.is_dead ≡ false
   living all = worked.dead ∙ ap is_fault all
 
@@ -109,7 +109,7 @@ module _ (tells : Bool) (told : IsTrue tells) (core last : CoreView) (callers : 
     tells = tells_work;
   }
 
--- no work over an array is told to be wrong usage
+-- work over an array never ends with Usage
 pub never_usage : (result : Result Ended CoreFault) → served_status result ≡ says.Usage → ⊥
 never_usage (Ok ends.All) is = cc is
 never_usage (Ok ends.WriteFault) is = cc is
@@ -119,6 +119,6 @@ never_usage (Err (fault.Damaged page)) is = cc is
 never_usage (Err fault.Media) is = cc is
 never_usage (Err fault.NoMemory) is = cc is
 
--- nor where the array was not opened
+-- nor does a run whose array was not opened
 pub not_usage : (status : Status) → IsUnopened status → status ≡ says.Usage → ⊥
 not_usage status kind is = subst IsUnopened is kind

@@ -1,4 +1,4 @@
--- Calls that a core makes, one after another, and what their replies come to.
+-- Calls that a core makes one after another, and the tally of their replies.
 use Rattle.std.proofs.Common.{◌≡◌, ℕ, zero, suc, ◌+◌, ◌<◌, ◌≤◌, Bool, true, false, List, [], ◌∷◌, ◌++◌, length, map, take, get_or, refl, sym, ap, subst, ◌∙◌, arith, cond, length-append, Result, Err, inl, inr, nat_le, ◌||◌}
 use Rattle.std.specs.Prelude.{IsTrue, IsFalse}
 use Rattle.std.specs.List.{All, count_by}
@@ -80,11 +80,11 @@ module _ (tells : Bool) (old : CoreView) (turns : List (ℕ × Call)) where
     ends_early d more is on tally later (Media number) counted = (more_lines, made_more d more is, (lines, caller, call, ap (λ (r : Reply). lines ++ (caller, call, r) ∷ []) counted.1, on))
     ends_early d more is on tally later NoMemory counted = (more_lines, made_more d more is)
 
-    -- one that is no fault of the media leaves the core alive
+    -- a reply that is no fault of the medium leaves the core alive
     pub stays_alive : mid.state.is_dead ≡ false → IsFalse (is_media reply) → new.state.is_dead ≡ false
     stays_alive alive none = steps.moves.dead ∙ ap (λ (d : Bool). d || is_media reply) alive ∙ none
 
--- no reply behind which a script goes on is a fault of the media
+-- a reply after which the script goes on is no fault of the medium
 pub no_fault : (reply : Reply) → IsTrue (goes_on reply) → IsFalse (is_media reply)
 no_fault told.Fine goes = refl
 no_fault (told.Found value) goes = refl
@@ -129,7 +129,7 @@ in_pairs_inside callers seed i (suc (suc count)) two =
     All-append (IsOf callers) (paired (transaction seed i) (transaction seed (i + 1))) (in_pairs seed (i + 2) count) (paired_inside callers (transaction seed i) (transaction seed (i + 1)) two)
     (in_pairs_inside callers seed (i + 2) count two)
 
--- each is one of the array's
+-- each caller is one of the array's
 pub drill_inside : (seed count callers : ℕ) → 1 ≤ callers → All (λ turn. turn.0 < callers) (drill seed count callers)
 drill_inside seed count callers some = elim (cases_lt callers 2) [
   | inl one ↦ let is : nat_le 2 callers ≡ false = grind (arith, nat_tests) in rw is (one_by_one_inside callers seed 0 count some)

@@ -30,7 +30,7 @@ module _ (tells : Bool) (told : IsTrue tells) (old : View) (only_now : (image : 
       (takes_turns tells told old only_now store attached keeps later new behind counts_now (Says ended) ended served)
   turns_outcome Says (Err fault) cut text off = untaken_outcome tells told old only_now store attached keeps later new behind (λ end. TakesTurns (Says end) old end new) fault cut text off
 
-  -- records were told, or not taken
+  -- the records were written, or not taken
   pub dump_outcome : (input : List ℕ) (result : Result Ended CoreFault) (cut : Bool) (text : List ℕ) → Tells Opens (index_at store.state.bytes) store result cut text later → OutcomeFor Dump old (served_status result) new input cut text
   dump_outcome input (Ok ended) cut text said = outcome_of (λ end. Dumps old end new cut text) (IsDamaged old) (HoldsArray old) old new cut text ended
       (dumps tells told old only_now store attached keeps later new behind counts_now ended cut text said)

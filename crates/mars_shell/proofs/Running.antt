@@ -82,7 +82,7 @@ module _ (tells : Bool) (told : IsTrue tells) (old : View) (only_now : (image : 
         cause = cause;
       }
 
-    -- they were not taken
+    -- the records were not taken
     pub untaken_outcome : (Works : Ended → Type 0) (fault : CoreFault) (cut : Bool) (text : List ℕ) → Untaken Opens (index_at store.state.bytes) store fault cut text later
         → OutcomeOf Works (IsDamaged old) (HoldsArray old) old (served_status (Err fault)) new cut text
     untaken_outcome Works (core.Damaged page) cut text off =
@@ -98,7 +98,7 @@ module _ (tells : Bool) (told : IsTrue tells) (old : View) (only_now : (image : 
         recovers : (least : ℕ) (image : List ℕ) → opens_of Opens store.shape (index_at store.state.bytes) served.final least image → Recovers store.shape (index_in store.shape old) served.final least image
         recovers least image has = subst (λ (b : List ℕ). Recovers store.shape (index_at b) served.final least image) (attached.bytes told) has
 
-        -- the data at the end says the index that it is sound under
+        -- the data at the end names the index that it is sound under
         own_all : HasAll (index_at store.state.bytes) later.state.bytes served.final → HasAll (index_at (data_of store.shape new.content.bytes)) (data_of store.shape new.content.bytes) served.final
         own_all has =
             let same : data_of store.shape new.content.bytes ≡ later.state.bytes = ap (λ (s : Shape). data_of s new.content.bytes) (sym served.shape) ∙ behind.bytes in
@@ -123,7 +123,7 @@ module _ (tells : Bool) (told : IsTrue tells) (old : View) (only_now : (image : 
           left = λ all. own_all (served.left all).1;
         }
 
-      -- they were told
+      -- the records were written
       pub dumps : (ended : Ended) (cut : Bool) (text : List ℕ) → Told Opens (index_at store.state.bytes) store ended cut text later → Dumps old ended new cut text
       dumps ended cut text said = record {
         shape = store.shape;

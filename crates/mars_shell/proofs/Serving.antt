@@ -92,7 +92,7 @@ module _ (tells : Bool) (Opens : Shape → List ℕ → List ℕ → Type 0) (in
         base_is : later.state.base ≡ table_of index old.state.bytes
         base_is = on.base ∙ ap (λ (s : State). s.base) begun_is
 
-        -- in the words of the store
+        -- in terms of the store
         opens_now : (more least : ℕ) (image : List ℕ) → least ≤ more → HasPrefixOf later.opens later.state more image → opens_of Opens old.shape index later.state least image
         opens_now more least image le has =
             let table = records later.state.base (take has.count (with_doubt later.state.history later.state.doubt)) in
@@ -119,7 +119,7 @@ module _ (tells : Bool) (Opens : Shape → List ℕ → List ℕ → Type 0) (in
           opens = record { bytes = old.state.bytes; opened = opens; sound = begins.sound told; shows = sym base_is };
         }
 
-        -- of the turns that callers took this may be said
+        -- what may be said of the callers' turns
         pub served : (Says : Limits → State → State → Type 0) (ended : Ended) → Says core.limits core.state later.state → (ended ≡ All → later.state.is_dead ≡ false) → Served Says Opens index old ended new
         served Says ended said alive = record {
           sound = begins.sound told;

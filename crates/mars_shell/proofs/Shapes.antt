@@ -1,4 +1,4 @@
--- The limits of an array tell its shape.
+-- The limits of an array determine its shape.
 use Rattle.std.proofs.Common.{◌≡◌, ℕ, ◌*◌, ◌/◌, ◌≤◌, ap, subst, sym, ◌∙◌, arith}
 use Rattle.std.proofs.Props.{props}
 use Rattle.std.proofs.Math.Nat.{mul-div_cancel_left}
@@ -22,7 +22,7 @@ same_shape a b loggers numbers entries pages =
     (subst (λ l. IsHere l a.numbers a.entries a.pages) loggers own))) in
     moved b.in_range
 
--- of arrays with as many loggers the pages are as many where all pages are
+-- with equally many loggers, equally many pages in all mean equally many pages a logger
 same_pages : (l p q : ℕ) → 1 ≤ l → l * p ≡ l * q → p ≡ q
 same_pages l p q some is = sym (mul-div_cancel_left p some) ∙ ap (λ n. n / l) is ∙ mul-div_cancel_left q some
 

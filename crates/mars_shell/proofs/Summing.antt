@@ -25,7 +25,7 @@ summed_as numbers script MediaFault cut text lines final whole on end wrote = ab
 summed_as numbers script NoMemory cut text lines final whole on end wrote = absurd end
 
 module _ (numbers : DrillNumbers) (tells : Bool) (told : IsTrue tells) (old new : CoreView) (callers : ℕ) (callers_are : callers ≡ old.limits.callers) where
-  -- to a summary, which is told or cut short,
+  -- a drill comes to a summary, which is written whole or cut short,
   pub summary_told : (whole : List ℕ) (ended : Ended) (cut : Bool) (text : List ℕ) → SummedUp tells numbers old (drill numbers.seed numbers.count callers) whole new → IsCutAt ended cut → IsWritten cut text whole
       → Drills numbers ended cut text old.limits old.state new.state
   summary_told whole ended cut text up end wrote =
@@ -38,14 +38,14 @@ module _ (numbers : DrillNumbers) (tells : Bool) (told : IsTrue tells) (old new 
             (subst (λ (t : List ℕ). IsWritten cut text t) (own.4 told) wrote);
       }
 
-  -- to a fault of the media,
+  -- to a fault of the medium,
   pub fault_told : (number : ℕ) (cut : Bool) (text : List ℕ) → EndsEarly tells old (drill numbers.seed numbers.count callers) (stop.Media number) new → IsWritten cut text (codes "media fault" ++ 10 ∷ [])
       → Drills numbers MediaFault cut text old.limits old.state new.state
   fault_told number cut text early wrote =
       let own = subst (λ (n : ℕ). EndsEarly tells old (drill numbers.seed numbers.count n) (stop.Media number) new) callers_are early in
       record { lines = own.0; drawn = own.1.turns_are; runs = own.1.runs told; told = (own.2, wrote) }
 
-  -- or to an end for want of memory
+  -- or to an end for lack of memory
   pub short_told : EndsEarly tells old (drill numbers.seed numbers.count callers) stop.NoMemory new → Drills numbers NoMemory false [] old.limits old.state new.state
   short_told early =
       let own = subst (λ (n : ℕ). EndsEarly tells old (drill numbers.seed numbers.count n) stop.NoMemory new) callers_are early in

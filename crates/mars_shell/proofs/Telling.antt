@@ -1,4 +1,4 @@
--- The records of a store are told.
+-- The records of a store are written.
 use Rattle.std.proofs.Common.{◌≡◌, ℕ, ⊎_elim, List, [], Bool, false, refl, ap, subst, ◌∙◌, arith}
 use Rattle.std.specs.Prelude.{IsTrue}
 use Rattle.std.specs.FinMap.{entries}

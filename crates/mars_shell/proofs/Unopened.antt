@@ -23,11 +23,11 @@ module _ (tells : Bool) (told : IsTrue tells) (old : View) (only_now : (image : 
       let can = all image may in
       (image, may, can.0, can.1, can.1)
 
-  -- a media that nothing was done to
+  -- a medium to which nothing was done
   pub idle_same : (MayWrite Cause : Type 0) → Cause → Idle MayWrite Cause old old false []
   idle_same MayWrite Cause cause = record { silent = refl; keeps = first_like; spared = inl (touched_by_nothing [] old.content); cause = cause }
 
-  -- one that was not opened
+  -- a medium whose array was not opened
   idle_kept : (MayWrite Cause : Type 0) (new : View) → KeepsData tells old new.moment new.left_since → Touched [] old.content new.content ⊎ MayWrite → Cause → Idle MayWrite Cause old new false []
   idle_kept MayWrite Cause new keeps spared cause = record {
     silent = refl;

@@ -18,32 +18,32 @@ use Rattle.mars_shell.specs.Run.{HoldsRecords, TakesTurns, Answers, IsDamaged}
 use Rattle.mars_shell.specs.declared.status.Status.{Status}
 use Rattle.mars_shell.specs.declared.status.Status.TheVariants.{Usage, NoMemory}
 
--- the words ask for callers, of which an array may have too few
+-- the words ask for callers, for whom an array may have too few numbers
 abbrev pub IsOfCallers : Words → Type 0
 IsOfCallers (Callers numbers) = Unit {0}
 IsOfCallers asked = ⊥
 
--- Usage comes where the words ask for nothing, or for callers. Else they ask for something, of which this holds; but where memory was
--- short they may be unread.
+-- `Usage` comes only if the words ask for nothing or for callers. Else they ask for something of which Holds is said, but if memory ran out
+-- they may be unread.
 abbrev pub WordsSay : List (List ℕ) → Status → Type 0 → (Words → Type 0) → Type 0
 WordsSay words Usage Unread Holds = AskForNothing words ⊎ ((asked : Words) × AsksFor words asked × IsOfCallers asked × Holds asked)
 WordsSay words NoMemory Unread Holds = Unread ⊎ ((asked : Words) × AsksFor words asked × Holds asked)
 WordsSay words _ Unread Holds = (asked : Words) × AsksFor words asked × Holds asked
 
--- of a format, and of another command
+-- one thing for a format, another for the other commands
 abbrev pub IfFormat : Words → (FormatNumbers → Type 0) → Type 0 → Type 0
 IfFormat (Format numbers) Formats Other = Formats numbers
 IfFormat _ Formats Other = Other
 
--- of a command that reads no input, and of one that does
+-- one thing for a command that reads no input, another for one that does
 abbrev pub IfReads : Words → Type 0 → Type 0 → Type 0
 IfReads Run Without Reads = Reads
 IfReads (Callers numbers) Without Reads = Reads
 IfReads Eaw Without Reads = Reads
 IfReads _ Without Reads = Without
 
--- What was written and done, by what is asked for. A run, callers beside each other, a drill and a dump read the records of an array that
--- was opened; raw commands do not.
+-- What was written and done, by what is asked for. `run`, `callers`, `drill` and `dump` read the records of an array that was opened. `eaw`
+-- does not.
 abbrev pub OutcomeFor : Words → View → Status → View → List ℕ → Bool → List ℕ → Type 0
 OutcomeFor Run old status new input cut text = OutcomeOf (λ ended. TakesTurns (Answers input ended cut text) old ended new) (IsDamaged old) (HoldsArray old) old status new cut text
 OutcomeFor (Callers numbers) old status new input cut text = JointOutcome numbers.callers old status new input cut text
@@ -52,12 +52,13 @@ OutcomeFor Dump old status new input cut text = OutcomeOf (λ ended. Dumps old e
 OutcomeFor (Drill numbers) old status new input cut text = OutcomeOf (λ ended. TakesTurns (Drills numbers ended cut text) old ended new) (IsDamaged old) (HoldsArray old) old status new cut text
 OutcomeFor (Format numbers) old status new input cut text = FormatOutcome numbers old status new cut text
 
--- an input that is told, and within the limit
+-- an input whose bytes are known and within the limit
 abbrev pub IsShortInput : Bool → List ℕ → Type 0
 IsShortInput tells input = IsTrue tells × (length input ≤ input_limit)
 
--- What is asked for can be done: a format has numbers in range and the media the length that they give; else the input that is read is
--- within the limit, over an array, whose records are sound where they are read, and which has as many numbers as there are callers.
+-- What is asked for can be done. A format has numbers in range and a medium of the length that they give. For the other commands the input,
+-- if it is read, is within the limit, and the medium holds an array. Its records are sound if the command reads them, and it has as many
+-- numbers as there are callers.
 abbrev pub IsFit : Words → Bool → List ℕ → Bool → View → Type 0
 IsFit (Format numbers) source_tells input media_tells media = GiveLength numbers media.size
 IsFit Run source_tells input media_tells media = IsShortInput source_tells input × IsTrue media_tells × ((shape : Shape) × HoldsRecords shape media)

@@ -1,4 +1,4 @@
--- What a run of raw commands does on a media that tells its bytes.
+-- What a run of raw commands does on a medium that tells its bytes.
 use Rattle.array_image.specs.Decided.{settled_data}
 use Rattle.std.specs.Prelude.{ℕ, ◌≡◌, ◌⊎◌, List, [], ◌++◌, Bool, None, Contains}
 use Rattle.std.specs.List.{concat}
@@ -15,9 +15,9 @@ use Rattle.script_run.specs.Transcript.{Answered}
 use Rattle.script_run.specs.declared.ended.Ended.{Ended}
 use Rattle.script_run.specs.declared.ended.Ended.TheVariants.{All}
 
--- The lines of the input were answered by the model, from the data of the array on, where no number holds a log. What a loss of
--- power may leave at the end opens with data that may stand there; what it might have left since the start opens with data that the
--- script has made, or with that of an image that could be left at first: where all of these open.
+-- The lines of the input were answered by the model, starting from the data of the array with no number live. What a loss of power may
+-- leave at the end opens with data that the script may have reached. What it might have left since the start opens with data that the
+-- script has made, or with that of an image that could be left at first, if all of those open.
 pub record Obeys (old : View) (input : List ℕ) (ended : Ended) (new : View) (cut : Bool) (text : List ℕ) : Type 0 where
   pub shape : Shape
   pub array : IsArray shape old

@@ -1,4 +1,4 @@
--- What a drill does and tells.
+-- What a drill does and writes.
 use Rattle.std.specs.Prelude.{ℕ, ◌≡◌, ◌%◌, ◌^◌, List, [], ◌∷◌, ◌++◌, length, map, take, codes, Bool, false, IsTrue}
 use Rattle.std.specs.FinMap.{entries}
 use Rattle.std.specs.Fmt.{decimal}
@@ -19,15 +19,15 @@ use Rattle.mars_shell.specs.Lines.{goes_on}
 use Rattle.mars_shell.specs.Tally.{tally_of}
 use Rattle.mars_shell.specs.declared.tally.Tally.{Tally}
 
--- the caller and its call, without the reply
+-- a caller and its call, without the reply
 abbrev pub turn_of : ℕ × Call × Reply → ℕ × Call
 turn_of line = (line.0, line.1)
 
--- each reply is one behind which the script goes on
+-- after each of these replies the script goes on
 abbrev pub GoOn : List (ℕ × Call × Reply) → Type 0
 GoOn lines = All (λ line. IsTrue (goes_on line.2)) lines
 
--- the sum of the keys of rows, in 64 bits
+-- the sum of the keys of rows, modulo 2^64
 abbrev pub key_sum : List (ℕ × List ℕ) → ℕ
 key_sum rows = sum_by (λ row. row.0) rows % 2 ^ 64
 
@@ -38,19 +38,19 @@ summary_text numbers tally rows = number_line (codes "drill " ++ decimal numbers
     ++ (number_line (codes "busy") tally.busy ++ (number_line (codes "refused") tally.refused
     ++ (number_line (codes "records") (length rows) ++ number_line (codes "sum") (key_sum rows))))))
 
--- the media failed at the last call
+-- the medium failed at the last call
 abbrev pub FailsAtLast : List (ℕ × Call × Reply) → Type 0
 FailsAtLast lines = (made : List (ℕ × Call × Reply)) × (caller : ℕ) × (call : Call) × (lines ≡ made ++ (caller, call, reply.Media) ∷ []) × GoOn made
 
--- What is told of these calls of a script, and their replies, by how it ended. A summary is of all its calls; it may be cut short, and so
--- may the line that tells of a fault of the media. Where memory was short nothing is told.
+-- What is written of these calls of a script and their replies, by how it ended. The summary is of all its calls. It may be cut short, and
+-- so may the line that reports a fault of the medium. If memory ran out, nothing is written.
 abbrev pub Summed : DrillNumbers → List (ℕ × Call) → Ended → Bool → List ℕ → List (ℕ × Call × Reply) → State → Type 0
 Summed numbers script MediaFault cut text lines final = FailsAtLast lines × IsWritten cut text (codes "media fault" ++ 10 ∷ [])
 Summed numbers script NoMemory cut text lines final = (cut ≡ false) × (text ≡ [])
 Summed numbers script ended cut text lines final = (map turn_of lines ≡ script) × GoOn lines × IsCutAt ended cut
     × IsWritten cut text (summary_text numbers (tally_of lines) (entries (records_of final)))
 
--- The calls of the drawn script were made by turns, one after another, the first of them or all: with these replies.
+-- The calls of the drawn script, or the first so many of them, were made one after another, with these replies.
 pub record Drills (numbers : DrillNumbers) (ended : Ended) (cut : Bool) (text : List ℕ) (limits : Limits) (first final : State) : Type 0 where
   pub lines : List (ℕ × Call × Reply)
   pub drawn : map turn_of lines ≡ take (length lines) (drill numbers.seed numbers.count limits.callers)

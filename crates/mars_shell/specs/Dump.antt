@@ -1,4 +1,4 @@
--- What a dump of records does on a media that tells its bytes.
+-- What a dump of the records does on a medium that tells its bytes.
 use Rattle.std.specs.Prelude.{ℕ, ◌≡◌, List, [], ◌∷◌, ◌++◌, length, codes, Bool, true, false}
 use Rattle.std.specs.FinMap.{entries}
 use Rattle.std.specs.Fmt.{decimal}
@@ -17,7 +17,7 @@ use Rattle.script_run.specs.declared.ended.Ended.TheVariants.{All, WriteFault}
 use Rattle.mars_shell.specs.Forms.{index_in}
 use Rattle.mars_shell.specs.Run.{HoldsRecords}
 
--- a record's line
+-- the line of a record
 abbrev pub rec_line : ℕ × List ℕ → List ℕ
 rec_line row = codes "rec " ++ (decimal row.0 ++ 32 ∷ (row.1 ++ 10 ∷ []))
 
@@ -25,26 +25,26 @@ rec_line row = codes "rec " ++ (decimal row.0 ++ 32 ∷ (row.1 ++ 10 ∷ []))
 abbrev pub number_line : List ℕ → ℕ → List ℕ
 number_line word n = word ++ 32 ∷ (decimal n ++ 10 ∷ [])
 
--- the last line, which tells how many there are
+-- the last line, which says how many records there are
 abbrev pub count_line : ℕ → List ℕ
 count_line n = number_line (codes "records") n
 
--- the lines of rows, which rise by their keys
+-- the lines of rows by rising key, and of their count
 abbrev pub dump_lines : List (ℕ × List ℕ) → List ℕ
 dump_lines rows = flat_map rec_line rows ++ count_line (length rows)
 
 abbrev pub dump_text : Table → List ℕ
 dump_text table = dump_lines (entries table)
 
--- whether the sink cut the text short, by how the dump ended; it ends in no other way
+-- whether the sink cut the text short, by how the dump ended, which it does in these two ways only
 abbrev pub IsCutAt : Ended → Bool → Type 0
 IsCutAt All cut = cut ≡ false
 IsCutAt WriteFault cut = cut ≡ true
 IsCutAt _ cut = ⊥
 
--- The records of the array are told, or a front of that text where it was cut short. The media is as an opening leaves it: each image
--- that a loss of power may leave opens with the data that was opened; and one that might have been left since the entry with the data of
--- an image that could be left at first, where all of these open.
+-- The records of the array are written, or a front of that text if it was cut short. The medium is as an opening leaves it. Each image that
+-- a loss of power may leave opens with the data that was opened. One that might have been left since the entry opens with the data of an
+-- image that could be left at first, if all of those open.
 pub record Dumps (old : View) (ended : Ended) (new : View) (cut : Bool) (text : List ℕ) : Type 0 where
   pub shape : Shape
   pub holds : HoldsRecords shape old

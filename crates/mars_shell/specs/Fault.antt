@@ -1,11 +1,11 @@
--- How a status is told.
+-- How a status is reported.
 use Rattle.std.specs.Prelude.{ℕ, List, [], ◌∷◌, ◌++◌, codes}
 use Rattle.std.specs.Fmt.{decimal}
 use Rattle.array_shape.specs.Numbers.{number_of}
 use Rattle.mars_shell.specs.declared.status.Status.{Status}
 use Rattle.mars_shell.specs.declared.status.Status.TheVariants.{Good, Usage, TooLong, ReadFault, WriteFault, MediaFault, NoMemory, Damaged, BadRow, NotMars, BadShape}
 
--- the text behind `mars: ` on standard error
+-- the text after `mars: ` on standard error
 abbrev pub status_text : Status → List ℕ
 status_text Good = []
 status_text Usage = codes "usage"

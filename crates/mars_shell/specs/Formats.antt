@@ -1,4 +1,4 @@
--- What the making of a fresh array answers, writes and leaves.
+-- What making a fresh array answers, writes and leaves.
 use Rattle.std.specs.Prelude.{ℕ, ◌≡◌, ◌⊎◌, List, [], ◌∷◌, ◌++◌, codes, Bool, true, false}
 use Rattle.std.specs.FinMap.{empty}
 use Rattle.std.specs.Fmt.{decimal}
@@ -20,19 +20,19 @@ use Rattle.command_words.specs.declared.words.FormatNumbers.{FormatNumbers}
 use Rattle.mars_shell.specs.declared.status.Status.{Status}
 use Rattle.mars_shell.specs.declared.status.Status.TheVariants.{Good, WriteFault, MediaFault, BadShape}
 
--- an array may have these numbers
+-- the numbers of some array
 abbrev pub CanBe : FormatNumbers → Type 0
 CanBe asked = AreInRange asked.loggers asked.numbers asked.entries asked.pages
 
--- the shape has them
+-- the shape has these numbers
 abbrev pub HasAsked : FormatNumbers → Shape → Type 0
 HasAsked asked shape = HasNumbers asked.loggers asked.numbers asked.entries asked.pages shape
 
--- they are in range, and give a media of so many bytes
+-- they are in range and give a medium of so many bytes
 abbrev pub GiveLength : FormatNumbers → ℕ → Type 0
 GiveLength asked size = (shape : Shape) × HasAsked asked shape × (size ≡ media_len shape)
 
--- the value that was asked for where the shape's own number is a byte, and of another number this one
+-- the value that was asked for if the shape has this number in a byte, else the given one
 abbrev pub asked_for : FormatNumbers → ShapeNumber → ℕ → ℕ
 asked_for asked Loggers given = asked.loggers
 asked_for asked Numbers given = asked.numbers
@@ -40,13 +40,13 @@ asked_for asked Entries given = given
 asked_for asked Pages given = given
 asked_for asked MediaLength given = given
 
--- what is told of a fresh array: the bytes of the media and of the data
+-- the line of a fresh array: the bytes of the medium and of the data
 abbrev pub formatted_line : Shape → List ℕ
 formatted_line shape = codes "formatted " ++ (decimal (media_len shape) ++ 32 ∷ (decimal (data_len shape) ++ 10 ∷ []))
 
--- What a format answers over a media of so many bytes, whether that tells them or not. `bad shape` comes exactly where a number is
--- out of range, the first one, or the media has another length than they give; it leaves the media alone. Where the media failed
--- nothing is told. No other status comes but those of an array that was made.
+-- What a format answers over a medium of so many bytes, whether or not that tells its bytes. `bad shape` comes exactly when a number is out
+-- of range, of which the first is named, or the medium has another length than the numbers give. It leaves the medium alone. If the medium
+-- failed, nothing is written. No other status comes but those of an array that was made.
 abbrev pub FormatSays : FormatNumbers → ℕ → Status → (Untold Untouched : Type 0) → Type 0
 FormatSays asked size Good Untold Untouched = GiveLength asked size
 FormatSays asked size WriteFault Untold Untouched = GiveLength asked size
@@ -55,21 +55,21 @@ FormatSays asked size (BadShape which given) Untold Untouched = Untouched × (Is
     ⊎ ((which ≡ MediaLength) × (given ≡ size) × (shape : Shape) × HasAsked asked shape × (size ≡ media_len shape → ⊥)))
 FormatSays asked size _ Untold Untouched = ⊥
 
--- The shape has the numbers asked for. The cells are as they were. Each image that a loss of power might have left since the entry
--- has a header that could be left at first, or is fresh behind its header.
+-- The shape has the numbers asked for. The cells are as they were. Each image that a loss of power might have left since the entry has a
+-- header that could be left at first, or is fresh after its header.
 pub record IsBegun (asked : FormatNumbers) (old new : View) : Type 0 where
   pub shape : Shape
   pub numbers : HasAsked asked shape
   pub cells : SameCells shape old.content.bytes new.content.bytes
   pub since : (image : List ℕ) → new.left_since old.moment image → IsHalfFresh shape old.content image
 
--- the data is a sound tree, of no records
+-- the data is a sound tree without records
 pub record HasNone (bytes : List ℕ) : Type 0 where
   pub sound : tree.sound bytes
   pub none : table_of tree bytes ≡ empty
 
--- The media holds a fresh array without records, and what a loss of power leaves opens with its data. The bytes of the media and of the
--- data are told, or a front of that line where it was cut short.
+-- The medium holds a fresh array without records, and what a loss of power leaves opens with its data. The line of the bytes of the medium
+-- and of the data is written, or a front of it if it was cut short.
 pub record IsFormatted (asked : FormatNumbers) (old new : View) (cut : Bool) (text : List ℕ) : Type 0 where
   pub begun : IsBegun asked old new
   pub fresh : IsFresh begun.shape new.content

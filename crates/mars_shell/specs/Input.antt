@@ -4,8 +4,8 @@ use Rattle.script_io.specs.Input.{input_limit}
 use Rattle.mars_shell.specs.declared.status.Status.{Status}
 use Rattle.mars_shell.specs.declared.status.Status.TheVariants.{TooLong, ReadFault, NoMemory}
 
--- So much was there to be read, and this is left: it is too long exactly where that is answered, and else it was read to its end;
--- but where the source failed or memory was short, nothing is said of it.
+-- From what there was to be read and what is left of it: `TooLong` comes exactly when there was more than the limit, and else the input was
+-- read to its end. If the source failed or memory ran out, nothing is said of it.
 abbrev pub InputSays : Status → List ℕ → List ℕ → Type 0
 InputSays TooLong given left = input_limit < length given
 InputSays ReadFault given left = Unit {0}

@@ -1,4 +1,4 @@
--- What comes of a script whose callers work beside each other.
+-- What comes of a script whose callers work on threads.
 use Rattle.std.specs.Prelude.{ℕ, ◌≡◌, ◌≤◌, ◌<◌, ◌⊎◌, List, [], ◌∷◌, ◌++◌, length, codes, Bool, false, All, Some}
 use Rattle.std.specs.FinMap.{entries}
 use Rattle.std.specs.List.{flat_map}
@@ -27,27 +27,27 @@ use Rattle.mars_shell.specs.Run.{TakesTurns, IsDamaged}
 use Rattle.mars_shell.specs.declared.status.Status.{Status}
 use Rattle.mars_shell.specs.declared.status.Status.TheVariants.{Usage}
 
--- the last line where the media failed
+-- the last line if the medium failed
 abbrev pub media_line : List ℕ
 media_line = codes "media fault" ++ 10 ∷ []
 
--- What is told at each end, of this whole text, and of this text of the history. Where the media failed it is the history and the line
--- that says so, or that line alone, where memory was short for the history's text.
+-- What is written at each end, given the whole text and the text of the history. If the medium failed, it is the history and the line that
+-- says so, or that line alone if there was no memory for the history's text.
 abbrev pub TellsWork : Ended → Bool → List ℕ → List ℕ → List ℕ → Type 0
 TellsWork MediaFault cut text whole history = IsWritten cut text (history ++ media_line) ⊎ IsWritten cut text media_line
 TellsWork NoMemory cut text whole history = (cut ≡ false) × (text ≡ [])
 TellsWork ended cut text whole history = IsCutAt ended cut × IsWritten cut text whole
 
--- the media failed in the work, or memory was short
+-- the work ended at a fault of the medium or for lack of memory
 abbrev pub IsBrokenOff : Ended → Type 0
 IsBrokenOff MediaFault = Unit {0}
 IsBrokenOff NoMemory = Unit {0}
 IsBrokenOff ended = ⊥
 
--- What comes of callers' work on a core of these limits, which has as many, from a first state on: what the lines of the input say; what became of each
--- caller's plans, and that just those that committed are the caller's transactions of the history, in their order and each once; that, but
--- where the work broke off, each plan has its fate; that a transaction in doubt is one that its caller planned to commit; and that the index
--- has just the keys of the opening and keys that were planned. The text tells of it.
+-- What comes of the callers' work on a core of these limits, which has at least as many callers, from a first state on: what the lines of
+-- the input say; what became of each caller's plans, and that exactly those that committed are the caller's transactions of the history, in
+-- order and each once; that each plan has its fate unless the work broke off; that a transaction in doubt is one that its caller planned to
+-- commit; and that the index gained only keys that were planned, unless the medium failed. TellsWork says what the text is.
 pub record JointWork (callers : ℕ) (input : List ℕ) (ended : Ended) (cut : Bool) (text : List ℕ) (limits : Limits) (first final : State) : Type 0 where
   pub enough : callers ≤ limits.callers
   pub said : List Line
@@ -63,11 +63,11 @@ pub record JointWork (callers : ℕ) (input : List ℕ) (ended : Ended) (cut : B
   pub tells : TellsWork ended cut text (work_text (faults_from 1 (λ caller. false) said) final.history fates (entries (records final.base final.history)))
       (flat_map done_lines final.history)
 
--- the media holds an array with fewer transaction numbers
+-- the medium holds an array with fewer transaction numbers than callers
 abbrev pub Exceeds : ℕ → View → Type 0
 Exceeds callers media = (shape : Shape) × IsArray shape media × (shape.numbers < callers)
 
--- What was written and done, by the status; and that is wrong usage only where there are more callers than numbers.
+-- What was written and done, by the status. Usage comes only if there are more callers than numbers.
 abbrev pub JointOutcome : ℕ → View → Status → View → List ℕ → Bool → List ℕ → Type 0
 JointOutcome callers old status new input cut text =
     OutcomeOf (λ ended. TakesTurns (JointWork callers input ended cut text) old ended new) (IsDamaged old) (HoldsArray old) old status new cut text × (status ≡ Usage → Exceeds callers old)

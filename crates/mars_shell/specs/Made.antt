@@ -14,19 +14,19 @@ use Rattle.mars_shell.specs.Drill.{turn_of, GoOn, FailsAtLast, summary_text}
 use Rattle.mars_shell.specs.Tally.{tally_of}
 use Rattle.mars_shell.specs.declared.tally.Tally.{Tally}
 
--- The first calls of a script were made, with these replies, from a core to a later one.
+-- The first calls of a script were made, with these replies, from one core to a later one.
 pub record Made (tells : Bool) (old : CoreView) (turns : List (ℕ × Call)) (lines : List (ℕ × Call × Reply)) (new : CoreView) : Type 0 where
   pub limits : new.limits ≡ old.limits
   pub turns_are : map turn_of lines ≡ take (length lines) turns
   pub runs : IsTrue tells → Runs old.limits old.state lines new.state
   pub comes : IsTrue tells → IsSound old.state → IsSafe old old.moment (length old.state.history) → Continues old new
 
--- the media failed at the last of them; or there was no memory to go on
+-- the medium failed at the last call made, or there was no memory to go on
 abbrev pub EndsEarly : Bool → CoreView → List (ℕ × Call) → Stop → CoreView → Type 0
 EndsEarly tells old turns (Media number) new = (lines : List (ℕ × Call × Reply)) × Made tells old turns lines new × FailsAtLast lines
 EndsEarly tells old turns NoMemory new = (lines : List (ℕ × Call × Reply)) × Made tells old turns lines new
 
--- all of them were made, and their replies come to this
+-- all of them were made, and this is the tally of their replies
 abbrev pub MadeAll : Bool → CoreView → List (ℕ × Call) → Tally → CoreView → Type 0
 MadeAll tells old turns tally new = (lines : List (ℕ × Call × Reply)) × Made tells old turns lines new × (map turn_of lines ≡ turns) × GoOn lines × (tally ≡ tally_of lines)
 

@@ -1,4 +1,4 @@
--- What a run leaves on a media that tells its bytes, and what it has written, by its status.
+-- What a run leaves on a medium that tells its bytes, and what it writes, by its status.
 use Rattle.std.specs.Prelude.{ℕ, ◌≡◌, ◌+◌, ◌≤◌, ◌⊎◌, List, [], Bool, ⊤}
 use Rattle.pcm_media.specs.Images.{Touched}
 use Rattle.pcm_media.specs.View.{View}
@@ -13,26 +13,26 @@ use Rattle.script_run.specs.declared.ended.Ended.TheVariants as script
 use Rattle.mars_shell.specs.declared.status.Status.{Status}
 use Rattle.mars_shell.specs.declared.status.Status.TheVariants.{Good, WriteFault, MediaFault, NoMemory, Damaged, BadRow, NotMars, BadShape}
 
--- No line was answered, for this cause, and what was written is the whole of nothing. Where all that a loss of power could leave at first opens, all that it
--- might have left since opens with data of the former. Nothing was written to the media, if that is not as may be.
+-- No line was answered, for this cause, and nothing was written to the sink. If all that a loss of power could leave at first opens, then
+-- all that it might have left since opens with data of one of those images. Nothing was written to the medium unless MayWrite holds.
 pub record Idle (MayWrite Cause : Type 0) (old new : View) (cut : Bool) (text : List ℕ) : Type 0 where
   pub silent : IsWritten cut text []
   pub keeps : (shape : Shape) → AllOpen shape old.content → (image : List ℕ) → new.left_since old.moment image → OpensLike shape old.content image
   pub spared : Touched [] old.content new.content ⊎ MayWrite
   pub cause : Cause
 
--- memory was short: no call of the media was made, or one, and its header says the shape of an array
+-- memory ran out: no call of the medium was made, or just one, and then the header says the shape of an array of the medium's length
 abbrev pub IsShort : View → View → Type 0
 IsShort old new = (new.moment ≡ old.moment)
     ⊎ ((new.moment ≡ old.moment + 1) × (shape : Shape) × SaysShape (header_of old.content.bytes) shape × (old.size ≡ media_len shape))
 
--- the media failed within the calls of an opening, where no row is voted
+-- if no row is voted, the medium failed within the calls of an opening
 abbrev pub IsWithin : View → View → Type 0
 IsWithin old new = (shape : Shape) → SaysShape (header_of old.content.bytes) shape → HasNoVote shape old.content.bytes → new.moment ≤ old.moment + opening_calls shape
 
--- What was written and done, by the status: the work over an array that was opened, or that there was none to open. Only over a
--- media that holds an array something may be written. Looks says that the records of an array are read before the work, so that the
--- media may fail and memory be short meanwhile, and Broken which page may then be named as damaged.
+-- What was written and done, by the status: the work over an array that was opened, or that there was none to open. The medium may be
+-- written only if it holds an array. Looks says that the records of the array are read before the work, so that the medium may fail and
+-- memory run out meanwhile. Broken says which page may be named as damaged.
 abbrev pub OutcomeOf : (Ended → Type 0) → (ℕ → Type 0) → Type 0 → View → Status → View → Bool → List ℕ → Type 0
 OutcomeOf Works Broken Looks old Good new cut text = Works script.All
 OutcomeOf Works Broken Looks old WriteFault new cut text = Works script.WriteFault

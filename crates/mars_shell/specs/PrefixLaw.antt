@@ -1,4 +1,4 @@
--- What a loss of power leaves of a run, in transactions.
+-- What a loss of power during a run leaves, in terms of transactions.
 use Rattle.std.specs.Prelude.{ℕ, ◌⊎◌, List, length}
 use Rattle.pcm_media.specs.Images.{MayLeave}
 use Rattle.pcm_media.specs.View.{View}
@@ -10,13 +10,13 @@ use Rattle.core_face.specs.State.{State}
 use Rattle.core_face.specs.Prefix.{HasPrefixOf}
 use Rattle.mars_shell.specs.Forms.{index_in}
 
--- an image that opens with data, sound under this index, of the records of the first transactions, of at least so many
+-- the image opens with data that is sound under this index and has the records of the first transactions, at least so many
 abbrev pub Recovers : Shape → Index → State → ℕ → List ℕ → Type 0
 Recovers shape index final least image = HasPrefixOf (OpensWith (Opens shape) index) final least image
 
--- The prefix law, under the index that the data at first says. An image that a loss of power may leave at the end opens with the
--- records of all committed transactions, and the one in doubt may be there or not. One that might have been left at some moment of the
--- run opens with the records of the first of them, or with the data of an image that could be left at first: where all of these open.
+-- The prefix law, under the index that the data at first names. An image that a loss of power may leave at the end opens with the records
+-- of all committed transactions, with or without the one in doubt. One that might have been left at some moment of the run opens with the
+-- records of the first so many of them, or with the data of an image that could be left at first, if all of those open.
 pub record PrefixLaw (shape : Shape) (old : View) (final : State) (new : View) : Type 0 where
   pub now : (image : List ℕ) → MayLeave new.content image → Recovers shape (index_in shape old) final (length final.history) image
   pub since : AllOpen shape old.content → (image : List ℕ) → new.left_since old.moment image → OpensLike shape old.content image ⊎ Recovers shape (index_in shape old) final 0 image

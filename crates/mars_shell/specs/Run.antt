@@ -1,4 +1,4 @@
--- What a run over records does on a media that tells its bytes.
+-- What a run over records does on a medium that tells its bytes.
 use Rattle.std.specs.Prelude.{ℕ, ◌≡◌, ◌^◌, ◌<◌, ◌≤◌, List, ◌++◌, length, Bool, Contains}
 use Rattle.std.specs.List.{concat}
 use Rattle.pcm_media.specs.View.{View}
@@ -23,12 +23,12 @@ use Rattle.mars_shell.specs.Forms.{index_at, index_in}
 use Rattle.mars_shell.specs.Lines.{call_script, turns_at}
 use Rattle.mars_shell.specs.PrefixLaw.{PrefixLaw}
 
--- the media holds an array whose records are sound, under the index that its data says
+-- the medium holds an array whose records are sound under the index that its data names
 pub record HoldsRecords (shape : Shape) (media : View) : Type 0 where
   pub array : IsArray shape media
   pub sound : (index_in shape media).sound (settled_data shape media.content.bytes)
 
--- or one of whose records this is the first page that is not
+-- the medium holds an array in whose data this is the first page that is not sound
 abbrev pub IsDamaged : View → ℕ → Type 0
 IsDamaged media page = (shape : Shape) × IsArray shape media × (index_in shape media).fails (settled_data shape media.content.bytes) page
 
@@ -42,9 +42,9 @@ pub record HasAll (index : Index) (bytes : List ℕ) (state : State) : Type 0 wh
   pub table : table_of index bytes ≡ records state.base state.history
   pub keys : state.index ≡ index_of (keys_of index bytes)
 
--- Callers took turns over an array whose records are sound. These are the base of each state. Says tells what was done and written, of the
--- limits of the array, of the first state and of the last one. The history is legal on the base, also with the transaction in doubt, and it
--- is the one that the prefix law speaks of. At the end of all turns the data has just the records of the history.
+-- Callers took turns over an array whose records are sound and are the base of each state. Says tells, of the limits of the array, the
+-- first state and the last, what was done and written. The history, also with the transaction in doubt, is legal on the base and obeys the
+-- prefix law. At the end of all turns the data has exactly the records of the history.
 pub record TakesTurns (Says : Limits → State → State → Type 0) (old : View) (ended : Ended) (new : View) : Type 0 where
   pub shape : Shape
   pub holds : HoldsRecords shape old
@@ -56,8 +56,8 @@ pub record TakesTurns (Says : Limits → State → State → Type 0) (old : View
   pub quiet : ended ≡ All → HasNoVote shape new.content.bytes
   pub left : ended ≡ All → HasAll (index_at (data_of shape new.content.bytes)) (data_of shape new.content.bytes) final
 
--- The lines of the input were answered one by one. What was told as committed is kept: where an answer is the whole line
--- `c committed n`, the history has at least n transactions.
+-- The lines of the input were answered one by one. What was acknowledged as committed is kept: the history has at least n transactions
+-- if an answer is the whole line `c committed n`.
 pub record Answers (input : List ℕ) (ended : Ended) (cut : Bool) (text : List ℕ) (limits : Limits) (first final : State) : Type 0 where
   pub answers : List (List ℕ)
   pub rest : List ℕ

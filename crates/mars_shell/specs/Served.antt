@@ -24,7 +24,7 @@ use Rattle.script_run.specs.declared.ended.Ended.TheVariants.{All}
 use Rattle.mars_shell.specs.Dump.{dump_text, IsCutAt}
 use Rattle.mars_shell.specs.Run.{begun_on, HasAll}
 
--- The super page of the store's data says this form. Nothing was written, and whatever a loss of power might have left meanwhile opens
+-- The super page of the store's data names this form. Nothing was written, and whatever a loss of power might have left meanwhile opens
 -- with that data.
 pub record SaysForm (tells : Bool) (Opens : List ℕ → List ℕ → Type 0) (form : ℕ) (old new : StoreView) : Type 0 where
   pub is : IsTrue tells → form_said (page_bytes old.state.bytes 0) ≡ form
@@ -39,14 +39,15 @@ pub record SaysForm (tells : Bool) (Opens : List ℕ → List ℕ → Type 0) (f
 abbrev pub opens_of : (Shape → List ℕ → List ℕ → Type 0) → Shape → Index → State → ℕ → List ℕ → Type 0
 opens_of Opens shape index final least image = HasPrefixOf (OpensWith (Opens shape) index) final least image
 
--- The records were not taken: nothing was written, and whatever a loss of power might have left meanwhile opens with the store's data.
+-- The records were not taken. Nothing was written, and whatever a loss of power might have left meanwhile opens with the store's data.
 pub record Untaken (Opens : Shape → List ℕ → List ℕ → Type 0) (index : Index) (old : StoreView) (fault : CoreFault) (cut : Bool) (text : List ℕ) (new : StoreView) : Type 0 where
   pub whole : cut ≡ false
   pub silent : text ≡ []
   pub cause : CoreCause true index old fault
   pub time : LeavesOnly (λ image. Opens old.shape image old.state.bytes) old new
 
--- Callers took turns over the records of the store's data, which are sound under an index: what is said of a run, in the words of stores.
+-- Callers took turns over the records of the store's data, which are sound under an index. This is what is said of a run, in terms of the
+-- store.
 pub record Served (Says : Limits → State → State → Type 0) (Opens : Shape → List ℕ → List ℕ → Type 0) (index : Index) (old : StoreView) (ended : Ended) (new : StoreView) : Type 0 where
   pub sound : index.sound old.state.bytes
   pub shape : new.shape ≡ old.shape
@@ -62,7 +63,7 @@ abbrev pub Serves : (Ended → Limits → State → State → Type 0) → (Shape
 Serves Says Opens index old (Ok ended) cut text new = Served (Says ended) Opens index old ended new
 Serves Says Opens index old (Err fault) cut text new = Untaken Opens index old fault cut text new
 
--- The records of the store's data, which are sound under an index, were told.
+-- The records of the store's data, which are sound under an index, were written to the sink.
 pub record Told (Opens : Shape → List ℕ → List ℕ → Type 0) (index : Index) (old : StoreView) (ended : Ended) (cut : Bool) (text : List ℕ) (new : StoreView) : Type 0 where
   pub sound : index.sound old.state.bytes
   pub shape : new.shape ≡ old.shape
@@ -76,7 +77,7 @@ abbrev pub Tells : (Shape → List ℕ → List ℕ → Type 0) → Index → St
 Tells Opens index old (Ok ended) cut text new = Told Opens index old ended cut text new
 Tells Opens index old (Err fault) cut text new = Untaken Opens index old fault cut text new
 
--- the counts of faults of the sink and of the media
+-- the counts of faults of the sink and of the medium
 abbrev pub ServedCounts : Result Ended CoreFault → ℕ → ℕ → ℕ → ℕ → Type 0
 ServedCounts (Ok ended) sink sink' media media' = Counts ended sink sink' media media'
 ServedCounts (Err Media) sink sink' media media' = (sink' ≡ sink) × Rose media media'

@@ -1,4 +1,4 @@
--- The statuses of a run by their kinds, and the counts of faults that go with each.
+-- The statuses of a run by kind, and the counts of faults that go with each.
 use Rattle.std.specs.Prelude.{ℕ, ◌≡◌, Result, Ok, Err}
 use Rattle.counted.specs.Causes.{Rose}
 use Rattle.eaw_device.specs.declared.fault.AttachFault.{AttachFault}
@@ -10,14 +10,14 @@ use Rattle.script_run.specs.declared.ended.Ended.TheVariants as script
 use Rattle.mars_shell.specs.declared.status.Status.{Status}
 use Rattle.mars_shell.specs.declared.status.Status.TheVariants.{Good, Usage, TooLong, ReadFault, WriteFault, MediaFault, NoMemory, Damaged, BadRow, NotMars, BadShape}
 
--- they come before the media is touched
+-- the statuses of a run that ends before the medium is touched (except `Usage` of `callers`, which comes after the opening)
 abbrev pub IsEarly : Status → Type 0
 IsEarly Usage = Unit {0}
 IsEarly TooLong = Unit {0}
 IsEarly ReadFault = Unit {0}
 IsEarly _ = ⊥
 
--- the array on the media, or what there is in place of one, is refused
+-- the array on the medium, or what is there in place of one, is refused
 abbrev pub IsRefusal : Status → Type 0
 IsRefusal (Damaged page) = Unit {0}
 IsRefusal (BadRow logger tid) = Unit {0}
@@ -25,7 +25,7 @@ IsRefusal NotMars = Unit {0}
 IsRefusal (BadShape which given) = Unit {0}
 IsRefusal _ = ⊥
 
--- the status of a script that ended so
+-- the status of a script that ended this way
 abbrev pub script_status : Ended → Status
 script_status script.All = Good
 script_status script.WriteFault = WriteFault
@@ -40,15 +40,15 @@ status_of (opening.BadRow logger tid) = BadRow logger tid
 status_of opening.Media = MediaFault
 status_of opening.NoMemory = NoMemory
 
--- the status of work over records, or of none that were taken
+-- the status of work over records, or of records that were not taken
 abbrev pub served_status : Result Ended CoreFault → Status
 served_status (Ok ended) = script_status ended
 served_status (Err (core.Damaged page)) = Damaged page
 served_status (Err core.Media) = MediaFault
 served_status (Err core.NoMemory) = NoMemory
 
--- The counts of faults of the source, the sink and the media, each before and behind: one rose where it ended the run, and else
--- they are as they were; but a sink may also fail while a fault of the media is told.
+-- The counts of faults of the source, the sink and the medium, each before and after: the one that ended the run rose, and the others are
+-- as they were, except that the sink may also fail while a fault of the medium is reported.
 abbrev pub Counts : Status → ℕ → ℕ → ℕ → ℕ → ℕ → ℕ → Type 0
 Counts ReadFault source source' sink sink' media media' = Rose source source' × (sink' ≡ sink) × (media' ≡ media)
 Counts WriteFault source source' sink sink' media media' = (source' ≡ source) × Rose sink sink' × (media' ≡ media)

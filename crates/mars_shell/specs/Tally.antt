@@ -1,4 +1,4 @@
--- What the replies to a script come to in numbers.
+-- The tally of the replies to a script.
 use Rattle.std.specs.Prelude.{ℕ, ◌≡◌, ◌+◌, Bool, true, false, if◌then◌else◌, List, count_by, IsTrue, Result, Ok, Err}
 use Rattle.history.specs.declared.call.Call.{Call}
 use Rattle.history.specs.declared.call.Call.TheVariants.{Abort}
@@ -19,14 +19,15 @@ abbrev pub is_busy : Reply → Bool
 is_busy (Busy holder) = true
 is_busy _ = false
 
--- the array is full
+-- the array is full for this call
 abbrev pub is_full : Reply → Bool
 is_full (LogFull logger held needed) = true
 is_full (SlotsFull slots) = true
 is_full (PagesFull pages) = true
 is_full _ = false
 
--- of calls and their replies: the commits and the aborts that were done, the calls whose keys were held, and those for which the array was full
+-- of calls and their replies: the commits and aborts that were done, the calls whose keys were locked, and those for which the array was
+-- full
 abbrev pub tally_of : List (ℕ × Call × Reply) → Tally
 tally_of lines = record {
   committed = count_by (λ line. is_committed line.2) lines;
@@ -38,11 +39,11 @@ tally_of lines = record {
 abbrev pub total : Tally → ℕ
 total tally = tally.committed + (tally.aborted + (tally.busy + tally.refused))
 
--- one more where it is so
+-- one more if so
 abbrev pub more_if : Bool → ℕ → ℕ
 more_if so n = if so then n + 1 else n
 
--- with a further call and its reply
+-- the tally with a further call and its reply
 abbrev pub counted : Tally → Call → Reply → Tally
 counted tally call reply = record {
   committed = more_if (is_committed reply) tally.committed;
@@ -51,7 +52,7 @@ counted tally call reply = record {
   refused = more_if (is_full reply) tally.refused;
 }
 
--- the reply was counted; or it ends the script
+-- the reply was counted, or it ends the script
 abbrev pub Counted : Tally → ℕ → Call → Reply → Tally → Result (Unit {0}) Stop → Type 0
 Counted old caller call reply new (Ok x) = IsTrue (goes_on reply) × (new ≡ counted old call reply)
 Counted old caller call reply new (Err (stop.Media number)) = (number ≡ caller) × (reply ≡ Media)

@@ -1,4 +1,4 @@
-// A run of callers beside each other.
+// Callers on threads.
 ghost use Rattle.std.specs.Prelude.{◌≡◌, ◌<◌, ◌≤◌, ◌⊎◌, ℕ, List, IsTrue};
 ghost use Rattle.script_io.specs.Written.{Wrote};
 ghost use Rattle.mars_shell.specs.Joint.{JointOutcome};
@@ -17,8 +17,8 @@ use std::alloc::Global;
 use std::sync::Wait;
 use std::thread::Threads;
 
-/// Gives the transactions of each caller in the source to a worker of its own, over the array that the media holds, where its records are
-/// sound. It is wrong usage where the array has fewer transaction numbers than there are callers.
+/// Gives each caller's transactions in the source to a worker of its own, over the array that the medium holds, if its records are sound.
+/// Answers `Usage` if the array has fewer transaction numbers than there are callers.
 pub(crate) fn run_callers<
     R: Threads + Wait + Sync,
     S: Source,
@@ -46,7 +46,7 @@ pub(crate) fn run_callers<
     ensures ran { Wrote K.tells (K.written sink.old) (K.written sink.new) (K.faults sink.old) (K.faults sink.new)
         (λ cut text. (input : List ℕ) × (IsTrue S.tells → S.left source.old ≡ input) × (IsTrue M.tells → JointOutcome callers (M.view media) result.0 (M.view result.1) input cut text)) }
 {
-    // The room for the pages is taken first, so that want of memory for it leaves the media alone.
+    // The room for the pages is taken first, so that a lack of memory for it leaves the medium alone.
     let room = match SaveRoom::new(alloc) {
         Ok(room) => room,
         Err(_) => return (Status::NoMemory, media),

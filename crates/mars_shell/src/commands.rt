@@ -13,7 +13,7 @@ use outside::{Sink, Source};
 use pcm_media::Media;
 use std::alloc::Global;
 
-/// Answers the raw commands of the source over the array that the media holds, whatever its records are.
+/// Answers the raw commands of the source over the array that the medium holds, whatever its records are.
 pub(crate) fn run_commands<S: Source, K: Sink, M: Media>(
     alloc: Global,
     source: &mut S,

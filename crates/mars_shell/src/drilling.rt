@@ -1,4 +1,4 @@
-// A run of a drawn script, of which a summary is told.
+// A run of a drawn script, which ends with a summary.
 ghost use Rattle.std.specs.Prelude.{◌≡◌, ◌<◌, ◌^◌, ℕ, List, None, IsTrue, IfOk, IfErr, OnOk};
 ghost use Rattle.eaw_face.specs.Causes.{IsAlive};
 ghost use Rattle.drill_gen.specs.Drill.{drill};
@@ -33,7 +33,7 @@ use script_io::{write_front, write_whole};
 use script_run::{Ended, Stop};
 use std::alloc::Global;
 
-/// Makes the calls of the script that the numbers draw, over the records of the array that the media holds, and tells a summary.
+/// Makes the calls of the script that the numbers draw, over the records of the array that the medium holds, and writes a summary.
 pub(crate) fn run_drill<K: Sink, M: Media>(
     alloc: Global,
     sink: &mut K,
@@ -48,7 +48,7 @@ pub(crate) fn run_drill<K: Sink, M: Media>(
     ensures ran { Wrote K.tells (K.written sink.old) (K.written sink.new) (K.faults sink.old) (K.faults sink.new)
         (λ cut text. (input : List ℕ) → IsTrue M.tells → OutcomeFor (Drill numbers.now) (M.view media) result.0 (M.view result.1) input cut text) }
 {
-    // The room for the pages is taken first, so that want of memory for it leaves the media alone.
+    // The room for the pages is taken first, so that a lack of memory for it leaves the medium alone.
     let room = match SaveRoom::new(alloc) {
         Ok(room) => room,
         Err(_) => return (Status::NoMemory, media),
@@ -61,7 +61,8 @@ pub(crate) fn run_drill<K: Sink, M: Media>(
     (served_status(drilled), store.into_media())
 }
 
-// Makes the calls over the records of a store, under the index that its data says, tells a summary or that the media failed, and gives the store back.
+// Makes the calls over the records of a store, under the index that its data names. Writes a summary, or that the medium failed, and
+// returns the store.
 fn drill<K: Sink, S: EawStore>(
     alloc: Global,
     numbers: &DrillNumbers,
@@ -115,7 +116,7 @@ fn drill_under<K: Sink, S: EawStore, I: KeyIndex>(
         },
         Err(stop) => match stop {
             Stop::Media { number: _ } => {
-                // This line is there without memory, so that the way the script ends does not depend on any.
+                // This line needs no memory, so how the script ends does not depend on memory.
                 write_front(sink, b"media fault\n");
                 (Ok(Ended::MediaFault), store)
             }
@@ -124,7 +125,7 @@ fn drill_under<K: Sink, S: EawStore, I: KeyIndex>(
     }
 }
 
-// Makes the calls on a core, and forms the summary. An error says why there is none.
+// Makes the calls on a core and forms the summary. An error says why there is none.
 fn sum_up<S: EawStore, I: KeyIndex>(
     alloc: Global,
     numbers: &DrillNumbers,

@@ -29,18 +29,18 @@ use script_io::write_whole;
 use script_run::Ended;
 use std::alloc::Global;
 
-/// Tells the records of the array that the media holds, where they are sound, and how many there are.
+/// Writes the records of the array that the medium holds, if they are sound, and how many there are.
 pub(crate) fn run_dump<K: Sink, M: Media>(alloc: Global, sink: &mut K, media: M) -> (Status, M)
     ensures no_usage { result.0 ≡ Status.Usage → ⊥ }
     ensures late { IsEarly result.0 → ⊥ }
-    // Of records that were not taken nothing is told, nor where the media failed.
+    // Nothing is written if the records were not taken or the medium failed.
     ensures refused { IsRefusal result.0 → sink.new ≡ sink.old }
     ensures untold { (result.0 ≡ Status.MediaFault) ⊎ (result.0 ≡ Status.NoMemory) → sink.new ≡ sink.old }
     ensures counts { Counts result.0 0 0 (K.faults sink.old) (K.faults sink.new) (M.view media).faults (M.view result.1).faults }
     ensures ran { Wrote K.tells (K.written sink.old) (K.written sink.new) (K.faults sink.old) (K.faults sink.new)
         (λ cut text. (input : List ℕ) → IsTrue M.tells → OutcomeFor Dump (M.view media) result.0 (M.view result.1) input cut text) }
 {
-    // The room for the pages is taken first, so that want of memory for it leaves the media alone.
+    // The room for the pages is taken first, so that a lack of memory for it leaves the medium alone.
     let room = match SaveRoom::new(alloc) {
         Ok(room) => room,
         Err(_) => return (Status::NoMemory, media),
@@ -53,7 +53,7 @@ pub(crate) fn run_dump<K: Sink, M: Media>(alloc: Global, sink: &mut K, media: M)
     (served_status(told), store.into_media())
 }
 
-// Tells the records of a store, under the index that its data says, and gives the store back.
+// Writes the records of a store, under the index that its data names, and returns the store.
 fn tell_records<K: Sink, S: EawStore>(
     alloc: Global,
     sink: &mut K,
@@ -76,7 +76,7 @@ fn tell_records<K: Sink, S: EawStore>(
     }
 }
 
-// The same under an index. The text is formed whole before any of it is written.
+// The same under an index. The text is formed in full before any of it is written.
 fn tell_under<K: Sink, S: EawStore, I: KeyIndex>(
     alloc: Global,
     sink: &mut K,
@@ -106,7 +106,7 @@ fn tell_under<K: Sink, S: EawStore, I: KeyIndex>(
     }
 }
 
-// The lines of rows, and of their count.
+// The lines of the rows and of their count.
 fn dump_lines(alloc: Global, rows: &Rows) -> Result<Vec<u8>, NoMemory>
     ensures { IfOk result (λ text. text.items ≡ dump_lines rows.now) }
 {

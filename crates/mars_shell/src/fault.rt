@@ -1,4 +1,4 @@
-// What is told of a status on standard error.
+// The text of a status on standard error.
 ghost use Rattle.std.specs.Prelude.{◌≡◌, ◌≤◌, ◌∷◌, ◌++◌, take, length};
 ghost use Rattle.std.specs.Fmt.{decimal};
 ghost use Rattle.mars_shell.specs.Fault.{status_text};
@@ -6,7 +6,7 @@ ghost use Rattle.mars_shell.specs.Fault.{status_text};
 use crate::status::Status;
 use itoa::Buffer;
 
-/// Writes the text of a status to the front of `buf` and gives its length in bytes, 0 for `Good`.
+/// Writes the text of a status to the front of `buf` and returns its length in bytes, 0 for `Good`.
 pub fn fault_text(status: &Status, buf: &mut [u8; 64]) -> usize
     ensures fits { result ≤ 64 }
     ensures text { take result buf.new ≡ status_text status.now }
@@ -40,7 +40,7 @@ fn write_words(words: &[u8], buf: &mut [u8; 64]) -> usize
     words.len()
 }
 
-// Words, and a number behind them.
+// Words followed by a number.
 fn write_number(words: &[u8], n: u64, buf: &mut [u8; 64]) -> usize
     requires { length words.now ≤ 10 }
     ensures length { result ≡ length (words.now ++ decimal n) }
@@ -56,7 +56,7 @@ fn write_number(words: &[u8], n: u64, buf: &mut [u8; 64]) -> usize
     end
 }
 
-// Words, and two numbers behind them with a space between.
+// Words followed by two numbers with a space between them.
 fn write_numbers(words: &[u8], n: u64, m: u64, buf: &mut [u8; 64]) -> usize
     requires { length words.now ≤ 10 }
     ensures length { result ≡ length (words.now ++ (decimal n ++ 32 ∷ decimal m)) }

@@ -1,4 +1,4 @@
-// A fresh array is made on the media, and its lengths are told.
+// Makes a fresh array on the medium and writes its lengths.
 ghost use Rattle.std.specs.Prelude.{◌≡◌, ◌↔◌, ◌+◌, ◌≤◌, ◌++◌, length, take, IsOk, IfOk, IfErr, IsTrue};
 ghost use Rattle.array_shape.specs.declared.shape.Shape.{Shape};
 ghost use Rattle.array_shape.specs.Numbers.{IsFirstBad};
@@ -16,7 +16,7 @@ use outside::Sink;
 use pcm_media::Media;
 use script_io::write_whole;
 
-/// How many bytes the media of such an array has, 0 where a number is out of range.
+/// The length in bytes of the medium of such an array, or 0 if a number is out of range.
 pub(crate) fn room_of(asked: &FormatNumbers) -> u64
     ensures room { (shape : Shape) → HasAsked asked.now shape → result ≡ media_len shape }
     ensures no_room { ¬ CanBe asked.now → result ≡ 0 }
@@ -27,17 +27,17 @@ pub(crate) fn room_of(asked: &FormatNumbers) -> u64
     }
 }
 
-/// Makes a fresh array on the media, writes a line of the bytes of the media and of the data, and gives the media back.
+/// Makes a fresh array on the medium, writes a line with the lengths of the medium and of the data, and returns the medium.
 pub(crate) fn run_format<K: Sink, M: Media>(
     sink: &mut K,
     mut media: M,
     asked: &FormatNumbers,
 ) -> (Status, M)
-    // Where a number or the media's length is wrong, all is left alone. Of an array that was not made nothing is told.
+    // If a number or the medium's length is wrong, everything is left alone. Nothing is written unless an array was made.
     ensures refused { IsRefusal result.0 → sink.new ≡ sink.old }
     ensures says { FormatSays asked.now (M.view media).size result.0 (sink.new ≡ sink.old) (result.1 ≡ media) }
     ensures counts { Counts result.0 0 0 (K.faults sink.old) (K.faults sink.new) (M.view media).faults (M.view result.1).faults }
-    // Some text was written, cut short only where the sink failed, and each status has its cause.
+    // Some text was written, cut short only if the sink failed, and each status has its cause.
     ensures ran { Wrote K.tells (K.written sink.old) (K.written sink.new) (K.faults sink.old) (K.faults sink.new)
         (λ cut text. IsTrue M.tells → FormatOutcome asked.now (M.view media) result.0 (M.view result.1) cut text) }
 {
@@ -59,13 +59,13 @@ pub(crate) fn run_format<K: Sink, M: Media>(
     }
 }
 
-// The shape of these numbers, or the first that is out of range.
+// The shape with these numbers, or the first number that is out of range.
 fn shape_of(asked: &FormatNumbers) -> Result<Shape, BadShape>
     ensures good { IsOk result ↔ CanBe asked.now }
     ensures shape { IfOk result (HasAsked asked.now) }
     ensures bad { IfErr result (λ bad. IsFirstBad asked.now.loggers asked.now.numbers asked.now.entries asked.now.pages bad.which bad.given) }
 {
-    // What no byte holds is out of range, as 255 is, but it is told as it was asked for.
+    // A number that no byte holds is out of range, as 255 is, but it is reported as it was asked for.
     let loggers = asked.loggers.min(255) as u8;
     let numbers = asked.numbers.min(255) as u8;
     match Shape::new(loggers, numbers, asked.entries, u32::from(asked.pages)) {
@@ -87,7 +87,7 @@ fn asked_for(asked: &FormatNumbers, which: ShapeNumber, given: u64) -> u64
     }
 }
 
-// The line of a fresh array. It is formed without memory, so that its status does not depend on any.
+// The line of a fresh array. It is formed without memory, so the status does not depend on memory.
 fn formatted_line(shape: Shape, buf: &mut [u8; 64]) -> &[u8]
     ensures { result.now ≡ formatted_line shape }
 {
@@ -100,7 +100,7 @@ fn formatted_line(shape: Shape, buf: &mut [u8; 64]) -> &[u8]
     &buf[..end]
 }
 
-// Puts a piece behind the first `at` bytes, and gives where it ends.
+// Puts a piece after the first `at` bytes and returns where it ends.
 fn put_behind(buf: &mut [u8; 64], at: usize, piece: &[u8]) -> usize
     requires { at + length piece.now ≤ 64 }
     ensures end { result ≡ at + length piece.now }

@@ -10,7 +10,7 @@ use eaw_face::EawStore;
 use mars_core::CoreFault;
 use record_table::{AttachRecords, Form, form_of};
 
-/// Which index the data of a store says. An error says why its records are not taken.
+/// Which index the data of a store names. An error says why the records are not taken.
 pub fn find_form<S: EawStore>(store: &mut S) -> Result<Form, CoreFault>
     requires alive { IsAlive (S.view store.old) }
     ensures says { IfOk result (λ form. SaysForm S.tells (S.opens (S.view store.old).shape) (form_number form) (S.view store.old) (S.view store.new)) }

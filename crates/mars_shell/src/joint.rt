@@ -1,4 +1,4 @@
-// The work of callers beside each other.
+// The work of callers on threads.
 ghost use Rattle.std.specs.Prelude.{◌≡◌, ◌++◌, ◌<◌, ◌≤◌, ◌⊎◌, ◌↔◌, ℕ, List, None, length, IsTrue, IfErr, IfOk, OnOk};
 ghost use Rattle.std.specs.FinMap.{entries};
 ghost use Rattle.std.specs.List.{flat_map};
@@ -32,8 +32,8 @@ use std::thread::Threads;
 
 const MEDIA_LINE: &[u8] = b"media fault\n";
 
-/// Gives the transactions of each caller in the input to a worker of its own, over the records of a store, under the
-/// index that its data says, tells what came of them, and gives the store back. Where the records were not taken, or memory was short before the work, nothing was told.
+/// Gives each caller's transactions in the input to a worker of its own, over the records of a store, under the index that its data names.
+/// Writes what came of them and returns the store. Nothing is written if the records were not taken or memory ran out before the work.
 pub fn serve_jointly<R: Threads + Wait + Sync, K: Sink, S: EawStore + Drop + Send, G: Gate + Sync>(
     rt: &R,
     alloc: Global,
@@ -120,7 +120,7 @@ fn work_under<
     }
 }
 
-// Tells what came of the work, by how it ended.
+// Writes what came of the work, by how it ended.
 fn tell_end<K: Sink>(
     alloc: Global,
     sink: &mut K,
@@ -182,8 +182,8 @@ fn write_all_fates(text: &mut Vec<u8>, fates: &[Fates]) -> Result<(), NoMemory>
     Ok(())
 }
 
-// Tells the history and that the media failed. Where memory is short for the history's text, that line is told alone, so that the way the
-// work ended does not depend on memory.
+// Writes the history and that the medium failed. If there is no memory for the history's text, the line of the fault is written alone, so
+// how the work ended does not depend on memory.
 fn tell_media_fault<K: Sink>(alloc: Global, sink: &mut K, history: &History)
     ensures { Wrote K.tells (K.written sink.old) (K.written sink.new) (K.faults sink.old) (K.faults sink.new)
         (λ cut text. IsWritten cut text (flat_map done_lines history.now ++ media_line) ⊎ IsWritten cut text media_line) }

@@ -1,4 +1,4 @@
-//! The program over a source, a sink and a media that are handed in.
+//! The program over a source, a sink and a medium that are handed in.
 #![tactic(auto)]
 
 mod callers;

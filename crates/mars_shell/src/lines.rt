@@ -14,7 +14,7 @@ use page_store::SaveRoom;
 use pcm_media::Media;
 use std::alloc::Global;
 
-/// Answers the lines of the source over the array that the media holds, where its records are sound.
+/// Answers the lines of the source over the array that the medium holds, if its records are sound.
 pub(crate) fn run_lines<S: Source, K: Sink, M: Media>(
     alloc: Global,
     source: &mut S,
@@ -30,7 +30,7 @@ pub(crate) fn run_lines<S: Source, K: Sink, M: Media>(
     ensures ran { Wrote K.tells (K.written sink.old) (K.written sink.new) (K.faults sink.old) (K.faults sink.new)
         (λ cut text. (input : List ℕ) × (IsTrue S.tells → S.left source.old ≡ input) × (IsTrue M.tells → OutcomeFor Run (M.view media) result.0 (M.view result.1) input cut text)) }
 {
-    // The room for the pages is taken first, so that want of memory for it leaves the media alone.
+    // The room for the pages is taken first, so that a lack of memory for it leaves the medium alone.
     let room = match SaveRoom::new(alloc) {
         Ok(room) => room,
         Err(_) => return (Status::NoMemory, media),

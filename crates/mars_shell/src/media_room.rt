@@ -1,4 +1,4 @@
-// How long the media of an image has to be.
+// How long the medium of an image has to be.
 ghost use Rattle.std.specs.Prelude.{map, string_bytes, IfOk};
 ghost use Rattle.mars_shell.specs.Room.{IsRoom};
 
@@ -7,7 +7,7 @@ use command_words::{Words, WordsFault, read_words};
 use counted::NoMemory;
 use std::alloc::Global;
 
-/// The length of the media that a `format` of these words needs; 0 for other words, and where a number is out of range.
+/// The length in bytes of the medium that a `format` of these words needs, or 0 for other words and if a number is out of range.
 pub fn room(alloc: Global, words: &[String]) -> Result<u64, NoMemory>
     ensures { IfOk result (IsRoom (map string_bytes words.now)) }
 {

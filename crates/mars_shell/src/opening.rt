@@ -1,4 +1,4 @@
-// The input of a run, and the array that it is about.
+// The input of a run and the array that it works on.
 ghost use Rattle.std.specs.Prelude.{◌≡◌, IsTrue, IfOk, IfErr};
 ghost use Rattle.eaw_device.specs.Opens.{Attached, KeepsData};
 ghost use Rattle.mars_shell.specs.Input.{InputSays};
@@ -13,8 +13,8 @@ use pcm_media::Media;
 use script_io::{InputFault, read_input};
 use std::alloc::Global;
 
-/// Reads the input to its end, and then opens the array that the media holds. At an error the media is given back with the status
-/// that the run ends with.
+/// Reads the input to its end, then opens the array that the medium holds. An error returns the medium with the status that the run ends
+/// with.
 pub fn open<S: Source, M: Media>(
     alloc: Global,
     source: &mut S,
@@ -43,7 +43,7 @@ pub fn open<S: Source, M: Media>(
     }
 }
 
-/// Opens the array that the media holds. At an error the media is given back with the status that the run ends with.
+/// Opens the array that the medium holds. An error returns the medium with the status that the run ends with.
 pub fn open_array<M: Media>(alloc: Global, media: M) -> Result<Eaw<M>, (Status, M)>
     ensures kind { IfErr result (λ ended. IsUnopened ended.0) }
     ensures late { IfErr result (λ ended. IsEarly ended.0 → ⊥) }

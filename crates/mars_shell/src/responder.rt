@@ -1,4 +1,4 @@
-// A core answers the lines of its callers.
+// A core answers its callers' lines.
 ghost use Rattle.std.specs.Prelude.{◌≡◌};
 ghost use Rattle.mars_shell.specs.Lines.{Replied};
 
@@ -52,7 +52,7 @@ impl<C: Core> Responder for LineCore<C> {
     }
 }
 
-// Tells a caller's reply, behind which the script goes on, or how it ends.
+// Writes a caller's reply, after which the script goes on, or says how the script ends.
 fn tell(out: &mut Vec<u8>, caller: u8, reply: &Reply) -> Result<(), Stop>
     ensures { Replied caller reply.now out.old.items out.new.items result }
 {

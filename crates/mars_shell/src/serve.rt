@@ -18,8 +18,8 @@ use record_table::Form;
 use script_run::{Ended, answer_lines};
 use std::alloc::Global;
 
-/// Answers the lines of the input over the records of a store, under the index that its data says, and gives the store back. Where they were
-/// not taken, nothing was told. The pages over the store lie in room that was taken before it was opened.
+/// Answers the lines of the input over the records of a store, under the index that its data names, and returns the store. Nothing is
+/// written if the records were not taken. The pages over the store lie in room that was taken before it was opened.
 pub fn serve<K: Sink, S: EawStore>(
     alloc: Global,
     input: &[u8],

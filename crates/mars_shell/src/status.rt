@@ -10,9 +10,9 @@ use script_run::Ended;
 /// How a run ended.
 #[derive(Clone, Copy, Debug, PartialEq, Eq)]
 pub enum Status {
-    /// The input was read to its end and each line was answered.
+    /// What was asked for was done. Of a command with an input, that was read to its end and each line was answered.
     Good,
-    /// The words are none that the program knows.
+    /// The words ask for nothing that the program knows, or for more callers than the array has transaction numbers.
     Usage,
     /// The input has more bytes than a run takes.
     TooLong,
@@ -20,14 +20,14 @@ pub enum Status {
     WriteFault,
     MediaFault,
     NoMemory,
-    /// The index of the records, or a slot that it names, is not sound in this page of the data. It is the first such page.
+    /// The first page of the data in which the index of the records, or a slot that it names, is not sound.
     Damaged { page: u32 },
-    /// This logger's row of this transaction number is decided, and names a cell that is not there or holds no part of
-    /// that logger.
+    /// This logger's row of this transaction number is decided but names a cell that is not there, or one that holds no part of that
+    /// logger.
     BadRow { logger: u8, tid: u8 },
-    /// The media does not begin as an array does.
+    /// The medium does not begin as an array does.
     NotMars,
-    /// A number in the header is out of its range, or the media has not the length that they give.
+    /// A number in the header is out of range, or the medium has not the length that the numbers give.
     BadShape { which: ShapeNumber, given: u64 },
 }
 
@@ -68,7 +68,7 @@ pub(crate) fn status_of(fault: AttachFault) -> Status
     }
 }
 
-// The status of a script that ended so.
+// The status of a run whose script ended so.
 pub(crate) fn script_status(ended: Ended) -> Status
     ensures { result ≡ script_status ended }
 {
@@ -80,7 +80,7 @@ pub(crate) fn script_status(ended: Ended) -> Status
     }
 }
 
-// The status of work over the records of an array, or why they were not taken.
+// The status of work over the records of an array, or of records that were not taken.
 pub(crate) fn served_status(served: Result<Ended, CoreFault>) -> Status
     ensures { result ≡ served_status served }
 {

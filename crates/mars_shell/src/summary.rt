@@ -1,4 +1,4 @@
-// What is told of a drill.
+// The text of a drill.
 ghost use Rattle.std.specs.Prelude.{◌≡◌, ◌++◌, codes, IfOk, OnOk};
 ghost use Rattle.std.specs.Fmt.{decimal};
 ghost use Rattle.mars_shell.specs.Drill.{key_sum, summary_text};
@@ -13,7 +13,8 @@ use itoa::Buffer;
 use record_slots::Value;
 use std::alloc::Global;
 
-/// The text that tells what a script was drawn from, what its replies come to, and what the records are behind it.
+/// The text that says what a script was drawn from, the tally of its replies, and how many records there are at the end with the sum of
+/// their keys.
 pub fn summary_text(
     alloc: Global,
     numbers: &DrillNumbers,
@@ -46,7 +47,7 @@ fn append_drill(text: &mut Vec<u8>, numbers: &DrillNumbers) -> Result<(), NoMemo
     )
 }
 
-// The sum of the keys of rows, in 64 bits.
+// The sum of the keys of the rows, modulo `2^64`.
 fn key_sum(rows: &[(u64, Value)]) -> u64
     ensures { result ≡ key_sum rows.now }
 {

@@ -1,4 +1,4 @@
-// What the replies to a script come to.
+// The tally of the replies to a script.
 ghost use Rattle.std.specs.Prelude.{◌≡◌, ◌≤◌, ◌<◌, ◌+◌, ◌-◌, ◌^◌, []};
 ghost use Rattle.history.specs.declared.call.Reply.TheVariants.{Fine};
 ghost use Rattle.mars_shell.specs.Tally.{tally_of, total, Counted, more_if, is_aborted};
@@ -6,7 +6,7 @@ ghost use Rattle.mars_shell.specs.Tally.{tally_of, total, Counted, more_if, is_a
 use history::{Call, Reply};
 use script_run::Stop;
 
-/// How many commits and aborts were done, how many calls found their keys held, and how many the array full.
+/// How many commits and aborts were done, how many calls found their keys locked, and how many found the array full.
 #[derive(Clone, Copy, Debug, PartialEq, Eq)]
 pub struct Tally {
     pub committed: u64,
@@ -27,7 +27,7 @@ impl Tally {
         }
     }
 
-    /// Counts the reply to a caller's call, behind which the script goes on, or says why that ends.
+    /// Counts the reply to a caller's call, after which the script goes on, or says why the script ends.
     pub fn count(&mut self, caller: u8, call: &Call, reply: &Reply) -> Result<(), Stop>
         requires { total self.old < 2 ^ 64 - 1 }
         ensures counted { Counted self.old caller call.now reply.now self.new result }
@@ -65,7 +65,7 @@ impl Tally {
         }
     }
 
-    // Of the calls that are only done, an abort is counted.
+    // Of the calls whose reply is just `Fine`, only an abort is counted.
     fn count_fine(&mut self, call: &Call)
         requires { self.old.aborted < 2 ^ 64 - 1 }
         ensures { self.new ≡ record self.old { aborted = more_if (is_aborted call.now Fine) self.old.aborted } }

@@ -9,7 +9,7 @@ use core_face::Core;
 use history::Call;
 use script_run::Stop;
 
-/// Makes the calls of a script, until all are made or a reply ends it, and counts their replies. An error says why it ended.
+/// Makes the calls of a script until all are made or a reply ends it, and counts their replies. An error says why it ended.
 pub fn make_turns<C: Core>(core: &mut C, turns: &[(u8, Call)]) -> Result<Tally, Stop>
     requires inside { All (λ turn. turn.0 < (C.view core.old).limits.callers) turns.now }
     requires alive { (C.view core.old).state.is_dead ≡ false }

@@ -23,11 +23,11 @@ use pcm_media::Media;
 use std::sync::Wait;
 use std::thread::Threads;
 
-/// Does all that the program does over the words behind the image's, and gives the media back.
+/// Does all that the program does with the words after the image's, and returns the medium.
 ///
-/// For `run` the input is read first, then the array is opened and recovered, then its records are read, and then the lines
-/// are answered; for `callers` each caller's transactions are made by a worker of its own, on a thread, which calls the gate between its calls;
-/// for `eaw` all but the records. `drill`, `dump` and `format` read no input. Only `callers` may wait.
+/// `run` reads the input, opens and recovers the array, reads its records, and then answers the lines. `callers` does the same, but each
+/// caller's transactions are made by a worker of its own on a thread, which calls the gate between its calls. `eaw` does not read the
+/// records. `drill`, `dump` and `format` read no input. Only `callers` may wait.
 pub fn run<
     R: AllocGlobal + Threads + Wait + Sync,
     S: Source,
@@ -35,29 +35,30 @@ pub fn run<
     M: Media + Drop + Send,
     G: Gate + Sync,
 >(rt: &R, words: &[String], source: &mut S, sink: &mut K, media: M, gate: &G) -> (Status, M)
-    // Usage comes exactly where the words ask for nothing, or for more callers than the array has numbers (`ran`).
+    // `Usage` comes exactly when the words ask for nothing, or for more callers than the array has numbers (`ran`).
     ensures words { WordsSay (map string_bytes words.now) result.0 (Unit {0}) (λ asked. Unit {0}) }
-    // Other words touch nothing, what ends the run before the media is opened leaves that alone, and where no line is answered
-    // and no array made nothing is told.
+    // If the words ask for nothing, nothing is touched. A run that ends before the medium is opened leaves the medium as it was. If no line
+    // is answered and no array is made, nothing is written.
     ensures usage { AskForNothing (map string_bytes words.now) → (source.new ≡ source.old) × (sink.new ≡ sink.old) × (result.1 ≡ media) }
     ensures early { (result.0 ≡ Status.TooLong) ⊎ (result.0 ≡ Status.ReadFault) → result.1 ≡ media }
     ensures silent { result.0 ≢ Status.Good → result.0 ≢ Status.WriteFault → result.0 ≢ Status.MediaFault → result.0 ≢ Status.NoMemory → sink.new ≡ sink.old }
-    // A fault is told as what it is, and none is hidden.
+    // A fault is reported as what it is, and none is hidden.
     ensures counts { Counts result.0 (S.faults source.old) (S.faults source.new) (K.faults sink.old) (K.faults sink.new) (M.view media).faults (M.view result.1).faults }
     ensures steady { IsTrue (S.steady source.old) → result.0 ≡ Status.ReadFault → ⊥ }
-    // An input is too long exactly where it is; and all of it was read where a command that reads it ends well. A dump and a format read none.
+    // `TooLong` comes exactly when the input exceeds the limit. A command that reads the input and ends well has read all of it. The other
+    // commands read none.
     ensures input { WordsSay (map string_bytes words.now) result.0 (source.new ≡ source.old) (λ asked. IfReads asked
         (source.new ≡ source.old) (IsTrue S.tells → InputSays result.0 (S.left source.old) (S.left source.new))) }
     ensures formats { WordsSay (map string_bytes words.now) result.0 ((sink.new ≡ sink.old) × (result.1 ≡ media)) (λ asked. IfFormat asked
         (λ numbers. FormatSays numbers (M.view media).size result.0 (sink.new ≡ sink.old) (result.1 ≡ media)) (Unit {0})) }
-    // Where a dump's media failed or memory was short nothing is told.
+    // A dump writes nothing if the medium failed or memory ran out.
     ensures dumps { WordsSay (map string_bytes words.now) result.0 (sink.new ≡ sink.old) (λ asked. asked ≡ Dump → (result.0 ≡ Status.MediaFault) ⊎ (result.0 ≡ Status.NoMemory) → sink.new ≡ sink.old) }
-    // What the words ask for was done. Each status has its cause. Of a run the text answers the lines of the input one by one, and of a
-    // drill it is the summary of the replies; of both the history is legal, and the prefix law holds of it. Of a dump it is the records;
-    // of raw commands it answers them by the model.
+    // What the words ask for was done, and each status has its cause. For `run` the text answers the lines of the input one by one, and for
+    // `drill` it is the summary of the replies. For both the history is legal and obeys the prefix law. For `dump` the text is the records,
+    // and for `eaw` it answers the commands by the model.
     ensures ran { WordsSay (map string_bytes words.now) result.0 ((source.new ≡ source.old) × (sink.new ≡ sink.old) × (result.1 ≡ media)) (λ asked. Wrote K.tells (K.written sink.old) (K.written sink.new) (K.faults sink.old) (K.faults sink.new)
         (λ cut text. (input : List ℕ) × (IsTrue S.tells → S.left source.old ≡ input) × (IsTrue M.tells → OutcomeFor asked (M.view media) result.0 (M.view result.1) input cut text))) }
-    // What can be done is done, or memory was short.
+    // What can be done is done, unless memory runs out.
     ensures complete { WordsSay (map string_bytes words.now) result.0 (Unit {0}) (λ asked. IsFit asked S.tells (S.left source.old) M.tells (M.view media)
         → (Rose (S.faults source.old) (S.faults source.new) → ⊥) → (Rose (K.faults sink.old) (K.faults sink.new) → ⊥) → (Rose (M.view media).faults (M.view result.1).faults → ⊥)
         → (result.0 ≡ Status.Good) ⊎ (result.0 ≡ Status.NoMemory)) }

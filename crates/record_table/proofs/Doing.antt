@@ -1,4 +1,4 @@
--- From what calls below leave, what a call on records does.
+-- What a call on records does, given what the calls below leave.
 use Rattle.std.proofs.Common.{◌≡◌, ℕ, ◌+◌, ◌<◌, ◌≤◌, Bool, true, false, cond, inl, IsTrue, List, length, Result, Ok, Err, refl, sym, ◌∙◌, ap, subst, arith}
 use Rattle.std.specs.Prelude.{Option, Some, None, IsFalse, IsErrOf, OnOk, OnErr}
 use Rattle.std.proofs.lemmas.Bool.{false≢true}
@@ -39,7 +39,7 @@ same_counts : (old new : PagesView) (n : ℕ) → new.counts ≡ old.counts → 
 same_counts old new n same = ap (λ (f : ℕ → List ℕ). length (f n)) same
 
 module _ (tells : Bool) (Opens : List ℕ → List ℕ → Type 0) (index : Index) (c : TableCommand) (old new : PagesView) where
-  -- nothing but the index has changed
+  -- only the index has changed
   pub does_moved : {T : Type 0} (r : Result T TableFault) → IsAlive old.store → IsFalse (table.is_failed r) → Moved tells Opens index (number_of c) old new → Cause tells index c old r
       → (IsTrue tells → OnOk r (state_of index old ≡ after c (state_of index old))) → (IsTrue tells → Indexed c (keys_of index old.store.state.bytes) (keys_of index new.store.state.bytes) r)
       → OnOk r (length (old.counts (number_of c)) ≡ saves_after c (length (old.counts (number_of c)))) → Does tells Opens index c old new r
@@ -57,7 +57,7 @@ module _ (tells : Bool) (Opens : List ℕ → List ℕ → Type 0) (index : Inde
     time = λ told _. weaker (λ image opens. inl opens) (moved.time told);
   }
 
-  -- the media failed
+  -- the medium failed
   pub does_failed : {T : Type 0} → IsAlive old.store → Failed tells Opens index (number_of c) old new → (let r : Result T TableFault = Err Media in Does tells Opens index c old new r)
   does_failed alive failed = record {
     shape = failed.shape;
@@ -95,7 +95,7 @@ module _ (tells : Bool) (Opens : List ℕ → List ℕ → Type 0) (index : Inde
   pub holds_dead : new.store.is_dead ≡ true → Holds tells index new
   holds_dead dead alive = absurd (false≢true (sym alive ∙ dead))
 
-  -- a write behind what has changed the index alone
+  -- a write, after only the index has changed
   pub does_wrote : {T : Type 0} (answer : T) (mid : PagesView) (key slot : ℕ) (value : Option (List ℕ)) → Moved tells Opens index (number_of c) old mid → Wrote tells Opens index (number_of c) key value slot mid new
       → (let r : Result T TableFault = Ok answer in Cause tells index c old r) → (IsTrue tells → after c (state_of index old) ≡ written (state_of index old) (number_of c) key value)
       → (IsTrue tells → (let r : Result T TableFault = Ok answer in Indexed c (keys_of index old.store.state.bytes) (keys_of index mid.store.state.bytes) r))
@@ -143,7 +143,7 @@ module _ (tells : Bool) (Opens : List ℕ → List ℕ → Type 0) (index : Inde
       full = subst (λ (s : Shape). s.entries < h + n) moved.shape short.full;
     }
 
--- it is not that of too few pages
+-- a refusal that is not for lack of pages
 abbrev pub HasPages : TableFault → Type 0
 HasPages (PagesFull n) = ⊥
 HasPages _ = Unit {0}
@@ -206,19 +206,19 @@ module _ (tells : Bool) (Opens : List ℕ → List ℕ → Type 0) (index : Inde
   pub got : (T : Type 0) (answer : T) → IsAlive old.store → LooksAs tells Opens t false old new → (let r : Result T TableFault = Ok answer in Does tells Opens index (look t key) old new r) × Holds tells index new
   got T answer alive looks = looked tells Opens index (look t key) old new holds answer alive looks tt (λ told. tt) (λ told. refl) (λ a b same. same) refl
 
-  -- a record that is not seen is not removed
+  -- a record that is not seen needs no removal
   pub not_removed : (T : Type 0) (answer : T) → IsAlive old.store → LooksAs tells Opens t false old new → (IsTrue tells → is_seen (state_of index old) t key ≡ false)
       → (let r : Result T TableFault = Ok answer in Does tells Opens index (del t key) old new r) × Holds tells index new
   not_removed T answer alive looks unseen = looked tells Opens index (del t key) old new holds answer alive looks tt (λ told seen. absurd (false≢true (sym (unseen told) ∙ seen)))
       (λ told. sym (ap (λ (b : Bool). cond b (written (state_of index old) t key None) (state_of index old)) (unseen told))) (λ a b same. same) refl
 
--- the answer to a scan, with what was gathered
+-- the answer to a scan, given what was gathered
 abbrev pub scanned_as : {T : Type 0} → T → Result (Unit {0}) TableFault → Result T TableFault
 scanned_as rows (Ok done) = Ok rows
 scanned_as rows (Err f) = Err f
 
 module _ (tells : Bool) (Opens : List ℕ → List ℕ → Type 0) (index : Index) (t low high : ℕ) (old new : PagesView) (holds : Holds tells index old) (alive : IsAlive old.store) (T : Type 0) (rows : T) where
-  -- it was refused, and not by the media
+  -- the scan was refused, but not by the medium
   unscanned : (f : TableFault) → (let r : Result T TableFault = Err f in IsFalse (table.is_failed r)) → (let r : Result T TableFault = Err f in Cause tells index (scan t low high) old r) → LooksAs tells Opens t false old new
       → (let r : Result T TableFault = Err f in Does tells Opens index (scan t low high) old new r) × Holds tells index new
   unscanned f well cause looks =

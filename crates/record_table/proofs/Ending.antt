@@ -1,4 +1,4 @@
--- Calls on records that are one call of pages: saves, ways back, and ends.
+-- Calls on records that are one call of pages: saves, ways back and ends.
 use Rattle.std.proofs.Common.{◌≡◌, ◌≢◌, ℕ, ◌-◌, ◌<◌, ◌≤◌, ◌⊎◌, Bool, true, false, inl, inr, IsTrue, List, [], ◌∷◌, ◌++◌, length, take, Result, Ok, Err, refl, sym, ◌∙◌, ap, subst, arith}
 use Rattle.std.specs.Prelude.{Some, IfErr, OnErr}
 use Rattle.std.proofs.lemmas.Bool.{false≢true}
@@ -38,7 +38,7 @@ use Rattle.record_table.proofs.States.{shown_save, shown_back, shown_commit, sho
 same_number : (a b : ℕ) → Some a ≡ Some b → a ≡ b
 same_number a b e = cc
 
--- A call of pages that is one of records: what it makes of the state of pages is what the other makes of that of records.
+-- A call of pages that is one of records: it does to the state of pages what that does to the state of records.
 pub record IsCall (T : Type 0) (tells : Bool) (index : Index) (pc : PageCommand) (c : TableCommand) (old : PagesView) : Type 0 where
   pub named : page_does.named_by pc ≡ Some (number_of c)
   pub sound : IsTrue tells → index.sound (page.after pc (pages.state_of old)).store.bytes
@@ -217,7 +217,7 @@ pub on_err_same : {T A : Type 0} (r : Result T PageFault) → OnErr r A → (f :
 on_err_same (Ok x) h f e ne = absurd (cc)
 on_err_same (Err p) h f e ne = h
 
--- the same of values that show pages
+-- the same for values that show pages
 module _ {S : Type 0} (view : S → StoreView) (tells : Bool) (Opens : Shape → List ℕ → List ℕ → Type 0) (index : Index) (c : TableCommand) (arg inside : Shown S) (same : inside ≡ arg) where
   pub does_of : {T : Type 0} (new : PagesView) (r : Result T TableFault) → Does tells (Opens (view inside.store).shape) index c (pages_of (view inside.store) inside) new r → Does tells (Opens (view arg.store).shape) index c (pages_of (view arg.store) arg) new r
   does_of new r does = subst (λ (p : Shown S). Does tells (Opens (view p.store).shape) index c (pages_of (view p.store) p) new r) same does

@@ -1,4 +1,4 @@
--- What the bytes of page 0 say of the form of the data.
+-- What the bytes of page 0 say about the form of the data.
 use Rattle.std.proofs.Common.{◌≡◌, ℕ, ◌*◌, ◌≤◌, List, length, sym, ap, subst, ◌∙◌, arith}
 use Rattle.counted.specs.Bytes.{range}
 use Rattle.array_shape.specs.declared.shape.Shape.{Shape}
@@ -37,7 +37,7 @@ module _ (shape : Shape) (bytes page : List ℕ) (long : length bytes ≡ data_l
     abbrev Counts : Type 0
     Counts = (front.next_slot ≤ 4 * array.page_count shape) × (2 ≤ front.next_page) × (2 * front.next_page ≤ array.page_count shape)
 
-    -- with counts of this shape it is the super page of its form
+    -- with counts that fit this shape, it is the super page of its form
     pub is_super : Counts → (form : ℕ) → front.form ≡ form → IsSuper form bytes
     is_super counts form is = record {
       has_mark = subst HasSuperMark page_is says.has_mark;
@@ -50,10 +50,10 @@ module _ (shape : Shape) (bytes page : List ℕ) (long : length bytes ≡ data_l
     counts_of : (form : ℕ) → IsSuper form bytes → Counts
     counts_of form super = (omega (arith, slot_is, super.slots, pages_are), omega (arith, next_is, super.some_pages), omega (arith, next_is, super.pages, pages_are))
 
-    -- with others it is that of no form
+    -- with other counts, it is that of no form
     pub miscounted : (Counts → ⊥) → (IsSuper 0 bytes → ⊥) × (IsSuper 1 bytes → ⊥)
     miscounted none = ((λ super. none (counts_of 0 super)), λ super. none (counts_of 1 super))
 
-    -- nor is one of a further form
+    -- nor is a page of another form
     pub of_neither : (front.form ≡ 0 → ⊥) → (front.form ≡ 1 → ⊥) → (IsSuper 0 bytes → ⊥) × (IsSuper 1 bytes → ⊥)
     of_neither zero one = ((λ super. zero (sym form_is ∙ super.form_is)), λ super. one (sym form_is ∙ super.form_is))

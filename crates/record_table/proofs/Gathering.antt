@@ -54,7 +54,7 @@ module _ (index : Index) (laws : Laws index) (t : ℕ) (old : PagesView) (tied :
         rows_are from high ∙ f.2
         ∙ (λ i. row_at key (value_of (sym read i)) ++ sym (rows_are (suc key) high) i)
 
--- the last row, and none
+-- the last row, after which there is none
 pub last_row : (rows row all from behind new : List (ℕ × List ℕ)) → rows ++ from ≡ all → from ≡ row ++ behind → behind ≡ [] → new ≡ rows ++ row → new ≡ all
 last_row rows row all from behind new sum is none e =
     e ∙ ap (λ (l : List (ℕ × List ℕ)). rows ++ l) (sym (append-nil row)) ∙ ap (λ (l : List (ℕ × List ℕ)). rows ++ (row ++ l)) (sym none) ∙ ap (λ (l : List (ℕ × List ℕ)). rows ++ l) (sym is) ∙ sum

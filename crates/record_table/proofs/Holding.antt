@@ -1,4 +1,4 @@
--- What loggers hold of a number are the writes into their slots.
+-- What loggers hold of a number is the writes to their slots.
 use Rattle.std.proofs.Common.{◌≡◌, ℕ, suc, ◌+◌, ◌*◌, Bool, true, false, cond, List, [], ◌∷◌, length, refl, sym, ◌∙◌, ap, subst, arith}
 use Rattle.std.specs.Prelude.{nat_eq, filter, Option, IsSome}
 use Rattle.array_shape.specs.declared.shape.Shape.{Shape}

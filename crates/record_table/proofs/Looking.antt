@@ -99,7 +99,7 @@ module _ (tells : Bool) (Opens : List ℕ → List ℕ → Type 0) (t : ℕ) whe
     looks_read (Err SavesFull) does same = absurd does.cause.1
     looks_read (Err (Damaged page)) does same = absurd does.cause
 
--- the same where the second begins with the shape of its own store
+-- the same if the second look begins with the shape of its own store
 pub looks_next : (tells : Bool) (Opens : Shape → List ℕ → List ℕ → Type 0) (t : ℕ) (failed : Bool) (old mid new : PagesView) → LooksAs tells (Opens old.store.shape) t false old mid
     → LooksAs tells (Opens mid.store.shape) t failed mid new → LooksAs tells (Opens old.store.shape) t failed old new
 looks_next tells Opens t failed old mid new first second =

@@ -1,4 +1,4 @@
--- Calls below that leave records, writes and saves as they were: looks, and insertions. One after another, and with one that fails.
+-- Calls below that leave records, writes and saves as they were: looks and insertions, one after another, and one that fails.
 use Rattle.std.proofs.Common.{◌≡◌, ◌≢◌, ℕ, ◌+◌, ◌*◌, ◌/◌, ◌⊎◌, Bool, true, false, cond, inl, inr, IsTrue, List, [], ◌∷◌, Result, Ok, Err, refl, sym, ◌∙◌, ap, subst}
 use Rattle.std.specs.Prelude.{nat_eq, nat_lt, map, Option, Some, None, IsFalse}
 use Rattle.std.proofs.lemmas.Bool.{cases_eq, false≢true, cases_Bool, eq-eqb, ne_eqb}
@@ -27,7 +27,7 @@ use Rattle.history.proofs.Tables.{same_table}
 use Rattle.record_table.proofs.Tables.{record_at, get-table_in}
 use Rattle.record_table.proofs.SlotParts.{Laws, found_given}
 
--- records, writes and saves are as they were, and all is as records keep it
+-- records, writes and saves are as they were, and the invariant holds
 pub record Moved (tells : Bool) (Opens : List ℕ → List ℕ → Type 0) (index : Index) (t : ℕ) (old new : PagesView) : Type 0 where
   pub shape : new.store.shape ≡ old.store.shape
   pub dead : new.store.is_dead ≡ old.store.is_dead
@@ -40,7 +40,7 @@ pub record Moved (tells : Bool) (Opens : List ℕ → List ℕ → Type 0) (inde
   pub tied : IsTrue tells → IsTied index new
   pub time : IsTrue tells → LeavesOnly (λ image. OpensWith Opens index image (state_of index old).table) old.store new.store
 
--- the media failed
+-- the medium failed
 pub record Failed (tells : Bool) (Opens : List ℕ → List ℕ → Type 0) (index : Index) (t : ℕ) (old new : PagesView) : Type 0 where
   pub shape : new.store.shape ≡ old.store.shape
   pub dies : (new.store.is_dead ≡ true) × Rose old.store.faults new.store.faults
@@ -48,7 +48,7 @@ pub record Failed (tells : Bool) (Opens : List ℕ → List ℕ → Type 0) (ind
   pub others : (u : ℕ) → u ≢ t → new.store.ranges u ≡ old.store.ranges u
   pub time : IsTrue tells → LeavesOnly (λ image. OpensWith Opens index image (state_of index old).table) old.store new.store
 
--- the state that records show follows from data, logs and counts
+-- the state of records is determined by data, logs and counts
 pub shown_same : (index : Index) (old new : PagesView) → new.store.state ≡ old.store.state → new.counts ≡ old.counts → state_of index new ≡ state_of index old
 shown_same index old new state counts = λ i. record {
   table = table_of index (state i).bytes;
@@ -123,7 +123,7 @@ module _ (tells : Bool) (Opens : List ℕ → List ℕ → Type 0) (index : Inde
     pub failed_by_look : LooksAs tells Opens t true old new → Failed tells Opens index t old new
     failed_by_look looks = record { shape = looks.shape; dies = looks.dies refl; counts = looks.saves; others = looks.others; time = looks_time true looks }
 
--- what is found of a key after another was inserted
+-- what is found for a key after another was inserted
 pub found_inserted : (ps : List Pair) (key to q : ℕ) → q ≢ key → found (inserted ps key to) q ≡ found ps q
 found_inserted [] key to q ne = ap (λ (b : Bool). cond b (Some to) None) (ne_eqb key q (λ e. ne (sym e)))
 found_inserted (p ∷ ps) key to q ne = go (nat_lt key p.0) (found_inserted ps key to q ne)
@@ -147,7 +147,7 @@ found_new (p ∷ ps) key to none = go (nat_lt key p.0) (found_new ps key to)
     go false rest = ap (λ (b : Bool). cond b (Some p.1) (found (inserted ps key to) key)) other ∙ rest rest_none
 
 module _ (index : Index) (laws : Laws index) (key : ℕ) (d e : List ℕ) (sound : index.sound d) (absent : found (index.pairs d) key ≡ None) (grows : Grows index d e) where
-  -- slots of keys are as they were
+  -- the slots of keys are as they were
   record_kept : (o : Option ℕ) (q : ℕ) → found (index.pairs d) q ≡ o → record_at e o ≡ record_at d o
   record_kept None q is = refl
   record_kept (Some slot) q is = ap (λ (b : List ℕ). value_of (slot_said b)) (grows.slots slot (found_given d (index.pairs d) q slot (laws.given d sound) is).0)
@@ -193,7 +193,7 @@ module _ (index : Index) (laws : Laws index) (key : ℕ) (d e : List ℕ) (sound
     part_kept (λ q slot is. ap (λ (l : List Pair). found l q) gains.pairs ∙ found_inserted (index.pairs d) key (next_slot d) q (other_than q slot is) ∙ is),
   )
 
-  -- data within or behind the insertion has the records before
+  -- data during or after the insertion has the same records
   pub insertion_keeps : slot_said (slot_bytes (Absent key)) ≡ Some (Absent key) → (face.Rests index d e ⊎ Gains index key d e)
       → (table_of index e ≡ table_of index d) × ((log : List Part) → AreSlotParts index d log → AreSlotParts index e log)
   insertion_keeps reads either = elim either [ inl r ↦ resting r | inr g ↦ gaining reads g ]

@@ -1,4 +1,4 @@
--- A value for a key: the index is looked up, the key inserted where it is new, and its slot written.
+-- A put: the key is looked up in the index, inserted if it is new, and its slot is written.
 use Rattle.std.proofs.Common.{◌≡◌, ◌≢◌, ℕ, suc, ◌+◌, ◌-◌, ◌*◌, ◌<◌, ◌≤◌, Bool, true, false, cond, inl, inr, IsTrue, List, [], ◌∷◌, length, Result, Ok, Err, refl, sym, ◌∙◌, ap, subst, arith}
 use Rattle.std.specs.Prelude.{filter, Option, Some, None, IsFalse}
 use Rattle.std.proofs.lemmas.Bool.{false≢true}
@@ -39,7 +39,7 @@ use Rattle.record_table.proofs.Moving.{Moved, moved_by_look, moved_then, failed_
 use Rattle.record_table.proofs.SlotParts.{Laws}
 use Rattle.record_table.proofs.Wrote.{wrote, write_failed, write_short}
 
--- stores of one shape, whose parts lie alike
+-- stores of one shape whose parts lie at the same places
 module _ (a b : StoreView) (t : ℕ) (shape : b.shape ≡ a.shape) (ranges : listed (b.ranges t) ≡ listed (a.ranges t)) where
   held_same : (pages : List ℕ) (g : ℕ) → held_with b t pages g ≡ held_with a t pages g
   held_same pages g = λ i. count_on (shape i) g (ranges i) + length (filter (is_page_on (shape i).loggers g) pages)
@@ -96,7 +96,7 @@ pub told_is_answered : (r : Result (Unit {0}) PageFault) → told_as r ≡ answe
 told_is_answered (Ok tt) = refl
 told_is_answered (Err f) = refl
 
--- a write of a slot, behind what has changed the index alone
+-- a write to a slot, after only the index has changed
 module _ (tells : Bool) (Opens : List ℕ → List ℕ → Type 0) (index : Index) (laws : Laws index) (c : TableCommand) (said : Slot) (old : PagesView) (alive : IsAlive old.store) (holds : Holds tells index old)
     (mid : PagesView) (moved : Moved tells Opens index (number_of c) old mid) (new : PagesView) (slot : ℕ) (named : IsTrue tells → found (index.pairs mid.store.state.bytes) (write_said (Some said)).0 ≡ Some slot)
     (told_by : IsTrue tells → IsTold mid.store) (ordered : IsOrdered (outline_of mid)) (reads : slot_said (slot_bytes said) ≡ Some said) (whole : length (slot_bytes said) ≡ 64)
@@ -162,7 +162,7 @@ filter_short f (x ∷ xs) = go (f x) (filter_short f xs)
     go true le = omega arith
     go false le = omega arith
 
--- what an insertion makes of the keys, from before a look that went ahead
+-- what an insertion makes of the keys, seen from before the look that preceded it
 takes_of : (index : Index) (d e : List ℕ) (k : Keys) → keys_of index d ≡ k → Grows index d e → TakesPages k (keys_of index e)
 takes_of index d e k same grows = subst (λ (a : Keys). TakesPages a (keys_of index e)) same (record { later = grows.later; few = grows.few; levels = grows.levels })
 
@@ -207,7 +207,7 @@ module _ (tells : Bool) (Opens : List ℕ → List ℕ → Type 0) (index : Inde
     same_ranges : listed (mid.store.ranges t) ≡ listed (old.store.ranges t)
     same_ranges = first.ranges t
 
-    -- it was inserted, and its slot is written
+    -- the key was inserted, and its slot is written
     module _ (slot : ℕ) (inserts : (let r : Result ℕ IndexFault = Ok slot in Inserts tells Opens index t key mid far r)) (new : PagesView) (told_by : IsTrue tells → IsTold far.store) (ordered : IsOrdered (outline_of far))
         (reads : slot_said (slot_bytes (Present key value)) ≡ Some (Present key value)) (whole : length (slot_bytes (Present key value)) ≡ 64) where
       second : Moved tells Opens index t mid far
@@ -236,7 +236,7 @@ module _ (tells : Bool) (Opens : List ℕ → List ℕ → Type 0) (index : Inde
           gains : IsTrue tells → GainsKey key (keys_of index old.store.state.bytes) (keys_of index far.store.state.bytes)
           gains told = gains_of index key mid.store.state.bytes far.store.state.bytes (keys_of index old.store.state.bytes) (keys told) (inserts.made told mid_lives).2
 
-    -- its insertion was refused
+    -- the insertion was refused
     refused : (f : IndexFault) → (let r : Result ℕ IndexFault = Err f in IsFalse (is_insert_failed r)) → (let r : Result ℕ IndexFault = Err f in Inserts tells Opens index t key mid far r) → Moved tells Opens index t old far
     refused f well inserts = moved_then tells Opens index t old mid far first (moved_by_insert tells Opens index laws t key reads_absent mid far mid_lives mid_holds absent_there (let r : Result ℕ IndexFault = Err f in r) inserts well)
 

@@ -39,7 +39,7 @@ and_false : (a : Bool) → (a && false) ≡ false
 and_false true = refl
 and_false false = refl
 
--- of a row that a test keeps, or drops
+-- a row that a test keeps or drops
 kept_row : (low high key : ℕ) (o : Option (List ℕ)) (rest : List (ℕ × List ℕ)) → (nat_le low key && nat_le key high) ≡ true → filter (is_within low high) (row_at key o ++ rest) ≡ row_at key o ++ filter (is_within low high) rest
 kept_row low high key None rest is = refl
 kept_row low high key (Some v) rest is = ap (λ (b : Bool). cond b ((key, v) ∷ filter (is_within low high) rest) (filter (is_within low high) rest)) is
@@ -122,7 +122,7 @@ module _ (d : List ℕ) where
         | inr b ↦ ap (λ (x : Bool). x && nat_le k high) b
       ]
 
-  -- where keys rise from a bound on, a lower bound below it is none
+  -- if all keys are at or above a bound, a smaller lower bound changes nothing
   from_lower : (a b high low top : ℕ) (ps : List Pair) → Rise low top ps → a ≤ low → b ≤ low → filter (is_within a high) (rows_of ps) ≡ filter (is_within b high) (rows_of ps)
   from_lower a b high low top [] rise x y = refl
   from_lower a b high low top (p ∷ ps) rise x y =
@@ -138,7 +138,7 @@ module _ (d : List ℕ) where
             ∙ sym (dropped_row b high p.0 (record_at d (Some p.1)) (rows_of ps) (λ i. tb i && e i))
       ]
 
-  -- the next key up to a bound, and the rows behind it
+  -- the next key up to a bound, and the rows after it
   pub first_from : (from high key slot low top : ℕ) (ps : List Pair) → Rise low top ps → next ps from ≡ Some (key, slot) → key ≤ high
       → (from ≤ key) × (found ps key ≡ Some slot) × (filter (is_within from high) (rows_of ps) ≡ row_at key (record_at d (Some slot)) ++ filter (is_within (suc key) high) (rows_of ps))
   first_from from high key slot low top [] rise is le = absurd (cc)

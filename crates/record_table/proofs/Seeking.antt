@@ -1,4 +1,4 @@
--- What a look finds of a key, and how records begin.
+-- What a look finds for a key, and how records begin.
 use Rattle.std.proofs.Common.{◌≡◌, ℕ, ◌+◌, ◌*◌, ◌/◌, Bool, false, IsTrue, List, [], ◌∷◌, length, refl, sym, ◌∙◌, ap, subst, arith}
 use Rattle.std.specs.Prelude.{Option, Some, None}
 use Rattle.std.specs.Option.{option_map}
@@ -60,7 +60,7 @@ module _ (index : Index) (laws : Laws index) (t key : ℕ) (old : PagesView) (ti
         let carries = (found_slot index laws (applied (listed (old.store.state.logs t)) old.store.state.bytes) w.sound key slot (ap (λ l. found l key) w.pairs ∙ is)).1 in
         no_slot key (slot_said (slot_of (applied (listed (old.store.state.logs t)) old.store.state.bytes) slot)) (sym (read ∙ read_is)) carries
 
--- no parts where there are no ranges
+-- without ranges there are no parts
 no_parts : (log : Option (List Part)) → listed (option_map ranges_of log) ≡ [] → listed log ≡ []
 no_parts None e = refl
 no_parts (Some []) e = refl

@@ -1,4 +1,4 @@
--- What parts that are whole slots make of data.
+-- What parts that are whole slots do to the data.
 use Rattle.std.proofs.Common.{◌≡◌, ◌≢◌, ◌^◌, ℕ, ◌+◌, ◌*◌, ◌/◌, ◌<◌, ◌≤◌, ◌⊎◌, Bool, true, false, cond, inl, inr, List, [], ◌∷◌, length, refl, sym, ◌∙◌, ap, subst, arith}
 use Rattle.std.specs.Prelude.{nat_eq, Option, Some, None, IsSome}
 use Rattle.std.specs.FinMap.{get}
@@ -24,14 +24,14 @@ use Rattle.record_table.specs.Invariant.{IsSlotPart, AreSlotParts}
 use Rattle.history.proofs.Tables.{get-set_here, get-set_there, same_table}
 use Rattle.record_table.proofs.Tables.{record_at, get-table_in, value_is}
 
--- what an index promises of its data
+-- what an index guarantees about its data
 pub record Laws (index : Index) : Type 0 where
   pub rises : (bytes : List ℕ) → index.sound bytes → Rise 0 (2 ^ 64) (index.pairs bytes)
   pub given : (bytes : List ℕ) → index.sound bytes → AreGiven bytes (index.pairs bytes)
   pub counts : (bytes : List ℕ) → index.sound bytes → HasCounts bytes
   pub rests : (old new : List ℕ) → index.sound old → KeepsIndex old new → index.sound new × (index.pairs new ≡ index.pairs old) × (index.level new ≡ index.level old)
 
--- a slot carries one key
+-- a slot holds at most one key
 one_key : (said : Option Slot) (a b : ℕ) → IsOfKey a said → IsOfKey b said → a ≡ b
 one_key None a b x y = absurd x
 one_key (Some (Absent k)) a b x y = sym x ∙ y
@@ -54,22 +54,22 @@ found_given bytes (p ∷ ps) key slot given is = elim (eqb_tells p.0 key) [
       found_given bytes ps key slot given.2 (sym (ap (λ (x : Bool). cond x (Some p.1) (found ps key)) b) ∙ is)
 ]
 
--- what a part says is of its key
+-- a part stands for a write of its key
 pub is_of_key : (said : Option Slot) → IsSome said → IsOfKey (write_said said).0 said
 is_of_key None some = absurd (false≢true some)
 is_of_key (Some (Absent k)) some = refl
 is_of_key (Some (Present k v)) some = refl
 
 module _ (index : Index) (laws : Laws index) where
-  -- a slot that is found, in sound data
+  -- the slot found for a key in sound data
   pub found_slot : (d : List ℕ) → index.sound d → (key slot : ℕ) → found (index.pairs d) key ≡ Some slot → (slot < next_slot d) × Carries d (key, slot) × (next_slot d ≤ slot_count d)
   found_slot d sound key slot is = let g = found_given d (index.pairs d) key slot (laws.given d sound) is in (g.0, g.1, (laws.counts d sound).slots)
 
-  -- two keys with one slot are one
+  -- two keys with the same slot are equal
   pub one_slot : (d : List ℕ) → index.sound d → (a b slot : ℕ) → found (index.pairs d) a ≡ Some slot → found (index.pairs d) b ≡ Some slot → a ≡ b
   one_slot d sound a b slot x y = carries_one d a b slot (found_slot d sound a slot x).1 (found_slot d sound b slot y).1
 
-  -- parts stay parts of data with the same pairs and as many bytes
+  -- parts stay slot parts in data with the same pairs and the same length
   pub parts_carry : (d e : List ℕ) → index.pairs e ≡ index.pairs d → length e ≡ length d → (log : List Part) → AreSlotParts index d log → AreSlotParts index e log
   parts_carry d e pairs long [] parts = tt
   parts_carry d e pairs long (p ∷ ps) parts = (
@@ -162,7 +162,7 @@ module _ (index : Index) (laws : Laws index) where
         let front = part_keeps.pages 0 (omega (arith, counts.some, counts.pages)) in
         (ap next_slot_said front, ap next_page_said front)
 
-  -- data with parts written
+  -- data with the parts written into it
   pub record IsWritten (d : List ℕ) (log : List Part) (e : List ℕ) : Type 0 where
     pub sound : index.sound e
     pub pairs : index.pairs e ≡ index.pairs d
@@ -189,7 +189,7 @@ module _ (index : Index) (laws : Laws index) where
         table = rest.table ∙ ap (λ (t : Table). all_written t (writes_of ps)) (part_table d sound p parts.0);
       }
 
-  -- what a number sees of a key is the record in its slot
+  -- what a number sees for a key is the record in its slot
   pub seen_at : (log : List Part) (d : List ℕ) → index.sound d → AreSlotParts index d log → (q : ℕ)
       → get (all_written (table_of index d) (writes_of log)) q ≡ record_at (applied log d) (found (index.pairs d) q)
   unfolding table_of

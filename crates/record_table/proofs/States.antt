@@ -1,4 +1,4 @@
--- What each call of pages makes of the state of records.
+-- What each call of pages does to the state of records.
 use Rattle.std.proofs.Common.{◌≡◌, ℕ, zero, suc, ◌-◌, Bool, true, false, cond, List, [], ◌∷◌, ◌++◌, length, get_or, take, refl, sym, ◌∙◌, ap, subst, arith}
 use Rattle.std.specs.Prelude.{nat_eq, map, max, Option, Some, None}
 use Rattle.std.specs.Option.{option_map, unwrap_or}
@@ -20,7 +20,7 @@ use Rattle.record_table.specs.Invariant.{IsSlotPart, AreSlotParts}
 use Rattle.record_table.proofs.SlotParts.{Laws, IsWritten, applied_parts, parts_carry}
 use Rattle.record_table.proofs.Writing.{writes_after, parts_after}
 
--- a function over what one number has now
+-- a function over what one number now has
 over : {A B : Type 0} (f : A → B) (g : ℕ → A) (t : ℕ) (x : A) (y : B) → f x ≡ y → (λ (u : ℕ). f (with_one g t x u)) ≡ with_one (λ (u : ℕ). f (g u)) t y
 over f g t x y is = λ i u. one u i
   where
@@ -90,7 +90,7 @@ module _ (index : Index) (laws : Laws index) (s : PagesState) (t : ℕ) where
     saved = over (map writes_of) s.saved t [] [] refl i;
   }
 
--- parts of one number changed, and those of the others not
+-- the parts of one number changed, those of the others did not
 parts_one : (index : Index) (d : List ℕ) (logs : Logs Part) (t : ℕ) (log : Option (List Part)) → AreSlotParts index d (listed log) → ((u : ℕ) → AreSlotParts index d (listed (logs u))) → (u : ℕ) → AreSlotParts index d (listed (with_log logs t log u))
 parts_one index d logs t log here there u = go (nat_eq u t)
   where

@@ -19,7 +19,7 @@ tied q k = elim (cases_eq q k) [
   | inr ne ↦ unsigned_tied q k ∙ ne_eqb q k ne ∙ sym (ne_eqb k q (λ e. ne (sym e)))
 ]
 
--- the record in a slot, where there is a slot
+-- the record in a slot, if there is a slot
 abbrev pub record_at : List ℕ → Option ℕ → Option (List ℕ)
 record_at bytes None = None
 record_at bytes (Some slot) = value_of (slot_said (slot_of bytes slot))
@@ -32,7 +32,7 @@ get-table_in bytes (p ∷ ps) q = get-set (table_in bytes ps) p.0 (value_of (slo
     go true rest = refl
     go false rest = rest
 
--- what a slot's write writes is its value
+-- the write that a slot stands for writes the slot's value
 pub value_is : (said : Option Slot) → value_of said ≡ (write_said said).1
 value_is None = refl
 value_is (Some (Absent k)) = refl

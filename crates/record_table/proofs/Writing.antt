@@ -1,4 +1,4 @@
--- A write of a slot into a log is a write into the list of writes.
+-- A write of a slot to a log is a write to the list of writes.
 use Rattle.std.proofs.Common.{◌≡◌, ◌≢◌, ℕ, zero, suc, ◌+◌, ◌<◌, Bool, true, false, cond, ◌&&◌, ◌||◌, not, inl, inr, List, [], ◌∷◌, length, drop, refl, sym, ◌∙◌, ap, arith}
 use Rattle.std.specs.Prelude.{nat_eq, nat_lt, is_some, Option, Some, None}
 use Rattle.std.specs.Option.{option_map}
@@ -44,7 +44,7 @@ some_more None = refl
 some_more (Some k) = refl
 
 module _ (index : Index) (laws : Laws index) (d : List ℕ) (sound : index.sound d) (new : Part) (is : IsSlotPart index d new) where
-  -- the place, and whether it is the same as another's
+  -- the range of the write, and whether it equals another's
   r : ℕ × ℕ
   r = (new.0, length new.1)
 
@@ -96,7 +96,7 @@ module _ (index : Index) (laws : Laws index) (d : List ℕ) (sound : index.sound
       → (is_same (new.0, length new.1) (p.0, length p.1) && meets_none (new.0, length new.1) (ranges_of ps)) ≡ (is_of (write_of new).0 (write_of p) && not (list_any (is_of (write_of new).0) (writes_of ps)))
   last_is p ps parts = λ i. is_same_is p parts.0 i && none_is ps parts.1 i
 
-  -- behind a first part that stays
+  -- after a first part that stays
   writes_later : (o : Option ℕ) (p : Part) (ps : List Part) → writes_of (written_at (option_map suc o) new.0 new.1 (p ∷ ps)) ≡ write_of p ∷ writes_of (written_at o new.0 new.1 ps)
   writes_later o p ps = ap writes_of (written_later o new.0 new.1 p ps)
 
@@ -123,7 +123,7 @@ module _ (index : Index) (laws : Laws index) (d : List ℕ) (sound : index.sound
   writes_after (suc floor) (p ∷ ps) parts =
       writes_later (edit_pos floor (new.0, length new.1) (ranges_of ps)) p ps ∙ ap (λ (l : List Write). write_of p ∷ l) (writes_after floor ps parts.1)
 
-  -- it takes the place of a part exactly where the key was written from the floor on
+  -- it replaces a part exactly when the key was written after the floor
   pub rewrites : (floor : ℕ) (log : List Part) → AreSlotParts index d log → is_some (edit_pos floor (new.0, length new.1) (ranges_of log)) ≡ list_any (is_of (write_of new).0) (drop floor (writes_of log))
   rewrites zero [] parts = refl
   rewrites (suc floor) [] parts = refl

@@ -9,7 +9,7 @@ use Rattle.record_table.specs.Shown.{table_of, state_of}
 use Rattle.record_table.specs.declared.fault.AttachRecords.{AttachRecords}
 use Rattle.record_table.specs.declared.fault.AttachRecords.TheVariants.{Damaged, Media, Dead}
 
--- They are those of the data, which is a sound index, and no number has written anything.
+-- The records are those of the data, whose index is sound, and no number has written anything.
 pub record Attached (tells : Bool) (Opens : List ℕ → List ℕ → Type 0) (index : Index) (old new : PagesView) : Type 0 where
   pub looks : Looks tells Opens false old new
   pub alive : IsAlive old.store
@@ -21,7 +21,7 @@ abbrev pub is_refused_by_media : AttachRecords → Bool
 is_refused_by_media Media = true
 is_refused_by_media _ = false
 
--- why they do not begin: of data that is told the page is the first that fails
+-- why records do not begin; if the store tells its data, the page is the first that fails
 abbrev pub AttachCause : Bool → Index → StoreView → AttachRecords → Type 0
 AttachCause tells index old (Damaged page) = IsAlive old × (IsTrue tells → index.fails old.state.bytes page)
 AttachCause tells index old Media = IsAlive old

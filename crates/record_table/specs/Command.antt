@@ -1,4 +1,4 @@
--- The calls on records, and what each makes of the state.
+-- The calls on records, and what each of them makes of the state.
 use Rattle.std.specs.Prelude.{ℕ, Bool, is_some, if◌then◌else◌, List, [], ◌∷◌, ◌++◌, take, Option, Some, None}
 use Rattle.std.specs.FinMap.{get}
 use Rattle.page_store.specs.State.{with_one}
@@ -6,8 +6,8 @@ use Rattle.history.specs.Writes.{with_write}
 use Rattle.history.specs.Log.{save_at}
 use Rattle.record_table.specs.State.{TableState, seen_by, floor_of}
 
--- As a number: a look at a key, a value for it, its removal, the records from one key to another, a save, the way back to save n;
--- and its end, by a commit or an abort.
+-- As a number: look up a key, put a value for it, remove it, scan the records from one key to another, save, go back to save n, commit, or
+-- abort.
 pub data TableCommand : Type 0 where
   look : (t key : ℕ) → TableCommand
   put : (t key : ℕ) (value : List ℕ) → TableCommand
@@ -22,11 +22,11 @@ pub data TableCommand : Type 0 where
 abbrev pub is_seen : TableState → ℕ → ℕ → Bool
 is_seen s t key = is_some (get (seen_by s t) key)
 
--- one write more of a number
+-- one more write of a number
 abbrev pub written : TableState → ℕ → ℕ → Option (List ℕ) → TableState
 written s t key value = record s { writes = with_one s.writes t (with_write (floor_of s t) (key, value) (s.writes t)) }
 
--- the state after a call that was done; the removal of a record that is not seen writes nothing
+-- the state after a call that was done; removing a record that is not seen writes nothing
 abbrev pub after : TableCommand → TableState → TableState
 after (look t key) s = s
 after (put t key value) s = written s t key (Some value)

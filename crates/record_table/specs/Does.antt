@@ -21,13 +21,13 @@ pub record OpensWith (Opens : List ℕ → List ℕ → Type 0) (index : Index) 
   pub sound : index.sound bytes
   pub shows : table_of index bytes ≡ table
 
--- the media failed
+-- the medium failed
 abbrev pub is_failed : {T : Type 0} → Result T TableFault → Bool
 is_failed (Err Media) = true
 is_failed _ = false
 
--- What an insertion that came due makes of the index. Where the log is full behind it, the key stays; where pages ran out, all but one
--- at most are given, or the index has as many levels as it may.
+-- What an insertion that was due makes of the index. If the log is full after the insertion, the key stays. If pages ran out, at most one
+-- is left, or the index has as many levels as it may.
 abbrev pub Inserted : {T : Type 0} → ℕ → Keys → Keys → Result T TableFault → Type 0
 Inserted key old new (Ok answer) = TakesPages old new × GainsKey key old new
 Inserted key old new (Err (LogFull g h n)) = TakesPages old new × (KeepsKeys old new ⊎ GainsKey key old new)
@@ -38,12 +38,12 @@ abbrev pub IndexedAt : {T : Type 0} → ℕ → Option ℕ → Keys → Keys →
 IndexedAt key None old new result = Inserted key old new result
 IndexedAt key (Some slot) old new result = new ≡ old
 
--- what a call makes of the index: a value for a key that it lacks inserts the key
+-- what a call makes of the index: a put of a key that it lacks inserts the key
 abbrev pub Indexed : {T : Type 0} → TableCommand → Keys → Keys → Result T TableFault → Type 0
 Indexed (put t key value) old new result = IndexedAt key (found old.pairs key) old new result
 Indexed _ old new result = new ≡ old
 
--- how often its number has saved after a call that was done
+-- how many saves its number has after a call that was done
 abbrev pub saves_after : TableCommand → ℕ → ℕ
 saves_after (save t) n = n + 1
 saves_after (back t n) m = n
@@ -51,10 +51,10 @@ saves_after (commit t) n = 0
 saves_after (abort t) n = 0
 saves_after _ n = n
 
--- A call on records over a store, of which an image that a loss of power leaves is opened so. Each answer has its cause. An Ok is the
--- model's call, and hides no fault; after a refusal other than Media records, writes and saves of every number are as before; Media
--- leaves the store dead. Other numbers keep what they have logged whatever the answer. At each moment of a store that was not dead a
--- loss of power leaves what it might have left before, or an image that opens with the records before the call or after it.
+-- A call on records over a store whose images open as Opens says. Each answer has its cause. An Ok is the model's call and hides no fault.
+-- After a refusal other than Media, records, writes and saves of every number are as before. Media leaves the store dead. Other numbers
+-- keep what they have logged, whatever the answer. At each moment of a store that was not dead, a loss of power leaves what it might have
+-- left before, or an image that opens with the records before the call or after it.
 pub record Does {T : Type 0} (tells : Bool) (Opens : List ℕ → List ℕ → Type 0) (index : Index) (command : TableCommand) (old new : PagesView) (result : Result T TableFault) : Type 0 where
   pub shape : new.store.shape ≡ old.store.shape
   pub cause : Cause tells index command old result

@@ -1,4 +1,4 @@
--- Refusals of pages and of insertions, as records tell them.
+-- Refusals of pages and of insertions, in terms of records.
 use Rattle.std.specs.Prelude.{Result, Ok, Err}
 use Rattle.page_store.specs.declared.fault.PageFault.{PageFault}
 use Rattle.page_store.specs.declared.fault.PageFault.TheVariants as page
@@ -14,7 +14,7 @@ as_table page.Media = Media
 as_table page.Dead = Dead
 as_table (page.Damaged bad) = Damaged bad
 
--- an answer of pages
+-- an answer of pages, in terms of records
 abbrev pub told_as : {T : Type 0} → Result T PageFault → Result T TableFault
 told_as (Ok answer) = Ok answer
 told_as (Err fault) = Err (as_table fault)

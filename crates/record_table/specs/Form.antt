@@ -1,4 +1,4 @@
--- Which index data has, and how that is found.
+-- Which index the data has, and how that is found.
 use Rattle.std.specs.Prelude.{ℕ, ◌≡◌, Bool, true, false, IsTrue, IsFalse, List, Result, Ok, Err}
 use Rattle.counted.specs.Causes.{Rose}
 use Rattle.eaw_face.specs.StoreView.{StoreView, LeavesOnly}
@@ -15,20 +15,20 @@ abbrev pub form_number : Form → ℕ
 form_number Chain = 0
 form_number Tree = 1
 
--- the media failed
+-- the medium failed
 abbrev pub is_form_failed : Result Form AttachRecords → Bool
 is_form_failed (Err Media) = true
 is_form_failed _ = false
 
--- The form that the super page says, which is sound of it; page 0 is damaged exactly where it is sound of neither form.
+-- The super page says this form and is sound for it. Page 0 is damaged exactly when it is sound for neither form.
 abbrev pub FormCause : Bool → StoreView → Result Form AttachRecords → Type 0
 FormCause tells old (Ok form) = IsAlive old × (IsTrue tells → IsSuper (form_number form) old.state.bytes)
 FormCause tells old (Err (Damaged page)) = IsAlive old × (page ≡ 0) × (IsTrue tells → ¬ IsSuper 0 old.state.bytes × ¬ IsSuper 1 old.state.bytes)
 FormCause tells old (Err Media) = IsAlive old
 FormCause tells old (Err Dead) = old.is_dead ≡ true
 
--- A look at a store, which failed on its media or did not: what numbers have logged is as it was, and at each moment of a store that was
--- not dead a loss of power leaves what it might have left before, or an image that opens with the data.
+-- A look at a store, which met a fault of the medium or none. What numbers have logged is as it was. At each moment of a store that was not
+-- dead, a loss of power leaves what it might have left before, or an image that opens with the data.
 pub record LooksAt (tells : Bool) (Opens : List ℕ → List ℕ → Type 0) (failed : Bool) (old new : StoreView) : Type 0 where
   pub shape : new.shape ≡ old.shape
   pub ranges : (t : ℕ) → new.ranges t ≡ old.ranges t

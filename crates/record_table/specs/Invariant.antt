@@ -1,4 +1,4 @@
--- What records keep true.
+-- The invariant of records.
 use Rattle.std.specs.Prelude.{ℕ, ◌≡◌, Bool, IsTrue, IsSome, List, [], ◌∷◌, length, Some, None}
 use Rattle.array_shape.specs.Logged.{Part}
 use Rattle.eaw_face.specs.State.{listed}
@@ -10,7 +10,7 @@ use Rattle.page_store.specs.Pairs.{found}
 use Rattle.page_store.specs.Shown.{PagesView}
 use Rattle.record_table.specs.Shown.{write_of}
 
--- a pending part is a whole slot: that of the key that it says
+-- a logged part is a whole slot, that of the key that it names
 pub record IsSlotPart (index : Index) (bytes : List ℕ) (part : Part) : Type 0 where
   pub slot : ℕ
   pub named : found (index.pairs bytes) (write_of part).0 ≡ Some slot
@@ -22,16 +22,16 @@ abbrev pub AreSlotParts : Index → List ℕ → List Part → Type 0
 AreSlotParts index bytes [] = Unit {0}
 AreSlotParts index bytes (part ∷ parts) = IsSlotPart index bytes part × AreSlotParts index bytes parts
 
--- the data is a sound index, and pending parts are slots of its keys
+-- the data is a sound index, and the logged parts are slots of its keys
 pub record IsTied (index : Index) (pages : PagesView) : Type 0 where
   pub sound : index.sound pages.store.state.bytes
   pub parts : (t : ℕ) → AreSlotParts index pages.store.state.bytes (listed (pages.store.state.logs t))
 
--- no top action is open; and these are tied, where the store tells its data
+-- no nested top action is open, and if the store tells its data, the logged parts are tied to it
 pub record Rests (tells : Bool) (index : Index) (pages : PagesView) : Type 0 where
   pub closed : (t : ℕ) → pages.top t ≡ None
   pub tied : IsTrue tells → IsTied index pages
 
--- while the store is not dead
+-- all this while the store is not dead
 abbrev pub Holds : Bool → Index → PagesView → Type 0
 Holds tells index pages = IsAlive pages.store → Rests tells index pages

@@ -9,21 +9,21 @@ use Rattle.record_table.specs.declared.scanning.Next.{Next}
 use Rattle.record_table.specs.declared.fault.TableFault.{TableFault}
 use Rattle.record_table.specs.declared.fault.TableFault.TheVariants.{Media, Damaged, NoMemory}
 
--- the row of a key, where there is a record
+-- the row of a key, if it has a record
 abbrev pub row_at : ℕ → Option (List ℕ) → List (ℕ × List ℕ)
 row_at key None = []
 row_at key (Some value) = (key, value) ∷ []
 
--- the records that number t sees from one key to another
+-- the records from one key to another that number t sees
 abbrev pub rows_seen : Index → ℕ → PagesView → ℕ → ℕ → List (ℕ × List ℕ)
 rows_seen index t old low high = rows_within low high (seen_by (state_of index old) t)
 
--- there are none; or the first of them is at this key, if there is a record, and the others come behind
+-- there are no rows; or the first is that of this key, if it has a record, and the others come after it
 abbrev pub Follows : Index → ℕ → ℕ → ℕ → PagesView → Option Next → Type 0
 Follows index t from high old None = rows_seen index t old from high ≡ []
 Follows index t from high old (Some next) = rows_seen index t old from high ≡ row_at next.key next.value ++ rows_seen index t old (suc next.key) high
 
--- why a scan of a store that is not dead is refused
+-- why a scan of a store that is not dead may be refused
 abbrev pub ScanCause : Bool → Result (Unit {0}) TableFault → Type 0
 ScanCause tells (Ok done) = Unit {0}
 ScanCause tells (Err Media) = Unit {0}

@@ -1,4 +1,4 @@
--- What records show of the pages that they stand on.
+-- What pages show in terms of records.
 use Rattle.std.specs.Prelude.{Bool, false, ℕ, ◌+◌, ◌*◌, nat_eq, if◌then◌else◌, List, [], ◌∷◌, map, Option, Some, None, IsSome}
 use Rattle.std.specs.FinMap.{empty}
 use Rattle.array_shape.specs.declared.shape.Shape.{Shape}
@@ -17,7 +17,7 @@ use Rattle.page_store.specs.Shown as pages
 use Rattle.page_store.specs.State.{PagesState, log_of}
 use Rattle.record_table.specs.State.{TableState, Keys}
 
--- the value of a slot, where it holds one
+-- the value in a slot, if it holds one
 abbrev pub value_of : Option Slot → Option (List ℕ)
 value_of (Some (Present key value)) = Some value
 value_of _ = None
@@ -28,12 +28,12 @@ write_said None = (0, None)
 write_said (Some (Absent key)) = (key, None)
 write_said (Some (Present key value)) = (key, Some value)
 
--- the records of some pairs: each key with what its slot holds
+-- the records of pairs: each key with the value in its slot
 abbrev pub table_in : List ℕ → List Pair → Table
 table_in bytes [] = empty
 table_in bytes (pair ∷ pairs) = write_into (table_in bytes pairs) (pair.0, value_of (slot_said (slot_of bytes pair.1)))
 
--- the records of data
+-- the records of the data
 unfoldable pub table_of : Index → List ℕ → Table
 table_of index bytes = table_in bytes (index.pairs bytes)
 
@@ -51,11 +51,11 @@ shown_by index s = record { table = table_of index s.store.bytes; writes = λ t.
 abbrev pub state_of : Index → PagesView → TableState
 state_of index view = shown_by index (pages.state_of view)
 
--- what the index is in the data
+-- the index in the data
 abbrev pub keys_of : Index → List ℕ → Keys
 keys_of index bytes = record { pairs = index.pairs bytes; next_slot = next_slot bytes; next_page = next_page bytes; level = index.level bytes }
 
--- the logger that holds the writes into a slot, and how many of one it needs to hold
+-- the logger that holds the writes to a slot, and how many entries of a logger one such write needs
 abbrev pub logger_of_slot : Shape → ℕ → ℕ
 logger_of_slot shape slot = logger_of shape (64 * (slots_of shape + slot))
 
@@ -66,7 +66,7 @@ needed_on shape slot g = if nat_eq (logger_of_slot shape slot) g then 1 else 0
 abbrev pub held_on : PagesView → ℕ → ℕ → ℕ
 held_on pages t g = count_on pages.store.shape g (listed (pages.store.ranges t))
 
--- a write into the slot of its key is this logger's
+-- a write to this slot goes to this logger
 abbrev pub is_slot_on : Shape → ℕ → Option ℕ → Bool
 is_slot_on shape g None = false
 is_slot_on shape g (Some slot) = nat_eq (logger_of_slot shape slot) g

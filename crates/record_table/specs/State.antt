@@ -5,8 +5,8 @@ use Rattle.history.specs.Writes.{Table, Write, all_written, is_of}
 use Rattle.history.specs.Log.{save_at}
 use Rattle.page_store.specs.Pairs.{Pair, inserted}
 
--- The records of the data; for each number the writes that it has not committed, each of a key and of what the key gets; and these
--- as they were at each of its saves, the first save first.
+-- The records of the data; for each number, the writes that it has not committed; and these as they were at each of its saves, the first
+-- save first.
 pub record TableState : Type 0 where
   pub table : Table
   pub writes : ℕ → List Write
@@ -16,7 +16,7 @@ pub record TableState : Type 0 where
 abbrev pub seen_by : TableState → ℕ → Table
 seen_by s t = all_written s.table (s.writes t)
 
--- how many writes of a number stay as they are: those of its last save
+-- how many writes of a number can no longer be replaced: those of its last save
 abbrev pub floor_of : TableState → ℕ → ℕ
 floor_of s t = length (save_at (s.saved t) (length (s.saved t)))
 
@@ -24,14 +24,14 @@ floor_of s t = length (save_at (s.saved t) (length (s.saved t)))
 abbrev pub is_rewritten : TableState → ℕ → ℕ → Bool
 is_rewritten s t key = list_any (is_of key) (drop (floor_of s t) (s.writes t))
 
--- the index: its pairs of key and slot, the slot and the page that are given next, and its levels of inner pages
+-- the index: its pairs of key and slot, the slot and the page that are given out next, and the number of its levels of inner pages
 pub record Keys : Type 0 where
   pub pairs : List Pair
   pub next_slot : ℕ
   pub next_page : ℕ
   pub level : ℕ
 
--- one pair more: the key with the next slot
+-- one more pair: the key with the next slot
 pub record GainsKey (key : ℕ) (old new : Keys) : Type 0 where
   pub pairs : new.pairs ≡ inserted old.pairs key old.next_slot
   pub slots : new.next_slot ≡ suc old.next_slot
@@ -41,7 +41,7 @@ pub record KeepsKeys (old new : Keys) : Type 0 where
   pub pairs : new.pairs ≡ old.pairs
   pub slots : new.next_slot ≡ old.next_slot
 
--- at most nine pages more are given, and there are no fewer levels
+-- at most nine more pages are given out, and no level is lost
 pub record TakesPages (old new : Keys) : Type 0 where
   pub later : old.next_page ≤ new.next_page
   pub few : new.next_page ≤ old.next_page + 9

@@ -10,7 +10,7 @@ use record_slots::{Super, read_super};
 
 const PAGE_LEN: usize = 512;
 
-/// Which index data has.
+/// Which index the data has.
 #[derive(Clone, Copy, Debug, PartialEq, Eq)]
 pub enum Form {
     /// A chain of pages: form 0.
@@ -19,8 +19,8 @@ pub enum Form {
     Tree,
 }
 
-/// Which index the data of a store has, as its super page says; page 0 is damaged where that is sound of neither form. The pages of the
-/// index itself are not looked at.
+/// Which index the data of a store has, as its super page says. Page 0 is damaged if it is sound for neither form. The pages of the index
+/// itself are not read.
 pub fn form_of<S: EawStore>(store: &mut S) -> Result<Form, AttachRecords>
     ensures looks { LooksAt S.tells (S.opens (S.view store.old).shape) (is_form_failed result) (S.view store.old) (S.view store.new) }
     ensures cause { FormCause S.tells (S.view store.old) result }
@@ -59,7 +59,7 @@ fn numbered(number: u8) -> Option<Form>
     None
 }
 
-// The counts are those of an array of this shape: half of its pages are for the index, and each of the others has eight slots.
+// Whether the counts fit an array of this shape: half of its pages are for the index, and each of the others has eight slots.
 fn has_counts(front: &Super, shape: &Shape) -> bool
     ensures { IsTrue result ↔ (front.now.next_slot ≤ 4 * page_count shape.now) × (2 ≤ front.now.next_page) × (2 * front.now.next_page ≤ page_count shape.now) }
 {

@@ -1,4 +1,4 @@
-//! Records of an ordered table over pages, under any index: what a transaction sees, its writes, its savepoints, its commit.
+//! Records of an ordered table over pages, under any index: what a transaction sees, its writes, its savepoints and its commit.
 #![tactic(auto)]
 
 mod fault;

@@ -25,11 +25,10 @@ use record_slots::{Slot, Value};
 use std::alloc::Global;
 use std::marker::{Model, PhantomData};
 
-/// Records under u64 keys over pages, under any index: a table, and over it what each transaction number has written and not
-/// committed.
+/// Records under u64 keys over pages, under any index: a table and, over it, what each transaction number has written and not committed.
 ///
-/// Each call is one of the model's (`Does`): what it makes of the table, of writes and of saves, when each refusal comes, and what a
-/// loss of power within it may leave. After a refusal other than `Media` these are as they were. After `Media` each call that can be
+/// Each call is one of the model's (`Does`), which says what it makes of the table, of writes and of saves, when each refusal comes, and
+/// what a loss of power within it may leave. After a refusal other than `Media` these are as they were. After `Media` each call that can be
 /// refused answers `Dead`.
 #[derive(Drop)]
 pub struct Records<S: EawStore, K: KeyIndex> {
@@ -49,7 +48,7 @@ impl<S: EawStore, K: KeyIndex> Model for Records<S, K> {
 }
 
 impl<S: EawStore, K: KeyIndex> Records<S, K> {
-    /// Records over pages, once all of the index was tested. The pages are given back where it is not sound.
+    /// Records over pages, once the whole index has been tested. An error returns the pages.
     pub fn attach(pages: Pages<S>) -> Result<Records<S, K>, (AttachRecords, Pages<S>)>
         requires idle { IsAlive (S.view pages.store) → (t : ℕ) → listed ((S.view pages.store).ranges t) ≡ [] }
         requires closed { IsAlive (S.view pages.store) → (t : ℕ) → top_in pages.marks t ≡ None }
@@ -87,7 +86,7 @@ impl<S: EawStore, K: KeyIndex> Records<S, K> {
         self.pages.shape()
     }
 
-    /// Whether an earlier call has met a fault of the media. While none has, what a logger holds of a number is the writes into its slots,
+    /// Whether an earlier call has met a fault of the medium. While none has, what a logger holds of a number is the writes to its slots,
     /// and the index has their keys.
     pub fn is_dead(&self) -> bool
         ensures dead { result ≡ (S.view self.now.store).is_dead }
@@ -100,7 +99,7 @@ impl<S: EawStore, K: KeyIndex> Records<S, K> {
         self.pages.is_dead()
     }
 
-    /// How often the number has saved, up to 32 times.
+    /// How many saves the number has, at most 32.
     pub fn saves(&self, tid: u8) -> u32
         requires { tid < (S.view self.now.store).shape.numbers }
         ensures count { result ≡ length (counts_in self.now.marks tid) }
@@ -109,7 +108,7 @@ impl<S: EawStore, K: KeyIndex> Records<S, K> {
         self.pages.saves(tid)
     }
 
-    /// The value under a key, as the number sees it.
+    /// The value of a key, as the number sees it.
     pub fn get(&mut self, tid: u8, key: u64) -> Result<Option<Value>, TableFault>
         requires { tid < (S.view self.old.store).shape.numbers }
         ensures does { Does S.tells (S.opens (S.view self.old.store).shape) K.index (look tid key)
@@ -124,8 +123,8 @@ impl<S: EawStore, K: KeyIndex> Records<S, K> {
         }
     }
 
-    /// Gives the key this value, in the number's own view at once, and in the table once it commits. A key that the index lacks is
-    /// inserted before; it stays there whatever becomes of the number.
+    /// Gives the key this value, at once in the number's own view, and in the table once it commits. A key that the index lacks is inserted
+    /// first, and stays there whatever becomes of the number.
     pub fn put(&mut self, tid: u8, key: u64, value: Value) -> Result<(), TableFault>
         requires { tid < (S.view self.old.store).shape.numbers }
         ensures does { Does S.tells (S.opens (S.view self.old.store).shape) K.index (put tid key value)
@@ -143,8 +142,7 @@ impl<S: EawStore, K: KeyIndex> Records<S, K> {
         }
     }
 
-    /// Removes the record of a key, in the number's own view at once, and in the table once it commits; answers whether the number saw
-    /// one.
+    /// Removes the record of a key, at once in the number's own view, and in the table once it commits. Returns whether the number saw one.
     pub fn del(&mut self, tid: u8, key: u64) -> Result<bool, TableFault>
         requires { tid < (S.view self.old.store).shape.numbers }
         ensures does { Does S.tells (S.opens (S.view self.old.store).shape) K.index (del tid key)
@@ -166,7 +164,7 @@ impl<S: EawStore, K: KeyIndex> Records<S, K> {
         }
     }
 
-    /// The records from one key to another, both of them included, as the number sees them. The memory for them is taken here.
+    /// The records from one key to another, both included, as the number sees them. The memory for them is taken here.
     pub fn scan(&mut self, alloc: Global, tid: u8, low: u64, high: u64) -> Result<Rows, TableFault>
         requires { tid < (S.view self.old.store).shape.numbers }
         ensures does { Does S.tells (S.opens (S.view self.old.store).shape) K.index (scan tid low high)
@@ -187,7 +185,7 @@ impl<S: EawStore, K: KeyIndex> Records<S, K> {
         }
     }
 
-    /// Remembers what the number has written, and gives how often it has saved now.
+    /// Saves what the number has written, and returns how many saves it has now.
     pub fn save(&mut self, tid: u8) -> Result<u32, TableFault>
         requires { tid < (S.view self.old.store).shape.numbers }
         ensures does { Does S.tells (S.opens (S.view self.old.store).shape) K.index (save tid)
@@ -198,8 +196,8 @@ impl<S: EawStore, K: KeyIndex> Records<S, K> {
         told(self.pages.save(tid))
     }
 
-    /// Takes the number back to its save `n`, counted from 1: it sees again what it saw there, over the table as it is now. Later saves
-    /// are gone, this one stays.
+    /// Takes the number back to its save `n`, counted from 1: it sees again what it saw there, over the table as it is now. Later saves are
+    /// gone, this one stays.
     pub fn back(&mut self, tid: u8, n: u32) -> Result<(), TableFault>
         requires tid { tid < (S.view self.old.store).shape.numbers }
         requires some { 0 < n }
@@ -214,7 +212,7 @@ impl<S: EawStore, K: KeyIndex> Records<S, K> {
         told(self.pages.back(tid, n))
     }
 
-    /// Makes what the number has written part of the table, at once, and forgets its saves.
+    /// Makes what the number has written part of the table, all at once, and forgets its saves.
     pub fn commit(&mut self, tid: u8) -> Result<(), TableFault>
         requires { tid < (S.view self.old.store).shape.numbers }
         ensures does { Does S.tells (S.opens (S.view self.old.store).shape) K.index (commit tid)
@@ -224,7 +222,7 @@ impl<S: EawStore, K: KeyIndex> Records<S, K> {
         told(self.pages.end(tid, true))
     }
 
-    /// Drops what the number has written, and its saves.
+    /// Discards what the number has written, and its saves.
     pub fn abort(&mut self, tid: u8) -> Result<(), TableFault>
         requires { tid < (S.view self.old.store).shape.numbers }
         ensures does { Does S.tells (S.opens (S.view self.old.store).shape) K.index (abort tid)

@@ -1,4 +1,4 @@
-// Records from one key to another, gathered along the index.
+// Gathers the records from one key to another along the index.
 ghost use Rattle.std.specs.Prelude.{◌≡◌, ◌≤◌, ◌<◌, [], ◌++◌, IfOk, IfSome, OnOk, IsErrOf, IsTrue};
 ghost use Rattle.eaw_face.specs.Causes.{IsAlive};
 ghost use Rattle.page_store.specs.Looks.{LookCause, is_failed};
@@ -17,14 +17,14 @@ use history::Rows;
 use page_store::{KeyIndex, PageFault, Pages};
 use record_slots::Value;
 
-/// A key of the index, and the value that a number sees under it.
+/// A key of the index and the value that a number sees for it.
 #[derive(Drop)]
 pub struct Next {
     pub key: u64,
     pub value: Option<Value>,
 }
 
-// The least key of the index from a first to a last one.
+// The least key of the index from `from` to `high`, with its value.
 fn next_row<S: EawStore, K: KeyIndex>(
     pages: &mut Pages<S>,
     tid: u8,
@@ -62,7 +62,7 @@ fn next_row<S: EawStore, K: KeyIndex>(
     }
 }
 
-// A further row, where there is a record.
+// Appends a row if there is a record.
 fn push_row(rows: &mut Rows, next: &Next) -> Result<(), NoMemory>
     ensures { OnOk result (rows.new ≡ rows.old ++ row_at next.now.key next.now.value) }
 {

@@ -21,14 +21,14 @@ use record_slots::{SLOT_LEN, Slot, Value, read_slot, write_slot};
 
 const SLOTS_IN_PAGE: u32 = 8;
 
-/// The slot of a key, and the value that a number sees there.
+/// The slot of a key and the value that a number sees there.
 #[derive(Drop)]
 pub struct Place {
     pub slot: u32,
     pub value: Option<Value>,
 }
 
-// The page of a slot: eight are in a page, behind the pages of the index.
+// The page of a slot. There are eight in a page, after the pages of the index.
 pub fn page_of<S: EawStore>(pages: &Pages<S>, slot: u32) -> u32
     requires { slot < slots_of (S.view pages.now.store).shape }
     ensures at { 512 * result + slot % 8 * 64 ≡ 64 * (slots_of (S.view pages.now.store).shape + slot) }
@@ -86,7 +86,7 @@ pub fn write_as<S: EawStore>(
     pages.write_as(tid, page, slot % SLOTS_IN_PAGE * 64, &bytes)
 }
 
-// Looks a key up in the index, and then at its slot.
+// Looks up a key in the index, and then reads its slot.
 pub fn seek<S: EawStore, K: KeyIndex>(
     pages: &mut Pages<S>,
     tid: u8,

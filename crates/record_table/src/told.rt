@@ -1,11 +1,11 @@
-// Refusals of the layers below, as records tell them.
+// Refusals of the layers below, in terms of records.
 ghost use Rattle.std.specs.Prelude.{◌≡◌};
 ghost use Rattle.record_table.specs.Faults.{as_table, told_as, inserted_as};
 
 use crate::fault::TableFault;
 use page_store::{IndexFault, PageFault};
 
-// An answer of pages.
+// An answer of pages, in terms of records.
 pub fn told<T: Drop>(answer: Result<T, PageFault>) -> Result<T, TableFault>
     ensures { result ≡ told_as answer }
 {

@@ -1,4 +1,4 @@
--- How long an input may be, and when the reading of one fails.
+-- How long an input may be, and when reading one fails.
 use Rattle.std.specs.Prelude.{ℕ, ◌≡◌, Result, Ok, Err}
 use Rattle.counted.specs.Causes.{Rose}
 use Rattle.script_io.specs.declared.input.InputFault.{InputFault}
@@ -8,7 +8,7 @@ use Rattle.script_io.specs.declared.input.InputFault.TheVariants.{Failed}
 abbrev pub input_limit : ℕ
 input_limit = 16777216
 
--- the count of the source's faults, by what came of the reading: it rose where that failed, and else is as it was
+-- the count of the source's faults: it rose if the source failed, and else is as it was
 abbrev pub InputCounts : {T : Type 0} → ℕ → ℕ → Result T InputFault → Type 0
 InputCounts old new (Err Failed) = Rose old new
 InputCounts old new _ = new ≡ old

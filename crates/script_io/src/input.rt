@@ -5,7 +5,7 @@ ghost use Rattle.script_io.specs.Input.{input_limit, InputCounts};
 use outside::Source;
 use std::alloc::Global;
 
-/// How many bytes an input may have.
+/// The most bytes that an input may have.
 pub const MOST: usize = 16_777_216;
 
 /// Why an input was not read.
@@ -16,7 +16,7 @@ pub enum InputFault {
     NoMemory,
 }
 
-/// All bytes of a source, to its end.
+/// All bytes of a source up to its end.
 pub fn read_input<S: Source>(alloc: Global, source: &mut S) -> Result<Vec<u8>, InputFault>
     ensures all { IfOk result (λ input. IsTrue S.tells → S.left source.old ≡ input.items) }
     ensures ended { OnOk result (IsTrue S.tells → S.left source.new ≡ []) }

@@ -1,4 +1,4 @@
--- What lines come to, one after another.
+-- What lines come to one after another.
 use Rattle.std.proofs.Common.{Bool, false, ◌≡◌, ℕ, ◌+◌, List, [], ◌∷◌, ◌++◌, refl, sym, ap, subst, ◌∙◌}
 use Rattle.std.specs.List.{concat}
 use Rattle.std.proofs.lemmas.List.{append_assoc, append-nil}
@@ -13,7 +13,7 @@ pub concat-push : (answers : List (List ℕ)) (answer : List ℕ) → concat (an
 concat-push [] answer = append-nil answer
 concat-push (first ∷ answers) answer = ap (λ x. first ++ x) (concat-push answers answer) ∙ sym (append_assoc first (concat answers) answer)
 
--- counts that stood still before
+-- counts that were still as at first
 pub counts_on : (ended : Ended) (first sink sink' first' media media' : ℕ) → sink ≡ first → media ≡ first' → Counts ended sink sink' media media' → Counts ended first sink' first' media'
 counts_on ended first sink sink' first' media media' is is' counts =
     subst (λ (n : ℕ). Counts ended n sink' first' media') is (subst (λ (m : ℕ). Counts ended sink sink' m media') is' counts)

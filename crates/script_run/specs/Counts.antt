@@ -1,11 +1,11 @@
--- The counts of faults by how a script ended.
+-- The counts of faults, by how a script ended.
 use Rattle.std.specs.Prelude.{ℕ, ◌≡◌}
 use Rattle.counted.specs.Causes.{Rose}
 use Rattle.script_run.specs.declared.ended.Ended.{Ended}
 use Rattle.script_run.specs.declared.ended.Ended.TheVariants.{WriteFault, MediaFault}
 
--- of the sink and of the media: one rose where it ended the script, and else they are as they were; but a sink may also fail
--- while a fault of the media is told
+-- the counts of the sink and the medium: the one that ended the script rose, and the other is as it was, except that the sink may also fail
+-- while a fault of the medium is reported
 abbrev pub Counts : Ended → ℕ → ℕ → ℕ → ℕ → Type 0
 Counts WriteFault sink sink' media media' = Rose sink sink' × (media' ≡ media)
 Counts MediaFault sink sink' media media' = Rose media media'

@@ -3,10 +3,10 @@
 pub enum Ended {
     /// Each line was answered.
     All,
-    /// The sink took only a part of an answer.
+    /// The sink took only part of an answer.
     WriteFault,
-    /// The media failed in what a line asks for.
+    /// The medium failed in what a line asks for.
     MediaFault,
-    /// No memory was left for an answer.
+    /// There was no memory for a line or its answer.
     NoMemory,
 }

@@ -1,4 +1,4 @@
-//! The run of a script: each line is answered by whatever stands behind it, and its answer is written.
+//! The run of a script over whatever answers its lines: each line is answered, and the answer is written.
 #![tactic(auto)]
 
 mod ended;

@@ -1,4 +1,4 @@
-// What answers the lines of a script.
+// The trait of what answers the lines of a script.
 ghost use Rattle.std.specs.Prelude.{◌≡◌, Bool, List, ℕ, IsTrue, OnOk};
 ghost use Rattle.script_run.specs.Script.{Script};
 ghost use Rattle.script_run.specs.Answers.{Answers, HasStopCause};
@@ -6,20 +6,20 @@ ghost use Rattle.script_run.specs.Answers.{Answers, HasStopCause};
 /// Why a line has no answer.
 #[derive(Clone, Copy, Debug, PartialEq, Eq)]
 pub enum Stop {
-    /// The media failed in what the line asks for under this number.
+    /// The medium failed in what the line asks for under this number.
     Media { number: u8 },
     NoMemory,
 }
 
-/// Answers the lines of a script, one after another, each from the state that the one before it has left.
+/// Answers the lines of a script one after another, each from the state that the previous one has left.
 pub trait Responder {
-    /// Whether it tells its state. Each clause on states holds where it does.
+    /// Whether it tells its state. The clauses on states hold if it does.
     ghost tells: { Bool };
 
     /// What lines act on.
     ghost State: { Type 0 };
 
-    /// How they act on that.
+    /// How lines act on that.
     ghost script: { Script State };
 
     /// It can answer a further line.
@@ -28,13 +28,13 @@ pub trait Responder {
     /// It is in this state.
     ghost stands: { Self → State → Type 0 };
 
-    /// From one in a state to a later one in a state: what a loss of power may have left meanwhile, and what it may leave now.
+    /// From a responder in a state to a later one in a state: what a loss of power may have left meanwhile, and what it may leave now.
     ghost comes: { Self → State → Self → State → Type 0 };
 
-    /// How often the media under it has failed.
+    /// How often the medium below has failed.
     ghost faults: { Self → ℕ };
 
-    /// Does what the line says, the `n`-th, and leaves its answer in `out`.
+    /// Does what the `n`-th line says, and leaves its answer in `out`.
     fn answer(&mut self, line: &[u8], n: u64, out: &mut Vec<u8>) -> Result<(), Stop>
         requires { is_ready self.old }
         ensures ready { OnOk result (is_ready self.new) }
@@ -42,10 +42,10 @@ pub trait Responder {
             → Answers script (stands self.new) (comes self.old state self.new) state n line.now out.new.items result }
         ensures cause { HasStopCause (faults self.old) (faults self.new) result };
 
-    /// Where nothing is done, it has come so.
+    /// `comes` holds from a responder to itself.
     ghost comes_none: { (self : Self) (state : State) → IsTrue tells → is_ready self → stands self state → comes self state self state };
 
-    /// What comes behind another has come from its beginning.
+    /// `comes` is transitive.
     ghost comes_on: { (first mid last : Self) (s t u : State) → IsTrue tells → is_ready mid → stands mid t
         → comes first s mid t → comes mid t last u → comes first s last u };
 }

@@ -1,4 +1,4 @@
-// The run of a script: each line is done, and its answer is written.
+// The run of a script: each line is done and its answer is written.
 ghost use Rattle.std.specs.Prelude.{◌≡◌, OnOk, IsErrOf, IsTrue};
 ghost use Rattle.script_io.specs.Lines.{lines_of};
 ghost use Rattle.script_io.specs.Written.{Wrote};
@@ -13,8 +13,8 @@ use script_io::{next_line, write_front, write_whole};
 use script_text::media_fault_line;
 use std::alloc::Global;
 
-/// Answers the lines of an input, until all are answered or one ends the script. An answer is written whole before the next line
-/// is read.
+/// Answers the lines of an input until all are answered or one ends the script. Each answer is written in full before the next line is
+/// read.
 pub fn answer_lines<K: Sink, R: Responder>(
     alloc: Global,
     input: &[u8],
@@ -22,12 +22,12 @@ pub fn answer_lines<K: Sink, R: Responder>(
     responder: &mut R,
 ) -> Ended
     requires { R.is_ready responder.old }
-    // The text answers the lines one by one. It is cut only where the sink failed.
+    // The text answers the lines one by one. It is cut short only if the sink failed.
     ensures ran { Wrote K.tells (K.written sink.old) (K.written sink.new) (K.faults sink.old) (K.faults sink.new)
         (λ cut text. IsTrue R.tells → (state : R.State) → R.stands responder.old state
         → Ran R.script (R.stands responder.new) (R.comes responder.old state responder.new) state (lines_of input.now) result cut text) }
     ensures ready { result ≡ Ended.All → R.is_ready responder.new }
-    // A count rose only where the script ended so.
+    // A count rose only if the script ended for that reason.
     ensures counts { Counts result (K.faults sink.old) (K.faults sink.new) (R.faults responder.old) (R.faults responder.new) }
 {
     let mut out = Vec::new(alloc);
@@ -44,7 +44,7 @@ pub fn answer_lines<K: Sink, R: Responder>(
     Ended::All
 }
 
-// Answers the `n`-th line. An error is the way in which the script ends.
+// Answers the `n`-th line. An error says how the script ends.
 fn answer_line<K: Sink, R: Responder>(
     line: &[u8],
     n: u64,
@@ -66,7 +66,7 @@ fn answer_line<K: Sink, R: Responder>(
             Err(_) => Err(Ended::WriteFault),
         },
         Err(Stop::Media { number }) => {
-            // This line is formed without memory, so that the way the script ends does not depend on any.
+            // This line is formed without memory, so how the script ends does not depend on memory.
             let mut buf = [0; 16];
             write_front(sink, media_fault_line(number, &mut buf));
             Err(Ended::MediaFault)

@@ -1,4 +1,4 @@
--- Pieces that are the line of an answer.
+-- Pieces that make up the line of an answer.
 use Rattle.std.proofs.Common.{◌≡◌, ℕ, List, [], ◌∷◌, ◌++◌, refl, sym, ◌∙◌, ap, subst, append_assoc}
 use Rattle.std.specs.Prelude.{codes, Result, OnOk}
 use Rattle.std.specs.Fmt.{decimal}
@@ -7,7 +7,7 @@ use Rattle.script_text.specs.AnswerLines.{answer_text, answer_line}
 use Rattle.script_text.specs.declared.answer.Answer.{Answer}
 use Rattle.script_text.specs.declared.answer.Answer.TheVariants.{Part, Data}
 
--- the number, and what stands behind it
+-- the number and what comes after it
 answer_is : (number : ℕ) (answer : Answer) (text rest : List ℕ) → text ≡ decimal number → rest ≡ 32 ∷ (answer_text number answer ++ 10 ∷ []) → text ++ rest ≡ answer_line number answer
 unfolding answer_line
 answer_is number answer text rest first behind = rw (first, behind) (sym (append_assoc (decimal number) (32 ∷ answer_text number answer) (10 ∷ [])))
@@ -21,7 +21,7 @@ answer_appended number now answer text rest old new result first is behind ok =
 pub part_text : (number addr : ℕ) (bytes : List ℕ) → codes " part " ++ (decimal addr ++ 32 ∷ (hex_of bytes ++ 10 ∷ [])) ≡ 32 ∷ (answer_text number (Part addr bytes) ++ 10 ∷ [])
 part_text number addr bytes = simp append_assoc
 
--- committed data behind the number and its word
+-- committed data after the number and its word
 pub data_appended : {T E : Type 0} (number : ℕ) (now : Answer) (bytes text old new : List ℕ) (result : Result T E) → text ≡ decimal number → now ≡ Data bytes
     → OnOk result (new ≡ old ++ ((text ++ codes " data ") ++ (hex_of bytes ++ 10 ∷ []))) → OnOk result (new ≡ old ++ answer_line number now)
 data_appended number now bytes text old new result first is ok =

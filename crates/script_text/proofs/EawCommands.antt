@@ -1,4 +1,4 @@
--- Texts that are those of a command, and texts that are those of none.
+-- Texts of commands, and texts of no command.
 use Rattle.std.proofs.Common.{◌≡◌, ℕ, ◌^◌, ◌<◌, ◌≤◌, List, ◌∷◌, ◌++◌, refl, sym, ap, subst, ◌∙◌}
 use Rattle.std.specs.Prelude.{codes}
 use Rattle.std.specs.Fmt.{decimal}
@@ -6,7 +6,7 @@ use Rattle.eaw_face.specs.Command.{log_write, log_edit, commit, abort, nested_to
 use Rattle.script_text.specs.HexText.{hex_of, IsHex}
 use Rattle.script_text.specs.Eaw.{Raw, does, read_log, log_len, held, IsTextOf}
 
--- a front, a number, a space and bytes as text, told by those bytes
+-- a front, a number, a space and bytes as text, expressed by those bytes
 pub write_told : (front text hex : List ℕ) (addr : ℕ) (is : IsHex hex) → text ≡ front ++ (decimal addr ++ 32 ∷ hex) → text ≡ front ++ (decimal addr ++ 32 ∷ hex_of is.0)
 write_told front text hex addr is e = e ∙ ap (λ h. front ++ (decimal addr ++ 32 ∷ h)) is.2
 
@@ -29,7 +29,7 @@ pub record IsUnread (text : List ℕ) : Type 0 where
   pub read : (p : ℕ × ℕ) → (p.0 < 2 ^ 32) × (1 ≤ p.1) × (p.1 ≤ 1024) → text ≡ codes "read " ++ (decimal p.0 ++ 32 ∷ decimal p.1) → ⊥
   pub held : (g : ℕ) → g < 8 → text ≡ codes "held " ++ decimal g → ⊥
 
--- they are the text of no command
+-- such bytes are the text of no command
 pub no_command : (text : List ℕ) → IsUnread text → (t : ℕ) (raw : Raw) → IsTextOf t raw text → ⊥
 no_command text none t (does (log_write u addr bytes)) is = none.log_write (addr, hex_of bytes) (is.1, (bytes, is.2, refl)) is.3
 no_command text none t (does (commit u)) is = none.commit is.1
@@ -44,7 +44,7 @@ no_command text none t (read_log pos) is = none.read_log pos is.0 is.1
 no_command text none t log_len is = none.log_len is
 no_command text none t (held logger) is = none.held logger is.0 is.1
 
--- a number's text, a space and what stands behind it
+-- a number's text, a space and the rest
 pub line_told : (line word rest : List ℕ) (t : ℕ) → line ≡ word ++ 32 ∷ rest → word ≡ decimal t → line ≡ decimal t ++ 32 ∷ rest
 line_told line word rest t split first = split ∙ ap (λ (w : List ℕ). w ++ 32 ∷ rest) first
 

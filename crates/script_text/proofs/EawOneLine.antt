@@ -1,4 +1,4 @@
--- The text of a number's command is that of no other, and a line means one thing.
+-- The text of a number's command is the text of no other, and a line means one thing.
 use Rattle.std.proofs.Common.{◌≡◌, ℕ, ◌+◌, ◌*◌, ◌<◌, ◌≤◌, ◌^◌, List, [], ◌∷◌, ◌++◌, get_or, refl, ap, sym, ◌∙◌, subst, arith}
 use Rattle.std.specs.Prelude.{codes}
 use Rattle.std.specs.Fmt.{decimal}
@@ -18,7 +18,7 @@ use Rattle.script_text.proofs.Fields.{same_fields}
 mark : List ℕ → ℕ
 mark text = get_or text 0 0 + 2 * get_or text 4 0
 
--- they tell the verb
+-- together they identify the verb
 letters : Raw → ℕ
 letters (does (log_write u addr bytes)) = 336
 letters (does (commit u)) = 309
@@ -51,7 +51,7 @@ mark_of t (held logger) text is = ap mark is.1
 same_letters : (t : ℕ) (raw other : Raw) (text : List ℕ) → IsTextOf t raw text → IsTextOf t other text → letters raw ≡ letters other
 same_letters t raw other text is js = sym (mark_of t raw text is) ∙ mark_of t other text js
 
--- no command of the store has those of a question
+-- no command of the store has the letters of a question
 does_letters : (command : Command) → (letters (does command) ≡ 330 → ⊥) × (letters (does command) ≡ 310 → ⊥) × (letters (does command) ≡ 168 → ⊥)
 unfolding letters
 does_letters (log_write u addr bytes) = (λ e. omega (arith, e), λ e. omega (arith, e), λ e. omega (arith, e))
@@ -67,7 +67,7 @@ does_letters (read addr len) = (λ e. omega (arith, e), λ e. omega (arith, e), 
 same_bytes : (a b : List ℕ) → IsBlock a → IsBlock b → hex_of a ≡ hex_of b → a ≡ b
 same_bytes a b is js e = hex_of_injective a b is.fits js.fits e
 
--- a front and a number
+-- a front and a number determine the number
 same_number : (front : List ℕ) (m n : ℕ) → m < 2 ^ 32 → n < 2 ^ 32 → front ++ decimal m ≡ front ++ decimal n → m ≡ n
 same_number front m n mf nf e = decimal_injective m n (omega arith) (omega arith) (append_cancel_left front _ _ e)
 
@@ -121,7 +121,7 @@ same_eaw_line numbers c d raw other line few is js =
     let same : c ≡ d = decimal_injective c d cf df both.0 in
     (same, same_raw c raw other is.1 is.2 (subst (λ (text : List ℕ). IsTextOf c other text) (sym both.1) (subst (λ (t : ℕ). IsTextOf t other js.1) (sym same) js.2)))
 
--- no two of the three cases hold of one line
+-- no two of the three cases hold for one line
 pub same_meaning : (numbers : ℕ) (bytes : List ℕ) (meaning other : Meaning) → numbers ≤ 2 ^ 64 → Means numbers bytes meaning → Means numbers bytes other → meaning ≡ other
 same_meaning numbers bytes nothing nothing few is js = refl
 same_meaning numbers bytes nothing (told c raw) few is js = absurd (not_passed c js.1 bytes (omega (arith, js.0)) js.3 is)

@@ -7,22 +7,22 @@ use Rattle.script_text.specs.Reads.{Reads}
 use Rattle.script_text.proofs.Words.{first_space}
 use Rattle.script_text.proofs.Numbers.{decimal_is_word}
 
--- what stands behind a front
+-- what comes after a front
 pub behind : (front bytes rest tail : List ℕ) → bytes ≡ front ++ rest → bytes ≡ front ++ tail → rest ≡ tail
 behind front bytes rest tail split other = append_cancel_left front rest tail (sym split ∙ other)
 
--- a reader of what stands behind a front reads the whole
+-- a reader of what comes after a front reads the whole
 pub reads_behind : {X : Type 0} (IsOne : X → Type 0) (text : X → List ℕ) (front bytes rest : List ℕ) (result : Option X) → bytes ≡ front ++ rest
     → Reads IsOne text rest result → Reads IsOne (λ x. front ++ text x) bytes result
 reads_behind IsOne text front bytes rest None split says = λ x is e. says x is (behind front bytes rest (text x) split e)
 reads_behind IsOne text front bytes rest (Some x) split says = (says.0, split ∙ ap (λ r. front ++ r) says.1)
 
--- a number, a space and a rest are those of one text
+-- a number, a space and a rest are determined by their text
 pub same_long_fields : (bytes rest tail : List ℕ) (m n : ℕ) → m < 2 ^ 64 → n < 2 ^ 64 → bytes ≡ decimal m ++ 32 ∷ rest → bytes ≡ decimal n ++ 32 ∷ tail → (m ≡ n) × (rest ≡ tail)
 same_long_fields bytes rest tail m n mf nf is other =
     let both = first_space (decimal m) (decimal n) rest tail (decimal_is_word m mf) (decimal_is_word n nf) (sym is ∙ other) in
     (decimal_injective m n mf nf both.0, both.1)
 
--- the same of numbers of 32 bits
+-- the same for numbers of 32 bits
 pub same_fields : (bytes rest tail : List ℕ) (m n : ℕ) → m < 2 ^ 32 → n < 2 ^ 32 → bytes ≡ decimal m ++ 32 ∷ rest → bytes ≡ decimal n ++ 32 ∷ tail → (m ≡ n) × (rest ≡ tail)
 same_fields bytes rest tail m n mf nf is other = same_long_fields bytes rest tail m n (omega arith) (omega arith) is other

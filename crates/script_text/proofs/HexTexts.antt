@@ -1,4 +1,4 @@
--- Texts in hexadecimal: how long they are, their digits, and the bytes that they say.
+-- Hexadecimal texts: their length, their digits, and the bytes that they spell.
 use Rattle.std.proofs.Common.{◌≡◌, ℕ, zero, suc, ◌+◌, ◌-◌, ◌*◌, ◌/◌, ◌%◌, ◌<◌, ◌≤◌, inl, inr, List, [], ◌∷◌, ◌++◌, length, get_or, take, slice_index, Result, Ok, Err, refl, sym, ap, ◌∙◌, append_assoc, length-take, arith}
 use Rattle.std.specs.Prelude.{All, Bool, true, false, ◌↔◌, MatchBool, MatchResult, OnOk, is_ok, is_err, if◌then◌else◌}
 use Rattle.std.proofs.lemmas.Bool.{cases_lt}
@@ -26,7 +26,7 @@ low_digit (suc (suc (suc (suc (suc (suc (suc (suc zero)))))))) h = refl
 low_digit (suc (suc (suc (suc (suc (suc (suc (suc (suc zero))))))))) h = refl
 low_digit (suc (suc (suc (suc (suc (suc (suc (suc (suc (suc v)))))))))) h = absurd (omega arith)
 
--- the six above
+-- the six digits above
 high_digit : (v : ℕ) → v < 6 → slice_index lower_digits (10 + v) ≡ 97 + v
 high_digit zero h = refl
 high_digit (suc zero) h = refl
@@ -46,7 +46,7 @@ digit_of v h = elim (cases_lt v 10) [
       inr (omega (arith, f), omega (arith, f))
 ]
 
--- what a digit counts
+-- the value of a digit
 value_of : (c : ℕ) → IsDigit c → (v : ℕ) × (v < 16) × (slice_index lower_digits v ≡ c)
 value_of c (inl is) = (c - 48, omega arith, low_digit (c - 48) (omega arith) ∙ (omega arith))
 value_of c (inr is) = (10 + (c - 97), omega arith, high_digit (c - 97) (omega arith) ∙ (omega arith))
@@ -55,7 +55,7 @@ IsBytes-cons : (b : ℕ) (rest : List ℕ) → b < 256 → IsBytes rest → IsBy
 IsBytes-cons b rest h hs zero = h
 IsBytes-cons b rest h hs (suc i) = hs i
 
--- an even number of digits says bytes
+-- an even number of digits spells bytes
 pub bytes_of_digits : (text : List ℕ) → length text % 2 ≡ 0 → All IsDigit text → (bytes : List ℕ) × IsBytes bytes × (text ≡ hex_of bytes)
 unfolding encode_with
 bytes_of_digits [] even is = ([], (λ i. omega arith), refl)
@@ -72,7 +72,7 @@ bytes_of_digits (a ∷ b ∷ rest) even is =
     let second : b ≡ slice_index lower_digits (byte % 16) = sym low.2 ∙ ap (slice_index lower_digits) back in
     (byte ∷ more.0, IsBytes-cons byte more.0 (omega arith) more.1, cc (first, second, more.2))
 
--- the text of bytes has digits only
+-- the text of bytes has only digits
 digits_of_bytes : (bytes : List ℕ) → IsBytes bytes → All IsDigit (hex_of bytes)
 unfolding encode_with
 digits_of_bytes [] is = All-nil IsDigit
@@ -82,7 +82,7 @@ digits_of_bytes (b ∷ rest) is =
     let more = All-cons IsDigit low (hex_of rest) (digit_of (b % 16) (omega arith)) (digits_of_bytes rest (λ i. is (suc i))) in
     All-cons IsDigit (slice_index lower_digits (b / 16)) (low ∷ hex_of rest) (digit_of (b / 16) (omega arith)) more
 
--- digits, so many that they are a text of bytes
+-- digits of a suitable number are the text of bytes
 pub is_text_of_bytes : (text : List ℕ) → 0 < length text → length text ≤ 2048 → length text % 2 ≡ 0 → All IsDigit text → IsHex text
 is_text_of_bytes text some most even is =
     let made = bytes_of_digits text even is in
@@ -97,7 +97,7 @@ hex_is_long text is =
 pub hex_is_digits : (text : List ℕ) → IsHex text → All IsDigit text
 hex_is_digits text is = All-same IsDigit text (hex_of is.0) is.2 (digits_of_bytes is.0 is.1.fits)
 
--- what the kit's decoder makes of such a text, in a front of the right length
+-- what the decoder makes of such a text, in a front of the right length
 pub decoded : (text bytes buf : List ℕ) (result : Result Unit FromHexError) (out : List ℕ) → IsBlock bytes → text ≡ hex_of bytes → length text ≤ 2 * length buf
     → MatchResult (decode_sized text (length (take (length text / 2) buf))) (λ bs. (result ≡ Ok tt) × (out ≡ bs)) (λ e. result ≡ Err e)
     → (result ≡ Ok tt) × (out ≡ bytes) × (length text / 2 ≡ length bytes)
@@ -109,7 +109,7 @@ decoded text bytes buf result out is says fits found =
     let both = rw read at (rw room at found) in
     (both.0, both.1, half)
 
--- one text is that of one list of bytes
+-- equal texts are those of equal bytes
 pub hex_of_injective : (a b : List ℕ) → IsBytes a → IsBytes b → hex_of a ≡ hex_of b → a ≡ b
 hex_of_injective a b is js same = decode_of-same (hex_of a) a b (decode_of-encode_lower a is) (rw same (decode_of-encode_lower b js))
 
@@ -126,12 +126,12 @@ pub hex_of-nil : hex_of [] ≡ []
 unfolding encode_with
 hex_of-nil = refl
 
--- a text of the right length is one where it has digits only
+-- a text of the right length is one of bytes if it has only digits
 pub hex_by_digits : (text : List ℕ) (result : Bool) → 0 < length text → length text ≤ 2048 → (length text % 2 ≡ 1 → ⊥) → (result ≡ true) ↔ All IsDigit text → MatchBool result (IsHex text) (IsHex text → ⊥)
 hex_by_digits text true some most even says = is_text_of_bytes text some most (omega (arith, even)) (says.0 refl)
 hex_by_digits text false some most even says = λ is. cc (says.1 (hex_is_digits text is))
 
--- what was appended behind the text of some bytes is the text of the next byte
+-- what was appended after the text of some bytes is the text of the next byte
 pub byte_appended : {T E A B : Type 0} (pushed : Result T E) (encoded : Result A B) (value : A) (bytes start before after digits : List ℕ) (i : ℕ) → i < length bytes
     → before ≡ start ++ hex_of (take i bytes) → encoded ≡ Ok value → OnOk encoded (digits ≡ hex_of (get_or bytes i 0 ∷ []))
     → is_err pushed ≡ false → after ≡ (if is_ok pushed then before ++ digits else before) → after ≡ start ++ hex_of (take (i + 1) bytes)

@@ -23,7 +23,7 @@ pub record IsUnread (bytes : List ℕ) : Type 0 where
   pub scan : (p : ℕ × ℕ) → (p.0 < 2 ^ 64) × (p.1 < 2 ^ 64) → bytes ≡ codes "scan " ++ (decimal p.0 ++ 32 ∷ decimal p.1) → ⊥
   pub back : (save : ℕ) → save < 2 ^ 32 → bytes ≡ codes "back " ++ decimal save → ⊥
 
--- they are the text of no call
+-- such bytes are the text of no call
 pub no_call : (bytes : List ℕ) → IsUnread bytes → (call : Call) → IsCallText call bytes → ⊥
 no_call bytes none Begin is = none.begin is
 no_call bytes none (Get key) is = none.get key is.0 is.1
@@ -35,6 +35,6 @@ no_call bytes none (Back save) is = none.back save is.0 is.1
 no_call bytes none Commit is = none.commit is
 no_call bytes none Abort is = none.abort is
 
--- a text that is another's too
+-- a text that equals another
 pub text_behind : (call : Call) (rest text : List ℕ) → rest ≡ text → IsCallText call text → IsCallText call rest
 text_behind call rest text same is = subst (IsCallText call) (sym same) is

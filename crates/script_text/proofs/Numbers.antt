@@ -1,4 +1,4 @@
--- Digits, and the numbers that they spell.
+-- Digits and the numbers that they spell.
 use Rattle.std.proofs.Common.{◌≡◌, ℕ, zero, suc, ◌+◌, ◌-◌, ◌*◌, ◌^◌, ◌<◌, ◌≤◌, List, [], ◌∷◌, ◌++◌, length, get_or, take, Option, Some, None, inl, inr, sym, subst, ap, ◌∙◌, arith}
 use Rattle.std.specs.Char.{digit_value}
 use Rattle.std.specs.Fmt.{decimal}
@@ -34,7 +34,7 @@ number_is bytes some first all fits = sym (decimal-digits_value model bytes all 
     one_byte : (n : ℕ) → 0 < n → (1 < n → ⊥) → n ≡ 1
     one_byte n some short = elim (cases_lt 1 n) [ inl h ↦ absurd (short h) | inr h ↦ omega arith ]
 
--- Without a leading zero, what the digits give is what the bytes say.
+-- Without a leading zero, the number that the digits spell is what the bytes say.
 pub number_or_none : (bytes : List ℕ) (result : Option ℕ) → 0 < length bytes → (1 < length bytes → get_or bytes 0 0 ≡ 48 → ⊥)
     → SomeIff result (AllDigits 10 bytes × (digits_value 10 bytes < 2 ^ 64)) (digits_value 10 bytes) → Reads (λ n. n < 2 ^ 64) decimal bytes result
 number_or_none bytes None some first is = λ n fits e. no_number_is_none bytes n is fits e
@@ -42,7 +42,7 @@ number_or_none bytes (Some n) some first is =
     let fits : n < 2 ^ 64 = rw is.1 is.0.1 in
     (fits, number_is bytes some first is.0.0 is.0.1 ∙ ap decimal (sym is.1))
 
--- one text is that of one number
+-- a text is that of at most one number
 pub same_number : (bytes : List ℕ) (m n limit : ℕ) → limit ≤ 2 ^ 64 → m < 2 ^ 64 → bytes ≡ decimal m → n < limit → bytes ≡ decimal n → m ≡ n
 same_number bytes m n limit most fits is below other = decimal_injective m n fits (omega arith) (sym is ∙ other)
 
@@ -69,11 +69,11 @@ digits_are_word : (bytes : List ℕ) → AllDigits 10 bytes → IsWord bytes
 digits_are_word [] all = tt
 digits_are_word (byte ∷ bytes) all = (λ e. let below : digit_value 32 < 10 = subst (λ x. digit_value x < 10) e all.0 in omega (arith, below), digits_are_word bytes all.1)
 
--- a number has no space
+-- the text of a number has no space
 pub decimal_is_word : (n : ℕ) → n < 2 ^ 64 → IsWord (decimal n)
 decimal_is_word n fits = digits_are_word (decimal n) (digits_decimal model n fits)
 
--- A number, a space and a text: the first space parts them.
+-- In a number, a space and a text, the first space separates the two.
 pub fields : (bytes word rest : List ℕ) (n limit : ℕ) (tail : List ℕ) → limit ≤ 2 ^ 64 → IsWord word → bytes ≡ word ++ 32 ∷ rest → n < limit → bytes ≡ decimal n ++ 32 ∷ tail
     → (word ≡ decimal n) × (rest ≡ tail)
 fields bytes word rest n limit tail most is split below other =

@@ -1,4 +1,4 @@
--- The text of a caller's call is that of no other, and a line says one thing.
+-- The text of a caller's call is the text of no other, and a line says one thing.
 use Rattle.std.proofs.Common.{◌≡◌, ℕ, zero, suc, length, ◌+◌, ◌*◌, ◌++◌, ◌<◌, ◌≤◌, ◌^◌, List, [], ◌∷◌, get_or, refl, ap, ◌∙◌, sym, subst, arith}
 use Rattle.std.specs.Prelude.{codes}
 use Rattle.std.specs.Fmt.{decimal}
@@ -17,7 +17,7 @@ use Rattle.script_text.proofs.Fields.{same_long_fields}
 mark : List ℕ → ℕ
 mark text = 2 * get_or text 0 0 + get_or text 1 0
 
--- they tell the verb
+-- together they identify the verb
 letters : Call → ℕ
 letters Begin = 297
 letters (Get key) = 307
@@ -44,7 +44,7 @@ mark_of Abort text is = ap mark is
 same_letters : (call other : Call) (text : List ℕ) → IsCallText call text → IsCallText other text → letters call ≡ letters other
 same_letters call other text is js = sym (mark_of call text is) ∙ mark_of other text js
 
--- a front and a number
+-- a front and a number determine the number
 same_key : (front text : List ℕ) (k l : ℕ) → k < 2 ^ 64 → l < 2 ^ 64 → text ≡ front ++ decimal k → text ≡ front ++ decimal l → k ≡ l
 same_key front text k l kf lf is js = decimal_injective k l kf lf (append_cancel_left front _ _ (sym is ∙ js))
 
@@ -82,7 +82,7 @@ pub first_digit : (n : ℕ) → n < 2 ^ 64 → 48 ≤ get_or (decimal n) 0 0
 first_digit zero fits = omega (arith, ap (λ (l : List ℕ). get_or l 0 0) (decimal_digit 0 (omega arith)))
 first_digit (suc n) fits = omega (arith, first_decimal (suc n) (omega arith) fits)
 
--- a caller's call is not passed over: it begins with a digit
+-- the line of a caller's call is not passed over, since it begins with a digit
 pub not_passed : (c : ℕ) (text line : List ℕ) → c < 2 ^ 64 → line ≡ decimal c ++ 32 ∷ text → IsPassedOver line → ⊥
 not_passed c text [] cf e over = omega (arith, decimal_nonempty c cf, simp length-append at (ap length e))
 not_passed c text (byte ∷ bytes) cf e over =
@@ -90,7 +90,7 @@ not_passed c text (byte ∷ bytes) cf e over =
     let digit = get_or_append_left (decimal c) (32 ∷ text) 0 0 (decimal_nonempty c cf) in
     omega (arith, over, head, digit, first_digit c cf)
 
--- no two of the three cases hold of one line
+-- no two of the three cases hold for one line
 pub same_told : (callers : ℕ) (bytes : List ℕ) (line other : Line) → callers ≤ 2 ^ 64 → Says callers bytes line → Says callers bytes other → line ≡ other
 same_told callers bytes Nothing Nothing few is js = refl
 same_told callers bytes Nothing (Told c call) few is js = absurd (not_passed c js.1 bytes (omega (arith, js.0)) js.3 is)

@@ -1,4 +1,4 @@
--- Pieces that are a reply's line.
+-- Pieces that make up the line of a reply.
 use Rattle.std.proofs.Common.{◌≡◌, ℕ, ◌+◌, List, [], ◌∷◌, ◌++◌, length, take, refl, sym, ◌∙◌, ap, append_assoc}
 use Rattle.std.specs.Prelude.{codes}
 use Rattle.std.specs.Fmt.{decimal}
@@ -7,18 +7,18 @@ use Rattle.history.specs.declared.call.Reply.{Reply}
 use Rattle.history.specs.declared.call.Reply.TheVariants.{Listed, LogFull, Media}
 use Rattle.script_text.specs.Replies.{reply_text, told_line, row_lines, reply_line, bad_line}
 
--- the caller's number, and what stands behind it
+-- the caller's number and what comes after it
 told_is : (caller : ℕ) (words number rest : List ℕ) → number ≡ decimal caller → rest ≡ 32 ∷ (words ++ 10 ∷ []) → number ++ rest ≡ told_line caller words
 told_is caller words number rest first behind = rw (first, behind) (sym (append_assoc (decimal caller) (32 ∷ words) (10 ∷ [])))
 
--- the same of a reply that lists no rows
+-- the same for a reply that lists no rows
 line_is : (caller : ℕ) (reply : Reply) (number rest : List ℕ) → row_lines caller reply ≡ [] → number ≡ decimal caller → rest ≡ 32 ∷ (reply_text reply ++ 10 ∷ [])
     → number ++ rest ≡ reply_line caller reply
 unfolding reply_line
 line_is caller reply number rest none first behind =
     told_is caller (reply_text reply) number rest first behind ∙ rw none (sym (append-nil (told_line caller (reply_text reply))))
 
--- what was appended, part by part, is the reply's line and those of its rows
+-- what was appended piece by piece is the line of the reply and those of its rows
 pub lines_appended : (caller : ℕ) (reply : Reply) (old number words line new : List ℕ) → number ≡ old ++ (decimal caller ++ 32 ∷ []) → words ≡ number ++ reply_text reply
     → line ≡ words ++ 10 ∷ [] → new ≡ line ++ row_lines caller reply → new ≡ old ++ reply_line caller reply
 unfolding reply_line
@@ -39,7 +39,7 @@ pub bad_line_is : (n : ℕ) → codes "bad" ++ (codes " line " ++ (decimal n ++ 
 unfolding bad_line
 bad_line_is n = simp append_assoc
 
--- two texts that were copied one behind the other
+-- two texts that were copied one after the other
 front_is : (number words copied beside rest behind : List ℕ) → copied ≡ number → beside ≡ words
     → take (length number + length words) (take (length number) (copied ++ rest) ++ (beside ++ behind)) ≡ number ++ words
 front_is number words copied beside rest behind first second =

@@ -1,8 +1,8 @@
--- Words, and the first space behind one.
+-- Words, and the first space after one.
 use Rattle.std.proofs.Common.{◌≡◌, ℕ, List, [], ◌∷◌, ◌++◌, refl}
 use Rattle.script_text.specs.Reads.{IsWord}
 
--- a word grows by a byte that is no space
+-- a word stays one with a further byte that is not a space
 pub IsWord-push : (word : List ℕ) (byte : ℕ) → IsWord word → (byte ≡ 32 → ⊥) → IsWord (word ++ byte ∷ [])
 IsWord-push [] byte is other = (other, tt)
 IsWord-push (x ∷ word) byte is other = (is.0, IsWord-push word byte is.1 other)
@@ -14,7 +14,7 @@ no_space [] (y ∷ front) rest is e = cc
 no_space (x ∷ word) [] rest is e = is.0 cc
 no_space (x ∷ word) (y ∷ front) rest is e = no_space word front rest is.1 cc
 
--- bytes have one first space
+-- the first space is determined
 pub first_space : (a b r s : List ℕ) → IsWord a → IsWord b → a ++ 32 ∷ r ≡ b ++ 32 ∷ s → (a ≡ b) × (r ≡ s)
 first_space [] [] r s wa wb e = (refl, cc)
 first_space [] (y ∷ b) r s wa wb e = absurd (wb.0 cc)

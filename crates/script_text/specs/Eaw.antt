@@ -1,19 +1,19 @@
--- The raw commands of a script, and how they are written.
+-- The raw commands of a script and how they are written.
 use Rattle.std.specs.Prelude.{ℕ, ◌≡◌, ◌≤◌, ◌<◌, ◌^◌, List, ◌∷◌, ◌++◌, codes}
 use Rattle.std.specs.Fmt.{decimal}
 use Rattle.eaw_face.specs.Command.{Command, log_write, log_edit, commit, abort, nested_top, partial_abort, atomic_write, log_read, read}
 use Rattle.hex.specs.Hex.{encode_lower as hex_of}
 use Rattle.script_text.specs.HexText.{IsBlock}
 
--- a command of the store, or a question about a number's log: a part of it, how many it has, and how many of them a logger holds
+-- a command of the store, or a question about a number's log: one of its parts, how many it has, or how many of them a logger holds
 pub data Raw : Type 0 where
   does : (command : Command) → Raw
   read_log : (pos : ℕ) → Raw
   log_len : Raw
   held : (logger : ℕ) → Raw
 
--- Behind number t a command of it is written so. Its numbers are in range, and what it writes is 1 to 1,024 bytes, each two digits in
--- lower-case hexadecimal.
+-- The text of a raw command of number t, after that number. Its numbers are in range, and what it writes is 1 to 1,024 bytes, each as two
+-- lower-case hexadecimal digits.
 abbrev pub IsTextOf : ℕ → Raw → List ℕ → Type 0
 IsTextOf t (does (log_write u addr bytes)) text = (u ≡ t) × (addr < 2 ^ 32) × IsBlock bytes × (text ≡ codes "logwrite " ++ (decimal addr ++ 32 ∷ hex_of bytes))
 IsTextOf t (does (commit u)) text = (u ≡ t) × (text ≡ codes "commit")
@@ -29,6 +29,6 @@ IsTextOf t (read_log pos) text = (pos < 2 ^ 32) × (text ≡ codes "readlog " ++
 IsTextOf t log_len text = text ≡ codes "loglen"
 IsTextOf t (held logger) text = (logger < 8) × (text ≡ codes "held " ++ decimal logger)
 
--- a line of number t's command, where there are so many numbers
+-- a line with a command of number t, one of this many numbers
 abbrev pub IsLineOf : ℕ → ℕ → Raw → List ℕ → Type 0
 IsLineOf numbers t raw line = (t < numbers) × (text : List ℕ) × IsTextOf t raw text × (line ≡ decimal t ++ 32 ∷ text)

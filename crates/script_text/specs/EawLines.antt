@@ -1,4 +1,4 @@
--- What a line of raw commands means, and what tells it.
+-- What a line of raw commands means, and what reads it.
 use Rattle.std.specs.Prelude.{ℕ, ◌≡◌, List}
 use Rattle.eaw_face.specs.Command.{log_write, log_edit, commit, abort, nested_top, partial_abort, atomic_write, read}
 use Rattle.script_text.specs.Line.{IsPassedOver}
@@ -9,19 +9,19 @@ use Rattle.script_text.specs.declared.eaw_call.EawCall.TheVariants.{LogWrite, Co
 use Rattle.script_text.specs.declared.eaw_line.EawLine.{EawLine}
 use Rattle.script_text.specs.declared.eaw_line.EawLine.TheVariants.{Nothing, Told, Bad}
 
--- what a line may mean: nothing, a number's command, or it is no line
+-- what a line may mean: nothing, a number's command, or it is bad
 pub data Meaning : Type 0 where
   nothing : Meaning
   told : (number : ℕ) (raw : Raw) → Meaning
   bad : Meaning
 
--- a line's meaning: it is passed over, it is that of a number's command, or neither that nor of any
+-- the meaning of a line: it is passed over, it is a number's command, or it is neither
 abbrev pub Means : ℕ → List ℕ → Meaning → Type 0
 Means numbers line nothing = IsPassedOver line
 Means numbers line (told t raw) = IsLineOf numbers t raw line
 Means numbers line bad = (IsPassedOver line → ⊥) × ((t : ℕ) (raw : Raw) → IsLineOf numbers t raw line → ⊥)
 
--- A call shows a command of number t: it has its numbers, and the text of its bytes.
+-- A call shows a command of number t: it has the command's numbers and the text of its bytes.
 abbrev pub ShowsCall : ℕ → EawCall → Raw → Type 0
 ShowsCall t (LogWrite addr hex) raw = (bytes : List ℕ) × (hex.now ≡ hex_of bytes) × (raw ≡ does (log_write t addr bytes))
 ShowsCall t Commit raw = raw ≡ does (commit t)
@@ -35,7 +35,7 @@ ShowsCall t (Read addr len) raw = raw ≡ does (read addr len)
 ShowsCall t LogLen raw = raw ≡ log_len
 ShowsCall t (Held logger) raw = raw ≡ held logger
 
--- the same of a number and its call
+-- the same for a number and its call
 abbrev pub ShowsTold : ℕ × EawCall → ℕ × Raw → Type 0
 ShowsTold call raw = (call.0 ≡ raw.0) × ShowsCall raw.0 call.1 raw.1
 

@@ -1,4 +1,4 @@
--- Bytes as text in hexadecimal.
+-- Bytes as hexadecimal text.
 use Rattle.std.specs.Prelude.{ℕ, ◌≡◌, ◌≤◌, ◌⊎◌, List, length}
 use Rattle.hex.specs.Hex.{encode_lower, IsBytes}
 
@@ -12,7 +12,7 @@ pub record IsBlock (bytes : List ℕ) : Type 0 where
   pub most : length bytes ≤ 1024
   pub fits : IsBytes bytes
 
--- the text of such bytes
+-- the hexadecimal text of 1 to 1,024 bytes
 abbrev pub IsHex : List ℕ → Type 0
 IsHex text = (bytes : List ℕ) × IsBlock bytes × (text ≡ hex_of bytes)
 

@@ -7,7 +7,7 @@ use Rattle.history.specs.declared.call.Call.TheVariants.{Begin, Get, Put, Del, S
 use Rattle.script_text.specs.declared.line.Line.{Line}
 use Rattle.script_text.specs.declared.line.Line.TheVariants.{Nothing, Told, Bad}
 
--- A call is written so: its keys are numbers of 64 bits, its save one of 32, and its value is one.
+-- The text of a call. Its keys are numbers of 64 bits, its save is one of 32 bits, and its value is a proper value.
 abbrev pub IsCallText : Call → List ℕ → Type 0
 IsCallText Begin text = text ≡ codes "begin"
 IsCallText (Get key) text = (key < 2 ^ 64) × (text ≡ codes "get " ++ decimal key)
@@ -19,16 +19,16 @@ IsCallText (Back save) text = (save < 2 ^ 32) × (text ≡ codes "back " ++ deci
 IsCallText Commit text = text ≡ codes "commit"
 IsCallText Abort text = text ≡ codes "abort"
 
--- a line of a caller's call, where there are so many callers
+-- a line with a call of this caller, one of this many
 abbrev pub IsCallLine : ℕ → ℕ → Call → List ℕ → Type 0
 IsCallLine callers caller call line = (caller < callers) × (text : List ℕ) × IsCallText call text × (line ≡ decimal caller ++ 32 ∷ text)
 
--- no bytes, or a # before all others
+-- no bytes, or a # as the first
 abbrev pub IsPassedOver : List ℕ → Type 0
 IsPassedOver [] = Unit {0}
 IsPassedOver (byte ∷ bytes) = byte ≡ 35
 
--- What a line says: nothing, a call of a caller, or it is no line.
+-- What a line says: nothing, a call of a caller, or it is bad.
 abbrev pub Says : ℕ → List ℕ → Line → Type 0
 Says callers line Nothing = IsPassedOver line
 Says callers line (Told caller call) = IsCallLine callers caller call line

@@ -30,19 +30,19 @@ reply_text (Damaged page) = codes "damaged " ++ decimal page
 abbrev pub told_line : ℕ → List ℕ → List ℕ
 told_line caller words = decimal caller ++ 32 ∷ words ++ 10 ∷ []
 
--- a line of a row: its key and its value
+-- the line of a row: its key and its value
 abbrev pub row_line : ℕ → ℕ × List ℕ → List ℕ
 row_line caller row = told_line caller (codes "row " ++ decimal row.0 ++ 32 ∷ row.1)
 
--- the lines of the rows behind a reply that lists them
+-- the lines of the rows, after a reply that lists them
 abbrev pub row_lines : ℕ → Reply → List ℕ
 row_lines caller (Listed rows) = flat_map (row_line caller) rows
 row_lines caller _ = []
 
--- the reply's line, and those of its rows
+-- the line of a reply and those of its rows
 unfoldable pub reply_line : ℕ → Reply → List ℕ
 reply_line caller reply = told_line caller (reply_text reply) ++ row_lines caller reply
 
--- what answers a bad line
+-- the answer to a bad line
 unfoldable pub bad_line : ℕ → List ℕ
 bad_line n = codes "bad line " ++ decimal n ++ 10 ∷ []

@@ -10,10 +10,10 @@ use crate::reply::append_number;
 use counted::NoMemory;
 use itoa::Buffer;
 
-/// What answers a raw command.
+/// The answer to a raw command.
 #[derive(Drop)]
 pub enum Answer<'a> {
-    /// The write is logged; the number has so many parts now.
+    /// The write is logged, and the number now has this many parts.
     Logged(u32),
     Fine,
     /// A logged part.
@@ -22,18 +22,18 @@ pub enum Answer<'a> {
     Data { bytes: Lent<'a> },
     /// How many parts a number has logged.
     Len(u32),
-    /// How many of them one logger holds.
+    /// How many of them a given logger holds.
     Held(u16),
     /// The number holds no log.
     Unknown,
-    /// A range, an offset, a part or a logger is not there.
+    /// A range, an offset, a part or a logger does not exist.
     BadRange,
-    /// The number holds a log, and must not.
+    /// The number holds a log but must not.
     Live,
     LogFull { logger: u8, held: u16, needed: u16 },
 }
 
-/// Appends an answer's line, bytes in hexadecimal.
+/// Appends the line of an answer, with bytes in hexadecimal.
 pub fn write_answer(out: &mut Vec<u8>, number: u8, answer: &Answer<'_>) -> Result<(), NoMemory>
     ensures ok { OnOk result (out.new.items ≡ out.old.items ++ answer_line number answer.now) }
     ensures err { OnErr result (out.new.items ≡ out.old.items) }
@@ -111,7 +111,7 @@ fn append_bytes(out: &mut Vec<u8>, front: &[&[u8]], bytes: &[u8]) -> Result<(), 
     answer
 }
 
-// The same; where memory is short, a front of the line may stand there.
+// The same, but at `Err` a front of the line may have been appended.
 fn append_some_bytes(out: &mut Vec<u8>, front: &[&[u8]], bytes: &[u8]) -> Result<(), NoMemory>
     ensures ok { OnOk result (out.new.items ≡ out.old.items ++ (flat_map (λ piece. piece.now) front.now ++ (hex_of bytes.now ++ 10 ∷ []))) }
     ensures err { OnErr result ((rest : List ℕ) × (out.new.items ≡ out.old.items ++ rest)) }

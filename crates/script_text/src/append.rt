@@ -3,7 +3,7 @@ ghost use Rattle.std.specs.List.{flat_map};
 
 use counted::NoMemory;
 
-/// Appends the pieces, one after another.
+/// Appends the pieces one after another.
 pub fn append(out: &mut Vec<u8>, pieces: &[&[u8]]) -> Result<(), NoMemory>
     ensures ok { OnOk result (out.new.items ≡ out.old.items ++ flat_map (λ piece. piece.now) pieces.now) }
     ensures err { OnErr result (out.new.items ≡ out.old.items) }

@@ -11,7 +11,7 @@ use crate::lent::BLOCK;
 use crate::number::{read_below, read_u32_after, split_u32};
 use crate::word::{after, is_text};
 
-/// A raw command. What is to be written stands as hexadecimal text, as in the line.
+/// A raw command. The bytes to be written are the hexadecimal text of the line.
 #[derive(Clone, Copy, Debug, PartialEq, Eq)]
 pub enum EawCall<'a> {
     LogWrite { addr: u32, hex: &'a [u8] },
@@ -19,10 +19,10 @@ pub enum EawCall<'a> {
     Abort,
     /// Commits what is logged from this offset on.
     Nested { offset: u32 },
-    /// Drops what is logged from this offset on.
+    /// Discards what is logged from this offset on.
     Partial { offset: u32 },
     Atomic { addr: u32, hex: &'a [u8] },
-    /// Writes over the bytes of a logged part from its place `at` on.
+    /// Overwrites the bytes of a logged part from `at` on.
     EditLog { pos: u32, at: u32, hex: &'a [u8] },
     ReadLog { pos: u32 },
     Read { addr: u32, len: u32 },
@@ -30,7 +30,7 @@ pub enum EawCall<'a> {
     Held { logger: u8 },
 }
 
-// How many loggers an array may have.
+// The most loggers that an array may have.
 const MAX_LOGGERS: u64 = 8;
 
 pub fn read_eaw_call(bytes: &[u8]) -> Option<EawCall<'_>>
@@ -86,7 +86,7 @@ fn read_write<'a>(bytes: &'a [u8], front: &[u8]) -> Option<(u32, &'a [u8])>
     read_place_and_hex(rest)
 }
 
-// The number of a part, the place in it, and what is written there.
+// The number of a part, the place in it, and the bytes to be written there.
 fn read_edit(bytes: &[u8]) -> Option<(u32, u32, &[u8])>
     ensures { Reads (λ p. (p.0 < 2 ^ 32) × (p.1 < 2 ^ 32) × IsHex p.2)
         (λ p. codes "editlog " ++ (decimal p.0 ++ 32 ∷ (decimal p.1 ++ 32 ∷ p.2)))
@@ -98,7 +98,7 @@ fn read_edit(bytes: &[u8]) -> Option<(u32, u32, &[u8])>
     Some((pos, at, hex))
 }
 
-// An address, and how many bytes are read from it on.
+// An address, and how many bytes to read from there.
 fn read_range(bytes: &[u8]) -> Option<(u32, u32)>
     ensures { Reads (λ p. (p.0 < 2 ^ 32) × (1 ≤ p.1) × (p.1 ≤ 1024)) (λ p. codes "read " ++ (decimal p.0 ++ 32 ∷ decimal p.1)) bytes.now result }
 {

@@ -15,7 +15,7 @@ pub enum EawLine<'a> {
     Bad,
 }
 
-/// Reads a line of raw commands, without its newline, where there are `numbers` transaction numbers.
+/// Reads a line of raw commands without its newline, for an array of `numbers` transaction numbers.
 pub fn read_eaw(bytes: &[u8], numbers: u8) -> EawLine<'_>
     ensures { SaysEaw numbers bytes.now result }
 {

@@ -1,11 +1,11 @@
-// Bytes as text in hexadecimal, two digits for each, in lower case.
+// Bytes as hexadecimal text, two lower-case digits for each.
 ghost use Rattle.std.specs.Prelude.{◌≡◌, ◌*◌, ◌≤◌, ◌++◌, ◌↔◌, List, ℕ, length, drop, All, IsTrue, MatchBool, OnOk, OnErr};
 ghost use Rattle.script_text.specs.HexText.{hex_of, IsBlock, IsHex, IsDigit};
 
 use crate::lent::BLOCK;
 use counted::NoMemory;
 
-/// The bytes that a text says. They stand at the front of `buf`.
+/// The bytes of a hexadecimal text, written to the front of `buf`.
 pub fn bytes_of<'a>(hex: &[u8], buf: &'a mut [u8; BLOCK]) -> &'a [u8]
     requires { IsHex hex.now }
     ensures { (bytes : List ℕ) → IsBlock bytes → hex.now ≡ hex_of bytes → result.now ≡ bytes }
@@ -14,7 +14,7 @@ pub fn bytes_of<'a>(hex: &[u8], buf: &'a mut [u8; BLOCK]) -> &'a [u8]
     &buf[..len]
 }
 
-// Writes the bytes that a text says to the front of `buf`, and tells how many they are.
+// Writes the bytes of a hexadecimal text to the front of `buf` and returns how many they are.
 fn hex_into(hex: &[u8], buf: &mut [u8]) -> usize
     requires text { IsHex hex.now }
     requires fits { length hex.now ≤ 2 * length buf.old }
@@ -26,7 +26,7 @@ fn hex_into(hex: &[u8], buf: &mut [u8]) -> usize
     len
 }
 
-// Whether a text is that of some bytes, as many as a raw command may have.
+// Whether a text is the hexadecimal text of 1 to 1,024 bytes.
 pub fn is_hex(text: &[u8]) -> bool
     ensures { MatchBool result (IsHex text.now) (IsHex text.now → ⊥) }
 {
@@ -49,7 +49,7 @@ fn is_digit(byte: u8) -> bool
     matches!(byte, b'0'..=b'9' | b'a'..=b'f')
 }
 
-// Appends the text of some bytes.
+// Appends the hexadecimal text of some bytes.
 pub fn append_hex(out: &mut Vec<u8>, bytes: &[u8]) -> Result<(), NoMemory>
     ensures ok { OnOk result (out.new.items ≡ out.old.items ++ hex_of bytes.now) }
     ensures err { OnErr result (out.new.items ≡ out.old.items) }

@@ -5,7 +5,7 @@ use std::marker::Model;
 /// The most bytes that a raw command writes or reads.
 pub const BLOCK: usize = 1024;
 
-/// Bytes that an answer has from elsewhere, so that it stays small. Contracts see the list of them.
+/// Bytes that an answer borrows, so that it stays small. Contracts see the list of them.
 #[derive(Drop)]
 pub struct Lent<'a> {
     bytes: &'a [u8],

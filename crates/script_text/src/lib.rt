@@ -1,4 +1,4 @@
-//! The lines of scripts, and the texts of replies.
+//! The lines of scripts and the texts of replies.
 #![tactic(auto)]
 
 mod answer;

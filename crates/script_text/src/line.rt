@@ -15,7 +15,7 @@ pub enum Line {
     Bad,
 }
 
-/// Reads a line, without its newline, where there are `callers` callers.
+/// Reads a line without its newline, for `callers` callers.
 pub fn read_line(bytes: &[u8], callers: u8) -> Line
     ensures { Says callers bytes.now result }
 {

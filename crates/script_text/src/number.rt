@@ -6,7 +6,7 @@ ghost use Rattle.script_text.specs.Reads.{Reads, place_and_bytes};
 
 use crate::word::{after, split_word};
 
-/// A number of 64 bits, in decimal, without a sign and without a leading zero.
+/// A number of 64 bits in decimal, without a sign or a leading zero.
 pub fn read_u64(bytes: &[u8]) -> Option<u64>
     ensures { Reads (λ n. n < 2 ^ 64) decimal bytes.now result }
 {
@@ -27,7 +27,7 @@ pub fn read_below(bytes: &[u8], limit: u64) -> Option<u64>
     if n < limit { Some(n) } else { None }
 }
 
-/// The same, of 32 bits.
+/// The same, for 32 bits.
 pub fn read_u32(bytes: &[u8]) -> Option<u32>
     ensures { Reads (λ n. n < 2 ^ 32) decimal bytes.now result }
 {
@@ -35,7 +35,7 @@ pub fn read_u32(bytes: &[u8]) -> Option<u32>
     Some(n as u32)
 }
 
-/// A front, a number of 64 bits.
+/// A front followed by a number of 64 bits.
 pub fn read_u64_after(bytes: &[u8], front: &[u8]) -> Option<u64>
     ensures { Reads (λ n. n < 2 ^ 64) (λ n. front.now ++ decimal n) bytes.now result }
 {
@@ -43,7 +43,7 @@ pub fn read_u64_after(bytes: &[u8], front: &[u8]) -> Option<u64>
     read_u64(rest)
 }
 
-/// A front, a number of 32 bits.
+/// A front followed by a number of 32 bits.
 pub fn read_u32_after(bytes: &[u8], front: &[u8]) -> Option<u32>
     ensures { Reads (λ n. n < 2 ^ 32) (λ n. front.now ++ decimal n) bytes.now result }
 {
@@ -51,7 +51,7 @@ pub fn read_u32_after(bytes: &[u8], front: &[u8]) -> Option<u32>
     read_u32(rest)
 }
 
-/// A number of 64 bits, a space, and what stands behind it.
+/// A number of 64 bits, a space, and the rest.
 pub fn split_u64(bytes: &[u8]) -> Option<(u64, &[u8])>
     ensures { Reads (λ p. p.0 < 2 ^ 64) (λ p. decimal p.0 ++ 32 ∷ p.1) bytes.now (option_map place_and_bytes result) }
 {
@@ -60,7 +60,7 @@ pub fn split_u64(bytes: &[u8]) -> Option<(u64, &[u8])>
     Some((n, rest))
 }
 
-/// A number of 32 bits, a space, and what stands behind it.
+/// A number of 32 bits, a space, and the rest.
 pub fn split_u32(bytes: &[u8]) -> Option<(u32, &[u8])>
     ensures { Reads (λ p. p.0 < 2 ^ 32) (λ p. decimal p.0 ++ 32 ∷ p.1) bytes.now (option_map place_and_bytes result) }
 {
@@ -69,7 +69,7 @@ pub fn split_u32(bytes: &[u8]) -> Option<(u32, &[u8])>
     Some((n, rest))
 }
 
-// The number of a list of digits.
+// The number that a list of digits spells.
 fn read_digits(bytes: &[u8]) -> Option<u64>
     ensures { SomeIff result (AllDigits 10 bytes.now × (digits_value 10 bytes.now < 2 ^ 64)) (digits_value 10 bytes.now) }
 {

@@ -8,7 +8,7 @@ use history::Reply;
 use itoa::Buffer;
 use record_slots::Value;
 
-/// Appends a reply's line, and a line for each row that it lists.
+/// Appends the line of a reply, and a line for each row that it lists.
 pub fn write_reply(out: &mut Vec<u8>, caller: u8, reply: &Reply) -> Result<(), NoMemory>
     ensures ok { OnOk result (out.new.items ≡ out.old.items ++ reply_line caller reply.now) }
     ensures err { OnErr result (out.new.items ≡ out.old.items) }
@@ -52,7 +52,7 @@ pub fn write_reply_text(out: &mut Vec<u8>, reply: &Reply) -> Result<(), NoMemory
     }
 }
 
-/// Appends the answer to a bad line, the lines being counted from 1.
+/// Appends the answer to a bad line. Lines are counted from 1.
 pub fn write_bad_line(out: &mut Vec<u8>, n: u64) -> Result<(), NoMemory>
     ensures ok { OnOk result (out.new.items ≡ out.old.items ++ bad_line n) }
     ensures err { OnErr result (out.new.items ≡ out.old.items) }
@@ -91,7 +91,7 @@ fn append_log_full(out: &mut Vec<u8>, logger: u8, held: u16, needed: u16) -> Res
     append(out, &[b"log full ", logger, b" ", held, b" ", needed])
 }
 
-// Appends the lines of a reply; where memory is short, some of them may stand there.
+// Appends the lines of a reply. At `Err` some of them may have been appended.
 fn append_lines(out: &mut Vec<u8>, caller: u8, reply: &Reply) -> Result<(), NoMemory>
     ensures ok { OnOk result (out.new.items ≡ out.old.items ++ reply_line caller reply.now) }
     ensures err { OnErr result ((rest : List ℕ) × (out.new.items ≡ out.old.items ++ rest)) }
@@ -106,7 +106,7 @@ fn append_lines(out: &mut Vec<u8>, caller: u8, reply: &Reply) -> Result<(), NoMe
     }
 }
 
-// Appends a line for each row; where memory is short, some of them may stand there.
+// Appends a line for each row. At `Err` some of them may have been appended.
 fn append_rows(out: &mut Vec<u8>, caller: u8, rows: &[(u64, Value)]) -> Result<(), NoMemory>
     ensures ok { OnOk result (out.new.items ≡ out.old.items ++ flat_map (row_line caller) rows.now) }
     ensures err { OnErr result ((rest : List ℕ) × (out.new.items ≡ out.old.items ++ rest)) }
@@ -128,7 +128,7 @@ fn append_row(out: &mut Vec<u8>, caller: u8, key: u64, value: &Value) -> Result<
     append(out, &[number, b" row ", key, b" ", value.as_bytes(), b"\n"])
 }
 
-/// The line of the reply `Media`, which takes no memory but the buffer.
+/// The line of the reply `Media`, which needs no memory but the buffer.
 pub fn media_fault_line(caller: u8, buf: &mut [u8; 16]) -> &[u8]
     ensures { result.now ≡ reply_line caller Reply.Media }
 {

@@ -1,7 +1,7 @@
 ghost use Rattle.std.specs.Prelude.{◌≡◌, ◌≢◌, ◌∷◌, ◌++◌, MatchOption, MatchBool};
 ghost use Rattle.script_text.specs.Reads.{IsWord};
 
-/// The bytes before the first space, and those after it.
+/// The bytes before the first space and those after it.
 pub fn split_word(bytes: &[u8]) -> Option<(&[u8], &[u8])>
     ensures { MatchOption result (IsWord bytes.now) (λ p. IsWord p.0.now × (bytes.now ≡ p.0.now ++ 32 ∷ p.1.now)) }
 {
@@ -13,7 +13,7 @@ pub fn split_word(bytes: &[u8]) -> Option<(&[u8], &[u8])>
     None
 }
 
-/// The bytes after a front.
+/// The bytes after a front, if they begin with it.
 pub fn after<'a>(bytes: &'a [u8], front: &[u8]) -> Option<&'a [u8]>
     ensures { MatchOption result ((rest : _) → bytes.now ≢ front.now ++ rest) (λ rest. bytes.now ≡ front.now ++ rest.now) }
 {

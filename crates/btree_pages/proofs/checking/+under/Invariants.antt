@@ -13,7 +13,7 @@ decreases-check_under g l = 2 * l.level + 1
 abbrev pub decreases-check_children : goal.decreases-check_children
 decreases-check_children g l = 2 * l.level
 
--- the data is as it was, and what becomes of the children that are left becomes of all
+-- the data is as it was, and the children that are left decide for all
 abbrev pub invariant-check_children-loop-i : goal.invariant-check_children-loop-i
 invariant-check_children-loop-i g l = record {
   looks : Looks g.S.EawStore.tells (g.S.EawStore.opens (g.S.EawStore.view l.fn.pages.store).shape) false

@@ -7,7 +7,7 @@ use Rattle.index_pages.specs.Page.{pairs_from, pairs_said}
 use Rattle.btree_pages.proofs.Checks.{SlotsLeft}
 use Rattle.btree_pages.proofs.checking.check_slots.Given as goal
 
--- the data is as it was, and what becomes of the pairs that are left becomes of all
+-- the data is as it was, and the pairs that are left decide for all
 abbrev pub invariant-loop-i : goal.invariant-loop-i
 invariant-loop-i g l = record {
   looks : Looks g.S.EawStore.tells (g.S.EawStore.opens (g.S.EawStore.view l.fn.pages.store).shape) false

@@ -5,7 +5,7 @@ use Rattle.index_pages.specs.Page.{pairs_said, pairs_from}
 use Rattle.btree_pages.specs.Checked.{high_of, least_of}
 use Rattle.btree_pages.proofs.checking.rises.Given as goal
 
--- what is left, behind the last key, decides
+-- what is left after the last key decides
 abbrev pub invariant-loop-i : goal.invariant-loop-i
 invariant-loop-i l = record {
   least : least_of l.low l.last ≤ key_end;

@@ -2,7 +2,7 @@ use Rattle.std.proofs.Common.{◌≡◌, ◌-◌, drop, get_or}
 use Rattle.btree_pages.specs.Descent.{child_for}
 use Rattle.btree_pages.proofs.node.child_of.Given as goal
 
--- the child of the pair before, from which on the search goes
+-- the child of the previous pair, from which the search goes on
 abbrev pub invariant-loop-i : goal.invariant-loop-i
 invariant-loop-i l = record {
   child : l.child ≡ (get_or l.pairs (l.i - 1) (0, 0)).1;

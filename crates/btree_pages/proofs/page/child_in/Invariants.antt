@@ -4,7 +4,7 @@ use Rattle.btree_pages.specs.Descent.{child_for}
 use Rattle.btree_pages.specs.Leaf.{bound_in}
 use Rattle.btree_pages.proofs.page.child_in.Given as goal
 
--- the child of the pair before, from which on the search goes
+-- the child of the previous pair, from which the search goes on
 abbrev pub invariant-loop-i : goal.invariant-loop-i
 invariant-loop-i l = record {
   child : l.child ≡ (pair_said l.page (l.i - 1)).1;

@@ -5,7 +5,7 @@ use Rattle.caller_plans.specs.Plans.{AllSay, faults_from, plans_from}
 use Rattle.caller_plans.specs.Drafts.{all_faults, all_drafted}
 use Rattle.caller_plans.proofs.script.read_script.Given as goal
 
--- Whatever the lines say that are left: with what all lines say, the faults and the plans are those of what was read and of these lines.
+-- Whatever the remaining lines say, the faults and the plans of all lines are those of what was read followed by these lines.
 abbrev pub invariant-loop-line : goal.invariant-loop-line
 invariant-loop-line l = record {
   reads : (rest : List Line) → AllSay l.callers (lines_of l.rest) rest

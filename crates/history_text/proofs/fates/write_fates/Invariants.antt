@@ -2,6 +2,6 @@ use Rattle.std.proofs.Common.{◌≡◌, ◌+◌, ◌++◌, drop}
 use Rattle.history_text.specs.Text.{fate_lines}
 use Rattle.history_text.proofs.fates.write_fates.Given as goal
 
--- with the lines that are left, all stand behind what was there
+-- the text so far and the lines that are left make the whole
 abbrev pub invariant-loop-i : goal.invariant-loop-i
 invariant-loop-i l = l.text.items ++ fate_lines l.caller (l.i + 1) (drop l.i l.fates) ≡ l.fn.text.items ++ fate_lines l.caller 1 l.fates

@@ -25,7 +25,7 @@ laws_at g store = record {
   only = λ told alive image left. g.met.S.EawStore.only_now store image told alive left;
 }
 
--- of a scan only a fault of the media is told as one
+-- of the refusals of a scan only a fault of the medium is reported as one
 media_alone : (tells : Bool) (index : Index) (p : PagesView) (t low high : ℕ) (T : Type 0) → IsAlive p.store → (f : TableFault) → (let r : Result T TableFault = Err f in Cause tells index (scan t low high) p r)
     → (let r : Result T TableFault = Err f in is_failed r) ≡ is_media_fault (scan_fault f)
 media_alone tells index p t low high T alive fault.Media cause = refl

@@ -1,7 +1,7 @@
 use Rattle.std.proofs.Common.{◌≡◌, ◌≤◌, ◌-◌, ◌++◌, length, IsTrue}
 use Rattle.script_io.proofs.input.read_input.Given as goal
 
--- what was told at first is what was read and what is left
+-- what was there at first is what was read and what is left
 abbrev pub invariant-loop-count : goal.invariant-loop-count
 invariant-loop-count g l =
     let s = g.S.Source in record {

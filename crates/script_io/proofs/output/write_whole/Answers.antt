@@ -2,7 +2,7 @@ use Rattle.std.proofs.Common.{arith, sym, ap, ◌∙◌, ◌≡◌, ◌-◌, ◌
 use Rattle.std.proofs.lemmas.List.{take_rest, take-append-drop, append_assoc}
 use Rattle.script_io.proofs.output.write_whole.Goals as goal
 
--- n more are written
+-- n more bytes are written
 more : (piece done rest : List ℕ) (n : ℕ) → piece ≡ done ++ rest → piece ≡ (done ++ take n rest) ++ take (length rest - n) (drop n rest)
 more piece done rest n is =
     is ∙ ap (λ x. done ++ x) (sym (take-append-drop n rest) ∙ ap (λ x. take n rest ++ x) (sym (take_rest rest n))) ∙ sym (append_assoc done (take n rest) _)

@@ -1,7 +1,7 @@
 use Rattle.std.proofs.Common.{◌≡◌, ◌++◌, List, ℕ, length, IsTrue}
 use Rattle.script_io.proofs.output.write_whole.Given as goal
 
--- the piece is what is written and what is left
+-- the piece is what was written and what is left
 abbrev pub invariant-loop-rest : goal.invariant-loop-rest
 invariant-loop-rest g l =
     let k = g.K.Sink in

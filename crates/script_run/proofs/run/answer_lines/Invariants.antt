@@ -5,7 +5,7 @@ use Rattle.script_run.specs.Transcript.{Answered}
 use Rattle.script_run.specs.declared.ended.Ended.{Ended}
 use Rattle.script_run.proofs.run.answer_lines.Given as goal
 
--- the answers so far, and a state that they have come to: however the lines that are left are answered, with these all are
+-- the answers so far, and a state that they have come to: however the remaining lines are answered, together all are
 abbrev pub invariant-loop-line : goal.invariant-loop-line
 invariant-loop-line g l =
     let k = g.K.Sink in

@@ -4,7 +4,7 @@ use Rattle.script_text.specs.HexText.{hex_of}
 use Rattle.script_text.proofs.HexTexts.{length-hex_of}
 use Rattle.script_text.proofs.hex_text.bytes_of.Goals as goal
 
--- a text has two digits a byte
+-- a text has two digits for each byte
 twice : (hex bytes : List ℕ) → hex ≡ hex_of bytes → length hex ≡ 2 * length bytes
 twice hex bytes is = ap length is ∙ length-hex_of bytes
 

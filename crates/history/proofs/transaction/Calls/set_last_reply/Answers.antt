@@ -12,7 +12,7 @@ Entry = Call × Reply
 height : (calls front : List Entry) (last : Entry) → calls ≡ front ++ last ∷ [] → length calls - 1 ≡ length front
 height calls front last is = let e : length calls ≡ length (front ++ last ∷ []) = ap length is in omega (arith, e, length-append front (last ∷ []))
 
--- the last of a list that ends with an entry is replaced
+-- the last entry of a list is replaced
 replaced_last : (calls front : List Entry) (call : Call) (was reply : Reply) (entry : Entry) (n : ℕ) → calls ≡ front ++ (call, was) ∷ [] → n ≡ length calls
     → entry ≡ get_or calls (n - 1) entry → set calls (n - 1) (entry.0, reply) ≡ front ++ (call, reply) ∷ []
 replaced_last calls front call was reply entry n is long at =
