@@ -1,25 +1,8 @@
-//! Tests of the public calls for words, lines, answers and slots. They stand here since a crate with tests of its own is proved twice.
+//! Tests of what rows of whole runs cannot show: texts that no run writes, and histories that are written by hand. They stand here
+//! since a crate with tests of its own is proved twice.
 #![tactic(auto)]
 
 #[cfg(test)]
-mod answers;
+mod histories;
 #[cfg(test)]
-mod drill;
-#[cfg(test)]
-mod lines;
-#[cfg(test)]
-mod plans;
-#[cfg(test)]
-mod raw_lines;
-#[cfg(test)]
-mod replies;
-#[cfg(test)]
-mod room;
-#[cfg(test)]
-mod slots;
-#[cfg(test)]
-mod transactions;
-#[cfg(test)]
-mod words;
-#[cfg(test)]
-mod work_texts;
+mod texts;
