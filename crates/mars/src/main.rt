@@ -14,7 +14,7 @@ use media_file::FileMedia;
 use outside::{StdSink, StdSource};
 use pcm_media::{Media, MemoryMedia};
 use std::fs::File;
-use std::io::{ErrorKind, Input};
+use std::io::{ErrorKind, Input, Result as IoResult};
 use std::process::ExitCode;
 use std::rt::{Env, Files};
 use std::sync::Wait;
@@ -22,9 +22,17 @@ use std::thread::Threads;
 use std::{env, io};
 
 fn main(rt: HostRuntime) -> ExitCode {
+    // A file that is opened takes the number of a closed stream, if there is one, and replies would be written into an image.
+    // These take them first, and stay open to the end.
+    let _held = [null(&rt), null(&rt), null(&rt)];
     let status = whole(&rt);
     let mut errors = StdSink::new(rt.stderr());
     ExitCode::from(tell(&status, &mut errors))
+}
+
+// Reads as empty and refuses to be written. A system without it has no such protection.
+fn null<R: Files<File = File>>(rt: &R) -> IoResult<File> {
+    File::open(rt, "/dev/null")
 }
 
 // The words are read before the image is touched.
