@@ -4,13 +4,15 @@ use Rattle.std.specs.Prelude.{Option, Some, None, slice_get}
 use Rattle.std.specs.Option.{option_map}
 use Rattle.std.proofs.lemmas.List.{nil_from_length}
 use Rattle.pcm_media.specs.View.{View}
+use Rattle.row_bytes.proofs.OneShape.{one_shape}
+use Rattle.array_image.specs.Decided.{settled_data}
 use Rattle.array_shape.specs.declared.shape.Shape.{Shape}
 use Rattle.array_shape.specs.Logged.{ranges_of}
 use Rattle.eaw_device.specs.declared.log.Entry.{Entry}
 use Rattle.eaw_device.specs.declared.log.Log.{Log}
 use Rattle.eaw_device.specs.Logs.{ranges_in, parts_in, cells_on, IsHeld, entries_of, entries_at}
 use Rattle.eaw_device.specs.Sound.{IsSound, view_of}
-use Rattle.eaw_device.specs.Opens.{Attached}
+use Rattle.eaw_device.specs.Opens.{header_of, Attached, FindsData}
 use Rattle.eaw_device.specs.Opening.{IsFree, AreFree, Settled}
 use Rattle.eaw_device.proofs.Keeping.{length-cells_on_kept}
 use Rattle.eaw_device.proofs.Tables.{entries_free, entries_there}
@@ -57,3 +59,8 @@ module _ (tells : Bool) (old new : View) (shape : Shape) (logs : List Log) (sett
     faults = settled.faults;
     calls = settled.calls;
   }
+
+  pub found : FindsData tells old (view_of new shape logs false)
+  found told said bytes opens =
+      let same = one_shape (header_of old.content.bytes) shape said (settled.shape_is told) opens.header in
+      (same, settled.bytes told ∙ ap (λ (s : Shape). settled_data s old.content.bytes) same ∙ opens.stands.gives)

@@ -58,6 +58,10 @@ pub record Attached (tells : Bool) (media : View) (store : StoreView) : Type 0 w
   pub faults : store.faults ≡ media.faults
   pub calls : IsTrue tells → HasNoVote store.shape media.content.bytes → store.moment ≡ media.moment + opening_calls store.shape
 
+-- an image that opens with some data, in some shape, was opened as just that
+abbrev pub FindsData : Bool → View → StoreView → Type 0
+FindsData tells media store = IsTrue tells → (shape : Shape) (bytes : List ℕ) → Opens shape media.content.bytes bytes → (store.shape ≡ shape) × (store.state.bytes ≡ bytes)
+
 -- The medium holds an array: its header says this shape, it has the length of that shape, and each decided row is good.
 pub record IsArray (shape : Shape) (media : View) : Type 0 where
   pub header : SaysShape (header_of media.content.bytes) shape

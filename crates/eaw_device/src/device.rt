@@ -2,7 +2,7 @@
 ghost use Rattle.std.specs.Prelude.{◌≡◌, ◌≢◌, ◌+◌, ◌≤◌, ◌<◌, false, IsTrue, IfOk, IfErr, OnOk};
 ghost use Rattle.array_shape.specs.Places.{data_len};
 ghost use Rattle.eaw_face.specs.StoreView.{IsLive};
-ghost use Rattle.eaw_device.specs.Opens.{Attached, AttachCause, AttachLeaves, KeepsData, OpensWithin, IsBehind};
+ghost use Rattle.eaw_device.specs.Opens.{Attached, FindsData, AttachCause, AttachLeaves, KeepsData, OpensWithin, IsBehind};
 ghost use Rattle.eaw_device.specs.Steps.{LogHasCells, RefusesWrite};
 ghost use Rattle.eaw_device.specs.Sound.{IsSound, LacksLog, view_of};
 
@@ -33,6 +33,8 @@ impl<M: Media> Eaw<M> {
     /// On an error the medium is given back.
     pub fn attach(alloc: Global, mut media: M) -> Result<Eaw<M>, (AttachFault, M)>
         ensures opens { IfOk result (λ eaw. Attached M.tells (M.view media) (view_of (M.view eaw.media) eaw.shape eaw.logs.items eaw.is_dead)) }
+        // An image that opens with some data is opened with that data.
+        ensures found { IfOk result (λ eaw. FindsData M.tells (M.view media) (view_of (M.view eaw.media) eaw.shape eaw.logs.items eaw.is_dead)) }
         ensures cause { IfErr result (λ e. AttachCause M.tells (M.view media) (M.view e.1).faults e.0) }
         ensures unwritten { IfErr result (λ e. AttachLeaves M.tells (M.view media) (M.view e.1) e.0) }
         ensures keeps { IfOk result (λ eaw. KeepsData M.tells (M.view media) (M.view eaw.media).moment (M.view eaw.media).left_since) }

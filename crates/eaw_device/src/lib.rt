@@ -9,10 +9,8 @@ mod fresh;
 mod log;
 mod opening;
 mod reading;
-mod shapes;
 mod staging;
 
 pub use device::Eaw;
 pub use fault::AttachFault;
 pub use fresh::{FormatFault, format};
-pub use shapes::first_shape;
