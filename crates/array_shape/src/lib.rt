@@ -9,7 +9,7 @@ mod place;
 mod shape;
 
 pub use bad_shape::{BadShape, ShapeNumber};
-pub use laws::{addresses_are_apart, areas_are_apart};
+pub use laws::{addresses_are_apart, areas_are_apart, parts_are_the_write};
 pub use part::Part;
 pub use parts::Parts;
 pub use place::Place;

@@ -8,7 +8,7 @@ use Rattle.counted.specs.Bytes.{put}
 use Rattle.array_shape.specs.declared.shape.Shape.{Shape}
 use Rattle.array_shape.specs.Parts.{parts_of_write}
 use Rattle.array_shape.specs.Logged.{applied, ranges_of}
-use Rattle.logger.proofs.WriteParts.{applied_write_parts}
+use Rattle.array_shape.proofs.WriteParts.{applied_write_parts}
 use Rattle.eaw_face.specs.State.{State, Logs, listed, with_log}
 use Rattle.eaw_face.specs.StoreView.{StoreView, IsLive, LeavesOnly}
 use Rattle.eaw_face.specs.Command.{log_write, commit, atomic_write, after}

@@ -3,4 +3,3 @@ pub mod Cells
 pub mod Ranges
 pub mod Staging
 pub mod Applying
-pub mod WriteParts

@@ -5,6 +5,7 @@ use Rattle.std.specs.Option.{option_map}
 use Rattle.array_shape.specs.declared.shape.Shape.{Shape}
 use Rattle.array_shape.specs.Places.{IsPlaced}
 use Rattle.array_shape.specs.Logged.{Part, applied, ranges_of}
+use Rattle.array_shape.proofs.WriteParts.{one_write_part}
 use Rattle.eaw_face.specs.State.{Logs, State, listed, with_log}
 use Rattle.eaw_face.specs.Command.{Command, commit, abort, nested_top, partial_abort, ranges_after}
 use Rattle.page_store.specs.Edit.{edit_pos, written_at}
@@ -15,7 +16,7 @@ use Rattle.page_store.specs.Outline.{Outline, outline, count_at, floor_in, outli
 use Rattle.page_store.proofs.Outline.{floors, counted, listed-ranges, length-lengths}
 use Rattle.page_store.specs.Kept.{IsFront, IsKept, IsAllowed}
 use Rattle.page_store.proofs.Numbers.{with_same}
-use Rattle.page_store.proofs.Writes.{one_write_part, drop-none}
+use Rattle.page_store.proofs.Writes.{drop-none}
 
 -- the command by the state
 device_in : PageCommand → PagesState → Option Command
@@ -36,7 +37,7 @@ module _ (store : State) (t : ℕ) where
   write_done : (shape : Shape) (addr : ℕ) (bytes : List ℕ) (o : Option ℕ) → IsPlaced shape addr (length bytes)
       → with_logs store (with_log store.logs t (Some (written_at o addr bytes (listed (store.logs t))))) ≡ done (Some (write_of t addr bytes o)) store
   unfolding with_logs
-  write_done shape addr bytes None placed = ap (λ (ps : List Part). with_logs store (with_log store.logs t (Some (listed (store.logs t) ++ ps)))) (sym (one_write_part shape addr bytes placed))
+  write_done shape addr bytes None placed = ap (λ (ps : List Part). with_logs store (with_log store.logs t (Some (listed (store.logs t) ++ ps)))) (sym (one_write_part addr bytes placed.some placed.page))
   write_done shape addr bytes (Some pos) placed = refl
 
   -- the three that do nothing for a number that is not live
@@ -93,7 +94,7 @@ device_does shape c s kept allowed = does shape c s kept allowed ∙ ap (λ (o :
 module _ (ranges : Logs (ℕ × ℕ)) (t : ℕ) where
   ranges_write : (shape : Shape) (floor addr : ℕ) (bytes : List ℕ) → IsPlaced shape addr (length bytes) → (o : Option (List (ℕ × ℕ))) → ranges t ≡ o → (p : Option ℕ) → edit_pos floor (addr, length bytes) (listed o) ≡ p
       → with_log ranges t (Some (cond (is_some p) (listed o) (listed o ++ (addr, length bytes) ∷ []))) ≡ ranges_done (Some (write_of t addr bytes p)) ranges
-  ranges_write shape floor addr bytes placed o is None at = λ i. with_log ranges t (Some (listed (sym is i) ++ ranges_of (sym (one_write_part shape addr bytes placed) i)))
+  ranges_write shape floor addr bytes placed o is None at = λ i. with_log ranges t (Some (listed (sym is i) ++ ranges_of (sym (one_write_part addr bytes placed.some placed.page) i)))
   ranges_write shape floor addr bytes placed None is (Some pos) at = cc
   ranges_write shape floor addr bytes placed (Some rs) is (Some pos) at = with_same ranges t (Some rs) (sym is)
 

@@ -1,16 +1,15 @@
 -- A write into a log: what stays of it.
-use Rattle.std.proofs.Common.{◌≡◌, ℕ, zero, suc, ◌+◌, ◌≤◌, Bool, cond, ◌&&◌, inl, inr, List, [], ◌∷◌, length, take, drop, refl, sym, ◌∙◌, ap, subst, arith}
+use Rattle.std.proofs.Common.{◌≡◌, ℕ, zero, suc, ◌≤◌, Bool, cond, ◌&&◌, inl, inr, List, [], ◌∷◌, length, take, drop, refl, sym, ◌∙◌, ap, subst, arith}
 use Rattle.std.specs.Prelude.{nat_eq, Option, Some, None}
 use Rattle.std.specs.Option.{option_map}
 use Rattle.std.proofs.lemmas.Bool.{cases_Bool, and_parts, eqb-true}
 use Rattle.array_shape.specs.declared.shape.Shape.{Shape}
 use Rattle.array_shape.specs.Places.{IsPlaced}
-use Rattle.array_shape.specs.Parts.{page_left, first_parts_of_write, parts_of_write}
 use Rattle.array_shape.specs.Logged.{Part, AllPlaced, ranges_of}
 use Rattle.page_store.specs.Edit.{meets_none, is_same, edit_pos, written_at, with_write}
 use Rattle.page_store.proofs.Edit.{written_later}
 use Rattle.page_store.proofs.Parts.{put_whole}
-use Rattle.std.proofs.lemmas.List.{take_all, length-drop, length-append}
+use Rattle.std.proofs.lemmas.List.{length-append}
 use Rattle.eaw_face.specs.State.{edited}
 
 -- of no parts
@@ -64,27 +63,3 @@ module _ (addr : ℕ) (bytes : List ℕ) where
       longer : (o : Option ℕ) → n ≤ length (written_at o addr bytes log)
       longer None = omega (arith, length-append log ((addr, bytes) ∷ []), le)
       longer (Some pos) = omega (arith, length-edited pos 0 bytes log, le)
-
--- a write within a page is one piece
-pub one_write_part : (shape : Shape) (addr : ℕ) (bytes : List ℕ) → IsPlaced shape addr (length bytes) → parts_of_write addr bytes ≡ (addr, bytes) ∷ []
-unfolding parts_of_write
-one_write_part shape addr [] placed = absurd (omega (arith, placed.some))
-one_write_part shape addr (b ∷ bytes) placed =
-    (λ i. (addr, whole i) ∷ first_parts_of_write (length bytes) (addr + page_left addr) (rest i)) ∙ ap (λ (l : List Part). (addr, b ∷ bytes) ∷ l) (none (length bytes))
-  where
-    enough : length (b ∷ bytes) ≤ page_left addr
-    enough = omega (arith, placed.page)
-
-    whole : take (page_left addr) (b ∷ bytes) ≡ b ∷ bytes
-    whole = take_all (page_left addr) (b ∷ bytes) enough
-
-    empty : (l : List ℕ) → length l ≡ 0 → l ≡ []
-    empty [] long = refl
-    empty (x ∷ l) long = absurd (omega arith)
-
-    rest : ◌≡◌ {A = List ℕ} (drop (page_left addr) (b ∷ bytes)) []
-    rest = empty (drop (page_left addr) (b ∷ bytes)) (omega (arith, length-drop (page_left addr) (b ∷ bytes), enough))
-
-    none : (n : ℕ) → first_parts_of_write n (addr + page_left addr) [] ≡ []
-    none zero = refl
-    none (suc n) = refl

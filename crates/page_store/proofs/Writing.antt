@@ -8,6 +8,7 @@ use Rattle.array_shape.specs.declared.shape.Shape.{Shape}
 use Rattle.array_shape.specs.Places.{page_count, data_len, IsPlaced}
 use Rattle.array_shape.specs.Parts.{parts_of_write}
 use Rattle.array_shape.specs.Logged.{ranges_of}
+use Rattle.array_shape.proofs.WriteParts.{one_write_part}
 use Rattle.eaw_face.specs.State.{listed, range_at}
 use Rattle.eaw_face.specs.StoreView.{StoreView}
 use Rattle.eaw_face.specs.Command.{log_edit, log_write}
@@ -25,7 +26,6 @@ use Rattle.page_store.specs.declared.fault.PageFault.{PageFault}
 use Rattle.page_store.proofs.Shown.{IsTold, kept}
 use Rattle.page_store.proofs.Views.{write_as_view}
 use Rattle.page_store.proofs.Exact.{edit_found}
-use Rattle.page_store.proofs.Writes.{one_write_part}
 use Rattle.page_store.proofs.Marking.{was}
 use Rattle.page_store.proofs.Lifting.{Makes}
 
@@ -62,7 +62,7 @@ module _ (tells : Bool) (old : PagesView) (t addr : ℕ) (bytes : List ℕ) (pla
 
   pub makes_write : edits_at old t addr (length bytes) ≡ None → Makes tells (write_as t addr bytes) (log_write t addr bytes) old
   makes_write none =
-      let one : ranges_of (parts_of_write addr bytes) ≡ (addr, length bytes) ∷ [] = ap ranges_of (one_write_part old.store.shape addr bytes placed) in
+      let one : ranges_of (parts_of_write addr bytes) ≡ (addr, length bytes) ∷ [] = ap ranges_of (one_write_part addr bytes placed.some placed.page) in
       record {
         device_is = ap (λ (e : Option ℕ). Some (write_of t addr bytes e)) none;
         allowed = λ alive. placed;

@@ -1,15 +1,15 @@
--- The parts of a write, applied to data, are the write.
-use Rattle.std.proofs.Common.{◌≡◌, ℕ, zero, suc, ◌+◌, ◌-◌, ◌≤◌, inl, inr, List, [], ◌∷◌, ◌++◌, length, get_or, take, drop, refl, sym, ◌∙◌, ap, arith}
+-- What the parts of a write make of data.
+use Rattle.std.proofs.Common.{◌≡◌, ℕ, zero, suc, ◌+◌, ◌-◌, ◌%◌, ◌<◌, ◌≤◌, inl, inr, List, [], ◌∷◌, ◌++◌, length, get_or, take, drop, refl, sym, ◌∙◌, ap, arith}
 use Rattle.std.proofs.lemmas.Bool.{cases_lt}
-use Rattle.std.proofs.lemmas.List.{ext_get_or, get_or_append_left, get_or-append_right, length-append, append-nil, length-take, length-drop, take-append-drop, take_all}
+use Rattle.std.proofs.lemmas.List.{ext_get_or, get_or_append_left, get_or-append_right, length-append, append-nil, length-take, length-drop, take-append-drop, take_all, nil_from_length}
 use Rattle.counted.specs.Bytes.{put}
-use Rattle.counted.proofs.Puts.{length-put, get_or-put_inside}
-use Rattle.pcm_media.proofs.Left.{get_or-put_outside}
+use Rattle.counted.proofs.Puts.{length-put, get_or-put_before, get_or-put_after, get_or-put_inside}
 use Rattle.array_shape.specs.Parts.{page_left, first_parts_of_write, parts_of_write}
 use Rattle.array_shape.specs.Logged.{applied}
+use Rattle.array_shape.proofs.Cutting.{parts_of_write-none, parts_of_write-some}
 
 -- two writes, the second behind the first
-pub put-append : (d : List ℕ) (at : ℕ) (xs ys : List ℕ) → at + length xs + length ys ≤ length d → put (put d at xs) (at + length xs) ys ≡ put d at (xs ++ ys)
+put-append : (d : List ℕ) (at : ℕ) (xs ys : List ℕ) → at + length xs + length ys ≤ length d → put (put d at xs) (at + length xs) ys ≡ put d at (xs ++ ys)
 put-append d at xs ys fits =
     let both = length-append xs ys in
     let first = length-put d at xs (omega arith) in
@@ -19,11 +19,11 @@ put-append d at xs ys fits =
     (length-put (put d at xs) (at + length xs) ys inner ∙ first ∙ sym (length-put d at (xs ++ ys) whole))
     (λ i lt. elim (cases_lt i at) [
       | inl before ↦
-          get_or-put_outside (put d at xs) (at + length xs) ys inner i (λ le lt'. omega arith) ∙ get_or-put_outside d at xs (omega arith) i (λ le lt'. omega arith)
-          ∙ sym (get_or-put_outside d at (xs ++ ys) whole i (λ le lt'. omega arith))
+          get_or-put_before (put d at xs) (at + length xs) ys inner i (omega arith) ∙ get_or-put_before d at xs (omega arith) i before
+          ∙ sym (get_or-put_before d at (xs ++ ys) whole i before)
       | inr from ↦ elim (cases_lt i (at + length xs)) [
         | inl in_first ↦
-            get_or-put_outside (put d at xs) (at + length xs) ys inner i (λ le lt'. omega arith) ∙ get_or-put_inside d at xs (omega arith) i from in_first
+            get_or-put_before (put d at xs) (at + length xs) ys inner i in_first ∙ get_or-put_inside d at xs (omega arith) i from in_first
             ∙ sym (get_or-put_inside d at (xs ++ ys) whole i from (omega arith) ∙ get_or_append_left xs ys 0 (i - at) (omega arith))
         | inr past ↦ elim (cases_lt i (at + length xs + length ys)) [
           | inl in_second ↦
@@ -31,8 +31,8 @@ put-append d at xs ys fits =
               ∙ ap (λ (k : ℕ). get_or ys k 0) (omega arith)
               ∙ sym (get_or-put_inside d at (xs ++ ys) whole i from (omega arith) ∙ get_or-append_right xs ys (length xs) (i - at) 0 refl (omega arith))
           | inr after ↦
-              get_or-put_outside (put d at xs) (at + length xs) ys inner i (λ le lt'. omega arith) ∙ get_or-put_outside d at xs (omega arith) i (λ le lt'. omega arith)
-              ∙ sym (get_or-put_outside d at (xs ++ ys) whole i (λ le lt'. omega arith))
+              get_or-put_after (put d at xs) (at + length xs) ys inner i after ∙ get_or-put_after d at xs (omega arith) i past
+              ∙ sym (get_or-put_after d at (xs ++ ys) whole i (omega arith))
         ]
       ]
     ])
@@ -66,6 +66,17 @@ first_applied (suc n) addr (b ∷ bytes) d le fits =
           ∙ ap (put d addr) (take-append-drop (page_left addr) (b ∷ bytes))
     ]
 
+-- written in their order, they are the write
 pub applied_write_parts : (addr : ℕ) (bytes d : List ℕ) → addr + length bytes ≤ length d → applied (parts_of_write addr bytes) d ≡ put d addr bytes
 unfolding parts_of_write
 applied_write_parts addr bytes d fits = first_applied (length bytes) addr bytes d (omega arith) fits
+
+-- within one page there is one
+pub one_write_part : (addr : ℕ) (bytes : List ℕ) → 0 < length bytes → addr % 512 + length bytes ≤ 512 → parts_of_write addr bytes ≡ (addr, bytes) ∷ []
+one_write_part addr bytes some page =
+    let enough : length bytes ≤ page_left addr = omega arith in
+    let whole : take (page_left addr) bytes ≡ bytes = take_all (page_left addr) bytes enough in
+    let rest : drop (page_left addr) bytes ≡ [] = nil_from_length (drop (page_left addr) bytes) (omega (arith, length-drop (page_left addr) bytes, enough)) in
+    parts_of_write-some addr bytes some
+    ∙ (λ i. (addr, whole i) ∷ parts_of_write (addr + page_left addr) (rest i))
+    ∙ ap (λ (ps : List (ℕ × List ℕ)). (addr, bytes) ∷ ps) (parts_of_write-none (addr + page_left addr))
