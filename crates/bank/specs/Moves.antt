@@ -1,9 +1,10 @@
 -- What a transfer does to a core.
-use Rattle.std.specs.Prelude.{ℕ, ◌≡◌, ◌+◌, ◌^◌, ◌<◌, ◌≤◌, ◌⊎◌, List, [], ◌∷◌, ◌++◌, Some, None}
+use Rattle.std.specs.Prelude.{ℕ, ◌≡◌, ◌+◌, ◌^◌, ◌<◌, ◌≤◌, ◌⊎◌, false, List, [], ◌∷◌, ◌++◌, Some, None}
 use Rattle.history.specs.Table.{Granted, left_by}
 use Rattle.history.specs.Legal.{with_doubt}
 use Rattle.history.specs.declared.call.Call.{Call}
 use Rattle.history.specs.declared.call.Reply.{Reply}
+use Rattle.history.specs.declared.call.Reply.TheVariants.{Media}
 use Rattle.history.specs.declared.transaction.Done.{Done}
 use Rattle.core_face.specs.Core.{CoreView, Continues}
 use Rattle.core_face.specs.State.{State, calls_of, records_of, done_by}
@@ -39,6 +40,25 @@ pub record Commits (from to amount : ℕ) (old new : CoreView) : Type 0 where
   pub done : Done
   pub history : new.state.history ≡ old.state.history ++ done ∷ []
   pub transfers : Transfers from to amount (records_of old.state) (left_by (records_of old.state) done.calls)
+
+-- the caller has no live transaction, unless it had one before, or the medium has failed
+abbrev pub IsEnded : ℕ → CoreView → CoreView → Type 0
+IsEnded caller old new = old.state.live caller ≡ None → new.state.is_dead ≡ false → new.state.live caller ≡ None
+
+-- a transaction is in doubt, and it transfers the amount
+pub record IsInDoubt (from to amount : ℕ) (old new : CoreView) : Type 0 where
+  pub done : Done
+  pub doubt : new.state.doubt ≡ Some done
+  pub transfers : Transfers from to amount (records_of old.state) (left_by (records_of old.state) done.calls)
+
+-- no transaction came to be in doubt, or, after `Media`, one did that transfers the amount
+abbrev pub MayDoubt : ℕ → ℕ → ℕ → CoreView → CoreView → Refusal → Type 0
+MayDoubt from to amount old new refusal = (new.state.doubt ≡ old.state.doubt) ⊎ ((refusal ≡ Core Media) × IsInDoubt from to amount old new)
+
+-- the same of a commit, with the caller's transaction
+abbrev pub MayDoubtOwn : ℕ → CoreView → CoreView → Refusal → Type 0
+MayDoubtOwn caller old new refusal =
+    (new.state.doubt ≡ old.state.doubt) ⊎ ((refusal ≡ Core Media) × (new.state.doubt ≡ Some (done_by old.state caller (calls_of old.state caller))))
 
 -- nothing was added to the history, or the caller's transaction was, committed or in doubt
 abbrev pub MayGrow : ℕ → CoreView → CoreView → Type 0

@@ -1,12 +1,12 @@
 // The calls of a transfer, one at a time.
-ghost use Rattle.std.specs.Prelude.{◌≡◌, ◌<◌, ◌++◌, [], ◌∷◌, ℕ, List, Some, IsTrue, IfOk, IfErr, OnOk, OnErr, decimal};
+ghost use Rattle.std.specs.Prelude.{◌≡◌, ◌<◌, ◌++◌, [], ◌∷◌, false, ℕ, List, Some, None, IsTrue, IfOk, IfErr, OnOk, OnErr, decimal};
 ghost use Rattle.history.specs.declared.call.Call.TheVariants.{Get, Put};
 ghost use Rattle.history.specs.declared.call.Reply.TheVariants.{Fine, Found};
 ghost use Rattle.core_face.specs.Core.{Continues};
 ghost use Rattle.core_face.specs.Sound.{IsSound};
 ghost use Rattle.core_face.specs.State.{calls_of, done_by};
 ghost use Rattle.bank.specs.Accounts.{worth};
-ghost use Rattle.bank.specs.Moves.{Stays, Adds, MayGrow, IsOfCore, IsOfRead};
+ghost use Rattle.bank.specs.Moves.{Stays, Adds, IsEnded, MayDoubtOwn, MayGrow, IsOfCore, IsOfRead};
 
 use crate::accounts::{Refusal, number_in, value_of};
 use core_face::{Core, prefix_law};
@@ -20,6 +20,7 @@ pub(crate) fn begin<C: Core>(core: &mut C, caller: u8) -> Result<(), Refusal>
     ensures stays { IsTrue C.tells → Stays (C.view core.old) (C.view core.new) }
     ensures cause { IfErr result IsOfCore }
     ensures begun { IsTrue C.tells → OnOk result ((C.view core.new).state.live caller ≡ Some []) }
+    ensures ended { IsTrue C.tells → OnErr result (IsEnded caller (C.view core.old) (C.view core.new)) }
 {
     prefix_law::<C>();
     match core.step(caller, &Call::Begin) {
@@ -82,12 +83,13 @@ pub(crate) fn abort<C: Core>(core: &mut C, caller: u8)
     requires sound { IsTrue C.tells → IsSound (C.view core.old).state }
     ensures limits { (C.view core.new).limits ≡ (C.view core.old).limits }
     ensures stays { IsTrue C.tells → Stays (C.view core.old) (C.view core.new) }
+    ensures ended { IsTrue C.tells → (C.view core.new).state.is_dead ≡ false → (C.view core.new).state.live caller ≡ None }
 {
     prefix_law::<C>();
     let _ = core.step(caller, &Call::Abort);
 }
 
-// Commits a transaction.
+// Commits a transaction. If that is refused, it aborts it.
 pub(crate) fn commit<C: Core>(core: &mut C, caller: u8) -> Result<(), Refusal>
     requires inside { caller < (C.view core.old).limits.callers }
     requires sound { IsTrue C.tells → IsSound (C.view core.old).state }
@@ -98,10 +100,17 @@ pub(crate) fn commit<C: Core>(core: &mut C, caller: u8) -> Result<(), Refusal>
     ensures done { IsTrue C.tells → OnOk result ((C.view core.new).state.history ≡
         (C.view core.old).state.history ++ done_by (C.view core.old).state caller (calls_of (C.view core.old).state caller) ∷ []) }
     ensures refused { IsTrue C.tells → OnErr result ((C.view core.new).state.history ≡ (C.view core.old).state.history) }
+    ensures ended { OnOk result ((C.view core.new).state.live caller ≡ None) }
+    ensures ended_on_err { IsTrue C.tells → OnErr result ((C.view core.new).state.is_dead ≡ false → (C.view core.new).state.live caller ≡ None) }
+    ensures certain { IsTrue C.tells → OnOk result ((C.view core.new).state.doubt ≡ (C.view core.old).state.doubt) }
+    ensures doubt { IsTrue C.tells → IfErr result (MayDoubtOwn caller (C.view core.old) (C.view core.new)) }
 {
     prefix_law::<C>();
     match core.step(caller, &Call::Commit) {
         Reply::Committed(_) => Ok(()),
-        reply => Err(Refusal::Core(reply)),
+        reply => {
+            abort(core, caller);
+            Err(Refusal::Core(reply))
+        }
     }
 }

@@ -1,11 +1,11 @@
 // A transfer from one account to another.
-ghost use Rattle.std.specs.Prelude.{◌≡◌, ◌≢◌, ◌<◌, [], List, ℕ, Some, IsTrue, IfOk, IfErr, OnOk, OnErr};
+ghost use Rattle.std.specs.Prelude.{◌≡◌, ◌≢◌, ◌<◌, [], List, ℕ, Some, None, IsTrue, IfOk, IfErr, OnOk, OnErr};
 ghost use Rattle.std.specs.FinMap.{get};
 ghost use Rattle.core_face.specs.Core.{Continues};
 ghost use Rattle.core_face.specs.Sound.{IsSound};
 ghost use Rattle.core_face.specs.State.{records_of};
 ghost use Rattle.bank.specs.Accounts.{worth};
-ghost use Rattle.bank.specs.Moves.{IsBalanced, Stays, Holds, Commits, IsRefused};
+ghost use Rattle.bank.specs.Moves.{IsBalanced, Stays, Holds, Commits, IsEnded, MayDoubt, IsRefused};
 
 use crate::accounts::Refusal;
 use crate::steps::{abort, begin, commit, read, write};
@@ -27,6 +27,12 @@ pub fn transfer<C: Core>(
     // If it is refused, the history is as it was.
     ensures refused { IsTrue C.tells → OnErr result ((C.view core.new).state.history ≡ (C.view core.old).state.history) }
     ensures cause { IsTrue C.tells → IfErr result (IsRefused (records_of (C.view core.old).state) from to amount) }
+    // At Ok the caller has no live transaction. At a refusal neither, unless it had one before, or the medium has failed.
+    ensures ended { OnOk result ((C.view core.new).state.live caller ≡ None) }
+    ensures ended_on_err { IsTrue C.tells → OnErr result (IsEnded caller (C.view core.old) (C.view core.new)) }
+    // Only a transfer that is answered `Media` may leave a transaction in doubt, and that one moves just the amount.
+    ensures certain { IsTrue C.tells → OnOk result ((C.view core.new).state.doubt ≡ (C.view core.old).state.doubt) }
+    ensures doubt { IsTrue C.tells → IfErr result (MayDoubt from to amount (C.view core.old) (C.view core.new)) }
     // The records of each prefix of the history have the same sum as those at the opening, also with the transaction in doubt.
     ensures balanced { IsTrue C.tells → IsBalanced (C.view core.old).state → IsBalanced (C.view core.new).state }
     // The prefix law still holds: whatever a loss of power leaves has a prefix of the history.
@@ -49,6 +55,7 @@ pub fn balance<C: Core>(core: &mut C, caller: u8, account: u64) -> Result<u64, R
     requires inside { caller < (C.view core.old).limits.callers }
     requires sound { IsTrue C.tells → IsSound (C.view core.old).state }
     ensures stays { IsTrue C.tells → Stays (C.view core.old) (C.view core.new) }
+    ensures ended { IsTrue C.tells → IsEnded caller (C.view core.old) (C.view core.new) }
     ensures says { IsTrue C.tells → IfOk result (λ n. (text : List ℕ) × (get (records_of (C.view core.old).state) account ≡ Some text) × (n ≡ worth text)) }
     ensures limits { (C.view core.new).limits ≡ (C.view core.old).limits }
 {
