@@ -1,4 +1,4 @@
--- The parts of a write, applied to data, are the write, and a write within one page is one part.
+-- What the parts of a write make of data.
 use Rattle.std.proofs.Common.{◌≡◌, ℕ, zero, suc, ◌+◌, ◌-◌, ◌%◌, ◌<◌, ◌≤◌, inl, inr, List, [], ◌∷◌, ◌++◌, length, get_or, take, drop, refl, sym, ◌∙◌, ap, arith}
 use Rattle.std.proofs.lemmas.Bool.{cases_lt}
 use Rattle.std.proofs.lemmas.List.{ext_get_or, get_or_append_left, get_or-append_right, length-append, append-nil, length-take, length-drop, take-append-drop, take_all, nil_from_length}
@@ -66,10 +66,12 @@ first_applied (suc n) addr (b ∷ bytes) d le fits =
           ∙ ap (put d addr) (take-append-drop (page_left addr) (b ∷ bytes))
     ]
 
+-- written in their order, they are the write
 pub applied_write_parts : (addr : ℕ) (bytes d : List ℕ) → addr + length bytes ≤ length d → applied (parts_of_write addr bytes) d ≡ put d addr bytes
 unfolding parts_of_write
 applied_write_parts addr bytes d fits = first_applied (length bytes) addr bytes d (omega arith) fits
 
+-- within one page there is one
 pub one_write_part : (addr : ℕ) (bytes : List ℕ) → 0 < length bytes → addr % 512 + length bytes ≤ 512 → parts_of_write addr bytes ≡ (addr, bytes) ∷ []
 one_write_part addr bytes some page =
     let enough : length bytes ≤ page_left addr = omega arith in

@@ -12,6 +12,7 @@ use Rattle.array_shape.specs.declared.shape.Shape.{Shape}
 use Rattle.array_shape.specs.Places.{IsShape, data_len}
 use Rattle.array_shape.specs.Parts.{parts_of_write}
 use Rattle.array_shape.specs.Logged.{applied, ranges_of}
+use Rattle.array_shape.proofs.WriteParts.{one_write_part}
 use Rattle.eaw_face.specs.State.{State, listed, count_on, is_range_on}
 use Rattle.eaw_face.specs.StoreView.{StoreView, LeavesOnly}
 use Rattle.eaw_face.specs.Command.{log_write, commit, after}
@@ -55,8 +56,7 @@ counts_with Opens bytes image n long fits opens =
 
 -- writing the counter takes one part
 one_part : (n : ℕ) → parts_of_write 1024 (little_bytes 8 n) ≡ (1024, little_bytes 8 n) ∷ []
-unfolding parts_of_write
-one_part n = refl
+one_part n = one_write_part 1024 (little_bytes 8 n) (omega arith) (omega arith)
 
 few : (shape : Shape) (g : ℕ) → count_on shape g ((1024, 8) ∷ []) ≤ 1
 few shape g = by (is_range_on shape g (1024, 8))

@@ -1,9 +1,9 @@
 // A counter over the data of an array.
-ghost use Rattle.std.specs.Prelude.{◌≡◌, ◌+◌, List, ℕ, IfOk, IfErr, OnOk, IsTrue};
+ghost use Rattle.std.specs.Prelude.{◌≡◌, ◌+◌, IfOk, IfErr, OnOk, IsTrue};
 ghost use Rattle.eaw_face.specs.Causes.{IsAlive};
 ghost use Rattle.eaw_face.specs.Does.{IsEither};
 ghost use Rattle.eaw_face.specs.StoreView.{LeavesOnly};
-ghost use Rattle.eaw_device.specs.Opens.{Opens, AttachCause, KeepsData, IsBehind};
+ghost use Rattle.eaw_device.specs.Opens.{FindsData, AttachCause, KeepsData, IsBehind};
 ghost use Rattle.counter.specs.Counts.{number_in, with_number, Counts, CountsEither, LeavesCount, IsBroken, IsRefused};
 
 use byteorder::{ByteOrder, LittleEndian};
@@ -51,8 +51,7 @@ impl<M: Media> Counter<Eaw<M>> {
     /// Opens the array that the medium holds, as a loss of power left it. An error returns the medium.
     pub fn open(alloc: Global, media: M) -> Result<Counter<Eaw<M>>, (AttachFault, M)>
         // An image that opens with some data is opened with that data.
-        ensures opens { IsTrue M.tells → (shape : _) (bytes : List ℕ) → Opens shape (M.view media).content.bytes bytes
-            → IfOk result (λ counter. (⟦<Eaw<M> as EawStore>⟧.view counter).state.bytes ≡ bytes) }
+        ensures opens { IfOk result (λ counter. FindsData M.tells (M.view media) (⟦<Eaw<M> as EawStore>⟧.view counter)) }
         ensures alive { IfOk result (λ counter. IsAlive (⟦<Eaw<M> as EawStore>⟧.view counter)) }
         // If power is lost meanwhile, it opens with the same data again.
         ensures keeps { IfOk result (λ counter. KeepsData M.tells (M.view media) (⟦<Eaw<M> as EawStore>⟧.view counter).moment (⟦<Eaw<M> as EawStore>⟧.view counter).left_since) }
