@@ -95,29 +95,45 @@ fn read_shape(text: &str) -> Result<Shape, RowFault> {
     Ok(Shape::new(loggers, numbers, entries, pages)?)
 }
 
-// Plays a row over each store, and over the array with each call of the media failing, and with power lost at each.
+// Plays a row over each store, and over the array with each call of the medium failing, and with power lost at each.
 fn play_row(alloc: Global, row: &Row, plays: &mut u64) -> Result<(), RowFault> {
     let image = fresh_image(alloc, row.shape)?;
-    let data = data_in(alloc, media_of(alloc, image.bytes())?)?;
-    let mut plain = plain_pages(alloc, row.shape, &data)?;
-    let plainly = play(alloc, &row.lines, &data, &mut plain)?;
-    let (played, media) = play_device(
-        alloc,
-        row,
-        &data,
-        media_of(alloc, image.bytes())?,
-        u64::MAX,
-    )?;
-    if !plainly.is_whole || !played.is_whole {
-        return Err(RowFault::Hidden);
-    }
+    play_image(alloc, row, image.bytes(), plays)
+}
+
+fn play_image(alloc: Global, row: &Row, image: &[u8], plays: &mut u64) -> Result<(), RowFault> {
+    let data = data_in(alloc, media_of(alloc, image)?)?;
+    play_plainly(alloc, row, &data)?;
+    let calls = play_wholly(alloc, row, &data, image)?;
     *plays = plays.saturating_add(2);
-    for passes in 0..played_calls(&media) {
-        fail_once(alloc, row, &data, image.bytes(), passes + 1)?;
-        lose_power(alloc, row, &data, image.bytes(), passes)?;
+    for passes in 0..calls {
+        fail_once(alloc, row, &data, image, passes + 1)?;
+        lose_power(alloc, row, &data, image, passes)?;
         *plays = plays.saturating_add(2);
     }
     Ok(())
+}
+
+fn play_plainly(alloc: Global, row: &Row, data: &[u8]) -> Result<(), RowFault> {
+    let mut pages = plain_pages(alloc, row.shape, data)?;
+    let played = play(alloc, &row.lines, data, &mut pages)?;
+    all_of(&played)
+}
+
+// Plays a row over the array, and counts the calls of the medium.
+fn play_wholly(alloc: Global, row: &Row, data: &[u8], image: &[u8]) -> Result<u64, RowFault> {
+    let media = media_of(alloc, image)?;
+    let (played, media) = play_device(alloc, row, data, media, u64::MAX)?;
+    all_of(&played)?;
+    Ok(played_calls(&media))
+}
+
+fn all_of(played: &Played) -> Result<(), RowFault> {
+    if played.is_whole {
+        Ok(())
+    } else {
+        Err(RowFault::Hidden)
+    }
 }
 
 fn played_calls(media: &MemoryMedia) -> u64 {
