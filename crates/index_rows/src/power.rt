@@ -22,22 +22,33 @@ pub struct Insertion {
     pub twice: bool,
 }
 
-/// How many images were left, all of them sound and with the pairs before or behind the insertion.
+/// How many images were left, all of them sound and with the pairs before or after the insertion.
 pub fn play<K: KeyIndex>(alloc: Global, insertion: &Insertion) -> Result<u64, RowFault> {
     let before = filled_image::<K>(alloc, insertion)?;
     let mut images = 0u64;
     for passes in 0..900u64 {
-        let media = media_of(alloc, before.bytes())?;
-        let (media, done) = insert_with::<K>(alloc, media, insertion.keys, passes)?;
-        for choice in &CHOICES {
-            let image = media.leave(choice)?;
-            images = images.saturating_add(recover::<K>(alloc, image, insertion, done)?);
-        }
-        if done {
+        if recovers::<K>(alloc, before.bytes(), insertion, passes, &mut images)? {
             return Ok(images);
         }
     }
     Err(RowFault::Left)
+}
+
+// Makes so many calls of an insertion and recovers what each choice leaves of it. Whether the insertion was done.
+fn recovers<K: KeyIndex>(
+    alloc: Global,
+    before: &[u8],
+    insertion: &Insertion,
+    passes: u64,
+    images: &mut u64,
+) -> Result<bool, RowFault> {
+    let media = media_of(alloc, before)?;
+    let (media, done) = insert_with::<K>(alloc, media, insertion.keys, passes)?;
+    for choice in &CHOICES {
+        let recovered = recover::<K>(alloc, media.leave(choice)?, insertion, done)?;
+        *images = images.saturating_add(recovered);
+    }
+    Ok(done)
 }
 
 // An array with these keys.
@@ -76,46 +87,68 @@ fn insert_with<K: KeyIndex>(
     }
 }
 
-// Opens an image, with power lost after each call of its recovery too where that is asked, and counts what is left of it.
+// Opens an image, with power lost after each call of its recovery too if that is asked, and counts what is left of it.
 fn recover<K: KeyIndex>(
     alloc: Global,
     image: MemoryMedia,
     insertion: &Insertion,
     done: bool,
 ) -> Result<u64, RowFault> {
-    let keys = insertion.keys;
-    let cuts = if insertion.twice { 64u64 } else { 0 };
-    for passes in 0..cuts {
-        let media = media_of(alloc, image.bytes())?;
-        match device_pages(alloc, media, passes)? {
-            Err(media) => {
-                let left = media.leave(b"\xA5\x3C")?;
-                test::<K>(whole_pages(alloc, left)?, keys, done)?;
-            }
-            Ok(pages) => {
-                let whole = media_below(pages);
-                test::<K>(whole_pages(alloc, whole)?, keys, done)?;
-                return Ok(passes.saturating_add(1));
-            }
+    if !insertion.twice {
+        test_image::<K>(alloc, image, insertion.keys, done)?;
+        return Ok(1);
+    }
+    for passes in 0..64u64 {
+        if opens::<K>(alloc, image.bytes(), insertion.keys, done, passes)? {
+            return Ok(passes.saturating_add(1));
         }
     }
-    if insertion.twice {
-        return Err(RowFault::Opening);
-    }
-    test::<K>(whole_pages(alloc, image)?, keys, done)?;
-    Ok(1)
+    Err(RowFault::Opening)
 }
 
-// The index is sound and has the pairs before the insertion or behind it: behind it, where it was done.
-fn test<K: KeyIndex>(pages: Pages<Device>, keys: u64, done: bool) -> Result<(), RowFault> {
-    let mut pages = pages;
-    for key in [0, 14, 15, keys.saturating_sub(1)] {
-        match next_pair::<Device, K>(&mut pages, key)? {
-            Some((found, slot)) if found == key && u64::from(slot) == key => {}
-            _ => return Err(RowFault::Left),
+// Whether so many calls suffice to open an image. What is left is sound either way.
+fn opens<K: KeyIndex>(
+    alloc: Global,
+    image: &[u8],
+    keys: u64,
+    done: bool,
+    passes: u64,
+) -> Result<bool, RowFault> {
+    match device_pages(alloc, media_of(alloc, image)?, passes)? {
+        Err(media) => {
+            test_image::<K>(alloc, media.leave(b"\xA5\x3C")?, keys, done)?;
+            Ok(false)
+        }
+        Ok(pages) => {
+            test_image::<K>(alloc, media_below(pages), keys, done)?;
+            Ok(true)
         }
     }
-    match next_pair::<Device, K>(&mut pages, keys)? {
+}
+
+fn test_image<K: KeyIndex>(
+    alloc: Global,
+    image: MemoryMedia,
+    keys: u64,
+    done: bool,
+) -> Result<(), RowFault> {
+    let mut pages = whole_pages(alloc, image)?;
+    for key in [0, 14, 15, keys.saturating_sub(1)] {
+        is_found::<K>(&mut pages, key)?;
+    }
+    ends::<K>(&mut pages, keys, done)
+}
+
+fn is_found<K: KeyIndex>(pages: &mut Pages<Device>, key: u64) -> Result<(), RowFault> {
+    match next_pair::<Device, K>(pages, key)? {
+        Some((found, slot)) if found == key && u64::from(slot) == key => Ok(()),
+        _ => Err(RowFault::Left),
+    }
+}
+
+// The index has the pairs before the insertion or after it, and only after it if it was done.
+fn ends<K: KeyIndex>(pages: &mut Pages<Device>, keys: u64, done: bool) -> Result<(), RowFault> {
+    match next_pair::<Device, K>(pages, keys)? {
         Some((found, slot)) if found == keys && u64::from(slot) == keys => Ok(()),
         None if !done => Ok(()),
         _ => Err(RowFault::Left),
