@@ -17,7 +17,8 @@ use Rattle.core_face.specs.Step.{most_saves, Asks, StepAt, StepIf, Step}
 use Rattle.caller_work.specs.declared.stop.Stop.{Stop}
 use Rattle.caller_work.specs.declared.stop.Stop.TheVariants as stop
 use Rattle.caller_work.specs.declared.stop.Heard.TheVariants as heard
-use Rattle.caller_work.specs.Fates.{is_of_table, saves_after, is_write, LacksRoom, MayRefuse}
+use Rattle.caller_plans.specs.Plans.{is_of_table}
+use Rattle.caller_work.specs.Fates.{saves_after, is_write, LacksRoom, MayRefuse}
 use Rattle.caller_work.specs.Standing.{heard_of}
 
 abbrev pub asked_of : Granted → List Call

@@ -1,11 +1,11 @@
 -- What becomes of the transactions that a caller plans.
-use Rattle.std.specs.Prelude.{ℕ, ◌≡◌, ◌≢◌, ◌+◌, ◌-◌, ◌<◌, ◌≤◌, Bool, true, false, IsTrue, IsFalse, List, [], ◌∷◌, ◌++◌, map, filter, length, take, All}
+use Rattle.std.specs.Prelude.{ℕ, ◌≡◌, ◌≢◌, ◌+◌, ◌-◌, ◌<◌, ◌≤◌, Bool, true, false, IsFalse, List, [], ◌∷◌, ◌++◌, map, filter, length, take}
 use Rattle.std.specs.List.{fold}
 use Rattle.std.specs.FinMap.{empty}
 use Rattle.history.specs.Table.{begun, after, has_save}
 use Rattle.history.specs.Writes.{Table}
 use Rattle.history.specs.declared.call.Call.{Call}
-use Rattle.history.specs.declared.call.Call.TheVariants.{Begin, Put, Del, Save, Back, Commit, Abort}
+use Rattle.history.specs.declared.call.Call.TheVariants.{Put, Del, Save, Back}
 use Rattle.history.specs.declared.call.Reply.{Reply}
 use Rattle.history.specs.declared.call.Reply.TheVariants.{NoSave, SavesFull, LogFull, SlotsFull, PagesFull}
 use Rattle.history.specs.declared.transaction.Done.{Done}
@@ -15,17 +15,6 @@ use Rattle.caller_plans.specs.declared.plan.Plan.{Plan}
 use Rattle.caller_plans.specs.declared.plan.PlanEnd.TheVariants as end
 use Rattle.caller_plans.specs.declared.fate.Fate.{Fate}
 use Rattle.caller_plans.specs.declared.fate.Fate.TheVariants.{Committed, Aborted, Refused}
-
--- a call of a table: no begin, commit or abort
-abbrev pub is_of_table : Call → Bool
-is_of_table Begin = false
-is_of_table Commit = false
-is_of_table Abort = false
-is_of_table call = true
-
--- each plan has only calls of a table between begin and end
-abbrev pub ArePlain : List Plan → Type 0
-ArePlain plans = All (λ (plan : Plan). All (λ call. IsTrue (is_of_table call)) plan.calls) plans
 
 -- the saves that a transaction has after these calls
 abbrev pub saves_after : List Call → List Table
