@@ -1,5 +1,5 @@
 -- What each caller of a script plans.
-use Rattle.std.specs.Prelude.{ℕ, zero, suc, Bool, true, false, nat_eq, if◌then◌else◌, List, [], ◌∷◌, ◌++◌, Option, Some, None}
+use Rattle.std.specs.Prelude.{ℕ, zero, suc, Bool, true, false, IsTrue, nat_eq, if◌then◌else◌, List, [], ◌∷◌, ◌++◌, All, Option, Some, None}
 use Rattle.history.specs.declared.call.Call.{Call}
 use Rattle.history.specs.declared.call.Call.TheVariants.{Begin, Commit, Abort}
 use Rattle.script_text.specs.declared.line.Line.{Line}
@@ -64,3 +64,18 @@ AllSay callers _ _ = ⊥
 abbrev pub plans_from : ℕ → ℕ → List Line → List (List Plan)
 plans_from caller zero lines = []
 plans_from caller (suc n) lines = planned None (calls_by caller lines) ∷ plans_from (suc caller) n lines
+
+-- a call of a table: no begin, commit or abort
+abbrev pub is_of_table : Call → Bool
+is_of_table Begin = false
+is_of_table Commit = false
+is_of_table Abort = false
+is_of_table call = true
+
+-- the plan has only calls of a table between begin and end
+abbrev pub IsPlain : Plan → Type 0
+IsPlain plan = All (λ call. IsTrue (is_of_table call)) plan.calls
+
+-- each plan has only calls of a table between begin and end
+abbrev pub ArePlain : List Plan → Type 0
+ArePlain plans = All IsPlain plans

@@ -1,7 +1,8 @@
 // What a caller plans.
-ghost use Rattle.std.specs.Prelude.{◌≡◌, [], ◌∷◌, ◌++◌, OnOk, OnErr, IfErr, length};
+ghost use Rattle.std.specs.Prelude.{◌≡◌, ◌↔◌, [], ◌∷◌, ◌++◌, IsTrue, OnOk, OnErr, IfErr, length};
 ghost use Rattle.history.specs.declared.call.Call.{Call};
 ghost use Rattle.caller_plans.specs.declared.plan.Plan.{Plan};
+ghost use Rattle.caller_plans.specs.Plans.{is_of_table, IsPlain, ArePlain};
 
 use counted::NoMemory;
 use history::Call;
@@ -63,6 +64,21 @@ pub struct Plan {
     pub end: PlanEnd,
 }
 
+impl Plan {
+    /// Whether none of its calls is a begin, a commit or an abort.
+    pub fn is_plain(&self) -> bool
+        ensures { IsTrue result ↔ IsPlain self.now }
+    {
+        self.calls.calls().iter().all(is_of_table)
+    }
+}
+
+fn is_of_table(call: &Call) -> bool
+    ensures { result ≡ is_of_table call.now }
+{
+    !matches!(call, Call::Begin | Call::Commit | Call::Abort)
+}
+
 /// The transactions of a caller, in the order of the script.
 #[derive(Debug, Drop)]
 pub struct Plans {
@@ -109,5 +125,12 @@ impl Plans {
         ensures { result ≡ length self.now }
     {
         self.items.len()
+    }
+
+    /// Whether no plan has a begin, a commit or an abort among its calls. Plans that `read_script` returns have none.
+    pub fn is_plain(&self) -> bool
+        ensures { IsTrue result ↔ ArePlain self.now }
+    {
+        self.items.iter().all(Plan::is_plain)
     }
 }

@@ -18,7 +18,8 @@ use Rattle.mars_manager.specs.Notes.{is_noted}
 use Rattle.mars_manager.specs.Sharing.{MarsView, Called}
 use Rattle.caller_work.specs.declared.stop.Heard.{Heard}
 use Rattle.caller_work.specs.declared.stop.Heard.TheVariants as heard
-use Rattle.caller_work.specs.Fates.{is_of_table, MayRefuse}
+use Rattle.caller_plans.specs.Plans.{is_of_table}
+use Rattle.caller_work.specs.Fates.{MayRefuse}
 use Rattle.caller_work.specs.Standing.{heard_of, fault_of, is_busy_stop, limits_of, HasMet, IsLive, IsHeard}
 use Rattle.caller_work.proofs.Refusals.{refused_same, may_refuse}
 use Rattle.caller_work.proofs.Steps.{live_done, met_now}

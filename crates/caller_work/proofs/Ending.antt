@@ -15,7 +15,7 @@ use Rattle.caller_work.specs.declared.worker.Worker.{Worker}
 use Rattle.caller_work.specs.declared.end.WorkEnd.{WorkEnd}
 use Rattle.caller_work.specs.declared.end.WorkEnd.TheVariants as work
 use Rattle.caller_work.specs.Standing.{is_failed, IsIdle, IsReady, HasWorked}
-use Rattle.caller_work.specs.Fates.{ArePlain}
+use Rattle.caller_plans.specs.Plans.{ArePlain}
 use Rattle.caller_work.specs.Worked.{is_fault}
 use Rattle.caller_work.specs.Crew.{end_of, worse, Bears, IsCaused, HasFailed, HasMetFault, IsDone, IsLeft}
 

@@ -10,7 +10,7 @@ use Rattle.mars_manager.specs.Sharing.{MarsView}
 use Rattle.caller_plans.specs.declared.plan.Plan.{Plan}
 use Rattle.caller_plans.specs.declared.fate.Fate.{Fate}
 use Rattle.caller_work.specs.declared.worker.Worker.{Worker}
-use Rattle.caller_work.specs.Fates.{ArePlain}
+use Rattle.caller_plans.specs.Plans.{ArePlain}
 use Rattle.caller_work.specs.Standing.{limits_of, Stands, IsReady}
 use Rattle.caller_work.specs.Crew.{IsHired}
 use Rattle.caller_work.proofs.Lists.{same_ends}

@@ -7,7 +7,7 @@ use Rattle.mars_manager.specs.Sharing.{MarsView}
 use Rattle.caller_plans.specs.declared.plan.Plan.{Plan}
 use Rattle.caller_work.specs.declared.crew.Job.{Job}
 use Rattle.caller_work.specs.declared.worker.Worker.{Worker}
-use Rattle.caller_work.specs.Fates.{ArePlain}
+use Rattle.caller_plans.specs.Plans.{ArePlain}
 use Rattle.caller_work.specs.Standing.{IsReady, HasWorked}
 use Rattle.caller_plans.specs.declared.fate.Fate.{Fate}
 use Rattle.caller_work.specs.declared.end.WorkEnd.{WorkEnd}

@@ -17,7 +17,8 @@ use Rattle.core_face.specs.Step.{most_saves, Asks, StepAt, StepIf, Step}
 use Rattle.caller_work.specs.declared.stop.Stop.{Stop}
 use Rattle.caller_work.specs.declared.stop.Stop.TheVariants as stop
 use Rattle.caller_work.specs.declared.stop.Heard.TheVariants as heard
-use Rattle.caller_work.specs.Fates.{is_of_table, saves_after, is_write, LacksRoom, MayRefuse}
+use Rattle.caller_plans.specs.Plans.{is_of_table}
+use Rattle.caller_work.specs.Fates.{saves_after, is_write, LacksRoom, MayRefuse}
 use Rattle.caller_work.specs.Standing.{heard_of}
 
 abbrev pub asked_of : Granted → List Call
@@ -212,6 +213,10 @@ module _ (limits : Limits) (old : State) (caller : ℕ) (new : State) (calls : G
   lacks_at key None (says.PagesFull n) lacks = lacks
   lacks_at key _ _ lacks = absurd lacks
 
+  lacks_del : (key slot : ℕ) (reply : Reply) → LacksAt limits old caller key (Some slot) reply → MayRefuse limits (asked_of calls) (Del key) reply
+  lacks_del key slot (says.LogFull g h n) lacks = (lacks.2, full g h n lacks.3)
+  lacks_del key slot _ lacks = absurd lacks
+
   lacks : (call : Call) → Asks limits calls old caller call reply new → Lacks limits old caller call other
   lacks call (inl short) = not_stopped reply other is stop.NoMemory (ap heard_of short.0)
   lacks call (inr (inl held)) = not_busy reply other is held.0 held.2.0
@@ -224,7 +229,7 @@ module _ (limits : Limits) (old : State) (caller : ℕ) (new : State) (calls : G
 
   refuses_at : (call : Call) → is_of_table call ≡ true → StepAt limits (Some calls) old caller call reply new → MayRefuse limits (asked_of calls) call other
   refuses_at (Put key value) plain a = lacks_at key (old.index.slot_of key) other (lacks (Put key value) a)
-  refuses_at (Del key) plain a = lacks_at key (old.index.slot_of key) other (lacks (Del key) a).1
+  refuses_at (Del key) plain a = let why = lacks (Del key) a in lacks_del key why.1 other why.3
   refuses_at (Get key) plain a = absurd (lacks (Get key) a)
   refuses_at (Scan low high) plain a = absurd (lacks (Scan low high) a)
   refuses_at Save plain (inl (full, s)) =

@@ -12,7 +12,7 @@ use Rattle.caller_work.specs.declared.crew.Job.{Job}
 use Rattle.caller_work.specs.declared.worker.Worker.{Worker}
 use Rattle.caller_work.specs.declared.end.WorkEnd.{WorkEnd}
 use Rattle.caller_work.specs.declared.end.WorkEnd.TheVariants as work
-use Rattle.caller_work.specs.Fates.{ArePlain}
+use Rattle.caller_plans.specs.Plans.{ArePlain}
 use Rattle.caller_work.specs.Standing.{limits_of, is_failed, IsOf, Stands, IsIdle}
 use Rattle.caller_work.specs.Worked.{is_fault}
 

@@ -20,7 +20,8 @@ use Rattle.caller_work.specs.declared.stop.Stop.TheVariants as stop
 use Rattle.caller_work.specs.declared.stop.Heard.{Heard}
 use Rattle.caller_work.specs.declared.stop.Heard.TheVariants as heard
 use Rattle.caller_work.specs.declared.worker.Worker.{Worker}
-use Rattle.caller_work.specs.Fates.{AreFated, IsUndecided, IsRefused, MayRefuse, ArePlain}
+use Rattle.caller_plans.specs.Plans.{ArePlain}
+use Rattle.caller_work.specs.Fates.{AreFated, IsUndecided, IsRefused, MayRefuse}
 
 -- the worker was stopped by a fault of the medium
 abbrev pub is_media_stop : Stop → Bool

@@ -2,13 +2,13 @@
 ghost use Rattle.std.specs.Prelude.{◌≡◌, ◌≢◌, ◌≤◌, ◌<◌, ◌+◌, ◌-◌, ℕ, List, [], All, map, length, slice_index_or, vec_capacity, IsTrue, IsFalse, IfOk, IfErr};
 ghost use Rattle.caller_plans.specs.declared.plan.Plan.{Plan};
 ghost use Rattle.caller_plans.specs.declared.fate.Fate.{Fate};
+ghost use Rattle.caller_plans.specs.Plans.{ArePlain};
 ghost use Rattle.mars_manager.specs.Pass.{PassView, dealt};
 ghost use Rattle.mars_manager.specs.Sharing.{CanShare};
 ghost use Rattle.caller_work.specs.declared.crew.Job.{Job};
 ghost use Rattle.caller_work.specs.declared.worker.Worker.{Worker};
 ghost use Rattle.caller_work.specs.declared.end.WorkEnd.{WorkEnd};
 ghost use Rattle.caller_work.specs.declared.end.WorkEnd.TheVariants as end;
-ghost use Rattle.caller_work.specs.Fates.{ArePlain};
 ghost use Rattle.caller_work.specs.Standing.{IsReady, HasWorked};
 ghost use Rattle.caller_work.specs.Crew.{IsBlank, IsHired, IsLeft, Bears, IsCaused, IsCausedBy, IsTried, AreDone};
 ghost use Rattle.caller_work.specs.Worked.{Worked};
@@ -120,7 +120,8 @@ fn work_all<R: Threads + Wait + Sync, C: Core + Drop + Send, G: Gate + Sync>(
 
 /// Makes the planned transactions of all callers, each caller's by a worker of its own, and returns the core with what became of each
 /// caller's plans. A transaction that finds a key locked is tried up to `tries` times and then done last. If there is no memory to begin
-/// with, the core comes back as it was and nothing was done.
+/// with, the core comes back as it was and nothing was done. `Plans::is_plain` is the test of `plain`. Plans that `read_script` returns meet
+/// it.
 pub fn work<R: Threads + Wait + Sync, C: Core + Drop + Send, G: Gate + Sync>(
     rt: &R,
     alloc: Global,

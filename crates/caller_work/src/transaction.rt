@@ -1,12 +1,12 @@
 // The calls of one transaction.
-ghost use Rattle.std.specs.Prelude.{◌≡◌, List, [], ◌∷◌, ◌++◌, Some, None, All, Contains, IsTrue, IsFalse, OnOk, IfOk, IfErr, false};
+ghost use Rattle.std.specs.Prelude.{◌≡◌, List, [], ◌∷◌, ◌++◌, Some, None, Contains, IsTrue, IsFalse, OnOk, IfOk, IfErr, false};
 ghost use Rattle.history.specs.declared.call.Call.{Call};
 ghost use Rattle.history.specs.declared.call.Reply.{Reply};
 ghost use Rattle.caller_plans.specs.declared.plan.Plan.{Plan};
 ghost use Rattle.caller_plans.specs.declared.plan.PlanEnd.TheVariants as end;
 ghost use Rattle.caller_plans.specs.declared.fate.Fate.{Fate};
 ghost use Rattle.caller_plans.specs.declared.fate.Fate.TheVariants as fate;
-ghost use Rattle.caller_work.specs.Fates.{is_of_table};
+ghost use Rattle.caller_plans.specs.Plans.{is_of_table, IsPlain};
 ghost use Rattle.caller_work.specs.Standing.{limits_of, fault_of, is_media_stop, is_busy_stop, HasMet, IsPutIn, IsNext, IsOf, IsSame, Stands, IsLive, IsHeard, AreHeard, Comes};
 
 use crate::gate::{Gate, Place};
@@ -109,7 +109,7 @@ pub fn ask_all<R: Wait, C: Core + Drop, G: Gate>(
 ) -> Result<Heard, Stop>
     requires of { IsOf mars.now pass.old }
     requires live { IsLive [] pass.old.known }
-    requires plain { All (λ call. IsTrue (is_of_table call)) plan.now.calls }
+    requires plain { IsPlain plan.now }
     ensures same { IsSame pass.old pass.new }
     ensures busy { IfErr result (λ stop. IsFalse (is_busy_stop stop)) }
     ensures heard { IfOk result (λ h. AreHeard C.tells (limits_of C.view mars.now) plan.now pass.new.known h) }

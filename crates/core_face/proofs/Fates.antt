@@ -39,7 +39,7 @@ lacks_at_of_array limits old caller key _ _ lacks = absurd lacks
 
 pub lacks_of_array : (limits : Limits) (old : State) (caller : ℕ) (call : Call) (reply : Reply) → Lacks limits old caller call reply → is_of_array reply ≡ true
 lacks_of_array limits old caller (Put key value) reply lacks = lacks_at_of_array limits old caller key (old.index.slot_of key) reply lacks
-lacks_of_array limits old caller (Del key) reply lacks = lacks_at_of_array limits old caller key (old.index.slot_of key) reply lacks.1
+lacks_of_array limits old caller (Del key) reply lacks = lacks_at_of_array limits old caller key (Some lacks.1) reply lacks.3
 lacks_of_array limits old caller _ reply lacks = absurd lacks
 
 lacks_at_refusal : (limits : Limits) (old : State) (caller key : ℕ) (slot : Option ℕ) (reply : Reply) → LacksAt limits old caller key slot reply → (is_refusal reply ≡ true) × (is_media reply ≡ false)
@@ -51,7 +51,7 @@ lacks_at_refusal limits old caller key _ _ lacks = absurd lacks
 
 lacks_refusal : (limits : Limits) (old : State) (caller : ℕ) (call : Call) (reply : Reply) → Lacks limits old caller call reply → (is_refusal reply ≡ true) × (is_media reply ≡ false)
 lacks_refusal limits old caller (Put key value) reply lacks = lacks_at_refusal limits old caller key (old.index.slot_of key) reply lacks
-lacks_refusal limits old caller (Del key) reply lacks = lacks_at_refusal limits old caller key (old.index.slot_of key) reply lacks.1
+lacks_refusal limits old caller (Del key) reply lacks = lacks_at_refusal limits old caller key (Some lacks.1) reply lacks.3
 lacks_refusal limits old caller _ reply lacks = absurd lacks
 
 module _ (limits : Limits) (old : State) (caller : ℕ) (new : State) where

@@ -137,7 +137,9 @@ module _ (index : below.Index) (p : PagesView) (s : State) (indexed : s.index �
           (put_lacks key g h n (found (index.pairs p.store.state.bytes) key) lacks short)
       log_lacks (Del key) g h n of (seen_there, slot, at, full) short = (
         sym (seen key) ∙ seen_there,
-        subst (λ (o : Option ℕ). LacksAt (limits_of p.store.shape) s t key o (reply.LogFull g h n)) (sym at ∙ found_is key) (slot_full key slot g h n full short),
+        slot,
+        sym (found_is key) ∙ at,
+        slot_full key slot g h n full short,
       )
       log_lacks (Get key) g h n of lacks short = absurd short
       log_lacks (Scan low high) g h n of lacks short = absurd short

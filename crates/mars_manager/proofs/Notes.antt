@@ -134,17 +134,14 @@ module _ (limits : Limits) (old : State) (caller : ℕ) (new : State) where
   put_lacks key value None (LogFull g h n) lacks index = tt
   put_lacks key value _ _ lacks index = absurd lacks
 
-  del_lacks : (key : ℕ) (slot : Option ℕ) (reply : Reply) → LacksAt limits old caller key slot reply → new.index ≡ old.index → T (Del key) reply
+  del_lacks : (key slot : ℕ) (reply : Reply) → LacksAt limits old caller key (Some slot) reply → T (Del key) reply
   unfolding T
-  del_lacks key (Some slot) (LogFull g h n) lacks e = tt
-  del_lacks key None (SlotsFull n) lacks e = (lacks.1, ap (λ (i : Index). i.next_slot) e ∙ lacks.0)
-  del_lacks key None (PagesFull n) lacks e = (lacks, tt)
-  del_lacks key None (LogFull g h n) lacks e = tt
-  del_lacks key _ _ lacks e = absurd lacks
+  del_lacks key slot (LogFull g h n) lacks = tt
+  del_lacks key slot _ lacks = absurd lacks
 
   lacks_told : (call : Call) (reply : Reply) → Lacks limits old caller call reply → Indexes limits call reply old.index new.index → T call reply
   lacks_told (Put key value) reply lacks indexes = put_lacks key value (old.index.slot_of key) reply lacks indexes
-  lacks_told (Del key) reply lacks indexes = del_lacks key (old.index.slot_of key) reply lacks.1 indexes
+  lacks_told (Del key) reply lacks indexes = del_lacks key lacks.1 reply lacks.3
   lacks_told _ reply lacks indexes = absurd lacks
 
   fails : (call : Call) (reply : Reply) → reply ≡ Media → new.is_dead ≡ true → Left limits old caller new call reply

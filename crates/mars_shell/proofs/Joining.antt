@@ -18,11 +18,11 @@ use Rattle.mars_manager.specs.Sharing.{CanShare}
 use Rattle.caller_plans.specs.declared.plan.Plan.{Plan}
 use Rattle.caller_plans.specs.declared.fate.Fate.{Fate}
 use Rattle.caller_plans.specs.declared.fate.LineFault.{LineFault}
-use Rattle.caller_plans.specs.Plans.{AllSay, planned, calls_by, faults_from, plans_from}
+use Rattle.caller_plans.specs.Plans.{AllSay, planned, calls_by, faults_from, plans_from, ArePlain}
 use Rattle.std.proofs.lemmas.List.Elements.{All-from_recursion, All-append, All-nil}
 use Rattle.caller_work.specs.declared.end.WorkEnd.{WorkEnd}
 use Rattle.caller_work.specs.declared.end.WorkEnd.TheVariants as work
-use Rattle.caller_work.specs.Fates.{AreFated, IsUndecided, ArePlain}
+use Rattle.caller_work.specs.Fates.{AreFated, IsUndecided}
 use Rattle.caller_work.proofs.Plain.{outside}
 use Rattle.caller_work.specs.Worked.{Worked, StillLacks, is_fault, of_caller, IsPlanned}
 use Rattle.history_text.specs.Text.{done_lines, work_text}

@@ -1,5 +1,4 @@
-ghost use Rattle.std.specs.Prelude.{◌≡◌, [], ◌∷◌, ◌++◌, All, IfOk, IsTrue, length};
-ghost use Rattle.caller_work.specs.Fates.{ArePlain, is_of_table};
+ghost use Rattle.std.specs.Prelude.{◌≡◌, IfOk, length};
 
 use super::*;
 use caller_plans::{Asked, Fate, Plan, PlanEnd, Plans};
@@ -15,9 +14,7 @@ use std::test::*;
 use std::thread::Threads;
 
 // A transaction of no calls.
-fn empty_plan(alloc: Global, end: PlanEnd) -> Plan
-    ensures { result.calls ≡ [] }
-{
+fn empty_plan(alloc: Global, end: PlanEnd) -> Plan {
     Plan {
         calls: Asked::new(alloc),
         end,
@@ -25,9 +22,7 @@ fn empty_plan(alloc: Global, end: PlanEnd) -> Plan
 }
 
 // So many transactions of no calls, which commit.
-fn commits(alloc: Global, count: u8) -> Result<Plans, NoMemory>
-    ensures { IfOk result ArePlain }
-{
+fn commits(alloc: Global, count: u8) -> Result<Plans, NoMemory> {
     let mut plans = Plans::new(alloc);
     for _ in 0..count {
         if plans.push(empty_plan(alloc, PlanEnd::Commit)).is_err() {
@@ -39,8 +34,7 @@ fn commits(alloc: Global, count: u8) -> Result<Plans, NoMemory>
 
 // The plans of two callers, so many empty transactions each.
 fn both_commit(alloc: Global, first: u8, second: u8) -> Result<Vec<Plans>, NoMemory>
-    ensures plain { IfOk result (λ all. All ArePlain all.items) }
-    ensures two { IfOk result (λ all. length all.items ≡ 2) }
+    ensures { IfOk result (λ all. length all.items ≡ 2) }
 {
     let mut all = Vec::new(alloc);
     all.push(commits(alloc, first)?)?;
@@ -70,6 +64,7 @@ fn each_plan_of_two_callers_commits_once(rt: HostRuntime) -> Result<(), Fail> {
     let Ok(plans) = both_commit(alloc, 3, 2) else {
         panic!(rt; "no memory")
     };
+    assert!(rt; plans.iter().all(Plans::is_plain));
     let Ok((core, told, end)) = work(&rt, alloc, DoorCore::new(alloc), plans, 1, &OpenGate) else {
         panic!(rt; "no memory")
     };
@@ -121,9 +116,7 @@ impl<R: Wait> Gate for Meeting<'_, R> {
 }
 
 // A transaction of one put, which commits.
-fn put_plan(alloc: Global) -> Result<Plan, NoMemory>
-    ensures { IfOk result (λ plan. All (λ call. IsTrue (is_of_table call)) plan.calls) }
-{
+fn put_plan(alloc: Global) -> Result<Plan, NoMemory> {
     let Some(value) = Value::of(b"seven") else {
         return Err(NoMemory);
     };
@@ -136,9 +129,7 @@ fn put_plan(alloc: Global) -> Result<Plan, NoMemory>
 }
 
 // A put, and two transactions without calls: one that commits, and one that the script aborts.
-fn put_and_others(alloc: Global) -> Result<Plans, NoMemory>
-    ensures { IfOk result ArePlain }
-{
+fn put_and_others(alloc: Global) -> Result<Plans, NoMemory> {
     let mut plans = Plans::new(alloc);
     if plans.push(put_plan(alloc)?).is_err() {
         return Err(NoMemory);
@@ -154,8 +145,7 @@ fn put_and_others(alloc: Global) -> Result<Plans, NoMemory>
 
 // The plans of two callers, of whom the second finds the key of its put locked.
 fn one_waits(alloc: Global) -> Result<Vec<Plans>, NoMemory>
-    ensures plain { IfOk result (λ all. All ArePlain all.items) }
-    ensures two { IfOk result (λ all. length all.items ≡ 2) }
+    ensures { IfOk result (λ all. length all.items ≡ 2) }
 {
     let mut all = Vec::new(alloc);
     all.push(commits(alloc, 1)?)?;
@@ -169,6 +159,7 @@ fn what_finds_a_key_locked_is_done_last(rt: HostRuntime) -> Result<(), Fail> {
     let Ok(plans) = one_waits(alloc) else {
         panic!(rt; "no memory")
     };
+    assert!(rt; plans.iter().all(Plans::is_plain));
     let gate = Meeting {
         rt: &rt,
         begun: AtomicBool::new(false),

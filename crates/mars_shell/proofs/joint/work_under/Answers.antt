@@ -5,7 +5,7 @@ use Rattle.mars_core.specs.Over.{IsOver, limits_of}
 use Rattle.mars_manager.specs.Sharing.{CanShare}
 use Rattle.mars_shell.specs.Joint.{JointWork}
 use Rattle.mars_shell.specs.Served.{Served}
-use Rattle.caller_work.specs.Fates.{ArePlain}
+use Rattle.caller_plans.specs.Plans.{ArePlain}
 use Rattle.mars_shell.proofs.Joining.{as_many, all_plain, can_share, untold, retold, joint_work, living, unbroken}
 use Rattle.mars_shell.proofs.Serving.{served}
 use Rattle.mars_shell.proofs.joint.work_under.Goals as goal
