@@ -1,7 +1,10 @@
+ghost use Rattle.std.specs.Prelude.{◌≡◌, ◌<◌, IsTrue};
+ghost use Rattle.core_face.specs.Sound.{IsSound};
+
 use super::*;
 use array_shape::Shape;
 use bank::{Refusal, balance, transfer};
-use core_face::Core as Steps;
+use core_face::{Core as Steps, prefix_law};
 use eaw_device::format;
 use history::Call;
 use pcm_media::{FusedMedia, MemoryMedia};
@@ -21,36 +24,60 @@ fn fresh(alloc: Global) -> Option<MemoryMedia> {
     }
 }
 
+// Makes an account, by a transaction of its own.
+fn open_account<C: Steps>(core: &mut C, account: u64, value: Value)
+    requires { 0 < (C.view core.old).limits.callers }
+    ensures { (C.view core.new).limits ≡ (C.view core.old).limits }
+{
+    let _ = core.step(0, &Call::Begin);
+    let _ = core.step(
+        0,
+        &Call::Put {
+            key: account,
+            value,
+        },
+    );
+    let _ = core.step(0, &Call::Commit);
+}
+
 // An array with 100 in the account 1 and 50 in the account 2.
 fn with_accounts(alloc: Global) -> Option<MemoryMedia> {
     let mut core = open_bank(alloc, fresh(alloc)?)?;
-    let calls = [
-        Call::Begin,
-        Call::Put {
-            key: 1,
-            value: Value::of(b"100")?,
-        },
-        Call::Put {
-            key: 2,
-            value: Value::of(b"50")?,
-        },
-        Call::Commit,
-    ];
-    for call in &calls {
-        let _ = core.step(0, call);
-    }
+    open_account(&mut core, 1, Value::of(b"100")?);
+    open_account(&mut core, 2, Value::of(b"50")?);
     Some(core.into_store().into_media())
 }
 
 // What both accounts have.
-fn balances(alloc: Global, media: MemoryMedia) -> Option<(u64, u64)> {
-    let mut core = open_bank(alloc, media)?;
-    let one = balance(&mut core, 0, 1).ok()?;
-    let other = balance(&mut core, 0, 2).ok()?;
+fn both<C: Steps>(core: &mut C) -> Option<(u64, u64)>
+    requires inside { 0 < (C.view core.old).limits.callers }
+    requires sound { IsTrue C.tells → IsSound (C.view core.old).state }
+{
+    prefix_law::<C>();
+    let one = balance(core, 0, 1).ok()?;
+    let other = balance(core, 0, 2).ok()?;
     Some((one, other))
 }
 
-// Makes a transfer behind a fuse, and gives the answer and the media as it is then. There is none where it was not opened.
+// What both accounts have in an image that a loss of power may leave.
+fn balances(alloc: Global, media: &MemoryMedia, choice: &[u8]) -> Option<(u64, u64)> {
+    let mut core = open_bank(alloc, media.leave(choice).ok()?)?;
+    both(&mut core)
+}
+
+// The answers to a transfer of 30 from the account 1, of 71 more, and of one into no account.
+fn pay_thrice<C: Steps>(core: &mut C) -> [Result<(), Refusal>; 3]
+    requires inside { 0 < (C.view core.old).limits.callers }
+    requires sound { IsTrue C.tells → IsSound (C.view core.old).state }
+{
+    prefix_law::<C>();
+    let done = transfer(core, 0, 1, 2, 30);
+    let insufficient = transfer(core, 0, 1, 2, 71);
+    let unknown = transfer(core, 0, 1, 3, 1);
+    [done, insufficient, unknown]
+}
+
+// A transfer of 30 behind a fuse: its answer and the medium as it is then, or `None` if the array was not opened.
 fn pay_behind(
     alloc: Global,
     image: &[u8],
@@ -62,45 +89,58 @@ fn pay_behind(
     Some((answer, core.into_store().into_media().into_inner()))
 }
 
+// What becomes of a transfer that loses power.
+enum Fate {
+    Unopened,
+    Refused,
+    Done,
+    /// An image has other balances than it may have.
+    Wrong,
+}
+
+fn fate_behind(alloc: Global, image: &[u8], passes: u64) -> Fate {
+    let Some((answer, media)) = pay_behind(alloc, image, passes) else {
+        return Fate::Unopened;
+    };
+    for choice in [b"".as_slice(), b"\x00", b"\xFF", b"\xC3\x01"] {
+        match balances(alloc, &media, choice) {
+            Some((70, 80)) => {}
+            Some((100, 50)) if answer.is_err() => {}
+            _ => return Fate::Wrong,
+        }
+    }
+    if answer.is_ok() {
+        Fate::Done
+    } else {
+        Fate::Refused
+    }
+}
+
 #[test]
 fn moves_and_refuses(rt: HostRuntime) -> Result<(), Fail> {
-    let alloc = rt.alloc();
-    let mut core = open_bank(alloc, with_accounts(alloc).ok_or("accounts")?).ok_or("open")?;
-    assert_eq!(rt; transfer(&mut core, 0, 1, 2, 30), Ok(()));
-    assert_eq!(rt;
-        transfer(&mut core, 0, 1, 2, 71),
-        Err(Refusal::Insufficient { balance: 70 })
-    );
-    assert_eq!(rt;
-        transfer(&mut core, 0, 1, 3, 1),
-        Err(Refusal::NoAccount { account: 3 })
-    );
-    assert_eq!(rt; balance(&mut core, 0, 2), Ok(80));
+    let media = with_accounts(rt.alloc()).ok_or("accounts")?;
+    let mut core = open_bank(rt.alloc(), media).ok_or("open")?;
+    let answers = pay_thrice(&mut core);
+    let wanted = [
+        Ok(()),
+        Err(Refusal::Insufficient { balance: 70 }),
+        Err(Refusal::NoAccount { account: 3 }),
+    ];
+    assert!(rt; answers == wanted);
     Ok(())
 }
 
 #[test]
 fn keeps_the_sum_wherever_power_is_lost(rt: HostRuntime) -> Result<(), Fail> {
-    let alloc = rt.alloc();
-    let media = with_accounts(alloc).ok_or("accounts")?;
+    let media = with_accounts(rt.alloc()).ok_or("accounts")?;
     let mut was_refused = false;
     let mut was_done = false;
     for passes in 0..64 {
-        let Some((answer, media)) = pay_behind(alloc, media.bytes(), passes) else {
-            continue;
-        };
-        for choice in [b"".as_slice(), b"\x00", b"\xFF", b"\xC3\x01"] {
-            let told = balances(alloc, media.leave(choice)?).ok_or("balances")?;
-            match &answer {
-                Ok(()) => {
-                    was_done = true;
-                    assert_eq!(rt; told, (70, 80), "behind {passes}");
-                }
-                Err(_) => {
-                    was_refused = true;
-                    assert!(rt; told == (70, 80) || told == (100, 50), "behind {passes}");
-                }
-            }
+        match fate_behind(rt.alloc(), media.bytes(), passes) {
+            Fate::Unopened => {}
+            Fate::Refused => was_refused = true,
+            Fate::Done => was_done = true,
+            Fate::Wrong => panic!(rt; "power lost after {passes} calls"),
         }
     }
     assert!(rt; was_refused && was_done);
