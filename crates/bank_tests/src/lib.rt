@@ -1,9 +1,7 @@
 //! Tests of accounts over the records of an array.
 #![tactic(auto)]
 
+#[cfg(test)]
 mod opening;
-
-pub use opening::{Bank, open_bank};
-
 #[cfg(test)]
 mod tests;

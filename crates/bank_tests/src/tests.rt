@@ -1,7 +1,7 @@
 ghost use Rattle.std.specs.Prelude.{◌≡◌, ◌<◌, IsTrue};
 ghost use Rattle.core_face.specs.Sound.{IsSound};
 
-use super::*;
+use crate::opening::open_bank;
 use array_shape::Shape;
 use bank::{Refusal, balance, transfer};
 use core_face::{Core as Steps, prefix_law};

@@ -1,11 +1,9 @@
 //! Tests of the core that threads share, over a core in memory that knows empty transactions alone.
 #![tactic(auto)]
 
+#[cfg(test)]
 mod both;
+#[cfg(test)]
 mod empty_core;
-
-pub use both::both_commit;
-pub use empty_core::EmptyCore;
-
 #[cfg(test)]
 mod tests;

@@ -1,6 +1,7 @@
 ghost use Rattle.std.specs.Prelude.{◌≡◌};
 
-use super::*;
+use crate::both::both_commit;
+use crate::empty_core::EmptyCore;
 use core_face::Core;
 use history::{Call, Reply};
 use mars_manager::{Mars, Pass};

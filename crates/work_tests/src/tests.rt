@@ -1,6 +1,6 @@
 ghost use Rattle.std.specs.Prelude.{◌≡◌, IfOk, length};
 
-use super::*;
+use crate::door_core::DoorCore;
 use caller_plans::{Asked, Fate, Plan, PlanEnd, Plans};
 use caller_work::{Fates, Gate, OpenGate, Place, WorkEnd, work};
 use core_face::Core;
