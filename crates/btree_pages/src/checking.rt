@@ -1,7 +1,7 @@
 // Tests the whole tree.
 ghost use Rattle.std.specs.Prelude.{◌≡◌, ◌≢◌, ◌<◌, ◌≤◌, ◌-◌, ◌^◌, ◌↔◌, suc, IsErrOf, IsTrue};
 ghost use Rattle.eaw_face.specs.Causes.{IsAlive};
-ghost use Rattle.record_slots.specs.Places.{next_slot, IsOfKey};
+ghost use Rattle.record_slots.specs.Places.{next_slot, page_bytes, IsOfKey};
 ghost use Rattle.page_store.specs.Index.{slots_of, index_pages_of};
 ghost use Rattle.page_store.specs.Looks.{Looks, CheckCause, is_check_failed};
 ghost use Rattle.page_store.specs.Shown.{pages_of};
@@ -63,7 +63,7 @@ pub fn check<S: EawStore>(pages: &mut Pages<S>) -> Result<(), CheckFault>
         low: 0,
         high: None,
     };
-    check_under(pages, &front, level, root)
+    check_page(pages, &front, level, root, &bytes)
 }
 
 fn level_in(page: &[u8; PAGE_LEN]) -> u8
@@ -72,7 +72,7 @@ fn level_in(page: &[u8; PAGE_LEN]) -> u8
     page[1]
 }
 
-// Tests a page of this level and all pages below it.
+// Reads a page of this level and tests it and all pages below it.
 #[cycle(under)]
 fn check_under<S: EawStore>(
     pages: &mut Pages<S>,
@@ -90,28 +90,49 @@ fn check_under<S: EawStore>(
         → TreeCause level (S.view pages.old.store).state.bytes spot.page spot.low (high_of spot.high) result }
     ensures dead { IsErrOf result CheckFault.Dead → ⊥ }
 {
-    let page = spot.page;
     let mut bytes = [0; PAGE_LEN];
-    match fetch_page(pages, page, &mut bytes) {
+    match fetch_page(pages, spot.page, &mut bytes) {
         Ok(()) => {}
         Err(fault) => return Err(check_fault(fault)),
     }
-    let Some(head) = read_head(&bytes) else {
+    check_page(pages, front, level, spot, &bytes)
+}
+
+// Tests a page of this level that has been read and all pages below it.
+#[cycle(under)]
+fn check_page<S: EawStore>(
+    pages: &mut Pages<S>,
+    front: &Super,
+    level: u8,
+    spot: Spot,
+    bytes: &[u8; PAGE_LEN],
+) -> Result<(), CheckFault>
+    requires alive { IsAlive (S.view pages.old.store) }
+    requires front { IsFront (S.view pages.old.store).shape front.now }
+    requires level { level ≤ 7 }
+    ensures looks { Looks S.tells (S.opens (S.view pages.old.store).shape) (is_media result)
+        (pages_of (S.view pages.old.store) pages.old) (pages_of (S.view pages.new.store) pages.new) }
+    ensures cause { IsTrue S.tells → IsFrontOf (S.view pages.old.store).state.bytes front.now → bytes.now ≡ page_bytes (S.view pages.old.store).state.bytes spot.page
+        → TreeCause level (S.view pages.old.store).state.bytes spot.page spot.low (high_of spot.high) result }
+    ensures dead { IsErrOf result CheckFault.Dead → ⊥ }
+{
+    let page = spot.page;
+    let Some(head) = read_head(bytes) else {
         return Err(CheckFault::Damaged { page });
     };
     if head.level != level {
         return Err(CheckFault::Damaged { page });
     }
     if level == 0 {
-        if !is_leaf(&bytes, head.count, &spot) {
+        if !is_leaf(bytes, head.count, &spot) {
             return Err(CheckFault::Damaged { page });
         }
-        return check_slots(pages, page, &bytes, head.count, front.next_slot);
+        return check_slots(pages, page, bytes, head.count, front.next_slot);
     }
-    if !is_inner(&bytes, head.count, spot.low, front.next_page) {
+    if !is_inner(bytes, head.count, spot.low, front.next_page) {
         return Err(CheckFault::Damaged { page });
     }
-    check_children(pages, front, level, &bytes, head.count, spot.high)
+    check_children(pages, front, level, bytes, head.count, spot.high)
 }
 
 // Tests the children of a page of this level, one after another.

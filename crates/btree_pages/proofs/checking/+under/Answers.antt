@@ -10,7 +10,7 @@ use Rattle.index_pages.specs.Fetched.{IsFront}
 use Rattle.index_pages.specs.Page.{pairs_from, pair_said, pairs_said}
 use Rattle.index_pages.proofs.Looking.{looks_none, looks_next}
 use Rattle.index_pages.proofs.Reading.{from_step, from_end}
-use Rattle.btree_pages.specs.Checked.{high_of, AreNamed, IsFrontOf, ChildrenCause, TreeCause}
+use Rattle.btree_pages.specs.Checked.{high_of, AreNamed, IsFrontOf, TreeCause}
 use Rattle.btree_pages.specs.Tree.{IsTree, AreSound, next_low}
 use Rattle.btree_pages.proofs.Checks.{whole_left, named_step, named_here, ChildrenLeft, children_all, children_step, children_fail, inner_fails, inner_children}
 use Rattle.btree_pages.proofs.checking.+under.Goals as goal
@@ -99,18 +99,15 @@ check_children-returns-clause-cause g t c = λ told front.
     (c.loop-i.invariant.left told front).sound
     (subst (λ (ps : List Pair). AreSound (IsTree (c.args.level - 1) view.state.bytes) ps (high_of c.args.high)) (sym (from_end c.args.bytes.now c.loop-i.i c.args.count c.loop-i-test.false)) tt)
 
-pub check_under-returns-then-not-is_inner-clause-cause : goal.check_under-returns-then-not-is_inner-clause-cause
-check_under-returns-then-not-is_inner-clause-cause g t c = λ told front.
+pub check_page-returns-then-not-is_inner-clause-cause : goal.check_page-returns-then-not-is_inner-clause-cause
+check_page-returns-then-not-is_inner-clause-cause g t c = λ told front is.
     let view = g.S.EawStore.view c.args.pages.now.store in
-    inner_fails view.state.bytes c.fetch_page.new.bytes c.args.spot.page c.args.spot.low (high_of c.args.spot.high) (c.in-Ok.ensures.bytes told) c.in-Some.ensures.says.node c.args.front.now.next_page front.pages
+    inner_fails view.state.bytes c.args.bytes.now c.args.spot.page c.args.spot.low (high_of c.args.spot.high) is c.in-Some.ensures.says.node c.args.front.now.next_page front.pages
     c.args.level c.if-level-eq0.false (λ tests. false≢true (c.if-not-is_inner.ensures.1 tests))
 
-pub check_under-returns-clause-cause : goal.check_under-returns-clause-cause
-check_under-returns-clause-cause g t c = λ told front.
+pub check_page-returns-clause-cause : goal.check_page-returns-clause-cause
+check_page-returns-clause-cause g t c = λ told front is.
     let view = g.S.EawStore.view c.args.pages.now.store in
-    let mid = g.S.EawStore.view c.fetch_page.new.pages.store in
-    let same = (c.in-Ok.ensures.looks.still refl).state told in
-    let cause = c.check_children.ensures.cause told (subst (λ (s : State). IsFrontOf s.bytes c.args.front.now) (sym same) front) in
-    inner_children view.state.bytes c.fetch_page.new.bytes c.args.spot.page c.args.spot.low (high_of c.args.spot.high) (c.in-Ok.ensures.bytes told) c.in-Some.ensures.says.node c.args.front.now.next_page front.pages
+    inner_children view.state.bytes c.args.bytes.now c.args.spot.page c.args.spot.low (high_of c.args.spot.high) is c.in-Some.ensures.says.node c.args.front.now.next_page front.pages
     c.args.level c.if-level-eq0.false (sym c.in-Some.ensures.says.level ∙ c.if-head-level.false) (c.if-not-is_inner.ensures.0 refl) c.check_children.result
-    (subst (λ (s : State). ChildrenCause (c.args.level - 1) s.bytes (pairs_said c.fetch_page.new.bytes) (high_of c.args.spot.high) c.check_children.result) same cause)
+    (c.check_children.ensures.cause told front)

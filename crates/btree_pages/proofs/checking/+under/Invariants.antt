@@ -8,10 +8,13 @@ use Rattle.btree_pages.proofs.Checks.{ChildrenLeft}
 use Rattle.btree_pages.proofs.checking.+under.Given as goal
 
 abbrev pub decreases-check_under : goal.decreases-check_under
-decreases-check_under g l = 2 * l.level + 1
+decreases-check_under g l = 3 * l.level + 2
+
+abbrev pub decreases-check_page : goal.decreases-check_page
+decreases-check_page g l = 3 * l.level + 1
 
 abbrev pub decreases-check_children : goal.decreases-check_children
-decreases-check_children g l = 2 * l.level
+decreases-check_children g l = 3 * l.level
 
 -- the data is as it was, and the children that are left decide for all
 abbrev pub invariant-check_children-loop-i : goal.invariant-check_children-loop-i
