@@ -21,8 +21,7 @@ room=$work
 [ ! -w /dev/shm ] || room=$(mktemp -d /dev/shm/mars-bench.XXXXXX)
 trap 'rm -rf "$work" "$room"' EXIT
 
-"$top/mars" - run </dev/null
-program=$top/crates/mars/out/mars
+program=$(MARS_WHICH=1 "$top/mars")
 
 # size MIX: the lines of one transaction
 size() {
