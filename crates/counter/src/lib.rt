@@ -6,6 +6,3 @@ mod laws;
 
 pub use counter::{CountFault, Counter};
 pub use laws::fresh_array_says_zero;
-
-#[cfg(test)]
-mod tests;

@@ -43,29 +43,41 @@ pub fn read_line(alloc: Global, text: &str) -> Result<Line, RowFault> {
 
 fn read_call(alloc: Global, text: &str) -> Result<Call, RowFault> {
     let (word, rest) = text.split_once(' ').unwrap_or((text, ""));
-    let call = match word {
-        "write" => read_write(alloc, rest)?,
-        "see" => {
-            let [page, at, len] = three(rest)?;
-            Call::See { page, at, len }
-        }
-        "read" => {
-            let [page, at, len] = three(rest)?;
-            Call::Read { page, at, len }
-        }
-        "len" => Call::Len,
-        "save" => Call::Save,
-        "back" => Call::Back { n: number(rest)? },
-        "top" => Call::TopBegin,
-        "endtop" => Call::TopEnd,
-        "commit" => Call::End { commits: true },
-        "abort" => Call::End { commits: false },
-        "fits" => Call::Fits {
-            pages: numbers(alloc, rest)?,
-        },
-        _ => return Err(RowFault::Call),
-    };
-    Ok(call)
+    match word {
+        "write" => read_write(alloc, rest),
+        "fits" => read_fits(alloc, rest),
+        "see" | "read" => read_range(word, rest),
+        "back" => Ok(Call::Back { n: number(rest)? }),
+        _ => read_bare(word),
+    }
+}
+
+// The calls that are one word.
+fn read_bare(word: &str) -> Result<Call, RowFault> {
+    match word {
+        "len" => Ok(Call::Len),
+        "save" => Ok(Call::Save),
+        "top" => Ok(Call::TopBegin),
+        "endtop" => Ok(Call::TopEnd),
+        "commit" => Ok(Call::End { commits: true }),
+        "abort" => Ok(Call::End { commits: false }),
+        _ => Err(RowFault::Call),
+    }
+}
+
+// `see` and `read`.
+fn read_range(word: &str, text: &str) -> Result<Call, RowFault> {
+    let [page, at, len] = three(text)?;
+    if word == "see" {
+        Ok(Call::See { page, at, len })
+    } else {
+        Ok(Call::Read { page, at, len })
+    }
+}
+
+fn read_fits(alloc: Global, text: &str) -> Result<Call, RowFault> {
+    let pages = numbers(alloc, text)?;
+    Ok(Call::Fits { pages })
 }
 
 fn read_write(alloc: Global, text: &str) -> Result<Call, RowFault> {

@@ -10,11 +10,11 @@ pub enum RowFault {
     Call,
     #[error("there is no such array")]
     Shape,
-    #[error("an answer differs from the model's")]
-    Model,
     #[error("an answer differs from the row's")]
     Answer,
-    #[error("the data differs from the model's")]
+    #[error("the array answers something else than plain memory")]
+    Store,
+    #[error("the array's data is not that of plain memory")]
     Data,
     #[error("a loss of power left neither the data before the call nor the data after it")]
     Left,
@@ -24,6 +24,8 @@ pub enum RowFault {
     Alive,
     #[error("the image can't be opened")]
     Opening,
+    #[error("nothing can be printed")]
+    Print,
     #[error("no memory")]
     NoMemory,
 }

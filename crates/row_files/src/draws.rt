@@ -20,24 +20,40 @@ impl Draws {
     }
 }
 
-// One command of number 0 or 1 on 4,096 bytes of data; most of them can be done.
-fn drawn_line(alloc: Global, draws: &mut Draws) -> Result<String, LineFault> {
+// Puts one command of number 0 or 1 on 4,096 bytes of data; most of them can be done.
+fn push_command(alloc: Global, out: &mut Vec<u8>, draws: &mut Draws) -> Result<(), LineFault> {
     let number = draws.below(2);
-    let addr = draws.below(4096);
-    let pos = draws.below(5);
+    let addr = Some(draws.below(4096));
+    let pos = Some(draws.below(5));
     let byte = 10u64.wrapping_add(draws.below(90));
-    let line = match draws.below(12) {
-        0..=3 => format!(in alloc; "{number} logwrite {addr} {byte}61{byte}\n")?,
-        4 => format!(in alloc; "{number} commit\n")?,
-        5 => format!(in alloc; "{number} abort\n")?,
-        6 => format!(in alloc; "{number} nested {pos}\n")?,
-        7 => format!(in alloc; "{number} partial {pos}\n")?,
-        8 => format!(in alloc; "{number} atomic {addr} {byte}\n")?,
-        9 => format!(in alloc; "{number} editlog {pos} 1 {byte}\n")?,
-        10 => format!(in alloc; "{number} readlog {pos}\n")?,
-        _ => format!(in alloc; "{number} read {addr} 3\n")?,
+    // The digits of three bytes, of which the second is 61.
+    let three = Some(byte.wrapping_mul(10_001).wrapping_add(6100));
+    let (word, numbers) = match draws.below(12) {
+        0..=3 => ("logwrite", [addr, three, None]),
+        4 => ("commit", [None, None, None]),
+        5 => ("abort", [None, None, None]),
+        6 => ("nested", [pos, None, None]),
+        7 => ("partial", [pos, None, None]),
+        8 => ("atomic", [addr, Some(byte), None]),
+        9 => ("editlog", [pos, Some(1), Some(byte)]),
+        10 => ("readlog", [pos, None, None]),
+        _ => ("read", [addr, Some(3), None]),
     };
-    Ok(line)
+    out.extend_from_slice(format!(in alloc; "{number} {word}")?.as_bytes())?;
+    push_numbers(alloc, out, &numbers)
+}
+
+// Puts numbers, each behind a space, and the end of the line.
+fn push_numbers(
+    alloc: Global,
+    out: &mut Vec<u8>,
+    numbers: &[Option<u64>],
+) -> Result<(), LineFault> {
+    for number in numbers.iter().flatten() {
+        out.extend_from_slice(format!(in alloc; " {number}")?.as_bytes())?;
+    }
+    out.push(b'\n')?;
+    Ok(())
 }
 
 /// Puts so many lines behind what is there.
@@ -49,8 +65,7 @@ pub fn push_drawn(
 ) -> Result<(), LineFault> {
     let mut draws = Draws::new(seed);
     for _ in 0..count {
-        let line = drawn_line(alloc, &mut draws)?;
-        out.extend_from_slice(line.as_bytes())?;
+        push_command(alloc, out, &mut draws)?;
     }
     Ok(())
 }

@@ -8,6 +8,7 @@
 //! | `wrong WHAT` | the row is wrong, and has to be refused for this; so it shows that the like is looked at |
 //! | `image fresh L T E P` | at first there is what `format` makes of these numbers; 4 8 16 64 where no line says it |
 //! | `image zeros N` | at first there are N zeros |
+//! | `file` | each run goes over a file in memory, once for each way in which its calls are answered: wholly, in parts, with interruptions, and a mixture of these. There `fail media` counts the calls of the file, and no `calls` and no `call` are said |
 //!
 //! A run over the image, and what goes wrong in it. Numbers are counted from 1, and `A to B` may be one number alone:
 //!

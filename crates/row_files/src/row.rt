@@ -27,6 +27,8 @@ pub struct Row {
     /// What the row is to be refused for, if it is wrong.
     pub wrong: Option<String>,
     pub image: Image,
+    /// Whether its runs go over a file.
+    pub is_over_file: bool,
     pub runs: Vec<Run>,
 }
 
@@ -45,6 +47,7 @@ impl Row {
                 entries: 16,
                 pages: 64,
             },
+            is_over_file: false,
             runs,
         })
     }
@@ -55,6 +58,7 @@ impl Row {
         match word {
             "wrong" => self.wrong = Some(String::from_str(alloc, rest)?),
             "image" => self.image = read_image(rest)?,
+            "file" => self.is_over_file = true,
             "then" => self.runs.push(Run::new(alloc, choices(alloc, rest)?)?)?,
             _ => match self.runs.last_mut() {
                 Some(run) => run.take(alloc, word, rest)?,

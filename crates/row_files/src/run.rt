@@ -109,27 +109,39 @@ impl Run {
     /// Takes what a line says of the run.
     pub fn take(&mut self, alloc: Global, word: &str, rest: &str) -> Result<(), LineFault> {
         match word {
-            "length" => self.len = Some(size(rest)?),
-            "set" => self.sets.push(Placed::read(alloc, rest)?)?,
-            "words" => self.words = words(alloc, rest)?,
-            "drawn" => {
-                let (count, seed) = two_words(rest)?;
-                push_drawn(alloc, &mut self.input, number(count)?, number(seed)?)?;
+            "length" | "set" | "words" => self.take_start(alloc, word, rest),
+            "drawn" | "loads" => self.take_many(alloc, word, rest),
+            "fail" | "power" => {
+                self.trouble = Trouble::read(word, rest)?;
+                Ok(())
             }
-            "loads" => {
-                let (size, keys) = two_words(rest)?;
-                let (first, last) = span(keys)?;
-                push_loads(alloc, self, first, last, number(size)?)?;
-            }
-            "fail" | "power" => self.trouble = Trouble::read(word, rest)?,
-            "or" => self.wanted.push(Wanted::new(alloc))?,
-            "front" | "unsaid" | "status" => self.take_wanted(alloc, word, rest)?,
+            "or" | "front" | "unsaid" | "status" => self.take_wanted(alloc, word, rest),
             "has" | "only" | "unwritten" | "stops" | "calls" | "call" => self
                 .left
-                .take(alloc, word, rest)?,
-            _ => self.take_text(alloc, word, rest)?,
+                .take(alloc, word, rest),
+            _ => self.take_text(alloc, word, rest),
+        }
+    }
+
+    // What there is before the run, and its words.
+    fn take_start(&mut self, alloc: Global, word: &str, rest: &str) -> Result<(), LineFault> {
+        match word {
+            "length" => self.len = Some(size(rest)?),
+            "set" => self.sets.push(Placed::read(alloc, rest)?)?,
+            _ => self.words = words(alloc, rest)?,
         }
         Ok(())
+    }
+
+    // Many lines of the input.
+    fn take_many(&mut self, alloc: Global, word: &str, rest: &str) -> Result<(), LineFault> {
+        let (count, behind) = two_words(rest)?;
+        let count = number(count)?;
+        if word == "drawn" {
+            return push_drawn(alloc, &mut self.input, count, number(behind)?);
+        }
+        let (first, last) = span(behind)?;
+        push_loads(alloc, self, first, last, count)
     }
 
     // A line of the input or of the answers.
@@ -148,6 +160,10 @@ impl Run {
 
     // How the run ends.
     fn take_wanted(&mut self, alloc: Global, word: &str, rest: &str) -> Result<(), LineFault> {
+        if word == "or" {
+            self.wanted.push(Wanted::new(alloc))?;
+            return Ok(());
+        }
         let Some(way) = self.wanted.last_mut() else {
             return Err(LineFault::Word);
         };

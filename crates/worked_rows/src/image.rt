@@ -51,10 +51,13 @@ pub fn image_before(
     run: &Run,
 ) -> Result<Vec<u8>, RowFault> {
     let left = left.leave(choice)?;
-    let mut image = Vec::from_slice(alloc, left.bytes())?;
-    if let Some(len) = run.len {
-        image.resize(len, 0)?;
-    }
+    changed(alloc, left.bytes(), run)
+}
+
+// These bytes with the run's own changes.
+fn changed(alloc: Global, bytes: &[u8], run: &Run) -> Result<Vec<u8>, RowFault> {
+    let mut image = Vec::from_slice(alloc, bytes)?;
+    image.resize(run.len.unwrap_or(bytes.len()), 0)?;
     for set in &run.sets {
         overwrite(&mut image, set)?;
     }

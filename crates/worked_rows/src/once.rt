@@ -3,7 +3,7 @@ use crate::fault::RowFault;
 use crate::image::media_of;
 use mars_shell::{OpenGate, Status, fault_text, run};
 use outside::{MemorySink, MemorySource};
-use pcm_media::{FusedMedia, MemoryMedia};
+use pcm_media::{FusedMedia, Media, MemoryMedia};
 use row_files::{Run, TroubleKind};
 use std::alloc::Global;
 use std::sync::Wait;
@@ -19,40 +19,46 @@ pub struct Ran {
     pub status: u64,
     pub fault: Vec<u8>,
     pub sink: MemorySink,
+    /// A media with what it left.
     pub media: MemoryMedia,
 }
 
-/// Makes a run over an image. Where calls of it are to fail, the `nth` does.
-pub fn run_once<R: AllocGlobal + Threads + Wait + Sync>(
+impl Ran {
+    pub fn new(
+        alloc: Global,
+        status: Status,
+        sink: MemorySink,
+        media: MemoryMedia,
+    ) -> Result<Ran, RowFault> {
+        let mut buf = [0; 64];
+        let len = fault_text(&status, &mut buf);
+        Ok(Ran {
+            status: u64::from(status.number()),
+            fault: Vec::from_slice(alloc, &buf[..len])?,
+            sink,
+            media,
+        })
+    }
+}
+
+/// Makes a run over an image in memory. Where calls of it are to fail, the `nth` does.
+pub fn run_over_memory<R: AllocGlobal + Threads + Wait + Sync>(
     rt: &R,
     asked: &Run,
     image: &[u8],
     nth: u64,
 ) -> Result<Ran, RowFault> {
-    let alloc = rt.alloc();
-    let mut source = source_of(alloc, asked, nth)?;
-    let mut sink = sink_of(alloc, asked, nth)?;
-    let media = failing_media(alloc, asked, image, nth)?;
-    let (status, media) = run_over(rt, &asked.words, &mut source, &mut sink, media);
-    let mut buf = [0; 64];
-    let len = fault_text(&status, &mut buf);
-    Ok(Ran {
-        status: u64::from(status.number()),
-        fault: Vec::from_slice(alloc, &buf[..len])?,
-        sink,
-        media,
-    })
-}
-
-fn source_of(alloc: Global, asked: &Run, nth: u64) -> Result<MemorySource, RowFault> {
-    let mut source = MemorySource::new(alloc, &asked.input)?;
-    if let TroubleKind::Read = asked.trouble.kind {
-        source.fail(nth)?;
+    let mut media = media_of(rt.alloc(), image)?;
+    if let TroubleKind::Media = asked.trouble.kind {
+        media.fail(nth)?;
     }
-    Ok(source)
+    let mut sink = sink_of(rt.alloc(), asked, nth)?;
+    let (status, media) = run_over(rt, asked, nth, &mut sink, media)?;
+    Ran::new(rt.alloc(), status, sink, media)
 }
 
-fn sink_of(alloc: Global, asked: &Run, nth: u64) -> Result<MemorySink, RowFault> {
+/// A sink for the answers of a run. Where writes are to fail, the `nth` does.
+pub fn sink_of(alloc: Global, asked: &Run, nth: u64) -> Result<MemorySink, RowFault> {
     let mut sink = MemorySink::new(alloc, TEXT)?;
     if let TroubleKind::Write = asked.trouble.kind {
         sink.fail(nth)?;
@@ -60,15 +66,17 @@ fn sink_of(alloc: Global, asked: &Run, nth: u64) -> Result<MemorySink, RowFault>
     Ok(sink)
 }
 
-fn failing_media(
-    alloc: Global,
+/// Makes a run over a media. Where power is lost, that is behind `nth` calls.
+pub fn run_over<R: AllocGlobal + Threads + Wait + Sync, M: Media + Drop + Send>(
+    rt: &R,
     asked: &Run,
-    image: &[u8],
     nth: u64,
-) -> Result<FusedMedia<MemoryMedia>, RowFault> {
-    let mut media = media_of(alloc, image)?;
-    if let TroubleKind::Media = asked.trouble.kind {
-        media.fail(nth)?;
+    sink: &mut MemorySink,
+    media: M,
+) -> Result<(Status, M), RowFault> {
+    let mut source = MemorySource::new(rt.alloc(), &asked.input)?;
+    if let TroubleKind::Read = asked.trouble.kind {
+        source.fail(nth)?;
     }
     let passes = match asked.trouble.kind {
         TroubleKind::Power => nth,
@@ -76,16 +84,7 @@ fn failing_media(
             u64::MAX
         }
     };
-    Ok(FusedMedia::new(media, passes))
-}
-
-fn run_over<R: AllocGlobal + Threads + Wait + Sync>(
-    rt: &R,
-    words: &[String],
-    source: &mut MemorySource,
-    sink: &mut MemorySink,
-    media: FusedMedia<MemoryMedia>,
-) -> (Status, MemoryMedia) {
-    let (status, media) = run(rt, words, source, sink, media, &OpenGate);
-    (status, media.into_inner())
+    let media = FusedMedia::new(media, passes);
+    let (status, media) = run(rt, &asked.words, &mut source, sink, media, &OpenGate);
+    Ok((status, media.into_inner()))
 }

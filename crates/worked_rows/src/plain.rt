@@ -40,8 +40,17 @@ pub fn compare_plain(
     if sink.written() != was {
         return Err(report.differs("the plain store's answers", sink.written(), was));
     }
-    let wanted = data_of(alloc, &mut plain)?;
-    let was = data_in(alloc, ran.media.bytes())?;
+    compare_data(alloc, &mut plain, ran.media.bytes(), report)
+}
+
+fn compare_data(
+    alloc: Global,
+    plain: &mut MemoryEaw,
+    image: &[u8],
+    report: &mut Report,
+) -> Result<(), RowFault> {
+    let wanted = data_of(alloc, plain)?;
+    let was = data_in(alloc, image)?;
     if wanted != was {
         return Err(report.differs("the plain store's data", &wanted, &was));
     }

@@ -2,13 +2,23 @@
 use crate::compare::compare;
 use crate::fault::{Report, RowFault};
 use crate::image::{first_media, image_before};
-use crate::once::run_once;
+use crate::once::{Ran, run_over_memory};
+use crate::over_file::{compare_memory, run_over_file};
 use crate::plain::{compare_plain, has_twin};
+use crate::way::{WAYS, Way};
 use pcm_media::MemoryMedia;
-use row_files::{Row, Run};
+use row_files::{Row, Run, TroubleKind};
 use std::alloc::Global;
 use std::sync::Wait;
 use std::thread::Threads;
+
+/// What a run goes over.
+#[derive(Clone, Copy)]
+pub enum Over {
+    Memory,
+    /// A file, whose calls are answered in this way.
+    File(Way),
+}
 
 /// One way to make a run: what stands where nothing is sure, and which of its calls is the one that fails.
 #[derive(Clone, Copy)]
@@ -17,14 +27,40 @@ pub struct Trial {
     pub nth: u64,
 }
 
+/// How many runs were made.
+#[derive(Clone, Copy)]
+pub struct Runs {
+    pub all: u64,
+    /// Those that went over a file.
+    pub over_file: u64,
+    /// Those that went over the plain store as well.
+    pub over_plain: u64,
+}
+
+impl Runs {
+    pub fn none() -> Runs {
+        Runs {
+            all: 0,
+            over_file: 0,
+            over_plain: 0,
+        }
+    }
+
+    pub fn plus(self, more: Runs) -> Runs {
+        Runs {
+            all: self.all.saturating_add(more.all),
+            over_file: self.over_file.saturating_add(more.over_file),
+            over_plain: self.over_plain.saturating_add(more.over_plain),
+        }
+    }
+}
+
 /// How far a row has come.
 #[derive(Drop)]
 pub struct Progress {
     /// The trials in which it is, or in which it ended.
     pub trials: Vec<Trial>,
-    pub runs: u64,
-    /// How many of these runs went over the plain store as well.
-    pub plain_runs: u64,
+    pub runs: Runs,
     pub report: Report,
 }
 
@@ -32,8 +68,7 @@ impl Progress {
     pub fn new(alloc: Global) -> Progress {
         Progress {
             trials: Vec::new(alloc),
-            runs: 0,
-            plain_runs: 0,
+            runs: Runs::none(),
             report: Report::new(alloc),
         }
     }
@@ -46,13 +81,20 @@ pub fn run_row<R: AllocGlobal + Threads + Wait + Sync>(
     progress: &mut Progress,
 ) -> Result<(), RowFault> {
     let media = first_media(rt.alloc(), row.image)?;
-    follow(rt, &row.runs, &media, progress)
+    if !row.is_over_file {
+        return follow(rt, &row.runs, Over::Memory, &media, progress);
+    }
+    for way in WAYS {
+        follow(rt, &row.runs, Over::File(way), &media, progress)?;
+    }
+    Ok(())
 }
 
 // Makes the first of these runs over what was left, and over what each of its trials leaves the others.
 fn follow<R: AllocGlobal + Threads + Wait + Sync>(
     rt: &R,
     runs: &[Run],
+    over: Over,
     left: &MemoryMedia,
     progress: &mut Progress,
 ) -> Result<(), RowFault> {
@@ -61,8 +103,8 @@ fn follow<R: AllocGlobal + Threads + Wait + Sync>(
     };
     for trial in &trials_of(rt.alloc(), run)? {
         progress.trials.push(*trial)?;
-        let media = make_trial(rt, run, left, trial, progress)?;
-        follow(rt, later, &media, progress)?;
+        let media = make_trial(rt, run, over, left, trial, progress)?;
+        follow(rt, later, over, &media, progress)?;
         progress.trials.pop();
     }
     Ok(())
@@ -72,6 +114,7 @@ fn follow<R: AllocGlobal + Threads + Wait + Sync>(
 fn make_trial<R: AllocGlobal + Threads + Wait + Sync>(
     rt: &R,
     run: &Run,
+    over: Over,
     left: &MemoryMedia,
     trial: &Trial,
     progress: &mut Progress,
@@ -82,14 +125,35 @@ fn make_trial<R: AllocGlobal + Threads + Wait + Sync>(
         None => &[],
     };
     let before = image_before(alloc, left, choice, run)?;
-    let ran = run_once(rt, run, &before, trial.nth)?;
-    progress.runs = progress.runs.saturating_add(1);
+    let ran = make_run(rt, run, over, &before, trial.nth, progress)?;
     compare(alloc, run, trial.nth, &before, &ran, &mut progress.report)?;
     if has_twin(run, &ran) {
-        progress.plain_runs = progress.plain_runs.saturating_add(1);
+        progress.runs.over_plain = progress.runs.over_plain.saturating_add(1);
         compare_plain(alloc, run, &before, &ran, &mut progress.report)?;
     }
     Ok(ran.media)
+}
+
+// Makes a run, over a file or in memory. Over a file none of whose calls fails it does just what it does in memory.
+fn make_run<R: AllocGlobal + Threads + Wait + Sync>(
+    rt: &R,
+    run: &Run,
+    over: Over,
+    before: &[u8],
+    nth: u64,
+    progress: &mut Progress,
+) -> Result<Ran, RowFault> {
+    progress.runs.all = progress.runs.all.saturating_add(1);
+    let Over::File(way) = over else {
+        return run_over_memory(rt, run, before, nth);
+    };
+    progress.runs.over_file = progress.runs.over_file.saturating_add(1);
+    let ran = run_over_file(rt, run, before, nth, way)?;
+    match run.trouble.kind {
+        TroubleKind::Media => {}
+        _ => compare_memory(rt, run, before, nth, &ran, &mut progress.report)?,
+    }
+    Ok(ran)
 }
 
 // All trials of a run.

@@ -1,8 +1,9 @@
 // All rows of a folder.
 use crate::fault::RowFault;
-use crate::rows::{Progress, run_row};
+use crate::rows::{Progress, Runs, run_row};
 use anyhow::Result;
 use row_files::{Row, read_rows};
+use std::alloc::{AllocError, Global};
 use std::fs;
 use std::rt::Files;
 use std::sync::Wait;
@@ -13,9 +14,7 @@ use std::thread::Threads;
 pub struct Tally {
     pub passed: u64,
     pub failed: u64,
-    pub runs: u64,
-    /// Runs that went over the plain store as well.
-    pub plain_runs: u64,
+    pub runs: Runs,
 }
 
 /// Runs the rows of each file of a folder whose name ends in `.rows`, in the order of the names.
@@ -26,8 +25,7 @@ where
     let mut tally = Tally {
         passed: 0,
         failed: 0,
-        runs: 0,
-        plain_runs: 0,
+        runs: Runs::none(),
     };
     for path in &paths_in(rt, folder)? {
         run_file(rt, path.as_str(), &mut tally)?;
@@ -42,16 +40,19 @@ where
     let mut paths = Vec::new(rt.alloc());
     for entry in fs::read_dir(rt, folder)? {
         let entry = entry?;
-        if !entry.file_name().ends_with(".rows") {
-            continue;
+        if entry.file_name().ends_with(".rows") {
+            paths.push(path_in(rt.alloc(), folder, entry.file_name())?)?;
         }
-        let mut path = String::from_str(rt.alloc(), folder)?;
-        path.push('/')?;
-        path.push_str(entry.file_name())?;
-        paths.push(path)?;
     }
     paths.sort()?;
     Ok(paths)
+}
+
+fn path_in(alloc: Global, folder: &str, name: &str) -> Result<String, AllocError> {
+    let mut path = String::from_str(alloc, folder)?;
+    path.push('/')?;
+    path.push_str(name)?;
+    Ok(path)
 }
 
 fn run_file<R>(rt: &R, path: &str, tally: &mut Tally) -> Result<()>
@@ -61,8 +62,7 @@ where
     for row in &rows_in(rt, path)? {
         let mut progress = Progress::new(rt.alloc());
         let ended = run_row(rt, row, &mut progress);
-        tally.runs = tally.runs.saturating_add(progress.runs);
-        tally.plain_runs = tally.plain_runs.saturating_add(progress.plain_runs);
+        tally.runs = tally.runs.plus(progress.runs);
         if passes(row, ended) {
             tally.passed = tally.passed.saturating_add(1);
         } else {

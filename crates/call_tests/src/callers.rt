@@ -1,0 +1,179 @@
+use crate::holds::{Flag, Hold, Holds};
+use counted::NoMemory;
+use mars_shell::{Gate, OpenGate, Place, Status, room, run};
+use outside::{MemorySink, MemorySource};
+use pcm_media::MemoryMedia;
+use std::alloc::{AllocError, Global};
+use std::sync::Wait;
+use std::test::*;
+use std::thread::Threads;
+
+// Room for the record of what is asked of a media, and for a text; past it they grow.
+const CALLS: u64 = 1024;
+
+const WRITTEN: u64 = 262_144;
+
+const TEXT: u64 = 1024;
+
+fn words_of(alloc: Global, text: &str) -> Result<Vec<String>, AllocError> {
+    let mut words = Vec::new(alloc);
+    for word in text.split_whitespace() {
+        words.push(String::from_str(alloc, word)?)?;
+    }
+    Ok(words)
+}
+
+// The media behind a run, which has to be good.
+fn behind<R: AllocGlobal + Threads + Wait + Sync>(
+    rt: &R,
+    media: MemoryMedia,
+    words: &[String],
+    input: &[u8],
+) -> Result<MemoryMedia, Fail> {
+    let mut source = MemorySource::new(rt.alloc(), input)?;
+    let mut sink = MemorySink::new(rt.alloc(), TEXT)?;
+    let (status, media) = run(rt, words, &mut source, &mut sink, media, &OpenGate);
+    match status {
+        Status::Good => Ok(media),
+        _ => Err(Fail::from("no array")),
+    }
+}
+
+const FORMAT: &str = "format --loggers 2 --numbers 2 --entries 8 --pages 4";
+
+// An array that `format` has just made.
+fn fresh<R: AllocGlobal + Threads + Wait + Sync>(rt: &R) -> Result<MemoryMedia, Fail> {
+    let words = words_of(rt.alloc(), FORMAT)?;
+    let media = zeros(rt.alloc(), room(rt.alloc(), &words)? as usize)?;
+    behind(rt, media, &words, b"")
+}
+
+fn zeros(alloc: Global, len: usize) -> Result<MemoryMedia, NoMemory> {
+    let zeros = vec![in alloc; 0; len]?;
+    MemoryMedia::new(alloc, &zeros, CALLS, WRITTEN)
+}
+
+// What two callers write who work over an array with this gate.
+fn worked<R: AllocGlobal + Threads + Wait + Sync, G: Gate + Sync>(
+    rt: &R,
+    media: MemoryMedia,
+    words: &str,
+    input: &[u8],
+    gate: &G,
+) -> Result<(Status, MemorySink), Fail> {
+    let alloc = rt.alloc();
+    let words = words_of(alloc, words)?;
+    let mut source = MemorySource::new(alloc, input)?;
+    let mut sink = MemorySink::new(alloc, TEXT)?;
+    let (status, _) = run(rt, &words, &mut source, &mut sink, media, gate);
+    Ok((status, sink))
+}
+
+const OTHER_KEYS: &[u8] = b"0 begin\n0 put 1 a\n0 commit\n1 begin\n1 put 2 b\n1 commit\n";
+
+// Both keys have one stripe.
+const ONE_STRIPE: &[u8] = b"0 begin\n0 put 5 a\n0 commit\n1 begin\n1 get 69\n1 commit\n";
+
+const ZERO_FIRST: &[u8] = b"txn 1 caller 0\n0 ok\ntxn 2 caller 1\n1 none\nrec 5 a\n";
+
+const NO_SLOT: &[u8] =
+    b"0 begin\n0 put 5 b\n0 commit\n1 begin\n1 put 69 x\n1 commit\n1 begin\n1 commit\n1 begin\n1 get 69\n1 abort\n";
+
+// Each caller has one transaction of one call.
+const PUT_OF_ZERO: Place = Place::Answered {
+    caller: 0,
+    nth: 1,
+    call: 1,
+};
+
+const END_OF_ZERO: Place = Place::Ended { caller: 0, nth: 1 };
+
+const BEGIN_OF_ONE: Place = Place::Began { caller: 1, nth: 1 };
+
+const END_OF_ONE: Place = Place::Ended { caller: 1, nth: 1 };
+
+// Caller 0 stays within its transaction until the other's has ended.
+#[test]
+fn one_commits_while_another_is_within_a_transaction(rt: HostRuntime) -> Result<(), Fail> {
+    let holds = [
+        Hold::new(PUT_OF_ZERO, 1, None, Some(Flag::First)),
+        Hold::new(END_OF_ONE, 1, Some(Flag::First), None),
+    ];
+    let gate = Holds::new(&holds);
+    let (status, sink) = worked(&rt, fresh(&rt)?, "callers 2", OTHER_KEYS, &gate)?;
+    assert_eq!(rt; gate.given_up(), 0);
+    assert_eq!(rt; status, Status::Good);
+    let wanted: &[u8] = b"txn 1 caller 1\n1 ok\ntxn 2 caller 0\n0 ok\nrec 1 a\nrec 2 b\n";
+    assert_eq!(rt; sink.written(), wanted);
+    Ok(())
+}
+
+// Caller 1 asks for a key whose stripe is held until it has given up its tries.
+#[test]
+fn who_finds_a_key_held_at_each_try_is_last(rt: HostRuntime) -> Result<(), Fail> {
+    let holds = [
+        Hold::new(BEGIN_OF_ONE, 1, None, Some(Flag::First)),
+        Hold::new(PUT_OF_ZERO, 1, Some(Flag::First), Some(Flag::Second)),
+        Hold::new(END_OF_ONE, 1, Some(Flag::Second), None),
+    ];
+    let gate = Holds::new(&holds);
+    let (status, sink) = worked(&rt, fresh(&rt)?, "callers 2 --tries 1", ONE_STRIPE, &gate)?;
+    assert_eq!(rt; gate.given_up(), 0);
+    assert_eq!(rt; status, Status::Good);
+    assert_eq!(rt; sink.written(), ZERO_FIRST);
+    Ok(())
+}
+
+// Caller 1 finds a stripe held at its first try, and begins its second before that is given up.
+#[test]
+fn who_finds_a_key_held_tries_again(rt: HostRuntime) -> Result<(), Fail> {
+    let holds = [
+        Hold::new(BEGIN_OF_ONE, 1, None, Some(Flag::First)),
+        Hold::new(PUT_OF_ZERO, 1, Some(Flag::First), Some(Flag::Second)),
+        Hold::new(BEGIN_OF_ONE, 2, Some(Flag::Second), Some(Flag::Third)),
+        Hold::new(END_OF_ZERO, 1, Some(Flag::Third), None),
+    ];
+    let gate = Holds::new(&holds);
+    let (status, sink) = worked(&rt, fresh(&rt)?, "callers 2 --tries 2", ONE_STRIPE, &gate)?;
+    assert_eq!(rt; gate.given_up(), 0);
+    assert_eq!(rt; status, Status::Good);
+    assert_eq!(rt; sink.written(), ZERO_FIRST);
+    Ok(())
+}
+
+// An array whose slots are all given: 32 of them, to the keys 0 to 31.
+fn full<R: AllocGlobal + Threads + Wait + Sync>(rt: &R) -> Result<MemoryMedia, Fail> {
+    let input = puts(rt.alloc())?;
+    let words = words_of(rt.alloc(), "run")?;
+    behind(rt, fresh(rt)?, &words, input.as_bytes())
+}
+
+// The lines that put the keys 0 to 31.
+fn puts(alloc: Global) -> Result<String, AllocError> {
+    let mut lines = String::new(alloc);
+    for key in 0..32 {
+        let line = format!(in alloc; "0 begin\n0 put {key} a\n0 commit\n")?;
+        lines.push_str(line.as_str())?;
+    }
+    Ok(lines)
+}
+
+// The first put of caller 1 finds a key held, and is done last: no slot is left for it. The two others come behind it.
+#[test]
+fn who_is_last_is_refused_for_want_of_a_slot(rt: HostRuntime) -> Result<(), Fail> {
+    let holds = [
+        Hold::new(BEGIN_OF_ONE, 1, None, Some(Flag::First)),
+        Hold::new(PUT_OF_ZERO, 1, Some(Flag::First), Some(Flag::Second)),
+        Hold::new(END_OF_ONE, 1, Some(Flag::Second), None),
+    ];
+    let gate = Holds::new(&holds);
+    let (status, sink) = worked(&rt, full(&rt)?, "callers 2 --tries 1", NO_SLOT, &gate)?;
+    assert_eq!(rt; gate.given_up(), 0);
+    assert_eq!(rt; status, Status::Good);
+    assert!(rt;
+        sink.written().starts_with(
+            b"txn 1 caller 0\n0 ok\ntxn 2 caller 1\n1 refused 1 slots full 32\n1 aborted 3\nrec 0 a\n"
+        )
+    );
+    Ok(())
+}
