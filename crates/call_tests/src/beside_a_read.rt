@@ -99,8 +99,16 @@ fn beside_a_read<C: Core + Drop + Send, R: Threads + Sync>(
 
 fn beside_in_an_array<R: Threads + Sync>(rt: &R, alloc: Global) -> Option<Beside> {
     let hold = Hold::released(alloc).ok()?;
-    let core = fresh(alloc, Arc::try_clone(&hold).ok()?)?;
-    beside_a_read(rt, alloc, core, &hold)
+    beside_held(rt, alloc, &hold)
+}
+
+fn beside_held<R: Threads + Sync>(
+    rt: &R,
+    alloc: Global,
+    hold: &Arc<Hold, Global>,
+) -> Option<Beside> {
+    let core = fresh(alloc, Arc::try_clone(hold).ok()?)?;
+    beside_a_read(rt, alloc, core, hold)
 }
 
 #[test]

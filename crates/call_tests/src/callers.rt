@@ -53,20 +53,42 @@ fn zeros(alloc: Global, len: usize) -> Result<MemoryMedia, NoMemory> {
     MemoryMedia::new(alloc, &zeros, CALLS, WRITTEN)
 }
 
-// What two callers write who work over an array with this gate.
+// What two callers write who work over an array with this gate. They have to come to an end.
 fn worked<R: AllocGlobal + Threads + Wait + Sync, G: Gate + Sync>(
+    rt: &R,
+    media: MemoryMedia,
+    words: &[String],
+    input: &[u8],
+    gate: &G,
+) -> Result<MemorySink, Fail> {
+    let mut source = MemorySource::new(rt.alloc(), input)?;
+    let mut sink = MemorySink::new(rt.alloc(), TEXT)?;
+    let (status, _) = run(rt, words, &mut source, &mut sink, media, gate);
+    match status {
+        Status::Good => Ok(sink),
+        _ => Err(Fail::from("another status")),
+    }
+}
+
+// Two callers who work over an array write this text, with these holds, none of which gives up.
+fn writes<R: AllocGlobal + Threads + Wait + Sync>(
     rt: &R,
     media: MemoryMedia,
     words: &str,
     input: &[u8],
-    gate: &G,
-) -> Result<(Status, MemorySink), Fail> {
-    let alloc = rt.alloc();
-    let words = words_of(alloc, words)?;
-    let mut source = MemorySource::new(alloc, input)?;
-    let mut sink = MemorySink::new(alloc, TEXT)?;
-    let (status, _) = run(rt, &words, &mut source, &mut sink, media, gate);
-    Ok((status, sink))
+    holds: &[Hold],
+    wanted: &[u8],
+) -> Result<(), Fail> {
+    let gate = Holds::new(holds);
+    let words = words_of(rt.alloc(), words)?;
+    let sink = worked(rt, media, &words, input, &gate)?;
+    if gate.given_up() > 0 {
+        return Err(Fail::from("a wait was given up"));
+    }
+    if sink.written() != wanted {
+        return Err(Fail::from("another text"));
+    }
+    Ok(())
 }
 
 const OTHER_KEYS: &[u8] = b"0 begin\n0 put 1 a\n0 commit\n1 begin\n1 put 2 b\n1 commit\n";
@@ -92,6 +114,8 @@ const BEGIN_OF_ONE: Place = Place::Began { caller: 1, nth: 1 };
 
 const END_OF_ONE: Place = Place::Ended { caller: 1, nth: 1 };
 
+const ONE_FIRST: &[u8] = b"txn 1 caller 1\n1 ok\ntxn 2 caller 0\n0 ok\nrec 1 a\nrec 2 b\n";
+
 // Caller 0 stays within its transaction until the other's has ended.
 #[test]
 fn one_commits_while_another_is_within_a_transaction(rt: HostRuntime) -> Result<(), Fail> {
@@ -99,29 +123,29 @@ fn one_commits_while_another_is_within_a_transaction(rt: HostRuntime) -> Result<
         Hold::new(PUT_OF_ZERO, 1, None, Some(Flag::First)),
         Hold::new(END_OF_ONE, 1, Some(Flag::First), None),
     ];
-    let gate = Holds::new(&holds);
-    let (status, sink) = worked(&rt, fresh(&rt)?, "callers 2", OTHER_KEYS, &gate)?;
-    assert_eq!(rt; gate.given_up(), 0);
-    assert_eq!(rt; status, Status::Good);
-    let wanted: &[u8] = b"txn 1 caller 1\n1 ok\ntxn 2 caller 0\n0 ok\nrec 1 a\nrec 2 b\n";
-    assert_eq!(rt; sink.written(), wanted);
-    Ok(())
+    writes(&rt, fresh(&rt)?, "callers 2", OTHER_KEYS, &holds, ONE_FIRST)
 }
 
 // Caller 1 asks for a key whose stripe is held until it has given up its tries.
-#[test]
-fn who_finds_a_key_held_at_each_try_is_last(rt: HostRuntime) -> Result<(), Fail> {
-    let holds = [
+fn held_at_the_only_try() -> [Hold; 3] {
+    [
         Hold::new(BEGIN_OF_ONE, 1, None, Some(Flag::First)),
         Hold::new(PUT_OF_ZERO, 1, Some(Flag::First), Some(Flag::Second)),
         Hold::new(END_OF_ONE, 1, Some(Flag::Second), None),
-    ];
-    let gate = Holds::new(&holds);
-    let (status, sink) = worked(&rt, fresh(&rt)?, "callers 2 --tries 1", ONE_STRIPE, &gate)?;
-    assert_eq!(rt; gate.given_up(), 0);
-    assert_eq!(rt; status, Status::Good);
-    assert_eq!(rt; sink.written(), ZERO_FIRST);
-    Ok(())
+    ]
+}
+
+#[test]
+fn who_finds_a_key_held_at_each_try_is_last(rt: HostRuntime) -> Result<(), Fail> {
+    let holds = held_at_the_only_try();
+    writes(
+        &rt,
+        fresh(&rt)?,
+        "callers 2 --tries 1",
+        ONE_STRIPE,
+        &holds,
+        ZERO_FIRST,
+    )
 }
 
 // Caller 1 finds a stripe held at its first try, and begins its second before that is given up.
@@ -133,12 +157,14 @@ fn who_finds_a_key_held_tries_again(rt: HostRuntime) -> Result<(), Fail> {
         Hold::new(BEGIN_OF_ONE, 2, Some(Flag::Second), Some(Flag::Third)),
         Hold::new(END_OF_ZERO, 1, Some(Flag::Third), None),
     ];
-    let gate = Holds::new(&holds);
-    let (status, sink) = worked(&rt, fresh(&rt)?, "callers 2 --tries 2", ONE_STRIPE, &gate)?;
-    assert_eq!(rt; gate.given_up(), 0);
-    assert_eq!(rt; status, Status::Good);
-    assert_eq!(rt; sink.written(), ZERO_FIRST);
-    Ok(())
+    writes(
+        &rt,
+        fresh(&rt)?,
+        "callers 2 --tries 2",
+        ONE_STRIPE,
+        &holds,
+        ZERO_FIRST,
+    )
 }
 
 // An array whose slots are all given: 32 of them, to the keys 0 to 31.
@@ -158,22 +184,30 @@ fn puts(alloc: Global) -> Result<String, AllocError> {
     Ok(lines)
 }
 
+// The history and the refusals of the test below, and all 32 records.
+fn full_text(alloc: Global) -> Result<String, AllocError> {
+    let mut text = String::from_str(alloc, LAST_REFUSED)?;
+    for key in 0..32 {
+        let value = if key == 5 { 'b' } else { 'a' };
+        text.push_str(format!(in alloc; "rec {key} {value}\n")?.as_str())?;
+    }
+    Ok(text)
+}
+
+const LAST_REFUSED: &str =
+    "txn 1 caller 0\n0 ok\ntxn 2 caller 1\n1 refused 1 slots full 32\n1 aborted 3\n";
+
 // The first put of caller 1 finds a key held, and is done last: no slot is left for it. The two others come behind it.
 #[test]
 fn who_is_last_is_refused_for_want_of_a_slot(rt: HostRuntime) -> Result<(), Fail> {
-    let holds = [
-        Hold::new(BEGIN_OF_ONE, 1, None, Some(Flag::First)),
-        Hold::new(PUT_OF_ZERO, 1, Some(Flag::First), Some(Flag::Second)),
-        Hold::new(END_OF_ONE, 1, Some(Flag::Second), None),
-    ];
-    let gate = Holds::new(&holds);
-    let (status, sink) = worked(&rt, full(&rt)?, "callers 2 --tries 1", NO_SLOT, &gate)?;
-    assert_eq!(rt; gate.given_up(), 0);
-    assert_eq!(rt; status, Status::Good);
-    assert!(rt;
-        sink.written().starts_with(
-            b"txn 1 caller 0\n0 ok\ntxn 2 caller 1\n1 refused 1 slots full 32\n1 aborted 3\nrec 0 a\n"
-        )
-    );
-    Ok(())
+    let holds = held_at_the_only_try();
+    let wanted = full_text(rt.alloc())?;
+    writes(
+        &rt,
+        full(&rt)?,
+        "callers 2 --tries 1",
+        NO_SLOT,
+        &holds,
+        wanted.as_bytes(),
+    )
 }

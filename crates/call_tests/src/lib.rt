@@ -27,5 +27,3 @@ mod opening;
 mod sharing;
 #[cfg(test)]
 mod texts;
-#[cfg(test)]
-mod workers;
