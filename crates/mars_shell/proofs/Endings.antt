@@ -1,5 +1,5 @@
 -- What the kinds of a status give.
-use Rattle.std.proofs.Common.{◌≡◌, ◌≢◌, ◌⊎◌, ℕ, inl, inr, refl, subst, sym, Result, Ok, Err}
+use Rattle.std.proofs.Common.{◌≡◌, ◌≢◌, ◌⊎◌, ℕ, inl, inr, refl, subst, sym, Result, Ok, Err, List, [], length, ◌≤◌}
 use Rattle.std.specs.Result.{IfErr}
 use Rattle.command_words.specs.declared.words.Words.{Words}
 use Rattle.command_words.specs.declared.words.Words.TheVariants.{Dump}
@@ -10,6 +10,8 @@ use Rattle.mars_core.specs.declared.fault.CoreFault.TheVariants as core
 use Rattle.script_run.specs.Counts.{Counts as ScriptCounts}
 use Rattle.script_run.specs.declared.ended.Ended.{Ended}
 use Rattle.script_run.specs.declared.ended.Ended.TheVariants as script
+use Rattle.script_io.specs.Input.{input_limit}
+use Rattle.mars_shell.specs.Input.{InputSays}
 use Rattle.mars_shell.specs.Opening.{IsUnopened}
 use Rattle.mars_shell.specs.Served.{ServedCounts}
 use Rattle.mars_shell.specs.Statuses.{Counts, IsEarly, IsRefusal, script_status, served_status}
@@ -130,3 +132,17 @@ scripted ended status s s' k k' m m' n n' is read before after counts = rw (is, 
 pub served : (result : Result Ended CoreFault) (status : Status) (s s' k k' m m' n n' : ℕ) → status ≡ served_status result → s' ≡ s → n ≡ m → m' ≡ n' → ServedCounts result k k' n n'
     → Counts status s s' k k' m m'
 served result status s s' k k' m m' n n' is read before after counts = rw (is, read, ← before, after) (served_counts result s k k' n n' counts)
+
+-- an input that was read, at a status that is not early
+pub input_read : (status : Status) (given left : List ℕ) → (IsEarly status → ⊥) → length given ≤ input_limit → left ≡ [] → InputSays status given left
+input_read Good given left late short done = (short, done)
+input_read Usage given left late short done = absurd (late tt)
+input_read TooLong given left late short done = absurd (late tt)
+input_read ReadFault given left late short done = tt
+input_read WriteFault given left late short done = (short, done)
+input_read MediaFault given left late short done = (short, done)
+input_read NoMemory given left late short done = tt
+input_read (Damaged page) given left late short done = (short, done)
+input_read (BadRow logger tid) given left late short done = (short, done)
+input_read NotMars given left late short done = (short, done)
+input_read (BadShape which given') given left late short done = (short, done)
