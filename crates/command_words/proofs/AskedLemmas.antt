@@ -15,7 +15,7 @@ use Rattle.command_words.specs.declared.words.FormatNumbers.{FormatNumbers}
 use Rattle.command_words.specs.declared.words.Words.{Words}
 use Rattle.command_words.specs.declared.words.Words.TheVariants.{Run, Callers, Eaw, Dump, Drill, Format}
 
-some_is_none : {X : Type 0} {x : X} → Some x ≡ None → ⊥
+pub some_is_none : {X : Type 0} {x : X} → Some x ≡ None → ⊥
 some_is_none is = cc is
 
 inner : {X : Type 0} {x y : X} → Some x ≡ Some y → x ≡ y
@@ -48,7 +48,7 @@ pair_is f g None name options named has = absurd (some_is_none named)
 pair_is f g (Some x) name options named has = ap₂ (λ n o. Some (n, o)) (inner (sym named)) (inner (sym has))
 
 -- the subcommand has this name and these options
-met_is : (m : ArgMatches) (name : Text) (options : List Row) → Some name ≡ subcommand_name_of m → Some options ≡ option_map (λ p. p.1) (subcommand_rows_of m)
+pub met_is : (m : ArgMatches) (name : Text) (options : List Row) → Some name ≡ subcommand_name_of m → Some options ≡ option_map (λ p. p.1) (subcommand_rows_of m)
     → subcommand_rows_of m ≡ Some (name, options)
 met_is m name options named has = pair_is _ _ _ name options named has
 
@@ -117,3 +117,13 @@ one_asked name options Dump Dump says also = refl
 one_asked name options (Drill numbers) (Drill other) says also = ap Drill (one_drill options numbers other says.1 also.1)
 one_asked name options (Format numbers) (Format other) says also = ap Format (one_format options numbers other says.1 also.1)
 one_asked name options asked other says also = apart (name_of asked) (name_of other) refl (sym (named name options asked says) ∙ named name options other also)
+
+-- a word that names no command asks for nothing
+pub none_other : (word : Text) → (word ≡ codes "run" → ⊥) → (word ≡ codes "callers" → ⊥) → (word ≡ codes "eaw" → ⊥) → (word ≡ codes "dump" → ⊥) → (word ≡ codes "drill" → ⊥)
+    → (word ≡ codes "format" → ⊥) → (options : List Row) (asked : Words) → Says word options asked → ⊥
+none_other word run callers eaw dump drill format options Run says = run says
+none_other word run callers eaw dump drill format options (Callers numbers) says = callers says.0
+none_other word run callers eaw dump drill format options Eaw says = eaw says
+none_other word run callers eaw dump drill format options Dump says = dump says
+none_other word run callers eaw dump drill format options (Drill numbers) says = drill says.0
+none_other word run callers eaw dump drill format options (Format numbers) says = format says.0

@@ -1,4 +1,5 @@
 mod NumberLemmas
 pub mod OneAsked
 mod AskedLemmas
+mod ReadLemmas
 mod UsualWords

@@ -14,6 +14,7 @@ pub mod Telling
 pub mod Unopened
 pub mod Running
 pub mod Completing
+mod Endings
 pub mod Commanding
 pub mod Statuses
 pub mod Outcomes

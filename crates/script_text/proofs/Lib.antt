@@ -1,3 +1,4 @@
+mod Pieces
 pub mod ReplyLemmas
 pub mod Words
 pub mod Numbers

@@ -1,6 +1,6 @@
 -- Pieces that make up the line of a reply.
-use Rattle.std.proofs.Common.{◌≡◌, ℕ, ◌+◌, List, [], ◌∷◌, ◌++◌, length, take, refl, sym, ◌∙◌, ap, append_assoc}
-use Rattle.std.specs.Prelude.{codes}
+use Rattle.std.proofs.Common.{◌≡◌, ℕ, ◌+◌, List, [], ◌∷◌, ◌++◌, length, take, refl, sym, subst, ◌∙◌, ap, append_assoc, Result}
+use Rattle.std.specs.Prelude.{codes, OnOk}
 use Rattle.std.specs.Fmt.{decimal}
 use Rattle.std.proofs.lemmas.List.{append-nil, take_at, length-append}
 use Rattle.history.specs.declared.call.Reply.{Reply}
@@ -50,3 +50,8 @@ pub media_fault_front : (caller : ℕ) (number copied beside rest behind : List 
     → take (length number + 13) (take (length number) (copied ++ rest) ++ (beside ++ behind)) ≡ reply_line caller Media
 media_fault_front caller number copied beside rest behind is first second =
     front_is number (codes " media fault" ++ 10 ∷ []) copied beside rest behind first second ∙ line_is caller Media number (codes " media fault" ++ 10 ∷ []) refl is refl
+
+-- the words of a reply that is known
+pub said : {T E : Type 0} (result : Result T E) (old new : List ℕ) (now reply : Reply) (text : List ℕ) → now ≡ reply → text ≡ reply_text reply → OnOk result (new ≡ old ++ text)
+    → OnOk result (new ≡ old ++ reply_text now)
+said result old new now reply text is words ok = subst (λ (line : List ℕ). OnOk result (new ≡ old ++ line)) (words ∙ ap reply_text (sym is)) ok

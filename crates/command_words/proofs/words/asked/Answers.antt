@@ -1,6 +1,6 @@
-use Rattle.std.proofs.Common.{codes}
+use Rattle.std.proofs.Common.{codes, refl, sym}
 use Rattle.clap.specs.Words.{found_of, rows_of}
-use Rattle.command_words.proofs.AskedLemmas.{none_said, no_callers, no_drill, no_format}
+use Rattle.command_words.proofs.AskedLemmas.{met_is, some_is_none, none_other, none_said, no_callers, no_drill, no_format}
 use Rattle.command_words.proofs.words.asked.Goals as goal
 
 pub returns-in_err-numbers-in-callers : goal.returns-in_err-numbers-in-callers
@@ -17,3 +17,31 @@ pub returns-in_err-numbers-in-format : goal.returns-in_err-numbers-in-format
 returns-in_err-numbers-in-format c =
     rw c.from_residual-in_err-numbers-in-format.ensures (none_said c.args.matches.now (codes "format") c.in_ok-name.name.now (rows_of (found_of c.in_ok-name.options.now))
     c.in-format.is c.in_ok-name.ensures.name c.in_ok-name.ensures.rows (no_format (rows_of (found_of c.in_ok-name.options.now)) c.in_err-numbers-in-format.ensures))
+
+pub returns-in-run : goal.returns-in-run
+returns-in-run c = (c.in_ok-name.name.now, rows_of (found_of c.in_ok-name.options.now), met_is c.args.matches.now c.in_ok-name.name.now (rows_of (found_of c.in_ok-name.options.now)) c.in_ok-name.ensures.name c.in_ok-name.ensures.rows, c.in-run.is)
+
+pub returns-in-eaw : goal.returns-in-eaw
+returns-in-eaw c = (c.in_ok-name.name.now, rows_of (found_of c.in_ok-name.options.now), met_is c.args.matches.now c.in_ok-name.name.now (rows_of (found_of c.in_ok-name.options.now)) c.in_ok-name.ensures.name c.in_ok-name.ensures.rows, c.in-eaw.is)
+
+pub returns-in-dump : goal.returns-in-dump
+returns-in-dump c = (c.in_ok-name.name.now, rows_of (found_of c.in_ok-name.options.now), met_is c.args.matches.now c.in_ok-name.name.now (rows_of (found_of c.in_ok-name.options.now)) c.in_ok-name.ensures.name c.in_ok-name.ensures.rows, c.in-dump.is)
+
+pub returns-in_ok-numbers-in-callers : goal.returns-in_ok-numbers-in-callers
+returns-in_ok-numbers-in-callers c = (c.in_ok-name.name.now, rows_of (found_of c.in_ok-name.options.now), met_is c.args.matches.now c.in_ok-name.name.now (rows_of (found_of c.in_ok-name.options.now)) c.in_ok-name.ensures.name c.in_ok-name.ensures.rows, (c.in-callers.is, c.in_ok-numbers-in-callers.ensures))
+
+pub returns-in_ok-numbers-in-drill : goal.returns-in_ok-numbers-in-drill
+returns-in_ok-numbers-in-drill c = (c.in_ok-name.name.now, rows_of (found_of c.in_ok-name.options.now), met_is c.args.matches.now c.in_ok-name.name.now (rows_of (found_of c.in_ok-name.options.now)) c.in_ok-name.ensures.name c.in_ok-name.ensures.rows, (c.in-drill.is, c.in_ok-numbers-in-drill.ensures))
+
+pub returns-in_ok-numbers-in-format : goal.returns-in_ok-numbers-in-format
+returns-in_ok-numbers-in-format c = (c.in_ok-name.name.now, rows_of (found_of c.in_ok-name.options.now), met_is c.args.matches.now c.in_ok-name.name.now (rows_of (found_of c.in_ok-name.options.now)) c.in_ok-name.ensures.name c.in_ok-name.ensures.rows, (c.in-format.is, c.in_ok-numbers-in-format.ensures))
+
+pub returns-in_err-name : goal.returns-in_err-name
+returns-in_err-name c =
+    rw c.from_residual.ensures (λ name options asked met says. some_is_none (sym (rw met at c.in_err-name.ensures.rows)))
+
+pub returns-in_default : goal.returns-in_default
+returns-in_default c =
+    let options = rows_of (found_of c.in_ok-name.options.now) in
+    none_said c.args.matches.now c.in_ok-name.name.now c.in_ok-name.name.now options refl c.in_ok-name.ensures.name c.in_ok-name.ensures.rows
+    (none_other c.in_ok-name.name.now c.in_default.not-run c.in_default.not-callers c.in_default.not-eaw c.in_default.not-dump c.in_default.not-drill c.in_default.not-format options)

@@ -1,4 +1,5 @@
-use Rattle.std.proofs.Common.{sym, subst, arith}
+use Rattle.std.proofs.Common.{refl, sym, subst, ◌∙◌, arith}
+use Rattle.std.proofs.lemmas.List.{take_all}
 use Rattle.std.proofs.lemmas.Bool.{both_ways, false≢true}
 use Rattle.history.specs.Legal.{IsLegal}
 use Rattle.history.specs.Rows.{table_of}
@@ -32,3 +33,7 @@ loop-i-preserved c =
       legal = stays_legal base c.items-items.result.now c.loop-i.i c.index-items-i.result c.loop-i-test.true c.index-items-i.is
           (table_in c.loop-i.replay.table) c.loop-i.invariant.table c.loop-i.invariant.legal (omega arith) (c.in_ok-is_right.ensures.right.0 c.if-not-branch.false);
     }
+
+pub returns : goal.returns
+returns c =
+    (λ _. subst (IsLegal (table_of c.args.base.now)) (take_all c.loop-i.i c.items-items.result.now c.loop-i-test.false ∙ c.items-items.ensures) c.loop-i.invariant.legal, λ _. refl)

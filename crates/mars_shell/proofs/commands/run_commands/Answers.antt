@@ -7,6 +7,9 @@ use Rattle.mars_shell.specs.declared.status.Status.{Status}
 use Rattle.mars_shell.proofs.Commanding.{obeys}
 use Rattle.mars_shell.proofs.Statuses.{outcome_of}
 use Rattle.mars_shell.proofs.Unopened.{unopened_as}
+use Rattle.mars_shell.specs.Opening.{IsUnopened}
+use Rattle.mars_shell.specs.Statuses.{IsEarly, IsRefusal}
+use Rattle.mars_shell.proofs.Endings.{counts_unwritten, script_late, script_accepted, scripted}
 use Rattle.mars_shell.proofs.commands.run_commands.Goals as goal
 
 pub returns-in-Err-clause-ran : goal.returns-in-Err-clause-ran
@@ -45,3 +48,36 @@ returns-clause-ran g c =
             input ended said.ran.cut said.ran.text (rw c.deref.ensures.value at (said.ran.holds told)) said.alive)),
       );
     }
+
+pub returns-in-Err-clause-no_usage : goal.returns-in-Err-clause-no_usage
+returns-in-Err-clause-no_usage g c = λ is. subst IsUnopened is c.in-Err.ensures.kind
+
+pub returns-in-Err-clause-early : goal.returns-in-Err-clause-early
+returns-in-Err-clause-early g c = λ early. (refl, c.in-Err.ensures.early early)
+
+pub returns-in-Err-clause-refused : goal.returns-in-Err-clause-refused
+returns-in-Err-clause-refused g c = λ refused. refl
+
+pub returns-in-Err-clause-counts : goal.returns-in-Err-clause-counts
+returns-in-Err-clause-counts g c = counts_unwritten c.in-Err.ended.0 _ _ _ _ _ c.in-Err.ensures.kind c.in-Err.ensures.counts
+
+pub returns-in-Err-clause-steady : goal.returns-in-Err-clause-steady
+returns-in-Err-clause-steady g c = λ steady. c.in-Err.ensures.steady steady
+
+pub returns-in-Err-clause-input : goal.returns-in-Err-clause-input
+returns-in-Err-clause-input g c = c.in-Err.ensures.input
+
+pub returns-clause-no_usage : goal.returns-clause-no_usage
+returns-clause-no_usage g c = λ is. script_late c.answer_commands-ended.result.0 (subst IsEarly c.script_status.ensures (subst IsEarly (sym is) tt))
+
+pub returns-clause-early : goal.returns-clause-early
+returns-clause-early g c = λ early. absurd (script_late c.answer_commands-ended.result.0 (subst IsEarly c.script_status.ensures (early)))
+
+pub returns-clause-refused : goal.returns-clause-refused
+returns-clause-refused g c = λ refused. absurd (script_accepted c.answer_commands-ended.result.0 (subst IsRefusal c.script_status.ensures refused))
+
+pub returns-clause-counts : goal.returns-clause-counts
+returns-clause-counts g c = scripted c.answer_commands-ended.result.0 c.script_status.result _ _ _ _ _ _ _ _ c.script_status.ensures c.in-Ok.ensures.kept c.in-Ok.ensures.attached.faults c.into_media.ensures.faults c.answer_commands-ended.ensures.counts
+
+pub returns-clause-steady : goal.returns-clause-steady
+returns-clause-steady g c = λ steady is. script_late c.answer_commands-ended.result.0 (subst IsEarly c.script_status.ensures (subst IsEarly (sym is) tt))

@@ -7,7 +7,7 @@ use Rattle.script_io.specs.Written.{IsWritten}
 use Rattle.script_run.specs.declared.ended.Ended.TheVariants.{All, WriteFault, MediaFault, NoMemory}
 use Rattle.mars_shell.specs.Drill.{Drills}
 use Rattle.mars_shell.specs.Served.{Served}
-use Rattle.mars_shell.proofs.Serving.{ready, stands, served}
+use Rattle.mars_shell.proofs.Serving.{untaken, ready, stands, served}
 use Rattle.mars_shell.proofs.Summing.{summary_told, fault_told, short_told}
 use Rattle.mars_shell.proofs.drilling.drill_under.Goals as goal
 
@@ -103,4 +103,16 @@ returns-clause-served g c =
           (served s.tells s.opens g.I.KeyIndex.index (s.view c.args.store) (s.view first) _ begins told (s.view core.records.store) _ over (early.1.comes told stand.sound stand.safe) says NoMemory
           (short_told c.args.numbers.now s.tells told _ _ c.shape-callers.result.numbers callers_are early)
           (λ all. absurd (cc all)));
+    }
+
+pub returns-in-Err-clause-served : goal.returns-in-Err-clause-served
+returns-in-Err-clause-served g c =
+    let s = g.S.EawStore in
+    record {
+      cut = false;
+      text = [];
+      wrote = λ _. sym (append-nil _);
+      counts = refl;
+      holds = λ tells.
+          untaken s.tells s.opens g.I.KeyIndex.index (s.view c.args.store) (s.view c.in-Err.store) c.in-Err.fault tells c.in-Err.ensures.cause c.in-Err.ensures.gives_back;
     }

@@ -8,6 +8,9 @@ use Rattle.mars_shell.specs.Run.{TakesTurns, IsDamaged}
 use Rattle.mars_shell.specs.declared.status.Status.{Status}
 use Rattle.mars_shell.proofs.Outcomes.{turns_outcome}
 use Rattle.mars_shell.proofs.Unopened.{idle_same, unopened_as}
+use Rattle.mars_shell.specs.Opening.{IsUnopened}
+use Rattle.mars_shell.specs.Statuses.{IsEarly, IsRefusal}
+use Rattle.mars_shell.proofs.Endings.{counts_unwritten, served_late, served_refused, served}
 use Rattle.mars_shell.proofs.drilling.run_drill.Goals as goal
 
 pub returns-in-Err-clause-ran : goal.returns-in-Err-clause-ran
@@ -51,3 +54,39 @@ returns-clause-ran g c =
           (turns_outcome media.tells told old (g.met.M.Media.only_now c.args.media) _ c.in-Ok-open_array.ensures.attached c.in-Ok-open_array.ensures.keeps _ new c.into_media.ensures (g.met.M.Media.counts_now c.into_media.result)
           (λ ended. Drills c.args.numbers.now ended said.cut said.text) c.drill-drilled.result.0 said.cut said.text (said.holds told));
     }
+
+pub returns-in-Err-clause-no_usage : goal.returns-in-Err-clause-no_usage
+returns-in-Err-clause-no_usage g c = λ is. subst IsEarly (sym is) tt
+
+pub returns-in-Err-clause-late : goal.returns-in-Err-clause-late
+returns-in-Err-clause-late g c = λ early. early
+
+pub returns-in-Err-clause-refused : goal.returns-in-Err-clause-refused
+returns-in-Err-clause-refused g c = λ refused. absurd refused
+
+pub returns-in-Err-clause-counts : goal.returns-in-Err-clause-counts
+returns-in-Err-clause-counts g c = (refl, refl, refl)
+
+pub returns-in-Err-open_array-clause-no_usage : goal.returns-in-Err-open_array-clause-no_usage
+returns-in-Err-open_array-clause-no_usage g c = λ is. subst IsUnopened is c.in-Err-open_array.ensures.kind
+
+pub returns-in-Err-open_array-clause-late : goal.returns-in-Err-open_array-clause-late
+returns-in-Err-open_array-clause-late g c = c.in-Err-open_array.ensures.late
+
+pub returns-in-Err-open_array-clause-refused : goal.returns-in-Err-open_array-clause-refused
+returns-in-Err-open_array-clause-refused g c = λ refused. refl
+
+pub returns-in-Err-open_array-clause-counts : goal.returns-in-Err-open_array-clause-counts
+returns-in-Err-open_array-clause-counts g c = counts_unwritten c.in-Err-open_array.ended.0 _ _ _ _ _ c.in-Err-open_array.ensures.kind c.in-Err-open_array.ensures.counts
+
+pub returns-clause-no_usage : goal.returns-clause-no_usage
+returns-clause-no_usage g c = λ is. served_late c.drill-drilled.result.0 (subst IsEarly c.served_status.ensures (subst IsEarly (sym is) tt))
+
+pub returns-clause-late : goal.returns-clause-late
+returns-clause-late g c = λ early. served_late c.drill-drilled.result.0 (subst IsEarly c.served_status.ensures (early))
+
+pub returns-clause-refused : goal.returns-clause-refused
+returns-clause-refused g c = λ refused. served_refused _ c.drill-drilled.result.0 c.drill-drilled.ensures.untold (subst IsRefusal c.served_status.ensures refused)
+
+pub returns-clause-counts : goal.returns-clause-counts
+returns-clause-counts g c = served c.drill-drilled.result.0 c.served_status.result _ _ _ _ _ _ _ _ c.served_status.ensures refl c.in-Ok-open_array.ensures.attached.faults c.into_media.ensures.faults c.drill-drilled.ensures.counts

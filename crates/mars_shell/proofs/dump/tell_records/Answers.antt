@@ -34,3 +34,21 @@ returns-in-Ok-Tree-clause-told g c =
       counts = said.counts;
       holds = λ told. tells_on s.tells told s.opens 1 old mid form (s.view c.tell_under-in-Ok-Tree.result.1) c.tell_under-in-Ok-Tree.result.0 said.cut said.text (said.holds told);
     }
+
+pub returns-in-Ok-Chain-clause-untold : goal.returns-in-Ok-Chain-clause-untold
+returns-in-Ok-Chain-clause-untold g c = c.tell_under.ensures.untold
+
+pub returns-in-Ok-Chain-clause-end : goal.returns-in-Ok-Chain-clause-end
+returns-in-Ok-Chain-clause-end g c = c.tell_under.ensures.end
+
+pub returns-in-Ok-Chain-clause-counts : goal.returns-in-Ok-Chain-clause-counts
+returns-in-Ok-Chain-clause-counts g c = rw c.in-Ok-Chain.ensures.says.faults at c.tell_under.ensures.counts
+
+pub returns-in-Ok-Tree-clause-untold : goal.returns-in-Ok-Tree-clause-untold
+returns-in-Ok-Tree-clause-untold g c = c.tell_under-in-Ok-Tree.ensures.untold
+
+pub returns-in-Ok-Tree-clause-end : goal.returns-in-Ok-Tree-clause-end
+returns-in-Ok-Tree-clause-end g c = c.tell_under-in-Ok-Tree.ensures.end
+
+pub returns-in-Ok-Tree-clause-counts : goal.returns-in-Ok-Tree-clause-counts
+returns-in-Ok-Tree-clause-counts g c = rw c.in-Ok-Tree.ensures.says.faults at c.tell_under-in-Ok-Tree.ensures.counts

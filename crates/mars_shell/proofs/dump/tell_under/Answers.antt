@@ -3,6 +3,7 @@ use Rattle.std.proofs.lemmas.List.{append-nil}
 use Rattle.mars_core.specs.declared.fault.CoreFault.TheVariants.{NoMemory}
 use Rattle.script_run.specs.declared.ended.Ended.TheVariants.{All, WriteFault}
 use Rattle.mars_shell.specs.Served.{Untaken, Told}
+use Rattle.mars_shell.proofs.Serving.{untaken}
 use Rattle.mars_shell.proofs.Telling.{untold, all_told}
 use Rattle.mars_shell.proofs.dump.tell_under.Goals as goal
 
@@ -53,4 +54,16 @@ returns-clause-told g c =
           (λ image left. g.met.S.EawStore.only_now c.args.store image told c.requires.alive left)
           (λ image left. g.met.S.EawStore.counts_now store (s.view c.args.store).moment image told (begins.time told).later left)
           c.base.result.now c.deref.result.now WriteFault true part.0 (c.base.ensures.entries told) (c.deref.ensures.value ∙ c.in-Ok-text.ensures) refl part.1);
+    }
+
+pub returns-in-Err-clause-told : goal.returns-in-Err-clause-told
+returns-in-Err-clause-told g c =
+    let s = g.S.EawStore in
+    record {
+      cut = false;
+      text = [];
+      wrote = λ _. sym (append-nil _);
+      counts = refl;
+      holds = λ tells.
+          untaken s.tells s.opens g.I.KeyIndex.index (s.view c.args.store) (s.view c.in-Err.store) c.in-Err.fault tells c.in-Err.ensures.cause c.in-Err.ensures.gives_back;
     }

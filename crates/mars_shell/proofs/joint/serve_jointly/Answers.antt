@@ -35,3 +35,15 @@ returns-in-Ok-Tree-clause-joined g c =
       counts = said.counts;
       holds = λ told. serves_on s.tells told s.opens 1 old mid form (s.view c.work_under-in-Ok-Tree.result.1) (λ ended. JointWork c.args.callers c.args.input.now ended said.cut said.text) c.work_under-in-Ok-Tree.result.0 said.cut said.text (said.holds told);
     }
+
+pub returns-in-Ok-Chain-clause-untold : goal.returns-in-Ok-Chain-clause-untold
+returns-in-Ok-Chain-clause-untold g c = c.work_under.ensures.untold
+
+pub returns-in-Ok-Chain-clause-counts : goal.returns-in-Ok-Chain-clause-counts
+returns-in-Ok-Chain-clause-counts g c = rw c.in-Ok-Chain.ensures.says.faults at c.work_under.ensures.counts
+
+pub returns-in-Ok-Tree-clause-untold : goal.returns-in-Ok-Tree-clause-untold
+returns-in-Ok-Tree-clause-untold g c = c.work_under-in-Ok-Tree.ensures.untold
+
+pub returns-in-Ok-Tree-clause-counts : goal.returns-in-Ok-Tree-clause-counts
+returns-in-Ok-Tree-clause-counts g c = rw c.in-Ok-Tree.ensures.says.faults at c.work_under-in-Ok-Tree.ensures.counts

@@ -1,4 +1,4 @@
-use Rattle.std.proofs.Common.{All, ◌≤◌, ◌≡◌, ℕ, [], false, length, refl, sym, subst, ap, ◌∙◌, arith}
+use Rattle.std.proofs.Common.{All, ◌≤◌, ◌≡◌, ℕ, [], false, length, inl, refl, sym, subst, ap, ◌∙◌, arith}
 use Rattle.std.proofs.lemmas.List.{append-nil}
 use Rattle.mars_core.specs.Held.{core_of}
 use Rattle.mars_core.specs.Over.{IsOver, limits_of}
@@ -7,7 +7,7 @@ use Rattle.mars_shell.specs.Joint.{JointWork}
 use Rattle.mars_shell.specs.Served.{Served}
 use Rattle.caller_plans.specs.Plans.{ArePlain}
 use Rattle.mars_shell.proofs.Joining.{as_many, all_plain, can_share, untold, retold, joint_work, living, unbroken}
-use Rattle.mars_shell.proofs.Serving.{served}
+use Rattle.mars_shell.proofs.Serving.{untaken, served}
 use Rattle.mars_shell.proofs.joint.work_under.Goals as goal
 
 pub work-requires-clause-few : goal.work-requires-clause-few
@@ -71,3 +71,41 @@ returns-clause-joined g c =
       holds = λ tells. untold s.tells s.opens g.I.KeyIndex.index (s.view c.args.store) (s.view c.in-Ok-attach.core.records.store) _ c.in-Ok-attach.ensures.begins _ tells
           (ap s.view (c.into_store-in-Err-work.ensures.store ∙ ap (λ core. core.records.store) c.in-Err-work.ensures.given_back));
     }
+
+pub returns-in_default-clause-joined : goal.returns-in_default-clause-joined
+returns-in_default-clause-joined g c =
+    record {
+      cut = false;
+      text = [];
+      wrote = λ _. sym (append-nil _);
+      counts = refl;
+      holds = λ tells.
+          record { whole = refl; silent = refl; cause = tt; time = record { later = omega arith; keeps = λ t image le left. left; only = λ t image le left. inl left } };
+    }
+
+pub returns-in_default-clause-counts : goal.returns-in_default-clause-counts
+returns-in_default-clause-counts g c = (refl, refl)
+
+pub returns-in_default-clause-untold : goal.returns-in_default-clause-untold
+returns-in_default-clause-untold g c = refl
+
+pub returns-in-Err-clause-joined : goal.returns-in-Err-clause-joined
+returns-in-Err-clause-joined g c =
+    let s = g.S.EawStore in
+    record {
+      cut = false;
+      text = [];
+      wrote = λ _. sym (append-nil _);
+      counts = refl;
+      holds = λ tells.
+          untaken s.tells s.opens g.I.KeyIndex.index (s.view c.args.store) (s.view c.in-Err.store) c.in-Err.fault tells c.in-Err.ensures.cause c.in-Err.ensures.gives_back;
+    }
+
+pub returns-in-Err-clause-untold : goal.returns-in-Err-clause-untold
+returns-in-Err-clause-untold g c = refl
+
+pub returns-in-Ok-work-clause-untold : goal.returns-in-Ok-work-clause-untold
+returns-in-Ok-work-clause-untold g c = tt
+
+pub returns-clause-untold : goal.returns-clause-untold
+returns-clause-untold g c = refl

@@ -1,9 +1,10 @@
-use Rattle.std.proofs.Common.{sym, subst}
+use Rattle.std.proofs.Common.{[], false, refl, sym, subst}
+use Rattle.std.proofs.lemmas.List.{append-nil}
 use Rattle.mars_core.specs.Held.{core_of}
 use Rattle.mars_core.specs.Over.{IsOver}
 use Rattle.mars_shell.specs.Run.{Answers}
 use Rattle.mars_shell.specs.Served.{Served}
-use Rattle.mars_shell.proofs.Serving.{stands, answers, served}
+use Rattle.mars_shell.proofs.Serving.{untaken, stands, answers, served}
 use Rattle.mars_shell.proofs.serve.serve_under.Goals as goal
 
 pub returns-clause-served : goal.returns-clause-served
@@ -28,4 +29,16 @@ returns-clause-served g c =
           (served s.tells s.opens g.I.KeyIndex.index (s.view c.args.store) (s.view store) _ begins told (s.view core.records.store) _ over lines.comes.1 (Answers input ended ran.cut ran.text) ended
           (answers s.tells s.opens g.I.KeyIndex.index (s.view c.args.store) (s.view store) _ begins told (s.view core.records.store) _ over input ended ran.cut ran.text lines)
           (λ all. (c.answer_lines-ended.ensures.ready all).alive));
+    }
+
+pub returns-in-Err-clause-served : goal.returns-in-Err-clause-served
+returns-in-Err-clause-served g c =
+    let s = g.S.EawStore in
+    record {
+      cut = false;
+      text = [];
+      wrote = λ _. sym (append-nil _);
+      counts = refl;
+      holds = λ tells.
+          untaken s.tells s.opens g.I.KeyIndex.index (s.view c.args.store) (s.view c.in-Err.store) c.in-Err.fault tells c.in-Err.ensures.cause c.in-Err.ensures.gives_back;
     }

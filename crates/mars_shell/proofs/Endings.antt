@@ -1,0 +1,148 @@
+-- What the kinds of a status give.
+use Rattle.std.proofs.Common.{◌≡◌, ◌≢◌, ◌⊎◌, ℕ, inl, inr, refl, subst, sym, Result, Ok, Err, List, [], length, ◌≤◌}
+use Rattle.std.specs.Result.{IfErr}
+use Rattle.command_words.specs.declared.words.Words.{Words}
+use Rattle.command_words.specs.declared.words.Words.TheVariants.{Dump}
+use Rattle.command_words.specs.declared.words.FormatNumbers.{FormatNumbers}
+use Rattle.mars_shell.specs.Formats.{FormatSays}
+use Rattle.mars_core.specs.declared.fault.CoreFault.{CoreFault}
+use Rattle.mars_core.specs.declared.fault.CoreFault.TheVariants as core
+use Rattle.script_run.specs.Counts.{Counts as ScriptCounts}
+use Rattle.script_run.specs.declared.ended.Ended.{Ended}
+use Rattle.script_run.specs.declared.ended.Ended.TheVariants as script
+use Rattle.script_io.specs.Input.{input_limit}
+use Rattle.mars_shell.specs.Input.{InputSays}
+use Rattle.mars_shell.specs.Opening.{IsUnopened}
+use Rattle.mars_shell.specs.Served.{ServedCounts}
+use Rattle.mars_shell.specs.Statuses.{Counts, IsEarly, IsRefusal, script_status, served_status}
+use Rattle.mars_shell.specs.declared.status.Status.{Status}
+use Rattle.mars_shell.specs.declared.status.Status.TheVariants.{Good, Usage, TooLong, ReadFault, WriteFault, MediaFault, NoMemory, Damaged, BadRow, NotMars, BadShape}
+
+pub read_fault_early : (status : Status) → status ≡ ReadFault → IsEarly status
+read_fault_early status is = subst IsEarly (sym is) tt
+
+pub is_early : (status : Status) → (status ≡ TooLong) ⊎ (status ≡ ReadFault) → IsEarly status
+is_early status (inl is) = subst IsEarly (sym is) tt
+is_early status (inr is) = read_fault_early status is
+
+-- a status of a run that was not ended by a fault or by a lack of memory is early or a refusal
+pub silent_of : (Silent : Type 0) (status : Status) → (IsEarly status → Silent) → (IsRefusal status → Silent) → status ≢ Good → status ≢ WriteFault → status ≢ MediaFault → status ≢ NoMemory → Silent
+silent_of Silent Good early refused good write media memory = absurd (good refl)
+silent_of Silent WriteFault early refused good write media memory = absurd (write refl)
+silent_of Silent MediaFault early refused good write media memory = absurd (media refl)
+silent_of Silent NoMemory early refused good write media memory = absurd (memory refl)
+silent_of Silent Usage early refused good write media memory = early tt
+silent_of Silent TooLong early refused good write media memory = early tt
+silent_of Silent ReadFault early refused good write media memory = early tt
+silent_of Silent (Damaged page) early refused good write media memory = refused tt
+silent_of Silent (BadRow logger tid) early refused good write media memory = refused tt
+silent_of Silent NotMars early refused good write media memory = refused tt
+silent_of Silent (BadShape which given) early refused good write media memory = refused tt
+
+-- a command that reads nothing leaves the source's count
+pub counts_unread : (status : Status) (s k k' m m' : ℕ) → (IsEarly status → ⊥) → Counts status 0 0 k k' m m' → Counts status s s k k' m m'
+counts_unread ReadFault s k k' m m' late counts = absurd (late tt)
+counts_unread Good s k k' m m' late counts = (refl, counts.1, counts.2)
+counts_unread Usage s k k' m m' late counts = (refl, counts.1, counts.2)
+counts_unread TooLong s k k' m m' late counts = (refl, counts.1, counts.2)
+counts_unread WriteFault s k k' m m' late counts = (refl, counts.1, counts.2)
+counts_unread MediaFault s k k' m m' late counts = (refl, counts.1)
+counts_unread NoMemory s k k' m m' late counts = (refl, counts.1, counts.2)
+counts_unread (Damaged page) s k k' m m' late counts = (refl, counts.1, counts.2)
+counts_unread (BadRow logger tid) s k k' m m' late counts = (refl, counts.1, counts.2)
+counts_unread NotMars s k k' m m' late counts = (refl, counts.1, counts.2)
+counts_unread (BadShape which given) s k k' m m' late counts = (refl, counts.1, counts.2)
+
+-- only a dump is a dump
+abbrev IsNoDump : Words → Type 0
+IsNoDump Dump = ⊥
+IsNoDump asked = Unit {0}
+
+pub no_dump : (asked : Words) → IsNoDump asked → asked ≡ Dump → ⊥
+no_dump asked is same = subst IsNoDump same is
+
+-- a format ends late
+pub format_late : (asked : FormatNumbers) (size : ℕ) (status : Status) (Untold Untouched : Type 0) → FormatSays asked size status Untold Untouched → IsEarly status → ⊥
+format_late asked size Good Untold Untouched says early = early
+format_late asked size WriteFault Untold Untouched says early = early
+format_late asked size MediaFault Untold Untouched says early = early
+format_late asked size (BadShape which given) Untold Untouched says early = early
+format_late asked size Usage Untold Untouched says early = says
+format_late asked size TooLong Untold Untouched says early = says
+format_late asked size ReadFault Untold Untouched says early = says
+format_late asked size NoMemory Untold Untouched says early = says
+format_late asked size (Damaged page) Untold Untouched says early = early
+format_late asked size (BadRow logger tid) Untold Untouched says early = early
+format_late asked size NotMars Untold Untouched says early = early
+
+-- nothing is written before the array is opened
+pub counts_unwritten : (status : Status) (s s' k m m' : ℕ) → IsUnopened status → Counts status s s' 0 0 m m' → Counts status s s' k k m m'
+counts_unwritten Good s s' k m m' kind counts = absurd kind
+counts_unwritten Usage s s' k m m' kind counts = absurd kind
+counts_unwritten TooLong s s' k m m' kind counts = (counts.0, refl, counts.2)
+counts_unwritten ReadFault s s' k m m' kind counts = (counts.0, refl, counts.2)
+counts_unwritten WriteFault s s' k m m' kind counts = absurd kind
+counts_unwritten MediaFault s s' k m m' kind counts = counts
+counts_unwritten NoMemory s s' k m m' kind counts = (counts.0, refl, counts.2)
+counts_unwritten (Damaged page) s s' k m m' kind counts = absurd kind
+counts_unwritten (BadRow logger tid) s s' k m m' kind counts = (counts.0, refl, counts.2)
+counts_unwritten NotMars s s' k m m' kind counts = (counts.0, refl, counts.2)
+counts_unwritten (BadShape which given) s s' k m m' kind counts = (counts.0, refl, counts.2)
+
+-- work over an array that was opened does not end early
+pub script_late : (ended : Ended) → IsEarly (script_status ended) → ⊥
+script_late script.All early = early
+script_late script.WriteFault early = early
+script_late script.MediaFault early = early
+script_late script.NoMemory early = early
+
+pub served_late : (result : Result Ended CoreFault) → IsEarly (served_status result) → ⊥
+served_late (Ok ended) early = script_late ended early
+served_late (Err (core.Damaged page)) early = early
+served_late (Err core.Media) early = early
+served_late (Err core.NoMemory) early = early
+
+-- it ends with a refusal only if the records were not taken
+pub script_accepted : (ended : Ended) → IsRefusal (script_status ended) → ⊥
+script_accepted script.All refusal = refusal
+script_accepted script.WriteFault refusal = refusal
+script_accepted script.MediaFault refusal = refusal
+script_accepted script.NoMemory refusal = refusal
+
+pub served_refused : (Silent : Type 0) (result : Result Ended CoreFault) → IfErr result (λ fault. Silent) → IsRefusal (served_status result) → Silent
+served_refused Silent (Ok ended) silent refusal = absurd (script_accepted ended refusal)
+served_refused Silent (Err fault) silent refusal = silent
+
+-- the status says which count rose, that of the medium through its store
+script_counts : (ended : Ended) (s k k' m m' : ℕ) → ScriptCounts ended k k' m m' → Counts (script_status ended) s s k k' m m'
+script_counts script.All s k k' m m' counts = (refl, counts.0, counts.1)
+script_counts script.WriteFault s k k' m m' counts = (refl, counts.0, counts.1)
+script_counts script.MediaFault s k k' m m' counts = (refl, counts)
+script_counts script.NoMemory s k k' m m' counts = (refl, counts.0, counts.1)
+
+served_counts : (result : Result Ended CoreFault) (s k k' m m' : ℕ) → ServedCounts result k k' m m' → Counts (served_status result) s s k k' m m'
+served_counts (Ok ended) s k k' m m' counts = script_counts ended s k k' m m' counts
+served_counts (Err (core.Damaged page)) s k k' m m' counts = (refl, counts.0, counts.1)
+served_counts (Err core.Media) s k k' m m' counts = (refl, counts.1)
+served_counts (Err core.NoMemory) s k k' m m' counts = (refl, counts.0, counts.1)
+
+pub scripted : (ended : Ended) (status : Status) (s s' k k' m m' n n' : ℕ) → status ≡ script_status ended → s' ≡ s → n ≡ m → m' ≡ n' → ScriptCounts ended k k' n n' → Counts status s s' k k' m m'
+scripted ended status s s' k k' m m' n n' is read before after counts = rw (is, read, ← before, after) (script_counts ended s k k' n n' counts)
+
+pub served : (result : Result Ended CoreFault) (status : Status) (s s' k k' m m' n n' : ℕ) → status ≡ served_status result → s' ≡ s → n ≡ m → m' ≡ n' → ServedCounts result k k' n n'
+    → Counts status s s' k k' m m'
+served result status s s' k k' m m' n n' is read before after counts = rw (is, read, ← before, after) (served_counts result s k k' n n' counts)
+
+-- an input that was read, at a status that is not early
+pub input_read : (status : Status) (given left : List ℕ) → (IsEarly status → ⊥) → length given ≤ input_limit → left ≡ [] → InputSays status given left
+input_read Good given left late short done = (short, done)
+input_read Usage given left late short done = absurd (late tt)
+input_read TooLong given left late short done = absurd (late tt)
+input_read ReadFault given left late short done = tt
+input_read WriteFault given left late short done = (short, done)
+input_read MediaFault given left late short done = (short, done)
+input_read NoMemory given left late short done = tt
+input_read (Damaged page) given left late short done = (short, done)
+input_read (BadRow logger tid) given left late short done = (short, done)
+input_read NotMars given left late short done = (short, done)
+input_read (BadShape which given') given left late short done = (short, done)
