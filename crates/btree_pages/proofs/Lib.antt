@@ -25,3 +25,4 @@ pub mod Children
 pub mod Below
 pub mod Lifting
 pub mod Whole
+pub mod Rooted
