@@ -26,3 +26,4 @@ pub mod Below
 pub mod Lifting
 pub mod Whole
 pub mod Rooted
+pub mod Parting
