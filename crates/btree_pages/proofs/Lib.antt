@@ -27,3 +27,4 @@ pub mod Lifting
 pub mod Whole
 pub mod Rooted
 pub mod Parting
+pub mod Telling
