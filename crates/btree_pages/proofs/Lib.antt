@@ -28,3 +28,4 @@ pub mod Whole
 pub mod Rooted
 pub mod Parting
 pub mod Telling
+pub mod Nexting
