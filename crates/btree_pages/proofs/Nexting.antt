@@ -15,6 +15,12 @@ no_error x e same = absurd (cc)
 pub other_error : (T U : Type 0) {E : Type 0} (a b : E) → (let r : Result T E = Err a in r ≡ Err b) → (let s : Result U E = Err a in s ≡ Err b)
 other_error T U {E} a b e = (let same : a ≡ b = cc in ap (λ (x : E). (let s : Result U E = Err x in s)) same)
 
+pub error_is : {T E : Type 0} (a b : E) → (let r : Result T E = Err a in r ≡ Err b) → a ≡ b
+error_is a b e = cc
+
+pub not_damaged_page : {P T : Type 0} (n : ℕ) → (let r : Result T PageFault = Err (Damaged n) in r ≡ Err Dead) → P
+not_damaged_page n e = absurd (cc)
+
 pub first_some : (least more : Option Pair) → true ≡ is_some least → or_else least more ≡ least
 first_some (Some pair) more is = refl
 first_some None more is = absurd (cc)
