@@ -1,6 +1,6 @@
 -- The first pair from a key on, from what the leaves say.
 use Rattle.std.proofs.Common.{◌≡◌, ◌∙◌, true, false, Bool, Option, Some, None, Result, Ok, Err, ℕ, refl, sym, ap}
-use Rattle.std.specs.Prelude.{is_some, IsTrue}
+use Rattle.std.specs.Prelude.{is_some}
 use Rattle.eaw_face.specs.StoreView.{StoreView}
 use Rattle.page_store.specs.Looks.{IsStill, LookCause}
 use Rattle.page_store.specs.Pairs.{Pair}

@@ -1,4 +1,4 @@
-use Rattle.std.proofs.Common.{◌∙◌, ◌<◌, ℕ, Bool, false, Err, refl, sym, ap, subst}
+use Rattle.std.proofs.Common.{◌∙◌, Bool, false, Err, refl, sym, ap, subst}
 use Rattle.array_shape.specs.declared.shape.Shape.{Shape}
 use Rattle.record_slots.specs.declared.super_page.Super.{Super}
 use Rattle.page_store.specs.Looks.{Looks}

@@ -1,15 +1,11 @@
-use Rattle.std.proofs.Common.{◌≡◌, ◌+◌, ◌*◌, ◌/◌, ◌%◌, ℕ, List, [], ◌∷◌, take, drop, ◌∙◌, ap, refl, subst, arith}
+use Rattle.std.proofs.Common.{◌≡◌, ◌+◌, ◌*◌, ◌/◌, ◌%◌, ℕ, List, [], ◌∷◌, ◌∙◌, ap, refl, subst, arith}
 use Rattle.array_shape.specs.Logged.{Part}
-use Rattle.record_slots.specs.Slots.{slot_bytes}
-use Rattle.record_slots.specs.declared.slot.Slot.TheVariants.{Absent}
 use Rattle.record_slots.specs.Super.{count_bytes}
 use Rattle.page_store.specs.Pairs.{Pair, inserted}
 use Rattle.page_store.specs.Shown.{pages_of, address}
 use Rattle.index_pages.specs.Acts.{Acts}
-use Rattle.index_pages.specs.Keys.{key_at}
 use Rattle.btree_pages.specs.Node.{node_bytes}
-use Rattle.btree_pages.proofs.Cutting.{all_behind}
-use Rattle.btree_pages.proofs.Parting.{page_there, super_there, slot_there, slot_within, next_less, part_in}
+use Rattle.btree_pages.proofs.Parting.{page_there, super_there, slot_there, slot_within, part_in}
 use Rattle.btree_pages.proofs.write.add_pair.Goals as goal
 
 pub act_all-requires : goal.act_all-requires

@@ -1,13 +1,13 @@
-use Rattle.std.proofs.Common.{◌≡◌, ◌+◌, ◌*◌, ◌/◌, ◌%◌, ℕ, List, [], ◌∷◌, take, drop, ◌∙◌, ap, subst, arith}
+use Rattle.std.proofs.Common.{◌≡◌, ◌+◌, ℕ, List, [], ◌∷◌, take, drop, ◌∙◌, ap, subst, arith}
 use Rattle.array_shape.specs.Logged.{Part}
 use Rattle.record_slots.specs.Super.{count_bytes}
-use Rattle.page_store.specs.Pairs.{Pair, inserted}
+use Rattle.page_store.specs.Pairs.{Pair}
 use Rattle.page_store.specs.Shown.{pages_of, address}
 use Rattle.index_pages.specs.Acts.{Acts}
 use Rattle.index_pages.specs.Keys.{key_at}
 use Rattle.btree_pages.specs.Node.{node_bytes}
 use Rattle.btree_pages.proofs.Cutting.{all_behind}
-use Rattle.btree_pages.proofs.Parting.{page_there, super_there, slot_there, slot_within, next_less, part_in}
+use Rattle.btree_pages.proofs.Parting.{page_there, super_there, next_less, part_in}
 use Rattle.btree_pages.proofs.write.grow_root.Goals as goal
 
 pub act_all-requires : goal.act_all-requires
@@ -38,7 +38,7 @@ returns g c =
       acts = subst (λ (x : List ℕ × List Part). Acts g.S.EawStore.tells O c.args.tid x.0 x.1 v0 v1 c.act_all.result) (λ i. (
         c.whole_page.ensures.page i ∷ c.whole_page-2.ensures.page i ∷ c.whole_page-3.ensures.page i ∷ c.front_part.ensures.page i ∷ [],
         (address (c.whole_page.ensures.page i) (c.whole_page.ensures.at i), lower i) ∷ (address (c.whole_page-2.ensures.page i) (c.whole_page-2.ensures.at i), upper i)
-        ∷ (address (c.whole_page-3.ensures.page i) (c.whole_page-3.ensures.at i), named i) ∷ (address (c.front_part.ensures.page i) (c.front_part.ensures.at i), counts i) ∷ [],
+            ∷ (address (c.whole_page-3.ensures.page i) (c.whole_page-3.ensures.at i), named i) ∷ (address (c.front_part.ensures.page i) (c.front_part.ensures.at i), counts i) ∷ [],
       )) c.act_all.ensures.acts;
       dead = c.act_all.ensures.dead;
     }
