@@ -25,3 +25,7 @@ pub mod Children
 pub mod Below
 pub mod Lifting
 pub mod Whole
+pub mod Rooted
+pub mod Parting
+pub mod Telling
+pub mod Nexting

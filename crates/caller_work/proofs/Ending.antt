@@ -1,9 +1,10 @@
 -- How the ends of workers are joined.
-use Rattle.std.proofs.Common.{◌≡◌, ◌⊎◌, ℕ, zero, suc, inl, inr, ⊎_elim, Bool, true, List, [], ◌∷◌, ◌++◌, length, Option, Some, None, arith, refl, sym, ap, ◌∙◌, subst}
-use Rattle.std.specs.Prelude.{IsTrue, Contains}
+use Rattle.std.proofs.Common.{◌≡◌, ◌⊎◌, ℕ, zero, suc, inl, inr, ⊎_elim, Bool, true, false, List, [], ◌∷◌, ◌++◌, length, Option, Some, None, arith, refl, sym, ap, ◌∙◌, subst}
+use Rattle.std.specs.Prelude.{IsTrue, IsFalse, Contains, is_some}
 use Rattle.std.proofs.lemmas.Bool.{true≢false}
 use Rattle.std.proofs.lemmas.List.Elements.{Contains-append_left, Contains-push, Contains-append_cases}
 use Rattle.core_face.specs.Core.{CoreView}
+use Rattle.mars_manager.specs.declared.view.Known.{Known}
 use Rattle.mars_manager.specs.Notes.{has_media}
 use Rattle.mars_manager.specs.Pass.{PassView}
 use Rattle.mars_manager.specs.Sharing.{MarsView}
@@ -12,12 +13,13 @@ use Rattle.caller_plans.specs.declared.fate.Fate.{Fate}
 use Rattle.caller_work.specs.declared.stop.Stop.{Stop}
 use Rattle.caller_work.specs.declared.stop.Stop.TheVariants as stop
 use Rattle.caller_work.specs.declared.worker.Worker.{Worker}
+use Rattle.caller_work.specs.declared.tries.Tries.{Tries}
 use Rattle.caller_work.specs.declared.end.WorkEnd.{WorkEnd}
 use Rattle.caller_work.specs.declared.end.WorkEnd.TheVariants as work
-use Rattle.caller_work.specs.Standing.{is_failed, IsIdle, IsReady, HasWorked}
+use Rattle.caller_work.specs.Standing.{limits_of, is_failed, is_left, IsIdle, IsReady, Stands, HasWorked}
 use Rattle.caller_plans.specs.Plans.{ArePlain}
 use Rattle.caller_work.specs.Worked.{is_fault}
-use Rattle.caller_work.specs.Crew.{end_of, worse, Bears, IsCaused, HasFailed, HasMetFault, IsDone, IsLeft}
+use Rattle.caller_work.specs.Crew.{end_of, worse, Bears, IsCaused, HasFailed, HasMetFault, IsDone, IsLeft, IsTried}
 
 fault_of_stop : (stop : Option Stop) → is_failed stop ≡ is_fault (end_of stop)
 fault_of_stop None = refl
@@ -131,3 +133,49 @@ module _ {C : Type 0} where
       only : {X : Type 0} (x y : X) → Contains (x ∷ []) y → y ≡ x
       only x y (zero, within, is) = sym is
       only x y (suc k, within, is) = absurd (omega arith)
+
+-- a stop that leaves all work to its end, and is one, is that of a locked key
+module _ {C : Type 0} (known : Known C) where
+  left_over : (stop : Option Stop) → end_of stop ≡ work.All → is_some stop ≡ true → (is_failed stop ≡ false) × (IsIdle known stop → known.live ≡ None)
+  left_over None all some = absurd (true≢false (sym some))
+  left_over (Some (stop.Busy holder)) all some = (refl, λ idle. (idle refl).0)
+  left_over (Some stop.Media) all some = absurd (cc)
+  left_over (Some stop.Dead) all some = absurd (cc)
+  left_over (Some stop.NoMemory) all some = absurd (cc)
+
+whole_none : (stop : Option Stop) → is_left stop ≡ false → end_of stop ≡ work.All → stop ≡ None
+whole_none None free all = refl
+whole_none (Some (stop.Busy holder)) free all = absurd (true≢false free)
+whole_none (Some stop.Media) free all = absurd (cc)
+whole_none (Some stop.Dead) free all = absurd (cc)
+whole_none (Some stop.NoMemory) free all = absurd (cc)
+
+module _ {C : Type 0} (tells : Bool) (show : C → CoreView) (mars : MarsView C) (caller : ℕ) (was : Worker C) (left : IsLeft tells show mars caller was) (end : WorkEnd) (bears : Bears end was.stop) where
+  -- a worker that is not asked to go on
+  pub tried_not : (end ≡ work.All → was.stop ≡ None) → IsTried end was was end
+  tried_not whole = record { plans = refl; table = refl; failed = λ failed. failed; bears = bears; whole = whole; same = inr refl; cause = λ fault. inl fault }
+
+  module _ (all : end ≡ work.All) (some : is_some was.stop ≡ true) where
+    over : (is_failed was.stop ≡ false) × (IsIdle was.pass.known was.stop → was.pass.known.live ≡ None)
+    over = left_over was.pass.known was.stop (bears.1 all) some
+
+    pub ready_again : (tries : Tries) → IsReady tells show mars (record was { tries = tries })
+    ready_again tries = record {
+      of = left.of;
+      plain = left.plain;
+      room = left.room;
+      idle = over.1 left.idle;
+      front = left.front;
+      stands = subst (λ (b : Bool). Stands tells (limits_of show mars) was.plans was.fates.items b was.pass.known) over.0 left.stands;
+    }
+
+    pub tried_again : (tries : Tries) (now : Worker C) (next : WorkEnd) → HasWorked tells show mars (record was { tries = tries }) now → IsFalse (is_left now.stop) → next ≡ end_of now.stop → IsTried end was now next
+    tried_again tries now next worked free is = subst (λ (e : WorkEnd). IsTried end was now e) (sym is) (record {
+      plans = worked.plans;
+      table = worked.same.table;
+      failed = λ failed. absurd (true≢false (sym failed ∙ over.0));
+      bears = (λ failed. sym (fault_of_stop now.stop) ∙ failed, λ ended. ended);
+      whole = λ ended. whole_none now.stop free ended;
+      same = inl all;
+      cause = λ fault. inr (fault_of_stop now.stop ∙ fault);
+    })

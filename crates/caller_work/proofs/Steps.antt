@@ -31,10 +31,10 @@ use Rattle.caller_work.specs.Fates.{AreFated, IsUndecided, IsDoneAs, Fated}
 use Rattle.caller_work.specs.Standing.{HasMet, IsPutIn, IsNext, IsSame, Stands, IsLive}
 use Rattle.caller_work.proofs.Fating.{fated_weaker, fated_next, fated_same, undecided_next}
 
-some_same : {A : Type 0} (x y : A) → Some x ≡ Some y → x ≡ y
+pub some_same : {A : Type 0} (x y : A) → Some x ≡ Some y → x ≡ y
 some_same x y e = cc
 
-none_same : {A P : Type 0} (x : A) → None ≡ Some x → P
+pub none_same : {A P : Type 0} (x : A) → None ≡ Some x → P
 none_same x e = absurd (cc)
 
 -- a reply adds a fault of the medium exactly when it reports one

@@ -10,3 +10,4 @@ pub mod Answering
 pub mod Staying
 pub mod Finishing
 pub mod Opening
+pub mod Attaching

@@ -1,12 +1,19 @@
 -- Lists of live transactions.
-use Rattle.std.proofs.Common.{◌≡◌, ◌≤◌, ◌<◌, ◌+◌, ℕ, zero, suc, inl, inr, true, false, [], ◌∷◌, ◌++◌, length, Option, None, unwrap_or, refl, subst, ◌∙◌, arith, bit_and}
+use Rattle.std.proofs.Common.{nat_eq, sym, ap, Bool, Some, get_or, ◌≡◌, ◌≤◌, ◌<◌, ◌+◌, ℕ, zero, suc, inl, inr, true, false, [], ◌∷◌, ◌++◌, length, Option, None, unwrap_or, refl, subst, ◌∙◌, arith, bit_and}
+use Rattle.std.proofs.Math.ListN.{set, length-set}
+use Rattle.std.specs.Prelude.{if◌then◌else◌}
+use Rattle.std.specs.Option.{option_and_then}
+use Rattle.std.proofs.lemmas.Bool.Decides.{eqb_tells}
+use Rattle.std.proofs.lemmas.Option.{slice_get-get_or}
+use Rattle.std.proofs.lemmas.List.{set-get_or}
+use Rattle.std.specs.Map.{update}
 use Rattle.std.proofs.lemmas.Bool.{cases_eq, cases_lt}
 use Rattle.history.specs.Table.{Granted}
 use Rattle.history.specs.Locks.{touched}
 use Rattle.history.specs.declared.call.Call.{Call}
 use Rattle.core_face.specs.Locked.{Blocks}
 use Rattle.mars_core.specs.Masks.{mask_of, IsMaskOf}
-use Rattle.mars_core.specs.Seats.{Seats, live_in, calls_at, bare}
+use Rattle.mars_core.specs.Seats.{Seats, live_in, calls_at, bare, Seated}
 use Rattle.mars_core.proofs.Touching.{masks_apart}
 
 pub length-push : (seats : Seats) (one : Option Granted) (n : ℕ) → length seats ≡ n → length (seats ++ one ∷ []) ≡ n + 1
@@ -19,6 +26,55 @@ none-push [] none zero = refl
 none-push [] none (suc caller) = refl
 none-push (one ∷ seats) none zero = none zero
 none-push (one ∷ seats) none (suc caller) = none-push seats (λ other. none (suc other)) caller
+
+-- another live transaction for one caller
+live-here : (seats : Seats) (caller : ℕ) (one : Option Granted) → caller < length seats → live_in (set seats caller one) caller ≡ one
+live-here [] caller one within = absurd (omega arith)
+live-here (was ∷ seats) zero one within = refl
+live-here (was ∷ seats) (suc caller) one within = live-here seats caller one (omega arith)
+
+live-there : (seats : Seats) (caller other : ℕ) (one : Option Granted) → (caller ≡ other → ⊥) → live_in (set seats caller one) other ≡ live_in seats other
+live-there [] caller other one apart = refl
+live-there (was ∷ seats) zero zero one apart = absurd (apart refl)
+live-there (was ∷ seats) zero (suc other) one apart = refl
+live-there (was ∷ seats) (suc caller) zero one apart = refl
+live-there (was ∷ seats) (suc caller) (suc other) one apart = live-there seats caller other one (λ e. apart (ap suc e))
+
+live-set : (seats : Seats) (caller : ℕ) (one : Option Granted) → caller < length seats → (other : ℕ) → live_in (set seats caller one) other ≡ update nat_eq (live_in seats) caller one other
+live-set seats caller one within other = elim (eqb_tells caller other) [
+  | inl e ↦ subst (λ (n : ℕ). live_in (set seats caller one) n ≡ one) e.1 (live-here seats caller one within) ∙ ap (λ (b : Bool). if b then one else live_in seats other) (sym e.0)
+  | inr ne ↦ live-there seats caller other one ne.1 ∙ ap (λ (b : Bool). if b then one else live_in seats other) (sym ne.0)
+]
+
+module _ (old items : Seats) (caller at : ℕ) (view : items ≡ old) (is : at ≡ caller) (within : caller < length old) where
+  pub seated : (one : Option Granted) → Seated old caller one (set items at one)
+  seated one = subst (λ (x : Seats × ℕ). Seated old caller one (set x.0 x.1 one)) (λ i. (sym view i, sym is i)) (record {
+    count = length-set old caller one;
+    live = λ i other. live-set old caller one within other i;
+  })
+
+  pub seated_as : (one now : Granted) → one ≡ now → Seated old caller (Some now) (set items at (Some one))
+  seated_as one now same = subst (λ (calls : Granted). Seated old caller (Some calls) (set items at (Some one))) same (seated (Some one))
+
+  -- what a look at the caller's place finds
+  module _ (found : Option Granted) (value : found ≡ get_or items at found) where
+    pub live-at : live_in old caller ≡ found
+    live-at = ap (option_and_then (λ (calls : Option Granted). calls)) (slice_get-get_or old caller found within) ∙ subst (λ (x : Seats × ℕ). get_or x.0 x.1 found ≡ found) (λ i. (view i, is i)) (sym value)
+
+    pub not_none : {P : Type 0} (calls : Granted) → found ≡ None → live_in old caller ≡ Some calls → P
+    not_none calls none some = (let e : None ≡ Some calls = sym none ∙ sym live-at ∙ some in absurd (cc))
+
+    module _ (live : Granted) (here : found ≡ Some live) where
+      pub live-same : (calls : Granted) → live_in old caller ≡ Some calls → live ≡ calls
+      live-same calls some = (let e : Some live ≡ Some calls = sym here ∙ sym live-at ∙ some in cc)
+
+      -- nothing is changed
+      pub same_seats : (now : Granted) → now ≡ live → set items at (Some now) ≡ old
+      same_seats now same = ap (λ (o : Option Granted). set items at o) (ap Some same ∙ sym here ∙ value) ∙ set-get_or items at found ∙ view
+
+      -- one more call
+      pub pushed : (now more : Granted) → now ≡ live ++ more → now ≡ calls_at old caller ++ more
+      pushed now more same = same ∙ ap (λ (o : Option Granted). unwrap_or o [] ++ more) (sym here ∙ sym live-at)
 
 -- beyond the callers there is no live transaction
 pub none_beyond : (seats : Seats) (caller : ℕ) → length seats ≤ caller → live_in seats caller ≡ None

@@ -1,4 +1,4 @@
-use Rattle.std.proofs.Common.{◌≡◌, ◌+◌, ◌-◌, ℕ, suc, false, List, Ok, Err, Result, refl, sym, ◌∙◌, ap, subst, arith}
+use Rattle.std.proofs.Common.{◌≤◌, ◌≡◌, ◌+◌, ◌-◌, ℕ, suc, false, List, Ok, Err, Result, refl, sym, ◌∙◌, ap, subst, arith}
 use Rattle.std.proofs.lemmas.Bool.{false≢true}
 use Rattle.array_shape.specs.declared.shape.Shape.{Shape}
 use Rattle.eaw_face.specs.State.{State}
@@ -13,6 +13,8 @@ use Rattle.index_pages.proofs.Reading.{from_step, from_end}
 use Rattle.btree_pages.specs.Checked.{high_of, AreNamed, IsFrontOf, TreeCause}
 use Rattle.btree_pages.specs.Tree.{IsTree, AreSound, next_low}
 use Rattle.btree_pages.proofs.Checks.{whole_left, named_step, named_here, ChildrenLeft, children_all, children_step, children_fail, inner_fails, inner_children}
+use Rattle.record_slots.specs.Places.{page_bytes}
+use Rattle.btree_pages.proofs.Telling.{not_damaged, not_passed, told_looks, told_cause, told_dead}
 use Rattle.btree_pages.proofs.checking.+under.Goals as goal
 
 pub check_children-loop-i-init : goal.check_children-loop-i-init
@@ -111,3 +113,78 @@ check_page-returns-clause-cause g t c = λ told front is.
     inner_children view.state.bytes c.args.bytes.now c.args.spot.page c.args.spot.low (high_of c.args.spot.high) is c.in-Some.ensures.says.node c.args.front.now.next_page front.pages
     c.args.level c.if-level-eq0.false (sym c.in-Some.ensures.says.level ∙ c.if-head-level.false) (c.if-not-is_inner.ensures.0 refl) c.check_children.result
     (c.check_children.ensures.cause told front)
+
+pub check_children-end_of-requires : goal.check_children-end_of-requires
+check_children-end_of-requires g t c = record { count = c.requires.count; most = c.requires.most; i = c.loop-i-test.true }
+
+pub check_children-returns-in-Err-clause-looks : goal.check_children-returns-in-Err-clause-looks
+check_children-returns-in-Err-clause-looks g t c = looks_next g.S.EawStore.tells g.S.EawStore.opens _ (pages_of (g.S.EawStore.view c.args.pages.now.store) c.args.pages.now) (pages_of (g.S.EawStore.view c.loop-i.pages.store) c.loop-i.pages) (pages_of (g.S.EawStore.view c.check_under.new.pages.store) c.check_under.new.pages) c.loop-i.invariant.looks c.in-Err.ensures.looks
+
+pub check_children-returns-in-Err-clause-dead : goal.check_children-returns-in-Err-clause-dead
+check_children-returns-in-Err-clause-dead g t c = c.in-Err.ensures.dead
+
+pub check_children-returns-clause-looks : goal.check_children-returns-clause-looks
+check_children-returns-clause-looks g t c = c.loop-i.invariant.looks
+
+pub check_children-returns-clause-dead : goal.check_children-returns-clause-dead
+check_children-returns-clause-dead g t c = λ told. not_passed told
+
+pub check_page-returns-in_default-clause-looks : goal.check_page-returns-in_default-clause-looks
+check_page-returns-in_default-clause-looks g t c = looks_none g.S.EawStore.tells (g.S.EawStore.opens (g.S.EawStore.view c.args.pages.now.store).shape) (pages_of (g.S.EawStore.view c.args.pages.now.store) c.args.pages.now)
+
+pub check_page-returns-in_default-clause-dead : goal.check_page-returns-in_default-clause-dead
+check_page-returns-in_default-clause-dead g t c = λ told. not_damaged c.args.spot.page told
+
+pub check_page-returns-then-head-level-clause-looks : goal.check_page-returns-then-head-level-clause-looks
+check_page-returns-then-head-level-clause-looks g t c = looks_none g.S.EawStore.tells (g.S.EawStore.opens (g.S.EawStore.view c.args.pages.now.store).shape) (pages_of (g.S.EawStore.view c.args.pages.now.store) c.args.pages.now)
+
+pub check_page-returns-then-head-level-clause-dead : goal.check_page-returns-then-head-level-clause-dead
+check_page-returns-then-head-level-clause-dead g t c = λ told. not_damaged c.args.spot.page told
+
+pub check_page-returns-then-not-is_leaf-clause-looks : goal.check_page-returns-then-not-is_leaf-clause-looks
+check_page-returns-then-not-is_leaf-clause-looks g t c = looks_none g.S.EawStore.tells (g.S.EawStore.opens (g.S.EawStore.view c.args.pages.now.store).shape) (pages_of (g.S.EawStore.view c.args.pages.now.store) c.args.pages.now)
+
+pub check_page-returns-then-not-is_leaf-clause-dead : goal.check_page-returns-then-not-is_leaf-clause-dead
+check_page-returns-then-not-is_leaf-clause-dead g t c = λ told. not_damaged c.args.spot.page told
+
+pub check_page-returns-then-not-is_inner-clause-looks : goal.check_page-returns-then-not-is_inner-clause-looks
+check_page-returns-then-not-is_inner-clause-looks g t c = looks_none g.S.EawStore.tells (g.S.EawStore.opens (g.S.EawStore.view c.args.pages.now.store).shape) (pages_of (g.S.EawStore.view c.args.pages.now.store) c.args.pages.now)
+
+pub check_page-returns-then-not-is_inner-clause-dead : goal.check_page-returns-then-not-is_inner-clause-dead
+check_page-returns-then-not-is_inner-clause-dead g t c = λ told. not_damaged c.args.spot.page told
+
+pub check_page-is_leaf-requires : goal.check_page-is_leaf-requires
+check_page-is_leaf-requires g t c = record { count = c.in-Some.ensures.says.count; most = subst (λ (n : ℕ). n ≤ 30) (sym c.in-Some.ensures.says.count) c.in-Some.ensures.says.node.most }
+
+pub check_page-check_slots-requires : goal.check_page-check_slots-requires
+check_page-check_slots-requires g t c = record { alive = c.requires.alive; count = c.in-Some.ensures.says.count; most = subst (λ (n : ℕ). n ≤ 30) (sym c.in-Some.ensures.says.count) c.in-Some.ensures.says.node.most; slots = c.requires.front.slots }
+
+pub check_page-returns-then-level-eq0-clause-looks : goal.check_page-returns-then-level-eq0-clause-looks
+check_page-returns-then-level-eq0-clause-looks g t c = c.check_slots.ensures.looks
+
+pub check_page-returns-then-level-eq0-clause-dead : goal.check_page-returns-then-level-eq0-clause-dead
+check_page-returns-then-level-eq0-clause-dead g t c = c.check_slots.ensures.dead
+
+pub check_page-returns-clause-looks : goal.check_page-returns-clause-looks
+check_page-returns-clause-looks g t c = c.check_children.ensures.looks
+
+pub check_page-returns-clause-dead : goal.check_page-returns-clause-dead
+check_page-returns-clause-dead g t c = c.check_children.ensures.dead
+
+pub check_under-returns-in-Err : goal.check_under-returns-in-Err
+check_under-returns-in-Err g t c = record {
+  looks = told_looks g.S.EawStore.tells (g.S.EawStore.opens (g.S.EawStore.view c.args.pages.now.store).shape) (pages_of (g.S.EawStore.view c.args.pages.now.store) c.args.pages.now) (pages_of (g.S.EawStore.view c.fetch_page.new.pages.store) c.fetch_page.new.pages) c.requires.alive c.in-Err.fault c.in-Err.ensures.cause c.check_fault.result c.check_fault.ensures c.in-Err.ensures.looks;
+  cause = λ told front. told_cause g.S.EawStore.tells (g.S.EawStore.opens (g.S.EawStore.view c.args.pages.now.store).shape) (pages_of (g.S.EawStore.view c.args.pages.now.store) c.args.pages.now) (pages_of (g.S.EawStore.view c.fetch_page.new.pages.store) c.fetch_page.new.pages) c.requires.alive c.in-Err.fault c.in-Err.ensures.cause c.check_fault.result c.check_fault.ensures c.args.level (g.S.EawStore.view c.args.pages.now.store).state.bytes c.args.spot.page c.args.spot.low (high_of c.args.spot.high);
+  dead = λ told. told_dead g.S.EawStore.tells (g.S.EawStore.opens (g.S.EawStore.view c.args.pages.now.store).shape) (pages_of (g.S.EawStore.view c.args.pages.now.store) c.args.pages.now) (pages_of (g.S.EawStore.view c.fetch_page.new.pages.store) c.fetch_page.new.pages) c.requires.alive c.in-Err.fault c.in-Err.ensures.cause c.check_fault.result c.check_fault.ensures told;
+}
+
+pub check_under-returns : goal.check_under-returns
+check_under-returns g t c = record {
+  looks = looks_next g.S.EawStore.tells g.S.EawStore.opens _ (pages_of (g.S.EawStore.view c.args.pages.now.store) c.args.pages.now) (pages_of (g.S.EawStore.view c.fetch_page.new.pages.store) c.fetch_page.new.pages) (pages_of (g.S.EawStore.view c.check_page.new.pages.store) c.check_page.new.pages) c.in-Ok.ensures.looks c.check_page.ensures.looks;
+  cause = λ told front.
+      let same = (c.in-Ok.ensures.looks.still refl).state told in
+      subst (λ (s : State). TreeCause c.args.level s.bytes c.args.spot.page c.args.spot.low (high_of c.args.spot.high) c.check_page.result) same
+      (c.check_page.ensures.cause told (subst (λ (s : State). IsFrontOf s.bytes c.args.front.now) (sym same) front)
+      (subst (λ (s : State). c.fetch_page.new.bytes ≡ page_bytes s.bytes c.args.spot.page) (sym same) (c.in-Ok.ensures.bytes told)));
+  dead = c.check_page.ensures.dead;
+}

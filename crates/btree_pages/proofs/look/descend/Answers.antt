@@ -1,3 +1,5 @@
+use Rattle.std.proofs.Common.{◌≤◌}
+use Rattle.btree_pages.proofs.Nexting.{no_error, not_damaged_page}
 use Rattle.std.proofs.Common.{◌≡◌, ◌≢◌, ◌+◌, ℕ, false, List, Option, refl, sym, ◌∙◌, ap, subst, arith}
 use Rattle.std.proofs.lemmas.Bool.{false≢true}
 use Rattle.std.specs.Option.{option_or}
@@ -85,3 +87,39 @@ loop-step-preserved g c =
           (subst (λ (o : Option ℕ). Down bytes c.args.key (c.loop-step._step + 1) (child_for (page_pairs bytes c.loop-step.page) c.args.key) o)
           (ap (λ (o : Option ℕ). option_or o c.loop-step.bound) (sym bound) ∙ sym c.or-bound.ensures) next);
     }
+
+pub returns-in-Err-clause-looks : goal.returns-in-Err-clause-looks
+returns-in-Err-clause-looks g c = looks_next g.S.EawStore.tells g.S.EawStore.opens _ (pages_of (g.S.EawStore.view c.args.pages.now.store) c.args.pages.now) (pages_of (g.S.EawStore.view c.loop-step.pages.store) c.loop-step.pages) (pages_of (g.S.EawStore.view c.read_node.new.pages.store) c.read_node.new.pages) c.loop-step.invariant.looks c.in-Err.ensures.looks
+
+pub returns-then-head-eq0-clause-looks : goal.returns-then-head-eq0-clause-looks
+returns-then-head-eq0-clause-looks g c = looks_next g.S.EawStore.tells g.S.EawStore.opens _ (pages_of (g.S.EawStore.view c.args.pages.now.store) c.args.pages.now) (pages_of (g.S.EawStore.view c.loop-step.pages.store) c.loop-step.pages) (pages_of (g.S.EawStore.view c.read_node.new.pages.store) c.read_node.new.pages) c.loop-step.invariant.looks c.in-Ok.ensures.looks
+
+pub returns-then-head-eq0-clause-cause : goal.returns-then-head-eq0-clause-cause
+returns-then-head-eq0-clause-cause g c = sym (c.loop-step.invariant.looks.still refl).dead ∙ c.in-Ok.ensures.cause
+
+pub returns-then-head-eq0-clause-count : goal.returns-then-head-eq0-clause-count
+returns-then-head-eq0-clause-count g c = c.in-Ok.ensures.head.count
+
+pub returns-then-head-eq0-clause-most : goal.returns-then-head-eq0-clause-most
+returns-then-head-eq0-clause-most g c = subst (λ (n : ℕ). n ≤ 30) (sym c.in-Ok.ensures.head.count) c.in-Ok.ensures.head.node.most
+
+pub returns-then-head-eq0-clause-dead : goal.returns-then-head-eq0-clause-dead
+returns-then-head-eq0-clause-dead g c = λ told. no_error _ _ told
+
+pub child_in-child-requires-clause-count : goal.child_in-child-requires-clause-count
+child_in-child-requires-clause-count g c = c.in-Ok.ensures.head.count
+
+pub child_in-child-requires-clause-most : goal.child_in-child-requires-clause-most
+child_in-child-requires-clause-most g c = subst (λ (n : ℕ). n ≤ 30) (sym c.in-Ok.ensures.head.count) c.in-Ok.ensures.head.node.most
+
+pub returns-then-child-from-clause-looks : goal.returns-then-child-from-clause-looks
+returns-then-child-from-clause-looks g c = looks_next g.S.EawStore.tells g.S.EawStore.opens _ (pages_of (g.S.EawStore.view c.args.pages.now.store) c.args.pages.now) (pages_of (g.S.EawStore.view c.loop-step.pages.store) c.loop-step.pages) (pages_of (g.S.EawStore.view c.read_node.new.pages.store) c.read_node.new.pages) c.loop-step.invariant.looks c.in-Ok.ensures.looks
+
+pub returns-then-child-from-clause-dead : goal.returns-then-child-from-clause-dead
+returns-then-child-from-clause-dead g c = λ told. not_damaged_page _ told
+
+pub returns-clause-looks : goal.returns-clause-looks
+returns-clause-looks g c = c.loop-step.invariant.looks
+
+pub returns-clause-dead : goal.returns-clause-dead
+returns-clause-dead g c = λ told. not_damaged_page _ told

@@ -1,3 +1,6 @@
+use Rattle.btree_pages.specs.declared.look.Leaf.{Leaf}
+use Rattle.btree_pages.specs.declared.look.Reached.{Reached}
+use Rattle.btree_pages.proofs.Nexting.{no_error, other_error, not_damaged_page}
 use Rattle.std.proofs.Common.{◌≡◌, Some, sym, ◌∙◌, arith}
 use Rattle.page_store.specs.Pairs.{next}
 use Rattle.index_pages.specs.Page.{pairs_said}
@@ -15,3 +18,30 @@ returns-then-slot-from-clause-cause g c =
           let given = given_next view.state.bytes c.args.from (c.in-Some.key, c.in-Some.slot) (pairs_said c.descend.new.bytes) at.given some in
           omega (arith, given, (c.requires told c.in-Ok.ensures.cause).front.slots, slots_are view.shape view.state.bytes (g.met.S.EawStore.long c.args.pages.now.store told), c.index_page_count-count.ensures.all, c.if-slot-from.true, c.from.ensures),
     )
+
+pub returns-in-Err : goal.returns-in-Err
+returns-in-Err g c = record { looks = c.in-Err.ensures.looks; cause = c.in-Err.ensures.cause; least = λ told. tt; inside = tt; dead = λ told. c.in-Err.ensures.dead (other_error Reached Leaf _ _ told) }
+
+pub returns-in_default-clause-looks : goal.returns-in_default-clause-looks
+returns-in_default-clause-looks g c = c.in-Ok.ensures.looks
+
+pub returns-in_default-clause-cause : goal.returns-in_default-clause-cause
+returns-in_default-clause-cause g c = c.in-Ok.ensures.cause
+
+pub returns-in_default-clause-dead : goal.returns-in_default-clause-dead
+returns-in_default-clause-dead g c = λ told. no_error _ _ told
+
+pub returns-clause-looks : goal.returns-clause-looks
+returns-clause-looks g c = c.in-Ok.ensures.looks
+
+pub returns-clause-cause : goal.returns-clause-cause
+returns-clause-cause g c = c.in-Ok.ensures.cause
+
+pub returns-clause-dead : goal.returns-clause-dead
+returns-clause-dead g c = λ told. no_error _ _ told
+
+pub returns-then-slot-from-clause-looks : goal.returns-then-slot-from-clause-looks
+returns-then-slot-from-clause-looks g c = c.in-Ok.ensures.looks
+
+pub returns-then-slot-from-clause-dead : goal.returns-then-slot-from-clause-dead
+returns-then-slot-from-clause-dead g c = λ told. not_damaged_page _ told

@@ -1,3 +1,7 @@
+use Rattle.page_store.specs.Shown.{pages_of}
+use Rattle.index_pages.proofs.Looking.{looks_none}
+use Rattle.btree_pages.proofs.Nexting.{no_error, not_damaged_page, error_is}
+use Rattle.btree_pages.proofs.Rooted.{dead_test}
 use Rattle.std.proofs.Common.{◌≡◌, ◌+◌, ℕ, List, sym, ◌∙◌, ap, subst, arith}
 use Rattle.record_slots.specs.Places.{page_bytes}
 use Rattle.page_store.specs.Pairs.{Pair}
@@ -52,3 +56,36 @@ returns-then-child-node-clause-cause g c = (
       let level : level_of view.state.bytes c.child_of-page.result + 1 ≡ node.level = subst (λ (p : ℕ). level_of view.state.bytes p + 1 ≡ node.level) (sym page) child.level_is in
       c.if-child-node.true (ap (λ (n : ℕ). n + 1) (c.in-Ok.ensures.level told) ∙ level),
 )
+
+pub returns-then-page-eq0-clause-looks : goal.returns-then-page-eq0-clause-looks
+returns-then-page-eq0-clause-looks g c = looks_none g.S.EawStore.tells (g.S.EawStore.opens (g.S.EawStore.view c.args.pages.now.store).shape) (pages_of (g.S.EawStore.view c.args.pages.now.store) c.args.pages.now)
+
+pub returns-then-page-eq0-clause-dead : goal.returns-then-page-eq0-clause-dead
+returns-then-page-eq0-clause-dead g c = λ told. not_damaged_page _ told
+
+pub returns-then-page-from-clause-looks : goal.returns-then-page-from-clause-looks
+returns-then-page-from-clause-looks g c = looks_none g.S.EawStore.tells (g.S.EawStore.opens (g.S.EawStore.view c.args.pages.now.store).shape) (pages_of (g.S.EawStore.view c.args.pages.now.store) c.args.pages.now)
+
+pub returns-then-page-from-clause-dead : goal.returns-then-page-from-clause-dead
+returns-then-page-from-clause-dead g c = λ told. not_damaged_page _ told
+
+pub returns-in-Err-clause-looks : goal.returns-in-Err-clause-looks
+returns-in-Err-clause-looks g c = c.in-Err.ensures.looks
+
+pub returns-in-Err-clause-dead : goal.returns-in-Err-clause-dead
+returns-in-Err-clause-dead g c = λ told. dead_test Node _ _ _ (g.S.EawStore.view c.args.pages.now.store) c.in-Err.fault c.requires.alive (error_is _ _ told) c.in-Err.ensures.cause
+
+pub returns-then-child-node-clause-looks : goal.returns-then-child-node-clause-looks
+returns-then-child-node-clause-looks g c = c.in-Ok.ensures.looks
+
+pub returns-then-child-node-clause-dead : goal.returns-then-child-node-clause-dead
+returns-then-child-node-clause-dead g c = λ told. not_damaged_page _ told
+
+pub returns-clause-looks : goal.returns-clause-looks
+returns-clause-looks g c = c.in-Ok.ensures.looks
+
+pub returns-clause-cause : goal.returns-clause-cause
+returns-clause-cause g c = c.requires.alive
+
+pub returns-clause-dead : goal.returns-clause-dead
+returns-clause-dead g c = λ told. no_error _ _ told

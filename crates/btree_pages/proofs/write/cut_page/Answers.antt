@@ -1,4 +1,4 @@
-use Rattle.std.proofs.Common.{◌≡◌, ◌+◌, ℕ, List, [], ◌∷◌, take, drop, ◌∙◌, ap, subst}
+use Rattle.std.proofs.Common.{◌≡◌, ◌+◌, ℕ, List, [], ◌∷◌, take, drop, ◌∙◌, ap, subst, arith}
 use Rattle.array_shape.specs.Logged.{Part}
 use Rattle.page_store.specs.Pairs.{Pair, inserted}
 use Rattle.page_store.specs.Shown.{pages_of}
@@ -7,6 +7,7 @@ use Rattle.index_pages.specs.Keys.{key_at}
 use Rattle.btree_pages.specs.Node.{node_bytes}
 use Rattle.btree_pages.specs.Writes.{cutting_parts}
 use Rattle.btree_pages.proofs.Cutting.{all_behind, same_part, same_four}
+use Rattle.btree_pages.proofs.Parting.{page_there, super_there, part_in}
 use Rattle.btree_pages.proofs.write.cut_page.Goals as goal
 
 pub returns-clause-acts : goal.returns-clause-acts
@@ -34,3 +35,14 @@ returns-clause-acts g c =
     (same_part _ _ _ _ _ _ c.whole_page-3.ensures.page c.whole_page-3.ensures.at named)
     (same_part _ _ _ _ _ _ c.front_part.ensures.page c.front_part.ensures.at counts))
     c.act_all.ensures.acts)
+
+pub act_all-requires : goal.act_all-requires
+act_all-requires g c =
+    let p0 = part_in (g.S.EawStore.view c.args.pages.now.store) (c.args.node.now.page) (0) 512 c.write_node.new.out c.whole_page.result.page c.whole_page.result.at c.whole_page.result.bytes.now c.whole_page.ensures.page c.whole_page.ensures.at c.whole_page.ensures.bytes c.write_node.array_long (omega arith) (omega arith) (page_there (g.S.EawStore.view c.args.pages.now.store).shape _ c.requires.node.inside) in
+    let p1 = part_in (g.S.EawStore.view c.args.pages.now.store) (c.args.front.now.next_page) (0) 512 c.write_node-2.new.out c.whole_page-2.result.page c.whole_page-2.result.at c.whole_page-2.result.bytes.now c.whole_page-2.ensures.page c.whole_page-2.ensures.at c.whole_page-2.ensures.bytes c.write_node-2.array_long (omega arith) (omega arith) (page_there (g.S.EawStore.view c.args.pages.now.store).shape _ c.requires.next) in
+    let p2 = part_in (g.S.EawStore.view c.args.pages.now.store) (c.args.parent.page) (0) 512 c.write_node-3.new.out c.whole_page-3.result.page c.whole_page-3.result.at c.whole_page-3.result.bytes.now c.whole_page-3.ensures.page c.whole_page-3.ensures.at c.whole_page-3.ensures.bytes c.write_node-3.array_long (omega arith) (omega arith) (page_there (g.S.EawStore.view c.args.pages.now.store).shape _ c.requires.parent.inside) in
+    let pf = part_in (g.S.EawStore.view c.args.pages.now.store) (0) (8) 8 c.write_super_counts.new.out c.front_part.result.page c.front_part.result.at c.front_part.result.bytes.now c.front_part.ensures.page c.front_part.ensures.at c.front_part.ensures.bytes c.write_super_counts.array_long (omega arith) (omega arith) (super_there (g.S.EawStore.view c.args.pages.now.store).shape c.args.front.now c.requires.front) in
+    record { tid = c.requires.tid; closed = c.requires.closed; few = omega arith; inside = (p0.0, p0.1, (p1.0, p1.1, (p2.0, p2.1, (pf.0, pf.1, tt)))) }
+
+pub returns-clause-dead : goal.returns-clause-dead
+returns-clause-dead g c = c.act_all.ensures.dead

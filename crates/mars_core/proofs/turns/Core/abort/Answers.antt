@@ -1,4 +1,4 @@
-use Rattle.std.proofs.Common.{◌≡◌, ℕ, true, Option, Some, [], length, Result, Err, unwrap_or, ap, subst, sym, ◌∙◌, refl}
+use Rattle.std.proofs.Common.{◌≡◌, ℕ, true, Option, Some, [], length, Result, Err, unwrap_or, ap, subst, sym, ◌∙◌, refl, ◌<◌}
 use Rattle.std.specs.Prelude.{is_some}
 use Rattle.eaw_face.specs.Causes.{IsAlive}
 use Rattle.page_store.specs.Shown.{pages_of}
@@ -70,3 +70,12 @@ returns-in-Err g c = record {
       (subst (λ (h : Held g.row.S.Denot). IsAlive (g.S.EawStore.view h.records.store)) (sym c.self.view_is) c.requires.alive) c.args.caller (calls_at c.self.inside.seats c.args.caller) (live_is c.self.inside.seats c.args.caller (sym c.if-not-is_live.ensures)) refl refl (subst (λ (f : TableFault). (let r : Result (Unit {0}) TableFault = Err f in Does g.S.EawStore.tells (g.S.EawStore.opens (g.S.EawStore.view c.self.inside.records.store).shape) g.K.KeyIndex.index (abort c.args.caller)
       (pages_of (g.S.EawStore.view c.self.inside.records.store) c.self.inside.records) (pages_of (g.S.EawStore.view c.abort.new.self.store) c.abort.new.self) r)) (abort_fails g.S.EawStore.tells g.K.KeyIndex.index (pages_of (g.S.EawStore.view c.self.inside.records.store) c.self.inside.records) c.args.caller (subst (λ (h : Held g.row.S.Denot). IsAlive (g.S.EawStore.view h.records.store)) (sym c.self.view_is) c.requires.alive) c.in-Err.fault c.in-Err.ensures.does.cause) c.in-Err.ensures.does) refl));
 }
+
+pub is_live-requires : goal.is_live-requires
+is_live-requires g c = subst (λ (n : ℕ). c.args.caller < n) (sym c.self.invariant.seats) (subst (λ (h : Held g.row.S.Denot). c.args.caller < (g.S.EawStore.view h.records.store).shape.numbers) (sym c.self.view_is) c.requires.inside)
+
+pub abort-requires : goal.abort-requires
+abort-requires g c = subst (λ (h : Held g.row.S.Denot). c.args.caller < (g.S.EawStore.view h.records.store).shape.numbers) (sym c.self.view_is) c.requires.inside
+
+pub end-requires : goal.end-requires
+end-requires g c = subst (λ (n : ℕ). c.args.caller < n) (sym c.self.invariant.seats) (subst (λ (h : Held g.row.S.Denot). c.args.caller < (g.S.EawStore.view h.records.store).shape.numbers) (sym c.self.view_is) c.requires.inside)

@@ -1,4 +1,4 @@
-use Rattle.std.proofs.Common.{◌≡◌, ◌++◌, ◌∷◌, ℕ, true, Option, Some, [], nat_eq, length, unwrap_or, ap, subst, sym, ◌∙◌, refl}
+use Rattle.std.proofs.Common.{◌<◌, ◌≡◌, ◌++◌, ◌∷◌, ℕ, true, Option, Some, [], nat_eq, length, unwrap_or, ap, subst, sym, ◌∙◌, refl}
 use Rattle.std.specs.Map.{update}
 use Rattle.std.proofs.lemmas.Map.{update_here}
 use Rattle.std.specs.Prelude.{is_some}
@@ -10,6 +10,7 @@ use Rattle.history.specs.declared.call.Reply.{Reply}
 use Rattle.history.specs.declared.call.Reply.TheVariants.{Fine, Busy, NoMemory}
 use Rattle.core_face.specs.Core.{Steps}
 use Rattle.mars_core.specs.Held.{Held, core_of, state_at}
+use Rattle.mars_core.specs.Kept.{IsKept}
 use Rattle.mars_core.specs.Seats.{Seats, live_in, calls_at, bare}
 use Rattle.mars_core.specs.Works.{HasSaves, IsSaveRefusal, IsShown, reply_to}
 use Rattle.mars_core.proofs.Answering.{IndexLaws, granted_keeps, granted_steps, refused_keeps, refused_steps}
@@ -241,3 +242,31 @@ returns-in-Err-work g c =
           (calls_at i.seats t) is (free_before s (bare c.push.new.self) t _ first.live c.args.call.now c.in_default-holder.ensures.free)
           c.in-Err-work.fault c.in-Err-work.ensures.works back));
     }
+
+pub is_live-requires : goal.is_live-requires
+is_live-requires g c = subst (λ (n : ℕ). c.args.caller < n) (sym c.self.invariant.seats) (subst (λ (h : Held g.row.S.Denot). c.args.caller < (g.S.EawStore.view h.records.store).shape.numbers) (sym c.self.view_is) c.requires.inside)
+
+pub touched-before-requires : goal.touched-before-requires
+touched-before-requires g c = subst (λ (n : ℕ). c.args.caller < n) (sym c.self.invariant.seats) (subst (λ (h : Held g.row.S.Denot). c.args.caller < (g.S.EawStore.view h.records.store).shape.numbers) (sym c.self.view_is) c.requires.inside)
+
+pub saves-requires : goal.saves-requires
+saves-requires g c = subst (λ (h : Held g.row.S.Denot). c.args.caller < (g.S.EawStore.view h.records.store).shape.numbers) (sym c.self.view_is) c.requires.inside
+
+pub push-requires : goal.push-requires
+push-requires g c = record { inside = subst (λ (n : ℕ). c.args.caller < n) (sym c.self.invariant.seats) (subst (λ (h : Held g.row.S.Denot). c.args.caller < (g.S.EawStore.view h.records.store).shape.numbers) (sym c.self.view_is) c.requires.inside); live = (calls_at c.self.inside.seats c.args.caller, live_is c.self.inside.seats c.args.caller (sym c.if-not-is_live.ensures)) }
+
+pub invariant_of-self : goal.invariant_of-self
+invariant_of-self g c = subst (λ (seats : Seats). IsKept g.S.EawStore.tells g.S.EawStore.opens g.K.KeyIndex.index (pages_of (g.S.EawStore.view c.self.inside.records.store) c.self.inside.records) (length seats) c.self.inside.base
+    (state_at g.K.KeyIndex.index (g.S.EawStore.view c.self.inside.records.store) (table_of c.self.inside.base) c.self.inside.history (live_in seats) c.self.inside.doubt)) (sym c.in-Err.ensures.err) c.self.invariant
+
+pub pop-requires-clause-inside : goal.pop-requires-clause-inside
+pop-requires-clause-inside g c = subst (λ (n : ℕ). c.args.caller < n) (sym c.in-Ok.ensures.ok.count) (subst (λ (n : ℕ). c.args.caller < n) (sym c.self.invariant.seats) (subst (λ (h : Held g.row.S.Denot). c.args.caller < (g.S.EawStore.view h.records.store).shape.numbers) (sym c.self.view_is) c.requires.inside))
+
+pub set_last_reply-requires-clause-inside : goal.set_last_reply-requires-clause-inside
+set_last_reply-requires-clause-inside g c = subst (λ (n : ℕ). c.args.caller < n) (sym c.in-Ok.ensures.ok.count) (subst (λ (n : ℕ). c.args.caller < n) (sym c.self.invariant.seats) (subst (λ (h : Held g.row.S.Denot). c.args.caller < (g.S.EawStore.view h.records.store).shape.numbers) (sym c.self.view_is) c.requires.inside))
+
+pub pop-requires-in-Err-work-clause-inside : goal.pop-requires-in-Err-work-clause-inside
+pop-requires-in-Err-work-clause-inside g c = subst (λ (n : ℕ). c.args.caller < n) (sym c.in-Ok.ensures.ok.count) (subst (λ (n : ℕ). c.args.caller < n) (sym c.self.invariant.seats) (subst (λ (h : Held g.row.S.Denot). c.args.caller < (g.S.EawStore.view h.records.store).shape.numbers) (sym c.self.view_is) c.requires.inside))
+
+pub work-requires : goal.work-requires
+work-requires g c = record { tid = subst (λ (h : Held g.row.S.Denot). c.args.caller < (g.S.EawStore.view h.records.store).shape.numbers) (sym c.self.view_is) c.requires.inside; of_table = c.requires.of_table; saves = subst (λ (n : ℕ). HasSaves n c.args.call.now) c.saves.ensures.count c.in_default.ensures.has }

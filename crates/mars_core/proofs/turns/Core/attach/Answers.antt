@@ -1,11 +1,36 @@
-use Rattle.std.proofs.Common.{ℕ, List, ap, ◌∙◌}
+use Rattle.std.proofs.Common.{◌≡◌, ℕ, List, [], refl, sym, subst, ap, ◌∙◌}
 use Rattle.std.specs.Prelude.{map}
-use Rattle.eaw_face.specs.State.{listed}
-use Rattle.page_store.specs.Shown.{saved_of}
+use Rattle.eaw_face.specs.State.{State, listed}
+use Rattle.eaw_face.specs.Causes.{IsAlive}
+use Rattle.page_store.specs.Shown.{saved_of, pages_of}
 use Rattle.record_table.specs.Shown.{writes_of}
+use Rattle.mars_core.specs.Attached.{is_media_fault, CoreCause, GivesBack}
+use Rattle.mars_core.specs.declared.fault.CoreFault.{CoreFault}
+use Rattle.mars_core.proofs.Attaching.{attach_cause, attach_gives}
 use Rattle.mars_core.proofs.turns.Core.attach.Goals as goal
 
-pub begin_over-requires-clause-unsaved : goal.begin_over-requires-clause-unsaved
-begin_over-requires-clause-unsaved g c = λ told t.
-    ap (λ (counts : List ℕ). map writes_of (saved_of (listed ((g.S.EawStore.view c.in-Ok.records.store).state.logs t)) counts))
-    (ap (λ (f : ℕ → List ℕ). f t) c.in-Ok.ensures.attached.looks.saves ∙ (c.attach_in.ensures.fresh t).0)
+pub attach-requires : goal.attach-requires
+attach-requires g c = record { idle = λ alive t. subst (λ (s : g.row.S.Denot). listed ((g.S.EawStore.view s).ranges t) ≡ []) (sym c.attach_in.ensures.store) (c.requires.idle t); closed = λ alive t. (c.attach_in.ensures.fresh t).1 }
+
+pub returns-in-Err : goal.returns-in-Err
+returns-in-Err g c =
+    let cause = attach_cause g.S.EawStore.tells g.K.KeyIndex.index (g.S.EawStore.view c.attach_in.result.store) c.in-Err.fault c.in-Err.ensures.cause in
+    let alive = subst (λ (s : g.row.S.Denot). IsAlive (g.S.EawStore.view s)) (sym c.attach_in.ensures.store) c.requires.alive in
+    let back = attach_gives g.S.EawStore.tells (g.S.EawStore.opens (g.S.EawStore.view c.attach_in.result.store).shape) g.K.KeyIndex.index (pages_of (g.S.EawStore.view c.attach_in.result.store) c.attach_in.result) (pages_of (g.S.EawStore.view c.in-Err.pages.store) c.in-Err.pages) alive c.in-Err.fault c.in-Err.ensures.cause c.in-Err.ensures.looks in
+    record {
+      begins = tt;
+      cause = subst (λ (x : g.row.S.Denot × CoreFault). CoreCause g.S.EawStore.tells g.K.KeyIndex.index (g.S.EawStore.view x.0) x.1) (λ i. (c.attach_in.ensures.store i, sym c.attach_fault.ensures i)) cause;
+      gives_back = subst (λ (x : g.row.S.Denot × CoreFault × g.row.S.Denot). GivesBack g.S.EawStore.tells (g.S.EawStore.opens (g.S.EawStore.view x.0).shape) (is_media_fault x.1) (g.S.EawStore.view x.0) (g.S.EawStore.view x.2)) (λ i. (c.attach_in.ensures.store i, sym c.attach_fault.ensures i, sym c.into_store.ensures i)) back;
+    }
+
+pub begin_over-requires : goal.begin_over-requires
+begin_over-requires g c =
+    let still = c.in-Ok.ensures.attached.looks.still refl in
+    record {
+      alive = still.dead ∙ c.in-Ok.ensures.attached.alive;
+      sound = λ told. subst (λ (s : State). g.K.KeyIndex.index.sound s.bytes) (sym (still.state told)) (c.in-Ok.ensures.attached.sound told);
+      idle = c.in-Ok.ensures.attached.idle;
+      unsaved = λ told t.
+          ap (λ (counts : List ℕ). map writes_of (saved_of (listed ((g.S.EawStore.view c.in-Ok.records.store).state.logs t)) counts))
+          (ap (λ (f : ℕ → List ℕ). f t) c.in-Ok.ensures.attached.looks.saves ∙ (c.attach_in.ensures.fresh t).0);
+    }

@@ -1,4 +1,4 @@
-use Rattle.std.proofs.Common.{◌+◌, List, Option, Some, None, nat_eq, length, Result, Err, ap, subst, sym, ◌∙◌, refl}
+use Rattle.std.proofs.Common.{◌<◌, ℕ, ◌+◌, List, Option, Some, None, nat_eq, length, Result, Err, ap, subst, sym, ◌∙◌, refl}
 use Rattle.std.specs.Prelude.{IsNone}
 use Rattle.std.specs.Map.{update}
 use Rattle.eaw_face.specs.Causes.{IsAlive}
@@ -85,3 +85,15 @@ returns-in-Err-commit g c = record {
       (subst (λ (h : Held g.row.S.Denot). IsAlive (g.S.EawStore.view h.records.store)) (sym c.self.view_is) c.requires.alive) c.args.caller c.in-Some.live (sym c.take.ensures.live ∙ c.in-Some.is) (record { caller = c.args.caller; calls = c.into_calls.result; at = length c.items.result.now + 1 }) (λ j. record { caller = c.args.caller; calls = c.into_calls.ensures j; at = length (c.items.ensures j) + 1 }) (subst (λ (f : TableFault). (let r : Result (Unit {0}) TableFault = Err f in Does g.S.EawStore.tells (g.S.EawStore.opens (g.S.EawStore.view c.self.inside.records.store).shape) g.K.KeyIndex.index (commit c.args.caller)
       (pages_of (g.S.EawStore.view c.self.inside.records.store) c.self.inside.records) (pages_of (g.S.EawStore.view c.commit.new.self.store) c.commit.new.self) r)) (commit_fails g.S.EawStore.tells g.K.KeyIndex.index (pages_of (g.S.EawStore.view c.self.inside.records.store) c.self.inside.records) c.args.caller (subst (λ (h : Held g.row.S.Denot). IsAlive (g.S.EawStore.view h.records.store)) (sym c.self.view_is) c.requires.alive) c.in-Err-commit.fault c.in-Err-commit.ensures.does.cause) c.in-Err-commit.ensures.does) c.take.ensures.out.live (sym (last_is c.self.inside.history c.pop.new.self (record { caller = c.args.caller; calls = c.into_calls.result; at = length c.items.result.now + 1 }) c.pop.result (sym c.in-Ok.ensures.ok ∙ c.pop.ensures.last) (λ none. sym c.in-Ok.ensures.ok ∙ c.pop.ensures.empty.0 (subst (λ (o : Option Done). IsNone o) (sym none) refl))).0) (last_is c.self.inside.history c.pop.new.self (record { caller = c.args.caller; calls = c.into_calls.result; at = length c.items.result.now + 1 }) c.pop.result (sym c.in-Ok.ensures.ok ∙ c.pop.ensures.last) (λ none. sym c.in-Ok.ensures.ok ∙ c.pop.ensures.empty.0 (subst (λ (o : Option Done). IsNone o) (sym none) refl))).1));
 }
+
+pub is_live-requires : goal.is_live-requires
+is_live-requires g c = subst (λ (n : ℕ). c.args.caller < n) (sym c.self.invariant.seats) (subst (λ (h : Held g.row.S.Denot). c.args.caller < (g.S.EawStore.view h.records.store).shape.numbers) (sym c.self.view_is) c.requires.inside)
+
+pub take-requires : goal.take-requires
+take-requires g c = subst (λ (n : ℕ). c.args.caller < n) (sym c.self.invariant.seats) (subst (λ (h : Held g.row.S.Denot). c.args.caller < (g.S.EawStore.view h.records.store).shape.numbers) (sym c.self.view_is) c.requires.inside)
+
+pub commit-requires : goal.commit-requires
+commit-requires g c = subst (λ (h : Held g.row.S.Denot). c.args.caller < (g.S.EawStore.view h.records.store).shape.numbers) (sym c.self.view_is) c.requires.inside
+
+pub put-requires : goal.put-requires
+put-requires g c = subst (λ (n : ℕ). c.args.caller < n) (sym c.take.ensures.out.count) (subst (λ (n : ℕ). c.args.caller < n) (sym c.self.invariant.seats) (subst (λ (h : Held g.row.S.Denot). c.args.caller < (g.S.EawStore.view h.records.store).shape.numbers) (sym c.self.view_is) c.requires.inside))

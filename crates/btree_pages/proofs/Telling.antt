@@ -1,0 +1,73 @@
+-- Faults of reads, as a check tells them.
+use Rattle.std.proofs.Common.{◌≡◌, ℕ, Bool, List, Result, Ok, Err, refl, sym, ◌∙◌, subst}
+use Rattle.std.proofs.lemmas.Bool.{false≢true}
+use Rattle.eaw_face.specs.StoreView.{StoreView}
+use Rattle.eaw_face.specs.Causes.{IsAlive}
+use Rattle.page_store.specs.Looks.{Looks, is_failed, is_check_failed}
+use Rattle.page_store.specs.Shown.{PagesView}
+use Rattle.page_store.specs.declared.fault.PageFault.{PageFault}
+use Rattle.page_store.specs.declared.fault.PageFault.TheVariants as page
+use Rattle.page_store.specs.declared.index_fault.CheckFault.{CheckFault}
+use Rattle.page_store.specs.declared.index_fault.CheckFault.TheVariants as check
+use Rattle.index_pages.specs.Faults.{as_check}
+use Rattle.index_pages.specs.Fetched.{ReadCause, TestCause}
+use Rattle.btree_pages.specs.Checked.{is_media, TreeCause}
+
+-- the medium failed in what is told exactly if it did in the read
+pub failed_same : (T : Type 0) (fault : PageFault) → (let r : Result T PageFault = Err fault in let s : Result (Unit {0}) CheckFault = Err (as_check fault) in is_failed r ≡ is_check_failed s)
+failed_same T page.Media = refl
+failed_same T page.Dead = refl
+failed_same T (page.Damaged bad) = refl
+failed_same T (page.LogFull g h n) = refl
+failed_same T page.SavesFull = refl
+
+pub media_same : (r : Result (Unit {0}) CheckFault) → is_media r ≡ is_check_failed r
+media_same (Ok answer) = refl
+media_same (Err check.Media) = refl
+media_same (Err check.Dead) = refl
+media_same (Err (check.Damaged bad)) = refl
+
+pub check_looks : (T : Type 0) (tells : Bool) (Opens : List ℕ → List ℕ → Type 0) (old new : PagesView) (fault : PageFault) (told : CheckFault) → told ≡ as_check fault
+    → (let r : Result T PageFault = Err fault in Looks tells Opens (is_failed r) old new) → (let s : Result (Unit {0}) CheckFault = Err told in Looks tells Opens (is_check_failed s) old new)
+check_looks T tells Opens old new fault told is looks = subst (λ (f : CheckFault). (let s : Result (Unit {0}) CheckFault = Err f in Looks tells Opens (is_check_failed s) old new)) (sym is)
+    (subst (λ (b : Bool). Looks tells Opens b old new) (failed_same T fault) looks)
+
+pub dead_told : (T : Type 0) (tells : Bool) (Good : Type 0) (at : ℕ) (old : StoreView) (fault : PageFault) (told : CheckFault) → (let r : Result T PageFault = Err fault in TestCause tells Good at old r) → told ≡ as_check fault
+    → (let s : Result (Unit {0}) CheckFault = Err told in s ≡ Err check.Dead) → fault ≡ page.Dead
+dead_told T tells Good at old page.Dead told cause is e = refl
+dead_told T tells Good at old page.Media told cause is e = absurd (cc)
+dead_told T tells Good at old (page.Damaged bad) told cause is e = absurd (cc)
+dead_told T tells Good at old (page.LogFull g h n) told cause is e = absurd cause
+dead_told T tells Good at old page.SavesFull told cause is e = absurd cause
+
+-- an answer that is not that of a dead store
+pub not_damaged : {P : Type 0} (n : ℕ) → (let r : Result (Unit {0}) CheckFault = Err (check.Damaged n) in r ≡ Err check.Dead) → P
+not_damaged n e = absurd (cc)
+
+pub not_passed : {P : Type 0} → (let r : Result (Unit {0}) CheckFault = Ok tt in r ≡ Err check.Dead) → P
+not_passed e = absurd (cc)
+
+module _ (tells : Bool) (Opens : List ℕ → List ℕ → Type 0) (old new : PagesView) (alive : IsAlive old.store) (fault : PageFault) (cause : (let r : Result (Unit {0}) PageFault = Err fault in ReadCause old.store r)) where
+  -- the store is alive, so the medium failed
+  only_media : fault ≡ page.Media
+  only_media = here fault cause
+    where
+      here : (fault : PageFault) → (let r : Result (Unit {0}) PageFault = Err fault in ReadCause old.store r) → fault ≡ page.Media
+      here page.Media cause = (cc)
+      here page.Dead cause = absurd (false≢true (sym alive ∙ cause))
+      here (page.Damaged bad) cause = absurd cause
+      here (page.LogFull g h n) cause = absurd cause
+      here page.SavesFull cause = absurd cause
+
+  pub told_media : (told : CheckFault) → told ≡ as_check fault → told ≡ check.Media
+  told_media told is = is ∙ subst (λ (f : PageFault). as_check f ≡ check.Media) (sym only_media) (cc)
+
+  pub told_looks : (told : CheckFault) → told ≡ as_check fault → (let r : Result (Unit {0}) PageFault = Err fault in Looks tells Opens (is_failed r) old new) → (let r : Result (Unit {0}) CheckFault = Err told in Looks tells Opens (is_media r) old new)
+  told_looks told is looks = subst (λ (f : CheckFault). (let r : Result (Unit {0}) CheckFault = Err f in Looks tells Opens (is_media r) old new)) (sym (told_media told is))
+      (subst (λ (f : PageFault). (let r : Result (Unit {0}) PageFault = Err f in Looks tells Opens (is_failed r) old new)) only_media looks)
+
+  pub told_cause : (told : CheckFault) → told ≡ as_check fault → (l : ℕ) (bytes : List ℕ) (at low high : ℕ) → (let r : Result (Unit {0}) CheckFault = Err told in TreeCause l bytes at low high r)
+  told_cause told is l bytes at low high = subst (λ (f : CheckFault). (let r : Result (Unit {0}) CheckFault = Err f in TreeCause l bytes at low high r)) (sym (told_media told is)) tt
+
+  pub told_dead : {P : Type 0} (told : CheckFault) → told ≡ as_check fault → (let r : Result (Unit {0}) CheckFault = Err told in r ≡ Err check.Dead) → P
+  told_dead told is e = (let media = told_media told is in absurd (cc))
