@@ -1,6 +1,7 @@
-use Rattle.std.proofs.Common.{refl, ◌≡◌, ℕ, ◌∙◌, [], List, Result, Ok, Err, length, sym, ap, subst, arith}
+use Rattle.std.proofs.Common.{refl, inl, ◌≡◌, ℕ, ◌∙◌, [], List, Result, Ok, Err, length, sym, ap, subst, arith}
 use Rattle.std.specs.Prelude.{IsErr}
 use Rattle.std.specs.Result.{IsErrAnd}
+use Rattle.std.proofs.lemmas.Result.{err_from_is_err_and}
 use Rattle.counted.proofs.Going.{then}
 use Rattle.pcm_media.specs.Images.{IsOutside}
 use Rattle.pcm_media.proofs.Left.{same_bytes, left_as_read}
@@ -8,7 +9,7 @@ use Rattle.array_shape.specs.Places.{media_len}
 use Rattle.array_image.specs.Image.{data_of}
 use Rattle.array_image.specs.Decided.{settled_data}
 use Rattle.array_image.specs.Standing.{IsLawful}
-use Rattle.array_image.proofs.Calls.{none_yet, goes_on, hands_on}
+use Rattle.array_image.proofs.Calls.{none_yet, goes_on, ends_with, hands_on}
 use Rattle.device_recovery.specs.Table.{RowsAre}
 use Rattle.pcm_media.specs.Answer.{media_answer}
 use Rattle.device_recovery.specs.Recovered.{AllGood, HasNoVote, recovered_places, is_of_media}
@@ -18,6 +19,29 @@ use Rattle.device_recovery.proofs.Clearing.{no_vote_settled}
 use Rattle.device_recovery.proofs.Lists.{decided_count, dropped_count, no_vote, no_count}
 use Rattle.device_recovery.proofs.Moments.{clean_from, reading_law, sense_law}
 use Rattle.device_recovery.proofs.recovery.recover.Goals as goal
+
+pub returns-in_err-rows : goal.returns-in_err-rows
+returns-in_err-rows g c =
+    let m = g.M.Media in
+    let old = m.view c.args.media.now in
+    let now = m.view c.read_sound.new.media in
+    let all = recovered_places c.args.shape.now old.content.bytes in
+    let read = c.in_err-rows.ensures in
+    let p = err_from_is_err_and c.from_residual.result c.from_residual.ensures.1 in
+    rw (p.1, p.2) (record {
+      clean = λ told. tt;
+      settled = λ told. tt;
+      counts = λ told. tt;
+      sure = λ told. tt;
+      good = λ told. tt;
+      bad = read.bad;
+      unwritten = λ told h t is. read.does.touched told;
+      spared = λ told. inl (read.does.touched told);
+      idle = λ told none. read.does.touched told;
+      costs = λ told none. record { done = λ exact. tt; most = (read.costs told none).most };
+      any_moment = λ told lawful. reading_law c.args.shape.now old now lawful (read.does.time told);
+      does = ends_with m.tells all [] old old now (λ told i out. tt) (none_yet m.tells all old) _ read.does;
+    })
 
 pub returns-then-report-eq0-clause-clean : goal.returns-then-report-eq0-clause-clean
 returns-then-report-eq0-clause-clean g c told =
