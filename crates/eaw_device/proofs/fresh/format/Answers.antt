@@ -1,7 +1,27 @@
-use Rattle.std.proofs.Common.{◌≡◌, ◌∙◌, sym, length}
+use Rattle.std.proofs.Common.{refl, arith, ◌≡◌, ◌∙◌, sym, length}
+use Rattle.counted.proofs.Going.{stays}
 use Rattle.array_shape.specs.Places.{media_len}
+use Rattle.eaw_device.specs.Fresh.{IsHalfFresh}
 use Rattle.eaw_device.proofs.Formatting.{fresh_opens}
 use Rattle.eaw_device.proofs.fresh.format.Goals as goal
+
+pub returns-then-given-media_len : goal.returns-then-given-media_len
+returns-then-given-media_len g c =
+    let now = g.M.Media.view c.args.media.now in
+    record {
+      fresh = λ told. tt;
+      sure = λ told. tt;
+      opens = λ told. tt;
+      any_moment = λ told. stays now.moment now.left_since (IsHalfFresh c.args.shape.now now.content);
+      cells = λ told h t e below below' below''. refl;
+      sized = tt;
+      bad_shape = (refl, c.len-given.ensures, λ is. c.if-given-media_len.true (c.len-given.ensures ∙ is ∙ sym c.media_len.ensures));
+      untouched = λ ne. refl;
+      media = λ is. cc;
+      kept = tt;
+      size = refl;
+      later = omega arith;
+    }
 
 pub returns-in-Ok-clause-opens : goal.returns-in-Ok-clause-opens
 returns-in-Ok-clause-opens g c = λ told.

@@ -1,17 +1,39 @@
 use Rattle.std.proofs.Common.{refl, ◌∙◌, sym, ap, subst, ℕ, List, arith}
+use Rattle.std.proofs.lemmas.Result.{err_from_is_err_and}
 use Rattle.pcm_media.proofs.Left.{same_bytes}
 use Rattle.row_bytes.specs.Header.{SaysShape}
 use Rattle.array_image.specs.Decided.{settled_data}
 use Rattle.device_recovery.specs.Recovered.{AllGood, HasNoVote}
 use Rattle.eaw_device.specs.Opens.{header_of, opening_calls}
+use Rattle.eaw_device.specs.Attaching.{IsOfHeader}
 use Rattle.row_bytes.proofs.OneShape.{one_shape}
 use Rattle.eaw_device.proofs.OpeningLemmas.{reading_keeps, keeps_then}
-use Rattle.eaw_device.proofs.Attaching.{cause_on, leaves_on}
+use Rattle.eaw_device.proofs.Attaching.{cause_on, leaves_on, reading_leaves}
 use Rattle.eaw_device.proofs.opening.open_array.Goals as goal
 
 pub settle-requires-clause-header : goal.settle-requires-clause-header
 settle-requires-clause-header g c told =
     subst (λ b. SaysShape (header_of b) c.in_ok-shape.shape) (sym (same_bytes _ _ (c.read_header.ensures.does.touched told))) (c.in_ok-shape.ensures.shape told)
+
+pub returns-in_err-shape : goal.returns-in_err-shape
+returns-in_err-shape g c =
+    let m = g.M.Media in
+    let old = m.view c.args.media.now in
+    let new = m.view c.read_header.new.media in
+    let fault = c.in_err-shape.field-0.0 in
+    let read = c.in_err-shape.ensures in
+    let p = err_from_is_err_and c.from_residual.result c.from_residual.ensures.1 in
+    rw (p.1, p.2) (record {
+      settled = tt;
+      free = tt;
+      cause = read.cause;
+      unwritten = reading_leaves m.tells old new fault read.does.touched;
+      keeps = reading_keeps m.tells old new _ read.does;
+      later = read.does.cause.later;
+      kept = read.kept;
+      within = λ told other says none. omega (arith, read.costs.most);
+      early = λ is. absurd (subst IsOfHeader is read.fault);
+    })
 
 pub returns-in-Ok-settle-clause-settled : goal.returns-in-Ok-settle-clause-settled
 returns-in-Ok-settle-clause-settled g c =
