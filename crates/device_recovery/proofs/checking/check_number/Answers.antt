@@ -5,6 +5,7 @@ use Rattle.pcm_media.proofs.Left.{same_bytes}
 use Rattle.array_image.specs.Decided.{decided}
 use Rattle.array_image.specs.Standing.{IsGoodRow}
 use Rattle.array_image.proofs.Calls.{goes_on, hands_on}
+use Rattle.device_recovery.proofs.Done.{all_done}
 use Rattle.device_recovery.specs.Table.{row_in, RowsAre, decided_in}
 use Rattle.device_recovery.specs.Recovered.{IsFirstBadAt}
 use Rattle.device_recovery.proofs.checking.check_number.Goals as goal
@@ -67,7 +68,7 @@ returns-then-branch g c =
           (sym tid, subst (λ k. IsFirstBadAt shape base k c.args.tid) logger found);
       idle = λ none. c.in_ok-is_bad.ensures.idle (none c.loop-logger.logger (omega arith)) ∙ c.loop-logger.invariant.idle none;
       fits = tt;
-      does = record { size = read.size; cause = record { later = read.cause.later; failed = tt; kept = read.cause.kept }; touched = read.touched; time = read.time };
+      does = all_done g.M.Media.tells _ _ _ _ read;
     }
 
 pub returns : goal.returns
@@ -78,5 +79,5 @@ returns g c =
       bad = λ told. tt;
       idle = so_far.idle;
       fits = λ h lt. so_far.fits h (omega arith);
-      does = record { size = so_far.does.size; cause = record { later = so_far.does.cause.later; failed = tt; kept = so_far.does.cause.kept }; touched = so_far.does.touched; time = so_far.does.time };
+      does = all_done g.M.Media.tells _ _ _ _ so_far.does;
     }

@@ -5,6 +5,7 @@ use Rattle.pcm_media.proofs.Left.{same_bytes}
 use Rattle.array_image.specs.Decided.{decided}
 use Rattle.array_image.specs.Standing.{IsGoodRow}
 use Rattle.array_image.proofs.Calls.{goes_on, ends_with}
+use Rattle.device_recovery.proofs.Done.{all_done}
 use Rattle.device_recovery.specs.Table.{row_in, RowsAre, decided_in}
 use Rattle.device_recovery.specs.Recovered.{AllGood, IsFirstBadAt}
 use Rattle.device_recovery.proofs.checking.check_rows.Goals as goal
@@ -62,5 +63,5 @@ returns g c =
       bad = λ told. tt;
       idle = so_far.idle;
       fits = λ h t lt lt'. so_far.fits h t lt (omega arith);
-      does = record { size = so_far.does.size; cause = record { later = so_far.does.cause.later; failed = tt; kept = so_far.does.cause.kept }; touched = so_far.does.touched; time = so_far.does.time };
+      does = all_done g.M.Media.tells _ _ _ _ so_far.does;
     }

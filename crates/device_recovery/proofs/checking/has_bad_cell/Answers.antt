@@ -4,6 +4,7 @@ use Rattle.std.proofs.lemmas.Result.{err_from_is_err_and}
 use Rattle.pcm_media.proofs.Left.{same_bytes}
 use Rattle.array_image.specs.Image.{cell_of, cell_head, IsGoodCell}
 use Rattle.array_image.proofs.Calls.{goes_on, hands_on}
+use Rattle.device_recovery.proofs.Done.{all_done}
 use Rattle.device_recovery.proofs.Read.{owned_is, owned_from}
 use Rattle.device_recovery.proofs.checking.has_bad_cell.Goals as goal
 
@@ -30,7 +31,7 @@ returns-then-not-is_owned g c =
           let head : c.in_ok-head.head ≡ cell_head (cell_of shape base c.args.logger c.args.tid entry) =
           c.in_ok-head.ensures.head told ∙ (λ i. cell_head (cell_of shape (same_bytes _ _ (c.loop-entry.invariant.does.touched told) i) c.args.logger c.args.tid entry)) in
           (entry, omega arith, omega arith, λ good. false≢true (c.if-not-is_owned.ensures.1 (owned_from shape c.args.logger (cell_of shape base c.args.logger c.args.tid entry) c.in_ok-head.head head good)));
-      does = record { size = read.size; cause = record { later = read.cause.later; failed = tt; kept = read.cause.kept }; touched = read.touched; time = read.time };
+      does = all_done g.M.Media.tells _ _ _ _ read;
     }
 
 pub loop-entry-preserved : goal.loop-entry-preserved
@@ -54,5 +55,5 @@ returns g c =
     record {
       none = λ told is e from below. so_far.good told e from (omega arith);
       some = λ told is. cc;
-      does = record { size = so_far.does.size; cause = record { later = so_far.does.cause.later; failed = tt; kept = so_far.does.cause.kept }; touched = so_far.does.touched; time = so_far.does.time };
+      does = all_done g.M.Media.tells _ _ _ _ so_far.does;
     }

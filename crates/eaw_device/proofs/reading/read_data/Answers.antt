@@ -1,12 +1,14 @@
-use Rattle.std.proofs.Common.{true, refl, [], List, ◌∙◌, sym, ap, length, arith}
+use Rattle.std.proofs.Common.{true, refl, ◌+◌, [], List, ◌∙◌, sym, ap, subst, length, arith}
 use Rattle.std.proofs.lemmas.Result.{err_from_is_err_and}
 use Rattle.counted.proofs.Costing.{costs_err, costs_all}
 use Rattle.array_shape.specs.declared.part.Part.{Part}
+use Rattle.std.specs.Prelude.{All}
+use Rattle.array_shape.specs.Parts.{Tile, IsPartOf}
 use Rattle.array_image.specs.Image.{data_of}
 use Rattle.array_image.proofs.Data.{length-data_of}
-use Rattle.array_image.proofs.Calls.{goes_on, hands_on}
+use Rattle.array_image.proofs.Calls.{none_yet, goes_on, hands_on}
 use Rattle.pcm_media.proofs.Left.{same_bytes}
-use Rattle.eaw_device.proofs.ReadParts.{within_here, part_fits, here_len, reads_one, reads_last}
+use Rattle.eaw_device.proofs.ReadParts.{reads_first, within_here, part_fits, here_len, reads_one, reads_last}
 use Rattle.eaw_device.proofs.reading.read_data.Goals as goal
 
 pub read-requires : goal.read-requires
@@ -19,6 +21,19 @@ read-requires g c =
     let here = within_here shape c.args.addr (length c.args.buf.now) whole m.tells c.loop-part.buf c.loop-part.part-iterator c.next.new.self part c.in-Some.ensures.steps at in
     let count = here_len shape c.args.addr (length c.args.buf.now) whole m.tells c.loop-part.buf c.loop-part.part-iterator c.next.new.self part c.in-Some.ensures.steps at c.loop-part.auto.buf c.from.result c.from.ensures in
     omega (arith, count, part_fits shape part here, c.byte_at.ensures, c.loop-part.invariant.does.size, c.requires.size)
+
+pub loop-part-init : goal.loop-part-init
+loop-part-init g c =
+    let m = g.M.Media in
+    let shape = c.args.shape.now in
+    let len = length c.args.buf.now in
+    let parts = c.parts-part-items.ensures in
+    let from = c.into_iter-part-iterator.ensures.into_iter_gives ∙ parts.parts in
+    record {
+      costs = ap (λ (ps : List Part). (m.view c.args.media.now).moment + length ps) from;
+      does = none_yet m.tells [] (m.view c.args.media.now);
+      reads = reads_first shape c.args.addr len (data_of shape (m.view c.args.media.now).content.bytes) m.tells c.args.buf.now _ (subst (All (IsPartOf shape)) (sym from) parts.placed) (subst (Tile c.args.addr len) (sym from) parts.tile);
+    }
 
 pub loop-part-preserved : goal.loop-part-preserved
 loop-part-preserved g c =
