@@ -103,3 +103,21 @@ returns-in-Err-clause-does g c =
     let s = c.args.self.now in
     log_read_failed m.tells (m.view s.media) (m.view c.read_entry.new.media) s.shape s.logs.items s.is_dead s.sound c.in_ok-at.ensures.alive _ c.in-Err.ensures.does (λ told. g.met.M.Media.long s.media told ∙ s.sound.sized)
     c.args.tid c.in_ok-at.ensures.live c.in-Err.ensures.does.cause.failed
+
+pub returns-in-Ok-clause-refused : goal.returns-in-Ok-clause-refused
+returns-in-Ok-clause-refused g c = tt
+
+pub returns-in-Ok-clause-unread : goal.returns-in-Ok-clause-unread
+returns-in-Ok-clause-unread g c = tt
+
+pub returns-in-Err-clause-part : goal.returns-in-Err-clause-part
+returns-in-Err-clause-part g c = tt
+
+pub returns-in-Err-clause-bytes : goal.returns-in-Err-clause-bytes
+returns-in-Err-clause-bytes g c = λ told. tt
+
+pub returns-in-Err-clause-refused : goal.returns-in-Err-clause-refused
+returns-in-Err-clause-refused g c = λ ne. absurd (ne refl)
+
+pub returns-in-Err-clause-unread : goal.returns-in-Err-clause-unread
+returns-in-Err-clause-unread g c = λ ne. absurd (ne refl)

@@ -137,3 +137,21 @@ returns-clause-costs g c =
     let ranges = ranges_there s.shape s.logs.items c.args.tid c.index.result.now there.there there.kept in
     costs_done m.tells _ _ _ _ c.commit_log.result tt (sym c.is_err.ensures.value ∙ c.if-is_err.false)
     (ap (λ (rs : List (ℕ × ℕ)). commit_calls (counts_of s.shape (drop c.args.offset rs))) (sym ranges)) c.commit_log.ensures.costs
+
+pub returns-then-is_err-clause-refused : goal.returns-then-is_err-clause-refused
+returns-then-is_err-clause-refused g c = λ ne. absurd (ne refl)
+
+pub returns-clause-due : goal.returns-clause-due
+returns-clause-due g c = λ is. cc
+
+pub returns-clause-refused : goal.returns-clause-refused
+returns-clause-refused g c = tt
+
+pub returns-then-is_err-clause-costs : goal.returns-then-is_err-clause-costs
+returns-then-is_err-clause-costs g c =
+    let m = g.M.Media in
+    let s = c.args.self.now in
+    let there = found m.tells (m.view s.media) s.shape s.logs.items s.is_dead s.sound c.in_ok-at.ensures.alive c.args.tid c.in_ok-at.at c.index.result.now c.in_ok-at.ensures.at c.in_ok-at.ensures.live c.index.ensures in
+    let ranges = ranges_there s.shape s.logs.items c.args.tid c.index.result.now there.there there.kept in
+    let same = ap (λ (rs : List (ℕ × ℕ)). commit_calls (counts_of s.shape (drop c.args.offset rs))) ranges in
+    record { done = λ exact. tt; most = omega (arith, c.commit_log.ensures.costs.most, same) }

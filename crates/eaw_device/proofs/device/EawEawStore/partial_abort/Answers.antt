@@ -54,3 +54,12 @@ truncate-requires-clause-len g c =
     let s = c.args.self.now in
     let there = found m.tells (m.view s.media) s.shape s.logs.items s.is_dead s.sound c.in_ok-at.ensures.alive c.args.tid c.in_ok-at.at c.index_mut.result.now c.in_ok-at.ensures.at c.in_ok-at.ensures.live c.index_mut.ensures.value in
     omega (arith, c.requires, its_len m.tells (m.view s.media) (m.view s.media) s.shape s.logs.items s.is_dead s.sound c.in_ok-at.ensures.alive c.args.tid c.in_ok-at.ensures.live c.index_mut.result.now there)
+
+pub returns-clause-due : goal.returns-clause-due
+returns-clause-due g c = λ is. cc
+
+pub returns-clause-idle : goal.returns-clause-idle
+returns-clause-idle g c = refl
+
+pub returns-clause-refused : goal.returns-clause-refused
+returns-clause-refused g c = tt
