@@ -1,3 +1,4 @@
+pub mod Done
 pub mod Frames
 pub mod Finding
 pub mod Clearing

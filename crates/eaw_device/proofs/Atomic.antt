@@ -12,7 +12,7 @@ use Rattle.array_shape.proofs.WriteParts.{applied_write_parts}
 use Rattle.eaw_face.specs.State.{State, Logs, listed, with_log}
 use Rattle.eaw_face.specs.StoreView.{StoreView, IsLive, LeavesOnly}
 use Rattle.eaw_face.specs.Command.{log_write, commit, atomic_write, after}
-use Rattle.eaw_face.specs.Causes.{IsAlive, Fit, Cause}
+use Rattle.eaw_face.specs.Causes.{IsAlive, Fit, IsFirstFull, Cause}
 use Rattle.eaw_face.specs.Does.{Becomes, IsEither, Does}
 use Rattle.eaw_face.specs.declared.fault.EawFault.{EawFault}
 use Rattle.eaw_face.specs.declared.fault.EawFault.TheVariants.{UnknownTid, LogFull, Media, Dead}
@@ -125,3 +125,29 @@ none_ranges f h (Some l) free = cc
 pub media_alone : {T : Type 0} (X : Type 0) (r : Result T EawFault) → IfErr r (λ fault. fault ≡ Media) → IfErr r (λ fault. fault ≢ Media → X)
 media_alone X (Ok x) is = tt
 media_alone X (Err e) is = λ ne. absurd (ne is)
+
+-- a write that was refused or failed before the commit
+pub write_fails : (tells : Bool) (Opens : List ℕ → List ℕ → Type 0) (old new : StoreView) (t addr : ℕ) (bytes : List ℕ) → old.ranges t ≡ None → t < old.shape.numbers → (fault : EawFault)
+    → (let r : Result ℕ EawFault = Err fault in Does tells Opens (log_write t addr bytes) old new r) → (let r : Result (Unit {0}) EawFault = Err fault in Does tells Opens (atomic_write t addr bytes) old new r)
+write_fails tells Opens old new t addr bytes free small fault does = record {
+  shape = does.shape;
+  later = does.later;
+  cause = because fault does.cause;
+  done = tt;
+  kept = tt;
+  dies = λ is. does.dies (ap (λ (f : EawFault). let r : Result ℕ EawFault = Err f in r) (same is));
+  others = does.others;
+  time = λ told alive. weaker (λ image either. ⊎_elim (λ before. inl before) (λ before. inl before) either) (does.time told alive);
+}
+  where
+    none : listed (old.ranges t) ≡ []
+    none = ap listed free
+
+    same : (let r : Result (Unit {0}) EawFault = Err fault in let s : Result (Unit {0}) EawFault = Err Media in r ≡ s) → fault ≡ Media
+    same is = cc
+
+    because : (fault : EawFault) → (let r : Result ℕ EawFault = Err fault in Cause old (log_write t addr bytes) new.faults r) → (let r : Result (Unit {0}) EawFault = Err fault in Cause old (atomic_write t addr bytes) new.faults r)
+    because (UnknownTid u) cause = absurd (cause.2 small)
+    because (LogFull g h n) cause = (cause.0, tt, subst (λ rs. IsFirstFull old rs (ranges_of (parts_of_write addr bytes)) g h n) none cause.2)
+    because Media cause = (cause.0, tt, subst (λ rs. Fit old rs (ranges_of (parts_of_write addr bytes))) none cause.2, cause.3)
+    because Dead cause = cause

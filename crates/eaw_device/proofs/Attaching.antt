@@ -1,15 +1,18 @@
 -- Why an opening was refused, and the header of what it leaves.
-use Rattle.std.proofs.Common.{◌≡◌, ℕ, ◌≤◌, ◌⊎◌, inl, inr, ⊎_elim, Bool, List, [], Err, Result, refl, sym, ◌∙◌, subst, arith}
-use Rattle.std.specs.Prelude.{IsTrue, OnErr}
+use Rattle.std.proofs.Common.{◌≡◌, ◌≢◌, ℕ, ◌≤◌, ◌⊎◌, inl, inr, ⊎_elim, Bool, List, [], Err, Result, refl, sym, ◌∙◌, subst, arith}
+use Rattle.std.specs.Prelude.{IsTrue, OnOk, OnErr}
 use Rattle.counted.specs.Causes.{Rose}
 use Rattle.pcm_media.specs.Images.{Content, IsOutside, Touched}
-use Rattle.pcm_media.specs.View.{View}
+use Rattle.pcm_media.specs.View.{View, Writes}
 use Rattle.pcm_media.proofs.Left.{outside-both, same_bytes, touched_after_nothing}
 use Rattle.array_shape.specs.declared.shape.Shape.{Shape}
 use Rattle.array_shape.specs.Places.{media_len}
-use Rattle.row_bytes.specs.Header.{HasMark, SaysShape, IsBadIn}
+use Rattle.row_bytes.specs.Header.{HasMark, SaysShape, IsBadIn, IsFaulty}
+use Rattle.row_bytes.specs.declared.header.HeaderFault.{HeaderFault}
+use Rattle.row_bytes.specs.declared.header.HeaderFault.TheVariants as header
 use Rattle.array_shape.specs.Logged.{places_of}
 use Rattle.array_image.specs.Decided.{all_decided}
+use Rattle.array_image.proofs.Calls.{SoFar}
 use Rattle.array_image.proofs.Headers.{AreBehind, places_behind, header_stays}
 use Rattle.device_recovery.specs.declared.report.RecoverFault.{RecoverFault}
 use Rattle.device_recovery.specs.declared.report.RecoverFault.TheVariants as recovery
@@ -20,7 +23,7 @@ use Rattle.device_recovery.proofs.Clearing.{votes_away}
 use Rattle.eaw_device.specs.declared.fault.AttachFault.{AttachFault}
 use Rattle.eaw_device.specs.declared.fault.AttachFault.TheVariants.{NotMars, BadShape, BadRow, Media, NoMemory}
 use Rattle.eaw_device.specs.Opens.{header_of, HoldsArray, AttachCause, AttachLeaves}
-use Rattle.eaw_device.specs.Attaching.{AllSay, recovery_fault}
+use Rattle.eaw_device.specs.Attaching.{AllSay, IsOfHeader, IsOfRecovery, header_fault, recovery_fault, is_of_media}
 
 -- recovery writes behind the header alone
 recovered_behind : (shape : Shape) (image : List ℕ) → AreBehind (recovered_places shape image)
@@ -99,3 +102,30 @@ module _ (tells : Bool) (shape : Shape) (old new : View) where
       → (IsTrue tells → (g t : ℕ) → fault ≡ recovery.BadRow g t → Touched [] old.content new.content) → AttachLeaves tells old new (recovery_fault fault)
   refusal_leaves T (recovery.BadRow g t) size header spared unwritten = λ told. unwritten told g t refl
   refusal_leaves T recovery.Media size header spared unwritten = λ told. ⊎_elim (λ none. inl none) (λ good. inr (shape, record { header = header told; sized = size; good = good })) (spared told)
+
+  pub refusal_kept : (T : Type 0) (fault : RecoverFault) → (let r : Result T RecoverFault = Err fault in OnOk (media_answer recovered.is_of_media r) (new.faults ≡ old.faults))
+      → (recovery_fault fault ≢ Media → new.faults ≡ old.faults)
+  refusal_kept T (recovery.BadRow g t) kept ne = kept
+  refusal_kept T recovery.Media kept ne = absurd (ne refl)
+
+pub of_recovery : (fault : RecoverFault) → IsOfRecovery (recovery_fault fault)
+of_recovery (recovery.BadRow g t) = tt
+of_recovery recovery.Media = tt
+
+-- what the reading of a header says of a wrong one
+module _ (tells : Bool) (old new : View) where
+  pub header_cause : (bytes : List ℕ) (size : ℕ) (wrong : HeaderFault) → size ≡ old.size → (IsTrue tells → bytes ≡ header_of old.content.bytes) → 512 ≤ old.size
+      → IsFaulty bytes size wrong → AttachCause tells old new.faults (header_fault wrong)
+  header_cause bytes size header.NotMars is read long faulty = λ enough told marked. faulty (subst HasMark (sym (read told)) marked)
+  header_cause bytes size (header.BadShape bad) is read long faulty = (
+    long,
+    λ told. (subst HasMark (read told) faulty.0, subst (λ n. IsBadIn (header_of old.content.bytes) n bad.which bad.given) is (subst (λ b. IsBadIn b size bad.which bad.given) (read told) faulty.1)),
+  )
+
+  pub header_does : (T : Type 0) (wrong : HeaderFault) → SoFar tells [] old new → (let r : Result T AttachFault = Err (header_fault wrong) in Writes tells [] old new (media_answer is_of_media r))
+  header_does T header.NotMars does = record { size = does.size; cause = record { later = does.cause.later; failed = tt; kept = does.cause.kept }; touched = does.touched; time = does.time }
+  header_does T (header.BadShape bad) does = record { size = does.size; cause = record { later = does.cause.later; failed = tt; kept = does.cause.kept }; touched = does.touched; time = does.time }
+
+pub of_header : (wrong : HeaderFault) → IsOfHeader (header_fault wrong)
+of_header header.NotMars = tt
+of_header (header.BadShape bad) = tt

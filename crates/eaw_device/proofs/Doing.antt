@@ -13,10 +13,10 @@ use Rattle.eaw_face.specs.Causes.{IsAlive, Knows, IsNumberOf, HasRoom, Cause}
 use Rattle.eaw_face.proofs.Others.{others_after}
 use Rattle.eaw_face.specs.Does.{Becomes, IsEither, Does}
 use Rattle.eaw_face.specs.declared.fault.EawFault.{EawFault}
-use Rattle.eaw_face.specs.declared.fault.EawFault.TheVariants.{Media}
+use Rattle.eaw_face.specs.declared.fault.EawFault.TheVariants.{UnknownTid, LogFull, Media, Dead}
 use Rattle.eaw_device.specs.declared.log.Log.{Log}
 use Rattle.eaw_device.specs.Logs.{IsKept, IsHeld}
-use Rattle.eaw_device.specs.Sound.{IsSound, IsTold, view_of}
+use Rattle.eaw_device.specs.Sound.{IsSound, IsTold, LacksLog, view_of}
 use Rattle.eaw_device.proofs.Tables.{found_log, live_there}
 
 module _ (tells : Bool) (Opens : List ℕ → List ℕ → Type 0) (command : Command) (old new : StoreView) (shape : new.shape ≡ old.shape) (later : old.faults ≤ new.faults)
@@ -64,6 +64,20 @@ refused {T} tells Opens command store fault cause other (Err e) is = record {
   where
     same : (let r : Result T EawFault = Err e in let s : Result T EawFault = Err Media in r ≡ s) → e ≡ Media
     same dead = cc
+
+-- a command on a number that has no log
+pub lacking : {T : Type 0} (tells : Bool) (Opens : List ℕ → List ℕ → Type 0) (command : Command) (store : StoreView) (t : ℕ) → ((u : ℕ) → u ≡ t → IsNumberOf command u) → (Knows store command → IsLive store t)
+    → (fault : EawFault) → LacksLog store t fault → (let r : Result T EawFault = Err fault in Does tells Opens command store store r)
+lacking {T} tells Opens command store t number live (UnknownTid u) lacks = refused {T = T} tells Opens command store (UnknownTid u) (lacks.0, number u lacks.1, λ knows. lacks.2 (live knows)) (λ is. cc) (Err (UnknownTid u)) refl
+lacking {T} tells Opens command store t number live Dead lacks = refused {T = T} tells Opens command store Dead lacks (λ is. cc) (Err Dead) refl
+lacking {T} tells Opens command store t number live Media lacks = absurd lacks
+lacking {T} tells Opens command store t number live (LogFull g h n) lacks = absurd lacks
+
+pub lacking_other : (store : StoreView) (t : ℕ) (fault : EawFault) → LacksLog store t fault → fault ≡ Media → ⊥
+lacking_other store t (UnknownTid u) lacks is = cc
+lacking_other store t Dead lacks is = cc
+lacking_other store t Media lacks is = lacks
+lacking_other store t (LogFull g h n) lacks is = lacks
 
 pub when_err : {T E P : Type 0} (r : Result T E) → is_err r ≡ true → OnErr r P → P
 when_err (Ok x) broke p = absurd (false≢true broke)

@@ -98,6 +98,16 @@ module _ (shape : Shape) (addr len : ℕ) (whole : List ℕ) (tells : Bool) wher
           ∙ part_read shape image part (image_long told) within_here j lt
           ∙ ap (λ (l : List ℕ). get_or l (part.addr + j) 0) (sym (is told)))
 
+  -- nothing is read yet
+  pub reads_first : (buf : List ℕ) (s : List Part) → All (IsPartOf shape) s → Tile addr len s → ReadsAt shape addr len whole buf tells s
+  reads_first buf s within tile = record {
+    within = within;
+    done = 0;
+    few = omega arith;
+    tile = subst (λ (at : ℕ). Tile at (len - 0) s) (let e : addr ≡ addr + 0 = omega arith in e) (subst (λ (k : ℕ). Tile addr k s) (let e : len ≡ len - 0 = omega arith in e) tile);
+    bytes = λ told i lt. absurd (omega (arith, lt));
+  }
+
   -- when none is left
   pub reads_last : (buf : List ℕ) (s : List Part) → s ≡ [] → ReadsAt shape addr len whole buf tells s → length buf ≡ len → addr + len ≤ length whole → IsTrue tells → buf ≡ range whole addr len
   reads_last buf s none reads long inside told =

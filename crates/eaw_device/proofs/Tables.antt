@@ -70,6 +70,9 @@ live_there logs t log there live = elim (cases_Bool log.is_live) [
     none : IsSome (option_map ranges_in None) → ⊥
     none some = false≢true some
 
+pub live_here : (logs : List Log) (t : ℕ) (log : Log) → slice_get logs t ≡ Some log → log.is_live ≡ true → IsSome (option_map ranges_in (entries_at logs t))
+live_here logs t log there live = subst (λ (o : Option (List Entry)). IsSome (option_map ranges_in o)) (sym (entries_there logs t log there ∙ entries_live log live)) refl
+
 -- one log is replaced
 module _ (logs : List Log) (t : ℕ) (log : Log) (lt : t < length logs) where
   one_set : {B : Type 0} (f g : ℕ → List Entry → List B) (o : Option (List B)) → option_map (f t) (entries_of log) ≡ o

@@ -4,23 +4,31 @@ use Rattle.std.proofs.lemmas.Result.{err_from_is_err_and}
 use Rattle.pcm_media.proofs.Left.{same_bytes}
 use Rattle.array_image.specs.Decided.{decided}
 use Rattle.array_image.specs.Standing.{IsGoodRow}
-use Rattle.array_image.proofs.Calls.{goes_on}
+use Rattle.array_image.proofs.Calls.{goes_on, ends_with}
+use Rattle.device_recovery.proofs.Done.{all_done}
 use Rattle.device_recovery.specs.Table.{row_in, RowsAre, decided_in}
 use Rattle.device_recovery.specs.Recovered.{AllGood, IsFirstBadAt}
 use Rattle.device_recovery.proofs.checking.check_rows.Goals as goal
 
-pub returns-in_err-check_number-clause-bad : goal.returns-in_err-check_number-clause-bad
-returns-in_err-check_number-clause-bad g c told =
-    let p = err_from_is_err_and c.from_residual.result c.from_residual.ensures.1 in
+pub returns-in_err-check_number : goal.returns-in_err-check_number
+returns-in_err-check_number g c =
+    let m = g.M.Media in
     let shape = c.args.shape.now in
-    let base = (g.M.Media.view c.args.media.now).content.bytes in
-    let same : (g.M.Media.view c.loop-tid.media).content.bytes ≡ base = same_bytes _ _ (c.loop-tid.invariant.does.touched told) in
-    rw (p.1, p.2) (λ h t is.
-    let found = c.in_err-check_number.ensures.bad told h t is in
-    record {
-      number = omega (arith, found.0);
-      here = subst (λ k. IsFirstBadAt shape base h k) (sym found.0) (subst (λ image. IsFirstBadAt shape image h c.loop-tid.tid) same found.1);
-      before = subst (λ k. AllGood shape base k) (sym found.0) (c.loop-tid.invariant.good told);
+    let base = (m.view c.args.media.now).content.bytes in
+    let so_far = c.loop-tid.invariant in
+    let p = err_from_is_err_and c.from_residual.result c.from_residual.ensures.1 in
+    rw (p.1, p.2) (record {
+      good = λ told. tt;
+      bad = λ told h t is.
+          let found = c.in_err-check_number.ensures.bad told h t is in
+          record {
+            number = omega (arith, found.0);
+            here = subst (λ k. IsFirstBadAt shape base h k) (sym found.0) (subst (λ image. IsFirstBadAt shape image h c.loop-tid.tid) (same_bytes _ _ (so_far.does.touched told)) found.1);
+            before = subst (λ k. AllGood shape base k) (sym found.0) (so_far.good told);
+          };
+      idle = λ none. c.in_err-check_number.ensures.idle (λ h lt. none h c.loop-tid.tid lt (omega arith)) ∙ so_far.idle none;
+      fits = tt;
+      does = ends_with m.tells [] [] _ _ _ (λ told i out. out) so_far.does _ c.in_err-check_number.ensures.does;
     })
 
 pub loop-tid-preserved : goal.loop-tid-preserved
@@ -46,3 +54,14 @@ pub check_number-requires-clause-rows : goal.check_number-requires-clause-rows
 check_number-requires-clause-rows g c told =
     let shape = c.args.shape.now in
     subst (λ image. RowsAre shape image shape.numbers c.args.rows.now) (sym (same_bytes _ _ (c.loop-tid.invariant.does.touched told))) (c.requires.rows told)
+
+pub returns : goal.returns
+returns g c =
+    let so_far = c.loop-tid.invariant in
+    record {
+      good = λ told h t lt lt'. so_far.good told h t lt (omega arith);
+      bad = λ told. tt;
+      idle = so_far.idle;
+      fits = λ h t lt lt'. so_far.fits h t lt (omega arith);
+      does = all_done g.M.Media.tells _ _ _ _ so_far.does;
+    }

@@ -1,10 +1,14 @@
-use Rattle.std.proofs.Common.{refl, ◌≡◌, ℕ, ◌∙◌, sym, subst, length, arith}
+use Rattle.std.proofs.Common.{ap, refl, ◌≡◌, ℕ, ◌∙◌, sym, subst, length, arith}
+use Rattle.std.proofs.lemmas.Result.{IfOk-from_err}
+use Rattle.array_image.specs.Decided.{decided_parts}
+use Rattle.array_image.specs.Joined.{joined}
 use Rattle.pcm_media.specs.Images.{IsOutside}
 use Rattle.array_shape.specs.declared.shape.Shape.{Shape}
 use Rattle.array_shape.specs.Places.{media_len}
 use Rattle.array_shape.specs.Logged.{applied, places_of}
 use Rattle.array_image.specs.Image.{cell_of, parts_from, data_of, IsGoodCell}
 use Rattle.array_image.proofs.Calls.{goes_on, hands_on}
+use Rattle.device_recovery.proofs.Done.{all_done}
 use Rattle.device_recovery.proofs.Read.{number_decided}
 use Rattle.device_recovery.proofs.Applying.{still_good, parts_within, row_applied, row_skipped}
 use Rattle.device_recovery.proofs.settling.apply_number.Goals as goal
@@ -76,4 +80,19 @@ loop-number-preserved g c =
           let new = (m.view c.apply.new.media).content.bytes in
           row_applied shape c.args.tid c.requires.tid base long (c.requires.good told) cur (c.loop-number.invariant.does.touched told).bytes c.loop-number.number (omega arith) row row_is so new (c.loop-number.invariant.applied told)
           ((λ i. data_of (sym logger.shape i) new) ∙ c.in_ok-apply.ensures.data_after told ∙ (λ i. applied (parts_from (logger.shape i) cur (logger.number i) c.args.tid row.first row.count) (data_of (logger.shape i) cur)));
+    }
+
+pub returns-in_err-apply-clause-applied : goal.returns-in_err-apply-clause-applied
+returns-in_err-apply-clause-applied g c told = IfOk-from_err c.from_residual.result _ c.from_residual.ensures.0
+
+pub returns : goal.returns
+returns g c =
+    let m = g.M.Media in
+    let shape = c.args.shape.now in
+    let base = (m.view c.args.media.now).content.bytes in
+    let so_far = c.loop-number.invariant in
+    let all : c.loop-number.number ≡ shape.loggers = omega arith in
+    record {
+      applied = λ told. so_far.applied told ∙ ap (λ (n : ℕ). applied (joined (λ h. decided_parts shape base h c.args.tid) 0 n) (data_of shape base)) all;
+      does = all_done m.tells _ _ _ tt so_far.does;
     }

@@ -1,10 +1,12 @@
 use Rattle.std.proofs.Common.{refl, ◌≡◌, ℕ, [], ◌∷◌, ⊎_elim, ◌∙◌, sym, ap, subst, arith}
 use Rattle.std.proofs.lemmas.Bool.{cases_eq, not-true, not-false}
+use Rattle.std.proofs.lemmas.Result.{IfOk-from_err}
 use Rattle.pcm_media.specs.Images.{IsOutside, SameOutside}
 use Rattle.array_shape.specs.Places.{row_at}
 use Rattle.row_bytes.specs.declared.row.Row.{Row}
 use Rattle.array_image.specs.Image.{row_of}
 use Rattle.array_image.proofs.Calls.{goes_on, hands_on}
+use Rattle.device_recovery.proofs.Done.{all_done}
 use Rattle.device_recovery.proofs.Votes.{vote_within, other_row, unvoted_row}
 use Rattle.device_recovery.proofs.settling.clear_number.Goals as goal
 
@@ -63,3 +65,11 @@ loop-number-preserved g c =
           ∙ c.loop-number.invariant.cleared told h (omega arith))
           (cases_eq h c.loop-number.number);
     }
+
+pub returns-in_err-set_vote-clause-cleared : goal.returns-in_err-set_vote-clause-cleared
+returns-in_err-set_vote-clause-cleared g c told = IfOk-from_err c.from_residual.result _ c.from_residual.ensures.0
+
+pub returns : goal.returns
+returns g c =
+    let so_far = c.loop-number.invariant in
+    record { cleared = λ told h lt. so_far.cleared told h (omega arith); does = all_done g.M.Media.tells _ _ _ tt so_far.does }

@@ -1,11 +1,11 @@
 use Rattle.std.proofs.Common.{refl, ◌≡◌, ℕ, ◌∙◌, sym, ap, length, arith}
-use Rattle.std.proofs.lemmas.Result.{on_ok_weaker}
+use Rattle.std.proofs.lemmas.Result.{on_ok_weaker, IfOk-from_err}
 use Rattle.array_shape.specs.Places.{media_len}
 use Rattle.array_image.specs.Image.{data_of}
 use Rattle.array_image.specs.Joined.{joined}
 use Rattle.array_shape.specs.Logged.{applied}
 use Rattle.array_image.specs.Decided.{number_parts, settled_data}
-use Rattle.array_image.proofs.Calls.{goes_on, hands_on, barrier_keeps}
+use Rattle.array_image.proofs.Calls.{goes_on, hands_on, barrier_keeps, then_barrier}
 use Rattle.device_recovery.proofs.Applying.{whole_frame, number_good, number_within, number_applied}
 use Rattle.device_recovery.proofs.settling.settle_data.Goals as goal
 
@@ -60,3 +60,11 @@ returns-clause-applied g c told =
     let all : c.loop-tid.tid ≡ shape.numbers = omega arith in
     on_ok_weaker c.barrier.result (barrier_keeps (λ bytes. data_of shape bytes ≡ settled_data shape base) (m.view c.loop-tid.media).content (m.view c.barrier.new.self).content
     (c.loop-tid.invariant.applied told ∙ ap (λ (n : ℕ). applied (joined (λ t. number_parts shape base t) 0 n) (data_of shape base)) all)) (c.barrier.ensures.settled told)
+
+pub returns-in_err-apply_number-clause-applied : goal.returns-in_err-apply_number-clause-applied
+returns-in_err-apply_number-clause-applied g c told = IfOk-from_err c.from_residual.result _ c.from_residual.ensures.0
+
+pub returns-clause-does : goal.returns-clause-does
+returns-clause-does g c =
+    let m = g.M.Media in
+    then_barrier m.tells _ (m.view c.args.media.now) (m.view c.loop-tid.media) (m.view c.barrier.new.self) c.barrier.result c.loop-tid.invariant.does c.barrier.ensures.does

@@ -104,3 +104,9 @@ returns-clause-costs g c =
     (length-take-le c.from-loggers.result c.counts_behind-counts.result (omega (arith, c.counts_behind-counts.ensures.long, c.from-loggers.ensures, c.args.shape.now.in_range.most_loggers)) ∙ c.from-loggers.ensures)
     (λ h lt. count h lt ∙ ap (λ (k : ℕ). slice_index log.held h - k) (first h lt)) in
     subst (λ (counts : List ℕ). Costs g.M.Media.tells (commit_calls counts) (g.M.Media.view c.args.media.now).moment (g.M.Media.view c.commit_from.new.media).moment c.commit_from.result) is c.commit_from.ensures.costs
+
+pub returns-clause-clean : goal.returns-clause-clean
+returns-clause-clean g c = c.commit_from.ensures.clean
+
+pub returns-clause-cells : goal.returns-clause-cells
+returns-clause-cells g c = c.commit_from.ensures.cells

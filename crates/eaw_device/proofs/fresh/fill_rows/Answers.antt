@@ -1,5 +1,6 @@
 use Rattle.std.proofs.Common.{◌≡◌, ◌+◌, ◌*◌, ◌≤◌, ℕ, length, refl, sym, ap, subst, ◌∙◌, arith}
 use Rattle.std.proofs.lemmas.List.{length-replicate}
+use Rattle.std.proofs.lemmas.Result.{IfOk-from_err}
 use Rattle.counted.specs.Bytes.{put}
 use Rattle.pcm_media.proofs.Writing.{writes_on}
 use Rattle.array_shape.specs.Places.{media_len}
@@ -51,3 +52,14 @@ returns-in_err-write-clause-cells g c told =
     let shape = c.args.shape.now in
     let long : length c.args.zeros.now ≡ 16 * shape.numbers = ap length c.requires.zeros ∙ length-replicate {A = ℕ} (16 * shape.numbers) 0 in
     cells_then shape _ _ _ (c.loop-logger.invariant.cells told) (rows_spare shape _ _ _ _ (c.write.ensures.does.touched told) c.loop-logger.logger c.row_at.ensures long)
+
+pub returns-in_err-write-clause-rows : goal.returns-in_err-write-clause-rows
+returns-in_err-write-clause-rows g c told = IfOk-from_err c.from_residual.result _ c.from_residual.ensures.0
+
+pub returns-in_err-write-clause-pages : goal.returns-in_err-write-clause-pages
+returns-in_err-write-clause-pages g c told = IfOk-from_err c.from_residual.result _ c.from_residual.ensures.0
+
+pub returns : goal.returns
+returns g c =
+    let so_far = c.loop-logger.invariant in
+    record { rows = λ told h t lt lt'. so_far.rows told h t (omega arith) lt'; pages = so_far.data_same; cells = so_far.cells; does = so_far.does }

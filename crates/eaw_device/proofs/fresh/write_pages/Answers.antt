@@ -1,4 +1,5 @@
 use Rattle.std.proofs.Common.{◌≡◌, ◌+◌, ◌*◌, ◌≤◌, ℕ, length, refl, sym, ap, subst, ◌∙◌, arith}
+use Rattle.std.proofs.lemmas.Result.{IfOk-from_err}
 use Rattle.counted.specs.Bytes.{put}
 use Rattle.pcm_media.proofs.Writing.{writes_on}
 use Rattle.array_shape.specs.Places.{media_len, place_of}
@@ -41,3 +42,11 @@ pub returns-in_err-write-clause-cells : goal.returns-in_err-write-clause-cells
 returns-in_err-write-clause-cells g c told =
     let long = ap length c.fresh_page.ensures ∙ length-fresh_page c.loop-page.page in
     cells_then c.args.shape.now _ _ _ (c.loop-page.invariant.cells told) (page_spares c.args.shape.now _ _ _ _ (c.write.ensures.does.touched told) c.loop-page.page (omega arith) c.byte_at.ensures long)
+
+pub returns-in_err-write-clause-pages : goal.returns-in_err-write-clause-pages
+returns-in_err-write-clause-pages g c told = IfOk-from_err c.from_residual.result _ c.from_residual.ensures.0
+
+pub returns : goal.returns
+returns g c =
+    let so_far = c.loop-page.invariant in
+    record { pages = λ told p lt. so_far.pages told p (omega arith); cells = so_far.cells; does = so_far.does }

@@ -176,3 +176,33 @@ loop-step-init g c =
       left = λ told. subst (λ (m : ℕ). ChainLeft view.state.bytes 1 0 m) (let e : next_page view.state.bytes ≡ c.in-Ok.front.next_page - 0 = omega (arith, (c.in-Ok.ensures.says told).next_page) in e)
           (chain_all view.state.bytes (c.in-Ok.ensures.sound told));
     }
+
+pub returns-in_default-clause-looks : goal.returns-in_default-clause-looks
+returns-in_default-clause-looks g c = looks_next g.S.EawStore.tells g.S.EawStore.opens false (pages_of (g.S.EawStore.view c.args.pages.now.store) c.args.pages.now) (pages_of (g.S.EawStore.view c.loop-step.pages.store) c.loop-step.pages) (pages_of (g.S.EawStore.view c.fetch_page.new.pages.store) c.fetch_page.new.pages) c.loop-step.invariant.looks c.in-Ok-fetch_page.ensures.looks
+
+pub returns-in_default-clause-dead : goal.returns-in_default-clause-dead
+returns-in_default-clause-dead g c = λ is. cc
+
+pub returns-then-head-eq0-clause-looks : goal.returns-then-head-eq0-clause-looks
+returns-then-head-eq0-clause-looks g c = looks_next g.S.EawStore.tells g.S.EawStore.opens false (pages_of (g.S.EawStore.view c.args.pages.now.store) c.args.pages.now) (pages_of (g.S.EawStore.view c.fetch_page.new.pages.store) c.fetch_page.new.pages) (pages_of (g.S.EawStore.view c.check_pairs.new.pages.store) c.check_pairs.new.pages) (looks_next g.S.EawStore.tells g.S.EawStore.opens false (pages_of (g.S.EawStore.view c.args.pages.now.store) c.args.pages.now) (pages_of (g.S.EawStore.view c.loop-step.pages.store) c.loop-step.pages) (pages_of (g.S.EawStore.view c.fetch_page.new.pages.store) c.fetch_page.new.pages) c.loop-step.invariant.looks c.in-Ok-fetch_page.ensures.looks) c.in-Ok-check_pairs.ensures.looks
+
+pub returns-then-head-eq0-clause-dead : goal.returns-then-head-eq0-clause-dead
+returns-then-head-eq0-clause-dead g c = λ is. cc
+
+pub returns-then-head-lt2-clause-looks : goal.returns-then-head-lt2-clause-looks
+returns-then-head-lt2-clause-looks g c = looks_next g.S.EawStore.tells g.S.EawStore.opens false (pages_of (g.S.EawStore.view c.args.pages.now.store) c.args.pages.now) (pages_of (g.S.EawStore.view c.fetch_page.new.pages.store) c.fetch_page.new.pages) (pages_of (g.S.EawStore.view c.check_pairs.new.pages.store) c.check_pairs.new.pages) (looks_next g.S.EawStore.tells g.S.EawStore.opens false (pages_of (g.S.EawStore.view c.args.pages.now.store) c.args.pages.now) (pages_of (g.S.EawStore.view c.loop-step.pages.store) c.loop-step.pages) (pages_of (g.S.EawStore.view c.fetch_page.new.pages.store) c.fetch_page.new.pages) c.loop-step.invariant.looks c.in-Ok-fetch_page.ensures.looks) c.in-Ok-check_pairs.ensures.looks
+
+pub returns-then-head-lt2-clause-dead : goal.returns-then-head-lt2-clause-dead
+returns-then-head-lt2-clause-dead g c = λ is. cc
+
+pub returns-then-head-front-clause-looks : goal.returns-then-head-front-clause-looks
+returns-then-head-front-clause-looks g c = looks_next g.S.EawStore.tells g.S.EawStore.opens false (pages_of (g.S.EawStore.view c.args.pages.now.store) c.args.pages.now) (pages_of (g.S.EawStore.view c.fetch_page.new.pages.store) c.fetch_page.new.pages) (pages_of (g.S.EawStore.view c.check_pairs.new.pages.store) c.check_pairs.new.pages) (looks_next g.S.EawStore.tells g.S.EawStore.opens false (pages_of (g.S.EawStore.view c.args.pages.now.store) c.args.pages.now) (pages_of (g.S.EawStore.view c.loop-step.pages.store) c.loop-step.pages) (pages_of (g.S.EawStore.view c.fetch_page.new.pages.store) c.fetch_page.new.pages) c.loop-step.invariant.looks c.in-Ok-fetch_page.ensures.looks) c.in-Ok-check_pairs.ensures.looks
+
+pub returns-then-head-front-clause-dead : goal.returns-then-head-front-clause-dead
+returns-then-head-front-clause-dead g c = λ is. cc
+
+pub returns-clause-looks : goal.returns-clause-looks
+returns-clause-looks g c = c.loop-step.invariant.looks
+
+pub returns-clause-dead : goal.returns-clause-dead
+returns-clause-dead g c = λ is. cc

@@ -218,3 +218,21 @@ returns-in-Err-add_pair-2-clause-inserts g c =
     let hroom : length c.in-Ok-locate.half.pairs.items < 30 = omega (arith, c.len-2.ensures.value, c.if-len-ge-PAIRS_MAX.false) in
     subst (λ (f : IndexFault). (let s : Result ℕ IndexFault = Err f in Inserts T (E v0.store.shape) chain t key v0 v4 s)) (sym c.index_fault-in-Err-add_pair-2.ensures)
     (halved_err T E t key v0 v1 c.index_page_count-count.result n.count n.all n.most small c.requires.sound c.requires.absent long c.in-Ok.ensures.looks c.in-Ok.ensures.cause at.front at.page at.link at.pairs.items c.in-Ok.ensures.located c.in-Ok.ensures.said c.if-slot-count.false full c.if-at-count.false v2 c.in-Ok-cut_page.ensures.acts v3 c.in-Ok-locate.ensures.looks h.front h.page h.link h.pairs.items c.in-Ok-locate.ensures.located c.in-Ok-locate.ensures.said hroom c.if-half-slot.false v4 c.in-Err-add_pair-2.fault c.in-Err-add_pair-2.ensures.acts)
+
+pub returns-in-Ok-add_pair-clause-dead : goal.returns-in-Ok-add_pair-clause-dead
+returns-in-Ok-add_pair-clause-dead g c = λ is. cc
+
+pub returns-in-Ok-add_pair-2-clause-dead : goal.returns-in-Ok-add_pair-2-clause-dead
+returns-in-Ok-add_pair-2-clause-dead g c = λ is. cc
+
+pub returns-then-at-count-clause-dead : goal.returns-then-at-count-clause-dead
+returns-then-at-count-clause-dead g c = λ is. cc
+
+pub returns-then-half-slot-clause-dead : goal.returns-then-half-slot-clause-dead
+returns-then-half-slot-clause-dead g c = λ is. cc
+
+pub returns-then-len-ge-PAIRS_MAX-clause-dead : goal.returns-then-len-ge-PAIRS_MAX-clause-dead
+returns-then-len-ge-PAIRS_MAX-clause-dead g c = λ is. cc
+
+pub returns-then-slot-count-clause-dead : goal.returns-then-slot-count-clause-dead
+returns-then-slot-count-clause-dead g c = λ is. cc

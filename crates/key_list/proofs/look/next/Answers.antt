@@ -80,3 +80,48 @@ returns-clause-cause g c =
           let at = c.loop-step.invariant.chain told alive in
           omega (arith, at.left, (c.requires told alive).front.pages, index_pages_are view.shape view.state.bytes (g.met.S.EawStore.long c.args.pages.now.store told), c.index_page_count-count.ensures.count, c.loop-step-test.false),
     )
+
+pub returns-then-slot-from-clause-looks : goal.returns-then-slot-from-clause-looks
+returns-then-slot-from-clause-looks g c = looks_next g.S.EawStore.tells g.S.EawStore.opens false (pages_of (g.S.EawStore.view c.args.pages.now.store) c.args.pages.now) (pages_of (g.S.EawStore.view c.loop-step.pages.store) c.loop-step.pages) (pages_of (g.S.EawStore.view c.read_page.new.pages.store) c.read_page.new.pages) c.loop-step.invariant.looks c.in-Ok.ensures.looks
+
+pub returns-then-slot-from-clause-dead : goal.returns-then-slot-from-clause-dead
+returns-then-slot-from-clause-dead g c = λ is. cc
+
+pub returns-then-slot-from-clause-next : goal.returns-then-slot-from-clause-next
+returns-then-slot-from-clause-next g c = λ told. tt
+
+pub returns-then-slot-from-clause-inside : goal.returns-then-slot-from-clause-inside
+returns-then-slot-from-clause-inside g c = tt
+
+pub returns-in-Some-clause-looks : goal.returns-in-Some-clause-looks
+returns-in-Some-clause-looks g c = looks_next g.S.EawStore.tells g.S.EawStore.opens false (pages_of (g.S.EawStore.view c.args.pages.now.store) c.args.pages.now) (pages_of (g.S.EawStore.view c.loop-step.pages.store) c.loop-step.pages) (pages_of (g.S.EawStore.view c.read_page.new.pages.store) c.read_page.new.pages) c.loop-step.invariant.looks c.in-Ok.ensures.looks
+
+pub returns-in-Some-clause-dead : goal.returns-in-Some-clause-dead
+returns-in-Some-clause-dead g c = λ is. cc
+
+pub returns-then-head-eq0-clause-looks : goal.returns-then-head-eq0-clause-looks
+returns-then-head-eq0-clause-looks g c = looks_next g.S.EawStore.tells g.S.EawStore.opens false (pages_of (g.S.EawStore.view c.args.pages.now.store) c.args.pages.now) (pages_of (g.S.EawStore.view c.loop-step.pages.store) c.loop-step.pages) (pages_of (g.S.EawStore.view c.read_page.new.pages.store) c.read_page.new.pages) c.loop-step.invariant.looks c.in-Ok.ensures.looks
+
+pub returns-then-head-eq0-clause-dead : goal.returns-then-head-eq0-clause-dead
+returns-then-head-eq0-clause-dead g c = λ is. cc
+
+pub returns-then-head-eq0-clause-inside : goal.returns-then-head-eq0-clause-inside
+returns-then-head-eq0-clause-inside g c = tt
+
+pub returns-in-Err-clause-next : goal.returns-in-Err-clause-next
+returns-in-Err-clause-next g c = λ told. tt
+
+pub returns-in-Err-clause-inside : goal.returns-in-Err-clause-inside
+returns-in-Err-clause-inside g c = tt
+
+pub returns-clause-looks : goal.returns-clause-looks
+returns-clause-looks g c = c.loop-step.invariant.looks
+
+pub returns-clause-dead : goal.returns-clause-dead
+returns-clause-dead g c = λ is. cc
+
+pub returns-clause-next : goal.returns-clause-next
+returns-clause-next g c = λ told. tt
+
+pub returns-clause-inside : goal.returns-clause-inside
+returns-clause-inside g c = tt

@@ -92,3 +92,75 @@ loop-step-preserved g c =
           place_step view.state.bytes c.args.key c.loop-step._step c.loop-step.page c.loop-step.behind c.in-Ok-read_page.head.link (c.loop-step.invariant.place told) c.if-behind-eq0.false le
           (c.in-Ok-read_page.ensures.head.link ∙ ap link_said buf);
     }
+
+pub returns-then-head-eq0-clause-looks : goal.returns-then-head-eq0-clause-looks
+returns-then-head-eq0-clause-looks g c = looks_next g.S.EawStore.tells g.S.EawStore.opens false (pages_of (g.S.EawStore.view c.args.pages.now.store) c.args.pages.now) (pages_of (g.S.EawStore.view c.loop-step.pages.store) c.loop-step.pages) (pages_of (g.S.EawStore.view c.read_page-in-loop-step.new.pages.store) c.read_page-in-loop-step.new.pages) c.loop-step.invariant.looks c.in-Ok-read_page.ensures.looks
+
+pub returns-then-head-eq0-clause-dead : goal.returns-then-head-eq0-clause-dead
+returns-then-head-eq0-clause-dead g c = λ is. cc
+
+pub returns-then-head-eq0-clause-page : goal.returns-then-head-eq0-clause-page
+returns-then-head-eq0-clause-page g c = λ told. tt
+
+pub returns-then-head-eq0-clause-inside : goal.returns-then-head-eq0-clause-inside
+returns-then-head-eq0-clause-inside g c = tt
+
+pub returns-then-head-eq0-clause-some : goal.returns-then-head-eq0-clause-some
+returns-then-head-eq0-clause-some g c = tt
+
+pub returns-clause-looks : goal.returns-clause-looks
+returns-clause-looks g c = c.loop-step.invariant.looks
+
+pub returns-clause-dead : goal.returns-clause-dead
+returns-clause-dead g c = λ is. cc
+
+pub returns-clause-page : goal.returns-clause-page
+returns-clause-page g c = λ told. tt
+
+pub returns-clause-inside : goal.returns-clause-inside
+returns-clause-inside g c = tt
+
+pub returns-clause-some : goal.returns-clause-some
+returns-clause-some g c = tt
+
+pub returns-in-Err-clause-page : goal.returns-in-Err-clause-page
+returns-in-Err-clause-page g c = λ told. tt
+
+pub returns-in-Err-clause-inside : goal.returns-in-Err-clause-inside
+returns-in-Err-clause-inside g c = tt
+
+pub returns-in-Err-clause-some : goal.returns-in-Err-clause-some
+returns-in-Err-clause-some g c = tt
+
+pub returns-in-Err-read_page-clause-page : goal.returns-in-Err-read_page-clause-page
+returns-in-Err-read_page-clause-page g c = λ told. tt
+
+pub returns-in-Err-read_page-clause-inside : goal.returns-in-Err-read_page-clause-inside
+returns-in-Err-read_page-clause-inside g c = tt
+
+pub returns-in-Err-read_page-clause-some : goal.returns-in-Err-read_page-clause-some
+returns-in-Err-read_page-clause-some g c = tt
+
+pub returns-then-behind-eq0-clause-looks : goal.returns-then-behind-eq0-clause-looks
+returns-then-behind-eq0-clause-looks g c = c.loop-step.invariant.looks
+
+pub returns-then-behind-eq0-clause-dead : goal.returns-then-behind-eq0-clause-dead
+returns-then-behind-eq0-clause-dead g c = λ is. cc
+
+pub returns-then-behind-eq0-clause-inside : goal.returns-then-behind-eq0-clause-inside
+returns-then-behind-eq0-clause-inside g c = c.loop-step.invariant.inside
+
+pub returns-then-behind-eq0-clause-some : goal.returns-then-behind-eq0-clause-some
+returns-then-behind-eq0-clause-some g c = c.loop-step.invariant.some
+
+pub returns-then-key-read_pair-clause-looks : goal.returns-then-key-read_pair-clause-looks
+returns-then-key-read_pair-clause-looks g c = looks_next g.S.EawStore.tells g.S.EawStore.opens false (pages_of (g.S.EawStore.view c.args.pages.now.store) c.args.pages.now) (pages_of (g.S.EawStore.view c.loop-step.pages.store) c.loop-step.pages) (pages_of (g.S.EawStore.view c.read_page-in-loop-step.new.pages.store) c.read_page-in-loop-step.new.pages) c.loop-step.invariant.looks c.in-Ok-read_page.ensures.looks
+
+pub returns-then-key-read_pair-clause-dead : goal.returns-then-key-read_pair-clause-dead
+returns-then-key-read_pair-clause-dead g c = λ is. cc
+
+pub returns-then-key-read_pair-clause-inside : goal.returns-then-key-read_pair-clause-inside
+returns-then-key-read_pair-clause-inside g c = c.loop-step.invariant.inside
+
+pub returns-then-key-read_pair-clause-some : goal.returns-then-key-read_pair-clause-some
+returns-then-key-read_pair-clause-some g c = c.loop-step.invariant.some

@@ -30,3 +30,27 @@ returns-in-Err-read_page-clause-cause g c =
     (subst (λ (p : ℕ). IsLinked (index_pages_of view.shape) (page_bytes view.state.bytes p)) (sym page)
     (key_page_linked view.state.bytes (index_pages_of view.shape) c.args.key (c.requires told alive) pages))))
     c.in-Err-read_page.ensures.cause
+
+pub returns-in-Err-clause-looks : goal.returns-in-Err-clause-looks
+returns-in-Err-clause-looks g c = c.in-Err.ensures.looks
+
+pub returns-in-Err-clause-located : goal.returns-in-Err-clause-located
+returns-in-Err-clause-located g c = tt
+
+pub returns-in-Err-clause-said : goal.returns-in-Err-clause-said
+returns-in-Err-clause-said g c = λ told. tt
+
+pub returns-in-Err-page_for-clause-located : goal.returns-in-Err-page_for-clause-located
+returns-in-Err-page_for-clause-located g c = tt
+
+pub returns-in-Err-page_for-clause-said : goal.returns-in-Err-page_for-clause-said
+returns-in-Err-page_for-clause-said g c = λ told. tt
+
+pub returns-in-Err-read_page-clause-located : goal.returns-in-Err-read_page-clause-located
+returns-in-Err-read_page-clause-located g c = tt
+
+pub returns-in-Err-read_page-clause-said : goal.returns-in-Err-read_page-clause-said
+returns-in-Err-read_page-clause-said g c = λ told. tt
+
+pub returns-clause-dead : goal.returns-clause-dead
+returns-clause-dead g c = λ is. cc

@@ -58,3 +58,12 @@ returns-clause-bytes g c tell =
     ∙ ap (λ (k : ℕ). range (applied (take k (listed (first.state.logs c.args.tid))) first.state.bytes) c.args.addr (length c.loop-pos.buf)) all
     ∙ ap (λ (ps : List Part). range (applied ps first.state.bytes) c.args.addr (length c.loop-pos.buf)) (take-length log)
     ∙ ap (λ (n : ℕ). range (applied log first.state.bytes) c.args.addr n) c.loop-pos.invariant.long
+
+pub returns-in-Err-clause-bytes : goal.returns-in-Err-clause-bytes
+returns-in-Err-clause-bytes g c = λ told. tt
+
+pub returns-in-Err-lay_part-clause-bytes : goal.returns-in-Err-lay_part-clause-bytes
+returns-in-Err-lay_part-clause-bytes g c = λ told. tt
+
+pub returns-clause-refused : goal.returns-clause-refused
+returns-clause-refused g c = tt

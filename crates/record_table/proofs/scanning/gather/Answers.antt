@@ -1,8 +1,9 @@
-use Rattle.std.proofs.Common.{◌≡◌, suc, ◌++◌, sym, ◌∙◌, ap, arith}
+use Rattle.std.proofs.Common.{false, ◌≡◌, suc, ◌++◌, sym, ◌∙◌, ap, arith}
 use Rattle.page_store.specs.Shown.{pages_of}
 use Rattle.history.specs.Writes.{rows_within}
 use Rattle.record_table.specs.Scanned.{row_at, rows_seen}
 use Rattle.record_table.specs.State.{TableState, seen_by}
+use Rattle.record_table.proofs.Looking.{looks_next}
 use Rattle.record_table.proofs.Gathering.{follows_past, last_row, no_row}
 use Rattle.record_table.proofs.Moving.{moved_by_look, rests_moved}
 use Rattle.record_table.proofs.SlotParts.{Laws}
@@ -58,3 +59,36 @@ returns-clause-rows g c = λ told.
     let rests = c.requires.holds alive in
     let moved = moved_by_look T E I t v0 v1 alive rests c.loop-from.invariant.looks in
     no_row c.loop-from.rows _ _ (c.loop-from.invariant.rows told) (follows_past I laws t v0 (rests.tied told) c.loop-from.from c.args.high (omega (arith, c.loop-from-test.false)))
+
+pub returns-in-Err-clause-rows : goal.returns-in-Err-clause-rows
+returns-in-Err-clause-rows g c = λ told. tt
+
+pub returns-in-Err-push_row-clause-rows : goal.returns-in-Err-push_row-clause-rows
+returns-in-Err-push_row-clause-rows g c = λ told. tt
+
+pub returns-in-Ok-None-clause-looks : goal.returns-in-Ok-None-clause-looks
+returns-in-Ok-None-clause-looks g c =
+    let T = g.S.EawStore.tells in
+    let E = g.S.EawStore.opens in
+    let V = g.S.EawStore.view in
+    let v0 = pages_of (V c.args.pages.now.store) c.args.pages.now in
+    looks_next T E c.args.tid false v0 (pages_of (V c.loop-from.pages.store) c.loop-from.pages) (pages_of (V c.next_row.new.pages.store) c.next_row.new.pages) c.loop-from.invariant.looks c.in-Ok-None.ensures.looks
+
+pub returns-then-next-high-clause-looks : goal.returns-then-next-high-clause-looks
+returns-then-next-high-clause-looks g c =
+    let T = g.S.EawStore.tells in
+    let E = g.S.EawStore.opens in
+    let V = g.S.EawStore.view in
+    let v0 = pages_of (V c.args.pages.now.store) c.args.pages.now in
+    looks_next T E c.args.tid false v0 (pages_of (V c.loop-from.pages.store) c.loop-from.pages) (pages_of (V c.next_row.new.pages.store) c.next_row.new.pages) c.loop-from.invariant.looks c.in-Ok-Some.ensures.looks
+
+pub returns-in-Err-push_row-clause-looks : goal.returns-in-Err-push_row-clause-looks
+returns-in-Err-push_row-clause-looks g c =
+    let T = g.S.EawStore.tells in
+    let E = g.S.EawStore.opens in
+    let V = g.S.EawStore.view in
+    let v0 = pages_of (V c.args.pages.now.store) c.args.pages.now in
+    looks_next T E c.args.tid false v0 (pages_of (V c.loop-from.pages.store) c.loop-from.pages) (pages_of (V c.next_row.new.pages.store) c.next_row.new.pages) c.loop-from.invariant.looks c.in-Ok-Some.ensures.looks
+
+pub returns-clause-looks : goal.returns-clause-looks
+returns-clause-looks g c = c.loop-from.invariant.looks

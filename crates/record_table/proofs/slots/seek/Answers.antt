@@ -1,6 +1,7 @@
-use Rattle.std.proofs.Common.{refl, sym, ◌∙◌, ap}
+use Rattle.std.proofs.Common.{false, refl, sym, ◌∙◌, ap}
 use Rattle.page_store.specs.Shown.{pages_of}
 use Rattle.record_table.specs.Shown.{value_of}
+use Rattle.record_table.proofs.Looking.{looks_as, looks_next}
 use Rattle.record_table.proofs.SlotParts.{Laws}
 use Rattle.record_table.proofs.Seeking.{seen_none, seen_some, some_slot}
 use Rattle.record_table.proofs.slots.seek.Goals as goal
@@ -42,3 +43,63 @@ returns-in-Ok-None-read_as-clause-cause g c =
           (pages_of (V c.find.new.pages.store) c.find.new.pages) looks.shape ((looks.still refl).state told) (g.met.S.EawStore.long c.args.pages.now.store told) c.in-Ok-Some.slot some
           (sym c.in-Ok-None-read_as.field-0-is ∙ c.in-Ok-None-read_as.ensures.said told),
     )
+
+pub returns-in-Err-clause-finds : goal.returns-in-Err-clause-finds
+returns-in-Err-clause-finds g c = λ told. tt
+
+pub returns-in-Err-clause-inside : goal.returns-in-Err-clause-inside
+returns-in-Err-clause-inside g c = tt
+
+pub returns-in-Ok-None-clause-inside : goal.returns-in-Ok-None-clause-inside
+returns-in-Ok-None-clause-inside g c = tt
+
+pub returns-in-Ok-None-clause-dead : goal.returns-in-Ok-None-clause-dead
+returns-in-Ok-None-clause-dead g c = λ is. cc
+
+pub returns-in-Ok-None-clause-cause : goal.returns-in-Ok-None-clause-cause
+returns-in-Ok-None-clause-cause g c = c.in-Ok-None.ensures.cause
+
+pub returns-in-Ok-Some-read_as-clause-dead : goal.returns-in-Ok-Some-read_as-clause-dead
+returns-in-Ok-Some-read_as-clause-dead g c = λ is. cc
+
+pub returns-in-Ok-Some-read_as-clause-cause : goal.returns-in-Ok-Some-read_as-clause-cause
+returns-in-Ok-Some-read_as-clause-cause g c = c.in-Ok-Some.ensures.cause
+
+pub returns-in-Ok-None-read_as-clause-finds : goal.returns-in-Ok-None-read_as-clause-finds
+returns-in-Ok-None-read_as-clause-finds g c = λ told. tt
+
+pub returns-in-Ok-None-read_as-clause-inside : goal.returns-in-Ok-None-read_as-clause-inside
+returns-in-Ok-None-read_as-clause-inside g c = tt
+
+pub returns-in-Ok-None-read_as-clause-dead : goal.returns-in-Ok-None-read_as-clause-dead
+returns-in-Ok-None-read_as-clause-dead g c = λ is. cc
+
+pub returns-in-Err-read_as-clause-finds : goal.returns-in-Err-read_as-clause-finds
+returns-in-Err-read_as-clause-finds g c = λ told. tt
+
+pub returns-in-Err-read_as-clause-inside : goal.returns-in-Err-read_as-clause-inside
+returns-in-Err-read_as-clause-inside g c = tt
+
+pub returns-in-Ok-None-clause-looks : goal.returns-in-Ok-None-clause-looks
+returns-in-Ok-None-clause-looks g c =
+    let T = g.S.EawStore.tells in
+    let E = g.S.EawStore.opens in
+    let V = g.S.EawStore.view in
+    let v0 = pages_of (V c.args.pages.now.store) c.args.pages.now in
+    looks_as T (E v0.store.shape) c.args.tid false v0 (pages_of (V c.find.new.pages.store) c.find.new.pages) c.in-Ok-None.ensures.looks
+
+pub returns-in-Ok-Some-read_as-clause-looks : goal.returns-in-Ok-Some-read_as-clause-looks
+returns-in-Ok-Some-read_as-clause-looks g c =
+    let T = g.S.EawStore.tells in
+    let E = g.S.EawStore.opens in
+    let V = g.S.EawStore.view in
+    let v0 = pages_of (V c.args.pages.now.store) c.args.pages.now in
+    looks_next T E c.args.tid false v0 (pages_of (V c.find.new.pages.store) c.find.new.pages) (pages_of (V c.read_as.new.pages.store) c.read_as.new.pages) (looks_as T (E v0.store.shape) c.args.tid false v0 (pages_of (V c.find.new.pages.store) c.find.new.pages) c.in-Ok-Some.ensures.looks) c.in-Ok-Some-read_as.ensures.looks
+
+pub returns-in-Ok-None-read_as-clause-looks : goal.returns-in-Ok-None-read_as-clause-looks
+returns-in-Ok-None-read_as-clause-looks g c =
+    let T = g.S.EawStore.tells in
+    let E = g.S.EawStore.opens in
+    let V = g.S.EawStore.view in
+    let v0 = pages_of (V c.args.pages.now.store) c.args.pages.now in
+    looks_next T E c.args.tid false v0 (pages_of (V c.find.new.pages.store) c.find.new.pages) (pages_of (V c.read_as.new.pages.store) c.read_as.new.pages) (looks_as T (E v0.store.shape) c.args.tid false v0 (pages_of (V c.find.new.pages.store) c.find.new.pages) c.in-Ok-Some.ensures.looks) c.in-Ok-None-read_as.ensures.looks

@@ -1,4 +1,5 @@
 use Rattle.std.proofs.Common.{ℕ, ◌*◌, List, length, refl, subst, arith}
+use Rattle.std.proofs.lemmas.Result.{err_from_is_err_and}
 use Rattle.counted.specs.Costs.{Costs}
 use Rattle.counted.proofs.Costing.{none_yet, costs_more, costs_then}
 use Rattle.array_shape.specs.declared.shape.Shape.{Shape}
@@ -10,8 +11,22 @@ use Rattle.array_image.proofs.Data.{length-data_of}
 use Rattle.eaw_device.specs.Opens.{Opens}
 use Rattle.eaw_device.specs.Logs.{ranges_in, parts_in, entries_at}
 use Rattle.eaw_device.specs.Sound.{view_of}
-use Rattle.eaw_device.proofs.Atomic.{atomic, mid_alive, mid_live, mid_ranges, commit_fails, media_alone, none_ranges}
+use Rattle.eaw_device.proofs.Atomic.{write_fails, atomic, mid_alive, mid_live, mid_ranges, commit_fails, media_alone, none_ranges}
 use Rattle.eaw_device.proofs.device.EawEawStore.atomic_write.Goals as goal
+
+pub returns-in_err-log_write : goal.returns-in_err-log_write
+returns-in_err-log_write g c =
+    let m = g.M.Media in
+    let s = c.args.self.now in
+    let mid = c.log_write.new.self in
+    let failed = c.in_err-log_write.ensures in
+    let p = err_from_is_err_and c.from_residual.result c.from_residual.ensures.1 in
+    rw (p.1, p.2) (record {
+      does = write_fails m.tells (Opens s.shape) (view_of (m.view s.media) s.shape s.logs.items s.is_dead) (view_of (m.view mid.media) mid.shape mid.logs.items mid.is_dead)
+          c.args.tid c.args.addr c.args.bytes.now c.requires.free c.requires.tid c.in_err-log_write.field-0.0 failed.does;
+      costs = record { done = λ exact. tt; most = omega (arith, failed.costs.most) };
+      refused = failed.refused;
+    })
 
 pub returns-clause-does : goal.returns-clause-does
 returns-clause-does g c =

@@ -1,6 +1,11 @@
-use Rattle.std.proofs.Common.{◌∙◌, sym, refl, arith, ℕ, List, drop, ap}
+use Rattle.std.proofs.Common.{◌≡◌, ◌∙◌, sym, refl, arith, ℕ, List, drop, ap}
+use Rattle.std.proofs.lemmas.Result.{err_from_is_err_and}
+use Rattle.eaw_face.specs.Command.{commit}
+use Rattle.eaw_face.specs.declared.fault.EawFault.TheVariants.{Media}
+use Rattle.eaw_device.specs.Opens.{Opens}
+use Rattle.eaw_device.specs.Sound.{view_of}
 use Rattle.eaw_device.proofs.StagedCalls.{when_ok}
-use Rattle.eaw_device.proofs.Doing.{Found, found, when_err}
+use Rattle.eaw_device.proofs.Doing.{lacking, lacking_other, Found, found, when_err}
 use Rattle.coordinator.specs.Costs.{commit_calls}
 use Rattle.eaw_device.specs.Costs.{counts_of}
 use Rattle.eaw_device.proofs.Costing.{costs_done}
@@ -8,6 +13,22 @@ use Rattle.eaw_device.proofs.Tables.{ranges_there}
 use Rattle.eaw_device.proofs.Commits.{its_len, commit_failed, commit_sound, commit_done}
 use Rattle.eaw_device.proofs.device.EawEawStore.commit.Given.{Over}
 use Rattle.eaw_device.proofs.device.EawEawStore.commit.Goals as goal
+
+pub returns-in_err-at : goal.returns-in_err-at
+returns-in_err-at g c =
+    let m = g.M.Media in
+    let s = c.args.self.now in
+    let store = view_of (m.view s.media) s.shape s.logs.items s.is_dead in
+    let fault = c.in_err-at.field-0.0 in
+    let cause = c.in_err-at.ensures.cause in
+    let p = err_from_is_err_and c.from_residual.result c.from_residual.ensures.1 in
+    rw (p.1, p.2) (record {
+      does = lacking m.tells (Opens s.shape) (commit c.args.tid) store c.args.tid (λ u is. is) (λ live. live) fault cause;
+      due = λ is. absurd (lacking_other store c.args.tid fault cause (let same : fault ≡ Media = cc in same));
+      idle = λ none. refl;
+      costs = record { done = λ exact. tt; most = omega arith };
+      refused = λ ne. refl;
+    })
 
 -- the log that is found
 log_found : (g : Over) (c : goal.After-index g) → Found g.M.Media.tells (g.M.Media.view c.args.self.now.media) c.args.self.now.shape c.args.self.now.logs.items c.args.self.now.is_dead c.args.tid c.index.result.now
@@ -97,3 +118,21 @@ returns-clause-costs g c =
     let ranges = ranges_there s.shape s.logs.items c.args.tid c.index.result.now there.there there.kept in
     costs_done m.tells _ _ _ _ c.commit_log.result tt (sym c.is_err.ensures.value ∙ c.if-is_err.false)
     (ap (λ (rs : List (ℕ × ℕ)). commit_calls (counts_of s.shape (drop 0 rs))) (sym ranges)) c.commit_log.ensures.costs
+
+pub returns-then-is_err-clause-refused : goal.returns-then-is_err-clause-refused
+returns-then-is_err-clause-refused g c = λ ne. absurd (ne refl)
+
+pub returns-clause-due : goal.returns-clause-due
+returns-clause-due g c = λ is. cc
+
+pub returns-clause-refused : goal.returns-clause-refused
+returns-clause-refused g c = tt
+
+pub returns-then-is_err-clause-costs : goal.returns-then-is_err-clause-costs
+returns-then-is_err-clause-costs g c =
+    let m = g.M.Media in
+    let s = c.args.self.now in
+    let there = found m.tells (m.view s.media) s.shape s.logs.items s.is_dead s.sound c.in_ok-at.ensures.alive c.args.tid c.in_ok-at.at c.index.result.now c.in_ok-at.ensures.at c.in_ok-at.ensures.live c.index.ensures in
+    let ranges = ranges_there s.shape s.logs.items c.args.tid c.index.result.now there.there there.kept in
+    let same = ap (λ (rs : List (ℕ × ℕ)). commit_calls (counts_of s.shape (drop 0 rs))) ranges in
+    record { done = λ exact. tt; most = omega (arith, c.commit_log.ensures.costs.most, same) }

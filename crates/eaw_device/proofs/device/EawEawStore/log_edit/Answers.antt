@@ -1,9 +1,27 @@
-use Rattle.std.proofs.Common.{◌∙◌, ℕ, ◌+◌, ◌<◌, ◌≤◌, length, ap, arith}
+use Rattle.std.proofs.Common.{refl, ◌∙◌, ℕ, ◌+◌, ◌<◌, ◌≤◌, length, ap, arith}
 use Rattle.array_shape.specs.declared.shape.Shape.{Shape}
-use Rattle.eaw_device.proofs.Doing.{found}
+use Rattle.std.proofs.lemmas.Result.{err_from_is_err_and}
+use Rattle.eaw_face.specs.Command.{log_edit}
+use Rattle.eaw_device.specs.Opens.{Opens}
+use Rattle.eaw_device.specs.Sound.{view_of}
+use Rattle.eaw_device.proofs.Doing.{lacking, found}
 use Rattle.eaw_device.proofs.Looks.{look_len, look_range, look_kept, entry_inside, entry_page}
 use Rattle.eaw_device.proofs.Edits.{edit_sound, edit_done, edit_failed}
 use Rattle.eaw_device.proofs.device.EawEawStore.log_edit.Goals as goal
+
+pub returns-in_err-number : goal.returns-in_err-number
+returns-in_err-number g c =
+    let m = g.M.Media in
+    let s = c.args.self.now in
+    let store = view_of (m.view s.media) s.shape s.logs.items s.is_dead in
+    let fault = c.in_err-number.field-0.0 in
+    let cause = c.in_err-number.ensures.cause in
+    let p = err_from_is_err_and c.from_residual.result c.from_residual.ensures.1 in
+    rw (p.1, p.2) (record {
+      does = lacking m.tells (Opens s.shape) (log_edit c.args.tid c.args.pos c.args.at c.args.bytes.now) store c.args.tid (λ u is. is) (λ live. live) fault cause;
+      costs = record { done = λ exact. tt; most = omega arith };
+      refused = λ ne. refl;
+    })
 
 pub index-entry-requires : goal.index-entry-requires
 index-entry-requires g c =
@@ -102,3 +120,9 @@ returns-in-Err-clause-does g c =
     edit_failed m.tells (m.view s.media) (m.view c.edit.new.media) s.shape s.logs.items s.is_dead s.sound c.in_ok-number.ensures.alive c.args.tid c.in_ok-number.ensures.live
     c.index.result.now there c.args.pos e lt c.index-entry.ensures c.args.at c.args.bytes.now inner (omega (arith, page.page)) c.new-logger.result.shape c.new-logger.ensures.shape c.new-logger.result.number (c.new-logger.ensures.number ∙ c.place.ensures.logger)
     _ c.in-Err.ensures.does (λ told. g.met.M.Media.long s.media told ∙ s.sound.sized) c.in-Err.ensures.does.cause.failed
+
+pub returns-in-Ok-clause-refused : goal.returns-in-Ok-clause-refused
+returns-in-Ok-clause-refused g c = tt
+
+pub returns-in-Err-clause-refused : goal.returns-in-Err-clause-refused
+returns-in-Err-clause-refused g c = λ ne. absurd (ne refl)

@@ -1,15 +1,36 @@
-use Rattle.std.proofs.Common.{◌≡◌, ◌∙◌, ℕ, List, length, take, drop, sym, ap, arith}
+use Rattle.std.proofs.Common.{refl, ◌≡◌, ◌∙◌, ℕ, List, length, take, drop, sym, ap, arith}
 use Rattle.array_shape.specs.declared.shape.Shape.{Shape}
 use Rattle.array_shape.specs.Places.{logger_of}
 use Rattle.array_shape.specs.Logged.{Part}
 use Rattle.array_image.specs.Image.{cell_of, cell_head}
 use Rattle.eaw_face.specs.State.{range_at, part_at}
+use Rattle.std.proofs.lemmas.Result.{err_from_is_err_and}
+use Rattle.eaw_face.specs.Command.{log_read}
+use Rattle.eaw_device.specs.Opens.{Opens}
+use Rattle.eaw_device.specs.Sound.{view_of}
 use Rattle.eaw_device.specs.Logs.{parts_in}
-use Rattle.eaw_device.proofs.Doing.{found}
+use Rattle.eaw_device.proofs.Doing.{lacking, found}
 use Rattle.eaw_device.proofs.Tables.{parts_there}
 use Rattle.eaw_device.proofs.Looks.{look_len, look_range, look_kept, entry_range, entry_part, entry_inside, entry_page, read_sound, log_read_done, log_read_failed}
 use Rattle.eaw_device.proofs.Edits.{range_at-ranges_of, take_part}
 use Rattle.eaw_device.proofs.device.EawEawStore.log_read.Goals as goal
+
+pub returns-in_err-at : goal.returns-in_err-at
+returns-in_err-at g c =
+    let m = g.M.Media in
+    let s = c.args.self.now in
+    let store = view_of (m.view s.media) s.shape s.logs.items s.is_dead in
+    let fault = c.in_err-at.field-0.0 in
+    let cause = c.in_err-at.ensures.cause in
+    let p = err_from_is_err_and c.from_residual.result c.from_residual.ensures.1 in
+    rw (p.1, p.2) (record {
+      does = lacking m.tells (Opens s.shape) (log_read c.args.tid) store c.args.tid (λ u is. is) (λ live. live) fault cause;
+      part = tt;
+      bytes = λ told. tt;
+      costs = record { done = λ exact. tt; most = omega arith };
+      refused = λ ne. refl;
+      unread = λ ne. refl;
+    })
 
 pub index-entry-requires : goal.index-entry-requires
 index-entry-requires g c =
@@ -82,3 +103,21 @@ returns-in-Err-clause-does g c =
     let s = c.args.self.now in
     log_read_failed m.tells (m.view s.media) (m.view c.read_entry.new.media) s.shape s.logs.items s.is_dead s.sound c.in_ok-at.ensures.alive _ c.in-Err.ensures.does (λ told. g.met.M.Media.long s.media told ∙ s.sound.sized)
     c.args.tid c.in_ok-at.ensures.live c.in-Err.ensures.does.cause.failed
+
+pub returns-in-Ok-clause-refused : goal.returns-in-Ok-clause-refused
+returns-in-Ok-clause-refused g c = tt
+
+pub returns-in-Ok-clause-unread : goal.returns-in-Ok-clause-unread
+returns-in-Ok-clause-unread g c = tt
+
+pub returns-in-Err-clause-part : goal.returns-in-Err-clause-part
+returns-in-Err-clause-part g c = tt
+
+pub returns-in-Err-clause-bytes : goal.returns-in-Err-clause-bytes
+returns-in-Err-clause-bytes g c = λ told. tt
+
+pub returns-in-Err-clause-refused : goal.returns-in-Err-clause-refused
+returns-in-Err-clause-refused g c = λ ne. absurd (ne refl)
+
+pub returns-in-Err-clause-unread : goal.returns-in-Err-clause-unread
+returns-in-Err-clause-unread g c = λ ne. absurd (ne refl)

@@ -1,6 +1,7 @@
-use Rattle.std.proofs.Common.{◌≡◌, ◌∙◌, ◌<◌, ℕ, List, length, get_or, map, sym, subst, ap, arith}
+use Rattle.std.proofs.Common.{refl, ◌≡◌, ◌∙◌, ◌<◌, ℕ, List, length, get_or, map, sym, subst, ap, arith}
 use Rattle.std.specs.Prelude.{slice_set}
 use Rattle.std.proofs.lemmas.List.{get_or-set_same}
+use Rattle.std.proofs.lemmas.Result.{err_from_is_err_and}
 use Rattle.array_shape.specs.declared.part.Part.{Part}
 use Rattle.array_shape.specs.Parts.{parts_of}
 use Rattle.eaw_device.specs.declared.log.Log.{Log}
@@ -12,11 +13,17 @@ use Rattle.eaw_device.proofs.Keeping.{log_short}
 use Rattle.eaw_device.proofs.Writes.{write_refused, write_parts_fit, write_failed, write_sound, write_done, write_len}
 use Rattle.eaw_device.proofs.device.EawEawStore.log_write.Goals as goal
 
-pub returns-in_err-at-clause-does : goal.returns-in_err-at-clause-does
-returns-in_err-at-clause-does g c =
+pub returns-in_err-at : goal.returns-in_err-at
+returns-in_err-at g c =
     let m = g.M.Media in
     let s = c.args.self.now in
-    write_refused m.tells (m.view s.media) s.shape s.logs.items s.is_dead s.sound c.args.tid c.args.addr c.args.bytes.now c.requires.inside c.in_err-at.field-0.0 c.in_err-at.ensures.cause c.from_residual.result c.from_residual.ensures.1
+    let p = err_from_is_err_and c.from_residual.result c.from_residual.ensures.1 in
+    rw p.1 (record {
+      does = write_refused m.tells (m.view s.media) s.shape s.logs.items s.is_dead s.sound c.args.tid c.args.addr c.args.bytes.now c.requires.inside c.in_err-at.field-0.0 c.in_err-at.ensures.cause _ p.2;
+      len = tt;
+      costs = record { done = λ exact. tt; most = omega arith };
+      refused = λ ne. refl;
+    })
 
 pub stage_all-requires-clause-kept : goal.stage_all-requires-clause-kept
 stage_all-requires-clause-kept g c =
@@ -109,3 +116,15 @@ returns-clause-len g c =
     ∙ sym (write_len m.tells (m.view s.media) s.shape s.logs.items s.is_dead s.sound c.in_ok-at.ensures.alive c.args.tid c.in_ok-at.ensures.small c.index-log.result.now there c.args.addr c.args.bytes.now c.requires.inside
     (c.in_ok-at.ensures.room c.index-log.result.now there) (m.view c.stage_all.new.media) c.stage_all.result c.stage_all.ensures.does (λ told. g.met.M.Media.long s.media told ∙ s.sound.sized)
     (λ told. when_ok c.stage_all.result fine (c.stage_all.ensures.holds told)) c.add_range.new.self c.add_range.ensures.kept c.add_range.ensures.live (subst (λ (l : Log). Adds l.entries.items c.add_range.new.self.entries.items (map (λ (p : Part). (p.addr, p.len)) (parts_of s.shape c.args.addr (length c.args.bytes.now)))) same c.add_range.ensures.adds) c.in_ok-at.at c.in_ok-at.ensures.at)
+
+pub returns-then-is_err-clause-len : goal.returns-then-is_err-clause-len
+returns-then-is_err-clause-len g c = tt
+
+pub returns-then-is_err-clause-refused : goal.returns-then-is_err-clause-refused
+returns-then-is_err-clause-refused g c = λ ne. absurd (ne refl)
+
+pub returns-clause-refused : goal.returns-clause-refused
+returns-clause-refused g c = tt
+
+pub returns-then-is_err-clause-costs : goal.returns-then-is_err-clause-costs
+returns-then-is_err-clause-costs g c = record { done = λ exact. tt; most = c.stage_all.ensures.costs.most }

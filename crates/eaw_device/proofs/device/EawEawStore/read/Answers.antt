@@ -1,6 +1,23 @@
-use Rattle.std.proofs.Common.{length, ◌∙◌}
+use Rattle.std.proofs.Common.{refl, length, ◌∙◌, arith}
+use Rattle.eaw_face.specs.Command.{read}
+use Rattle.eaw_face.specs.declared.fault.EawFault.TheVariants.{Dead}
+use Rattle.eaw_device.specs.Opens.{Opens}
+use Rattle.eaw_device.specs.Sound.{view_of}
+use Rattle.eaw_device.proofs.Doing.{refused}
 use Rattle.eaw_device.proofs.Looks.{read_sound, read_done, read_failed}
 use Rattle.eaw_device.proofs.device.EawEawStore.read.Goals as goal
+
+pub returns-then-self : goal.returns-then-self
+returns-then-self g c =
+    let m = g.M.Media in
+    let s = c.args.self.now in
+    record {
+      does = refused m.tells (Opens s.shape) (read c.args.addr (length c.args.buf.now)) (view_of (m.view s.media) s.shape s.logs.items s.is_dead) Dead c.if-self.true (λ is. cc) _ refl;
+      bytes = λ told. tt;
+      costs = record { done = λ exact. tt; most = omega arith };
+      refused = λ ne. refl;
+      unread = λ ne. refl;
+    }
 
 pub invariant_of-self : goal.invariant_of-self
 invariant_of-self g c =
@@ -19,3 +36,21 @@ returns-in-Err-clause-does g c =
     let m = g.M.Media in
     let s = c.args.self.now in
     read_failed m.tells (m.view s.media) (m.view c.read_data.new.media) s.shape s.logs.items s.is_dead s.sound c.if-self.false _ c.in-Err.ensures.does (λ told. g.met.M.Media.long s.media told ∙ s.sound.sized) c.args.addr (length c.args.buf.now) c.in-Err.ensures.does.cause.failed
+
+pub returns-in-Ok-clause-bytes : goal.returns-in-Ok-clause-bytes
+returns-in-Ok-clause-bytes g c = c.in-Ok.ensures.bytes
+
+pub returns-in-Ok-clause-refused : goal.returns-in-Ok-clause-refused
+returns-in-Ok-clause-refused g c = tt
+
+pub returns-in-Ok-clause-unread : goal.returns-in-Ok-clause-unread
+returns-in-Ok-clause-unread g c = tt
+
+pub returns-in-Err-clause-bytes : goal.returns-in-Err-clause-bytes
+returns-in-Err-clause-bytes g c = λ told. tt
+
+pub returns-in-Err-clause-refused : goal.returns-in-Err-clause-refused
+returns-in-Err-clause-refused g c = λ ne. absurd (ne refl)
+
+pub returns-in-Err-clause-unread : goal.returns-in-Err-clause-unread
+returns-in-Err-clause-unread g c = λ ne. absurd (ne refl)

@@ -1,5 +1,6 @@
 use Rattle.std.proofs.Common.{◌≡◌, ℕ, ◌-◌, ◌<◌, List, Some, None, false, Ok, Result, length, get_or, set, take, refl, sym, ◌∙◌, ap, subst, arith}
 use Rattle.std.specs.Prelude.{IsTrue}
+use Rattle.std.proofs.lemmas.Bool.{false≢true}
 use Rattle.std.proofs.lemmas.List.{length-set}
 use Rattle.eaw_face.specs.StoreView.{StoreView}
 use Rattle.eaw_face.specs.Command.{partial_abort}
@@ -70,3 +71,19 @@ invariant_of-self-2 g c =
 
 pub returns-clause-does : goal.returns-clause-does
 returns-clause-does g c = rw (← c.self.view_is) (done_does g c)
+
+pub returns-in_err-drop_from : goal.returns-in_err-drop_from
+returns-in_err-drop_from g c = absurd (false≢true c.in_err-drop_from.ensures.done)
+
+pub returns-clause-refused : goal.returns-clause-refused
+returns-clause-refused g c = tt
+
+pub at_save-count-requires-clause-some : goal.at_save-count-requires-clause-some
+at_save-count-requires-clause-some g c = c.requires.some
+
+pub at_save-count-requires-clause-there : goal.at_save-count-requires-clause-there
+at_save-count-requires-clause-there g c =
+    let marks = c.self.inside.marks.items in
+    let there : c.args.tid < length marks = omega (arith, c.self.invariant.many, rw (← c.self.view_is) at c.requires.tid) in
+    let saved = was marks c.args.tid c.from.result c.from.ensures there c.index.result.now c.index.result.now c.index.ensures in
+    omega (arith, rw (← c.self.view_is) at c.requires.there, ap length saved.0)

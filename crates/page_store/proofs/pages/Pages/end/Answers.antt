@@ -78,3 +78,12 @@ invariant_of-self-2 g c =
 
 pub returns-clause-does : goal.returns-clause-does
 returns-clause-does g c = rw (← c.self.view_is) (done_does g c)
+
+pub returns-then-is_dead-clause-due : goal.returns-then-is_dead-clause-due
+returns-then-is_dead-clause-due g c = λ is. cc
+
+pub returns-clause-due : goal.returns-clause-due
+returns-clause-due g c = λ is. cc
+
+pub returns-clause-refused : goal.returns-clause-refused
+returns-clause-refused g c = tt

@@ -68,3 +68,12 @@ returns-clause-count g c =
     let marks = c.self.inside.marks.items in
     let there : c.args.tid < length marks = omega (arith, c.self.invariant.many, rw (← c.self.view_is) at c.requires.tid) in
     c.saves.ensures.count ∙ ap length (sym (ap (λ (j : ℕ). counts_in (set marks j c.save.new.self) c.args.tid) c.from.ensures ∙ counts_now marks c.args.tid c.save.new.self _ there refl))
+
+pub returns-then-is_dead-clause-count : goal.returns-then-is_dead-clause-count
+returns-then-is_dead-clause-count g c = tt
+
+pub returns-then-is_full-clause-count : goal.returns-then-is_full-clause-count
+returns-then-is_full-clause-count g c = tt
+
+pub returns-clause-refused : goal.returns-clause-refused
+returns-clause-refused g c = tt
