@@ -3,16 +3,10 @@
 //! at the head of the crate `row_files`; how a row of calls of pages is, in the file `pages.calls`, at that of `page_rows`.
 #![tactic(auto)]
 
-mod calls;
-mod compare;
-mod fault;
-mod image;
 mod once;
 mod over_file;
-mod plain;
 mod rows;
 mod tally;
-mod way;
 
 use crate::tally::{Tally, run_folder};
 use anyhow::{Result, ensure};

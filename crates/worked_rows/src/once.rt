@@ -1,10 +1,9 @@
 // One run of a row.
-use crate::fault::RowFault;
-use crate::image::media_of;
 use mars_shell::{OpenGate, Status, fault_text, run};
 use outside::{MemorySink, MemorySource};
 use pcm_media::{FusedMedia, Media, MemoryMedia};
 use row_files::{Run, TroubleKind};
+use row_outcomes::{Ran, RowFault, media_of};
 use std::alloc::Global;
 use std::sync::Wait;
 use std::thread::Threads;
@@ -12,33 +11,21 @@ use std::thread::Threads;
 // Room for most answers; past it the sink grows.
 const TEXT: u64 = 4096;
 
-/// What a run came to.
-#[derive(Drop)]
-pub struct Ran {
-    /// The number of its status, and the text told of it.
-    pub status: u64,
-    pub fault: Vec<u8>,
-    pub sink: MemorySink,
-    /// A media with what it left.
-    pub media: MemoryMedia,
-}
-
-impl Ran {
-    pub fn new(
-        alloc: Global,
-        status: Status,
-        sink: MemorySink,
-        media: MemoryMedia,
-    ) -> Result<Ran, RowFault> {
-        let mut buf = [0; 64];
-        let len = fault_text(&status, &mut buf);
-        Ok(Ran {
-            status: u64::from(status.number()),
-            fault: Vec::from_slice(alloc, &buf[..len])?,
-            sink,
-            media,
-        })
-    }
+/// What a run with this status came to.
+pub fn ran_with(
+    alloc: Global,
+    status: Status,
+    sink: MemorySink,
+    media: MemoryMedia,
+) -> Result<Ran, RowFault> {
+    let mut buf = [0; 64];
+    let len = fault_text(&status, &mut buf);
+    Ok(Ran {
+        status: u64::from(status.number()),
+        fault: Vec::from_slice(alloc, &buf[..len])?,
+        sink,
+        media,
+    })
 }
 
 /// Makes a run over an image in memory. Where calls of it are to fail, the `nth` does.
@@ -54,7 +41,7 @@ pub fn run_over_memory<R: AllocGlobal + Threads + Wait + Sync>(
     }
     let mut sink = sink_of(rt.alloc(), asked, nth)?;
     let (status, media) = run_over(rt, asked, nth, &mut sink, media)?;
-    Ran::new(rt.alloc(), status, sink, media)
+    ran_with(rt.alloc(), status, sink, media)
 }
 
 /// A sink for the answers of a run. Where writes are to fail, the `nth` does.

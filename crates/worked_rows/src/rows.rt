@@ -1,13 +1,11 @@
 // The runs of a row, one behind the other.
-use crate::compare::compare;
-use crate::fault::{Report, RowFault};
-use crate::image::{first_media, image_before};
-use crate::once::{Ran, run_over_memory};
+use crate::once::run_over_memory;
 use crate::over_file::{compare_memory, run_over_file};
-use crate::plain::{compare_plain, has_twin};
-use crate::way::{WAYS, Way};
 use pcm_media::MemoryMedia;
 use row_files::{Row, Run, TroubleKind};
+use row_outcomes::{
+    Ran, Report, RowFault, WAYS, Way, compare, compare_plain, first_media, has_twin, image_before,
+};
 use std::alloc::Global;
 use std::sync::Wait;
 use std::thread::Threads;

@@ -1,8 +1,8 @@
 // All rows of a folder.
-use crate::fault::RowFault;
 use crate::rows::{Progress, Runs, run_row};
 use anyhow::Result;
 use row_files::{Row, read_rows};
+use row_outcomes::RowFault;
 use std::alloc::{AllocError, Global};
 use std::fs;
 use std::rt::Files;

@@ -1,7 +1,8 @@
 // Whether a run came to what its row says.
 use crate::calls::compare_calls;
 use crate::fault::{Report, RowFault};
-use crate::once::Ran;
+use crate::ran::Ran;
+use pcm_media::MemoryMedia;
 use row_files::{Left, Placed, Run, Wanted};
 use std::alloc::Global;
 
@@ -119,4 +120,33 @@ fn is_placed(has: &[Placed], at: usize) -> bool {
         }
     }
     false
+}
+
+// Bytes for what is not sure.
+const UNSURE: [u8; 3] = [0x35, 0xca, 0x71];
+
+/// Compares what a run over a file came to with what the same run over a media in memory did: also where something is not sure.
+pub fn compare_ran(other: &Ran, ran: &Ran, report: &mut Report) -> Result<(), RowFault> {
+    if ran.status != other.status || ran.sink.written() != other.sink.written() {
+        let (wanted, was) = (other.sink.written(), ran.sink.written());
+        return Err(report.differs("the answers over memory", wanted, was));
+    }
+    if ran.media.bytes() != other.media.bytes() {
+        let (wanted, was) = (other.media.bytes(), ran.media.bytes());
+        return Err(report.differs("the bytes over memory", wanted, was));
+    }
+    compare_unsure(&other.media, &ran.media)
+}
+
+// The same is left where something is not sure.
+fn compare_unsure(other: &MemoryMedia, media: &MemoryMedia) -> Result<(), RowFault> {
+    let wanted = other.leave(&UNSURE)?;
+    let was = media.leave(&UNSURE)?;
+    if wanted.bytes() == was.bytes() {
+        Ok(())
+    } else {
+        Err(RowFault::Differs {
+            what: "what is not sure over memory",
+        })
+    }
 }

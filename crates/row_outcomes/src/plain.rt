@@ -3,7 +3,7 @@ ghost use Rattle.std.specs.Prelude.{◌≡◌, false, IfOk};
 
 use crate::fault::{Report, RowFault};
 use crate::image::media_of;
-use crate::once::Ran;
+use crate::ran::Ran;
 use eaw_device::Eaw;
 use eaw_face::EawStore;
 use eaw_script::answer_commands;
