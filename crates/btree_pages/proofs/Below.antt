@@ -38,7 +38,7 @@ use Rattle.btree_pages.specs.Writes.{IsRead, adding_pages, adding_parts, cutting
 use Rattle.btree_pages.specs.declared.node.Node.{Node}
 use Rattle.btree_pages.proofs.AddData.{adding_grows, adding_takes_none}
 use Rattle.btree_pages.proofs.CutData.{cutting_grows, cut_counts, cut_level, half_there, half_says, half_left}
-use Rattle.btree_pages.proofs.Going.{Going, going_looks, going_more, going_act, alive_now, inserts_done, inserts_refused, inserts_look_err, inserts_act_err}
+use Rattle.index_pages.proofs.Going.{Going, going_looks, going_more, going_act, alive_now, inserts_done, inserts_refused, inserts_look_err, inserts_act_err}
 use Rattle.btree_pages.proofs.Joining.{grows_more, rests_more, gains_more}
 use Rattle.btree_pages.proofs.Left.{DecidesAll, pages_lack, room_lacks, fits_same, lacks_same}
 use Rattle.btree_pages.proofs.Walking.{Walks, walk_first, walk_down, walk_due, walk_cut, walk_last, child_way}

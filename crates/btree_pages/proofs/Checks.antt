@@ -1,28 +1,17 @@
 -- The tests of a tree, step by step.
 use Rattle.std.proofs.Common.{◌≡◌, ◌≢◌, ◌↔◌, ℕ, zero, suc, ◌+◌, ◌-◌, ◌<◌, ◌≤◌, inl, inr, List, [], ◌∷◌, Result, Ok, Err, refl, sym, ◌∙◌, ap, subst, arith}
-use Rattle.record_slots.specs.Slots.{slot_said}
-use Rattle.record_slots.specs.Places.{slot_of, next_page, IsOfKey, Carries, AreGiven, page_bytes}
-use Rattle.record_slots.specs.declared.slot.Slot.{Slot}
-use Rattle.std.specs.Prelude.{Option}
+use Rattle.record_slots.specs.Places.{next_page, AreGiven, page_bytes}
 use Rattle.page_store.specs.Pairs.{Pair, Rise}
 use Rattle.page_store.specs.declared.index_fault.CheckFault.{CheckFault}
 use Rattle.page_store.specs.declared.index_fault.CheckFault.TheVariants.{Damaged, Media, Dead}
 use Rattle.index_pages.specs.Chain.{key_end}
 use Rattle.index_pages.specs.Page.{pairs_from, pair_said, pairs_said, page_pairs, kind_said, level_said, count_said, link_said}
 use Rattle.index_pages.proofs.Reading.{from_first, from_step, from_end}
-use Rattle.btree_pages.specs.Checked.{AreNamed, SlotCause, SlotsCause, ChildrenCause, TreeCause}
+use Rattle.index_pages.specs.Checked.{SlotCause}
+use Rattle.btree_pages.specs.Checked.{AreNamed, SlotsCause, ChildrenCause, TreeCause}
 use Rattle.btree_pages.specs.Failing.{SlotsFail, IsTreeLeafHead, ChildFails, TreeFails}
 use Rattle.btree_pages.specs.Node.{IsNode}
 use Rattle.btree_pages.specs.Tree.{AreChildren, next_low, IsInner, AreSound, IsTree}
-
--- what a slot says of a pair
-pub carries_said : (bytes : List ℕ) (key slot : ℕ) (said : Option Slot) → said ≡ slot_said (slot_of bytes slot) → IsOfKey key said → Carries bytes (key, slot)
-unfolding Carries
-carries_said bytes key slot said is of_key = subst (λ (o : Option Slot). IsOfKey key o) is of_key
-
-pub carries_not : (bytes : List ℕ) (key slot : ℕ) (said : Option Slot) → said ≡ slot_said (slot_of bytes slot) → (IsOfKey key said → ⊥) → ¬ Carries bytes (key, slot)
-unfolding Carries
-carries_not bytes key slot said is other carries = other (subst (λ (o : Option Slot). IsOfKey key o) (sym is) carries)
 
 -- at first all pairs are left
 pub whole_left : (page : List ℕ) (n : ℕ) → n ≡ count_said page → pairs_said page ≡ pairs_from page 0 (n - 0)

@@ -4,7 +4,6 @@ pub mod Taking
 pub mod Splitting
 pub mod Fresh
 pub mod Nodes
-pub mod Causing
 pub mod Descending
 pub mod Given
 pub mod Checks
@@ -17,7 +16,6 @@ pub mod Entries
 pub mod CutData
 pub mod AddData
 pub mod GrowData
-pub mod Going
 pub mod Left
 pub mod Walking
 pub mod Joining

@@ -12,7 +12,7 @@ use Rattle.page_store.specs.Shown.{PagesView}
 use Rattle.page_store.specs.declared.index_fault.IndexFault.{IndexFault}
 use Rattle.page_store.specs.declared.index_fault.IndexFault.TheVariants as index
 use Rattle.btree_pages.specs.Index.{tree, tree_below, tree_actions, actions_below}
-use Rattle.btree_pages.proofs.Going.{Going, logs_then, alive_now}
+use Rattle.index_pages.proofs.Going.{Going, logs_then, alive_now}
 use Rattle.btree_pages.proofs.Joining.{grows_below, rests_below, gains_below, may_below}
 use Rattle.btree_pages.proofs.Left.{DecidesAll, all_fit_same, lack_pages_same, lack_room_same, lacks_same}
 

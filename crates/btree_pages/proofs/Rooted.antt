@@ -28,8 +28,8 @@ use Rattle.btree_pages.specs.OnWay.{IsReached}
 use Rattle.btree_pages.specs.Tree.{IsSoundTree, pairs_of_tree}
 use Rattle.btree_pages.specs.Writes.{IsRead}
 use Rattle.btree_pages.proofs.Below.{IsHalfRead}
-use Rattle.btree_pages.proofs.Causing.{look_cause, still_same}
-use Rattle.btree_pages.proofs.Going.{going_looks, inserts_refused, inserts_look_err}
+use Rattle.index_pages.proofs.Causing.{look_cause, still_same}
+use Rattle.index_pages.proofs.Going.{going_looks, inserts_refused, inserts_look_err}
 
 -- a fault of a read, a look or an action is not that of too many saves
 pub test_of_index : (T : Type 0) (tells : Bool) (Good : Type 0) (at : ℕ) (old : StoreView) (fault : PageFault) → (let r : Result T PageFault = Err fault in TestCause tells Good at old r) → IsOfIndex fault

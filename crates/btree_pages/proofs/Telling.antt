@@ -11,7 +11,8 @@ use Rattle.page_store.specs.declared.index_fault.CheckFault.{CheckFault}
 use Rattle.page_store.specs.declared.index_fault.CheckFault.TheVariants as check
 use Rattle.index_pages.specs.Faults.{as_check}
 use Rattle.index_pages.specs.Fetched.{ReadCause, TestCause}
-use Rattle.btree_pages.specs.Checked.{is_media, TreeCause}
+use Rattle.index_pages.specs.Checked.{is_media}
+use Rattle.btree_pages.specs.Checked.{TreeCause}
 
 -- the medium failed in what is told exactly if it did in the read
 pub failed_same : (T : Type 0) (fault : PageFault) → (let r : Result T PageFault = Err fault in let s : Result (Unit {0}) CheckFault = Err (as_check fault) in is_failed r ≡ is_check_failed s)

@@ -31,9 +31,9 @@ use Rattle.btree_pages.specs.OnWay.{IsOnWay, IsReached}
 use Rattle.btree_pages.specs.Tree.{IsSoundTree, pairs_of_tree}
 use Rattle.btree_pages.specs.Writes.{IsRead, growing_pages, growing_parts}
 use Rattle.btree_pages.specs.declared.node.Node.{Node}
-use Rattle.btree_pages.proofs.Causing.{look_cause, still_same}
+use Rattle.index_pages.proofs.Causing.{look_cause, still_same}
 use Rattle.btree_pages.proofs.Descending.{down_first, down_node}
-use Rattle.btree_pages.proofs.Going.{Going, going_looks, going_act, alive_now, inserts_refused, inserts_look_err, inserts_act_err}
+use Rattle.index_pages.proofs.Going.{Going, going_looks, going_act, alive_now, inserts_refused, inserts_look_err, inserts_act_err}
 use Rattle.btree_pages.proofs.GrowData.{growing_grows, grown_counts, grown_level, grown_half, grown_says, grown_left}
 use Rattle.btree_pages.proofs.Left.{DecidesAll, all_left, room_lacks, fits_same, lacks_same}
 use Rattle.btree_pages.proofs.Lifting.{inserts_then}

@@ -1,10 +1,10 @@
 -- What the tests of a tree say.
-use Rattle.std.specs.Prelude.{ℕ, suc, ◌≡◌, ◌<◌, ◌≤◌, ◌⊎◌, Bool, true, false, List, [], ◌∷◌, Option, Some, None, Result, Ok, Err}
-use Rattle.record_slots.specs.Places.{next_slot, next_page, Carries, AreGiven, slot_page}
+use Rattle.std.specs.Prelude.{ℕ, suc, ◌≡◌, ◌<◌, ◌≤◌, List, [], ◌∷◌, Option, Some, None, Result, Ok, Err}
+use Rattle.record_slots.specs.Places.{next_slot, next_page, AreGiven}
 use Rattle.record_slots.specs.declared.super_page.Super.{Super}
 use Rattle.page_store.specs.Pairs.{Pair}
 use Rattle.page_store.specs.declared.index_fault.CheckFault.{CheckFault}
-use Rattle.page_store.specs.declared.index_fault.CheckFault.TheVariants.{Damaged, Media}
+use Rattle.page_store.specs.declared.index_fault.CheckFault.TheVariants.{Damaged}
 use Rattle.index_pages.specs.Chain.{key_end}
 use Rattle.btree_pages.specs.Failing.{SlotsFail, ChildFails, TreeFails}
 use Rattle.btree_pages.specs.Tree.{AreSound, IsTree}
@@ -28,18 +28,6 @@ AreNamed pages (e ∷ es) = (2 ≤ e.1) × (e.1 < pages) × AreNamed pages es
 pub record IsFrontOf (bytes : List ℕ) (front : Super) : Type 0 where
   pub slots : front.next_slot ≡ next_slot bytes
   pub pages : front.next_page ≡ next_page bytes
-
--- the medium failed
-abbrev pub is_media : {T : Type 0} → Result T CheckFault → Bool
-is_media (Err Media) = true
-is_media _ = false
-
--- The test of a leaf's pair: its slot is sound, or this page is damaged.
-abbrev pub SlotCause : List ℕ → ℕ → Pair → Result (Unit {0}) CheckFault → Type 0
-SlotCause bytes page pair (Ok answer) = (pair.1 < next_slot bytes) × Carries bytes pair
-SlotCause bytes page pair (Err (Damaged bad)) =
-    (¬ (pair.1 < next_slot bytes) × (bad ≡ page)) ⊎ ((pair.1 < next_slot bytes) × ¬ Carries bytes pair × (bad ≡ slot_page bytes pair.1))
-SlotCause bytes page pair (Err fault) = Unit {0}
 
 -- the test of all pairs of a leaf: they are sound, or this page is damaged because of the first that fails
 abbrev pub SlotsCause : List ℕ → ℕ → List Pair → Result (Unit {0}) CheckFault → Type 0

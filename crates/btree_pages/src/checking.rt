@@ -1,15 +1,16 @@
 // Tests the whole tree.
 ghost use Rattle.std.specs.Prelude.{◌≡◌, ◌≢◌, ◌<◌, ◌≤◌, ◌-◌, ◌^◌, ◌↔◌, suc, IsErrOf, IsTrue};
 ghost use Rattle.eaw_face.specs.Causes.{IsAlive};
-ghost use Rattle.record_slots.specs.Places.{next_slot, page_bytes, IsOfKey};
+ghost use Rattle.record_slots.specs.Places.{next_slot, page_bytes};
 ghost use Rattle.page_store.specs.Index.{slots_of, index_pages_of};
 ghost use Rattle.page_store.specs.Looks.{Looks, CheckCause, is_check_failed};
 ghost use Rattle.page_store.specs.Shown.{pages_of};
 ghost use Rattle.page_store.specs.Pairs.{Rise};
 ghost use Rattle.index_pages.specs.Fetched.{IsFront};
 ghost use Rattle.index_pages.specs.Page.{count_said, level_said, pairs_said, pairs_from};
-ghost use Rattle.btree_pages.specs.Checked.{high_of, least_of, AreNamed, IsFrontOf, is_media, SlotCause, SlotsCause, ChildrenCause, TreeCause};
+ghost use Rattle.btree_pages.specs.Checked.{high_of, least_of, AreNamed, IsFrontOf, SlotsCause, ChildrenCause, TreeCause};
 ghost use Rattle.index_pages.specs.Chain.{key_end};
+ghost use Rattle.index_pages.specs.Checked.{is_media};
 ghost use Rattle.btree_pages.specs.Index.{tree};
 ghost use Rattle.btree_pages.specs.Tree.{next_low};
 
@@ -17,17 +18,15 @@ use crate::look::ROOT;
 use crate::page::{LEVEL_MAX, read_head};
 use eaw_face::EawStore;
 use index_pages::{
-    PAGE_LEN, check_fault, fetch_page, fetch_slot, fetch_super, index_page_count, read_pair,
+    PAGE_LEN, check_fault, check_slot, fetch_page, fetch_super, index_page_count, read_pair,
 };
 use page_store::{CheckFault, Pages};
-use record_slots::{Slot, Super};
+use record_slots::Super;
 
 // The form that the super page of a tree names.
 pub const FORM: u8 = 1;
 
 const FIRST_CHILD: u64 = 2;
-
-const SLOTS_IN_PAGE: u32 = 8;
 
 // A page of the tree and the range of its keys.
 #[derive(Clone, Copy)]
@@ -299,49 +298,4 @@ fn check_slots<S: EawStore>(
         }
     }
     Ok(())
-}
-
-// Tests the slot of a pair in a leaf: it is given out and carries the key.
-fn check_slot<S: EawStore>(
-    pages: &mut Pages<S>,
-    page: u32,
-    pair: (u64, u64),
-    slots: u32,
-) -> Result<(), CheckFault>
-    requires alive { IsAlive (S.view pages.old.store) }
-    requires slots { slots ≤ slots_of (S.view pages.old.store).shape }
-    ensures looks { Looks S.tells (S.opens (S.view pages.old.store).shape) (is_media result)
-        (pages_of (S.view pages.old.store) pages.old) (pages_of (S.view pages.new.store) pages.new) }
-    ensures cause { IsTrue S.tells → slots ≡ next_slot (S.view pages.old.store).state.bytes
-        → SlotCause (S.view pages.old.store).state.bytes page pair result }
-    ensures dead { IsErrOf result CheckFault.Dead → ⊥ }
-{
-    if pair.1 >= u64::from(slots) {
-        return Err(CheckFault::Damaged { page });
-    }
-    let slot = pair.1 as u32;
-    let count = index_page_count(pages);
-    match fetch_slot(pages, slot) {
-        Ok(said) => {
-            if is_of_key(&said, pair.0) {
-                Ok(())
-            } else {
-                Err(CheckFault::Damaged {
-                    page: count + slot / SLOTS_IN_PAGE,
-                })
-            }
-        }
-        Err(fault) => Err(check_fault(fault)),
-    }
-}
-
-// Whether what was read is a slot of this key.
-fn is_of_key(said: &Option<Slot>, key: u64) -> bool
-    ensures { IsTrue result ↔ IsOfKey key said.now }
-{
-    match said {
-        None => false,
-        Some(Slot::Absent { key: other }) => *other == key,
-        Some(Slot::Present { key: other, .. }) => *other == key,
-    }
 }

@@ -5,8 +5,7 @@ use Rattle.std.specs.List.{list_any}
 use Rattle.std.proofs.lemmas.Bool.{true≢false}
 use Rattle.std.proofs.lemmas.List.Folds.{list_any-append}
 use Rattle.std.proofs.lemmas.List.Elements.{Contains-append_left, Contains-append_right}
-use Rattle.std.specs.FinMap.{get}
-use Rattle.history.specs.Table.{Granted, Work, Answers, found, removed}
+use Rattle.history.specs.Table.{Granted}
 use Rattle.history.specs.declared.call.Call.{Call}
 use Rattle.history.specs.declared.call.Call.TheVariants.{Begin, Get, Put, Del, Scan, Save, Back, Commit, Abort}
 use Rattle.history.specs.declared.call.Reply.{Reply}
@@ -16,7 +15,7 @@ use Rattle.core_face.specs.State.{State}
 use Rattle.core_face.specs.Room.{Limits}
 use Rattle.core_face.specs.Fate.{is_media, is_refusal, is_committed, live_with}
 use Rattle.core_face.specs.Core.{CoreView}
-use Rattle.core_face.proofs.Fates.{Fate as Moved, step_fate}
+use Rattle.core_face.proofs.Fates.{Fate as Moved, step_fate, refusal_none, answer_plain}
 use Rattle.core_face.proofs.Fates.Fate.{refused, failed, began, granted, committed, doubted, aborted}
 use Rattle.mars_manager.specs.declared.view.Known.{Known}
 use Rattle.mars_manager.specs.Notes.{is_begin, is_noted, hits_of, is_put, has_media, doubt_of}
@@ -81,28 +80,6 @@ pub put_in : (plans : List Plan) (plan : Plan) (call : Call) → Contains plans 
 put_in plans plan call one made key e =
     let put = is_put_of key call e in
     record { plan = plan; value = put.0; is_plan = one; is_put = subst (λ (c : Call). Contains plan.calls c) put.1 made }
-
--- which replies are not those of commits
-refusal_none : (reply : Reply) → is_refusal reply ≡ true → is_committed reply ≡ false
-refusal_none (says.Committed n) e = absurd (true≢false (sym e))
-refusal_none _ e = refl
-
-found_none : (o : Option (List ℕ)) (reply : Reply) → reply ≡ found o → is_committed reply ≡ false
-found_none None reply e = ap is_committed e
-found_none (Some v) reply e = ap is_committed e
-
-removed_none : (o : Option (List ℕ)) (reply : Reply) → reply ≡ removed o → is_committed reply ≡ false
-removed_none None reply e = ap is_committed e
-removed_none (Some v) reply e = ap is_committed e
-
-answer_none : (work : Work) (call : Call) (reply : Reply) → Answers work call reply → is_committed reply ≡ false
-answer_none work (Get key) reply answers = found_none (get work.table key) reply answers
-answer_none work (Put key value) reply answers = ap is_committed answers
-answer_none work (Del key) reply answers = removed_none (get work.table key) reply answers
-answer_none work (Scan low high) reply answers = ap is_committed answers
-answer_none work Save reply answers = ap is_committed answers
-answer_none work (Back n) reply answers = ap is_committed answers.1
-answer_none work _ reply answers = absurd answers
 
 -- a reply that is no number of a commit
 pub not_committed : (reply : Reply) → ((at : ℕ) → reply ≡ says.Committed at → ⊥) → is_committed reply ≡ false
@@ -200,7 +177,7 @@ module _ {C : Type 0} (tells : Bool) (show : C → CoreView) (was now : Known C)
   commits_none other (refused refusal sure index e) = refusal_none reply refusal
   commits_none other (failed r index e) = ap is_committed r
   commits_none other (began c r e) = ap is_committed r
-  commits_none other (granted calls l free answers index e) = answer_none _ call reply answers
+  commits_none other (granted calls l free answers index e) = (answer_plain _ call reply answers).uncommitted
   commits_none other (committed calls c r l e) = absurd (other c)
   commits_none other (doubted calls c r l index e) = absurd (other c)
   commits_none other (aborted c r e) = ap is_committed r

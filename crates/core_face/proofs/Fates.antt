@@ -98,14 +98,15 @@ module _ (limits : Limits) (old : State) (caller : ℕ) (new : State) where
   pub step_fate : (call : Call) (reply : Reply) → Step limits old caller call reply new → Fate old caller call reply new
   step_fate call reply step = fate_if old.is_dead call reply step
 
-refusal_none : (reply : Reply) → is_refusal reply ≡ true → is_committed reply ≡ false
+-- a refusal is no reply of a commit
+pub refusal_none : (reply : Reply) → is_refusal reply ≡ true → is_committed reply ≡ false
 refusal_none (Committed n) e = absurd (true≢false (sym e))
 refusal_none _ e = refl
 
 -- a reply of the table is neither a refusal nor that of a commit or a fault
-record IsPlain (reply : Reply) : Type 0 where
+pub record IsPlain (reply : Reply) : Type 0 where
   done : is_refusal reply ≡ false
-  uncommitted : is_committed reply ≡ false
+  pub uncommitted : is_committed reply ≡ false
   sure : is_media reply ≡ false
 
 found_plain : (o : Option (List ℕ)) (reply : Reply) → reply ≡ found o → IsPlain reply
@@ -116,7 +117,7 @@ removed_plain : (o : Option (List ℕ)) (reply : Reply) → reply ≡ removed o 
 removed_plain None reply e = record { done = ap is_refusal e; uncommitted = ap is_committed e; sure = ap is_media e }
 removed_plain (Some v) reply e = record { done = ap is_refusal e; uncommitted = ap is_committed e; sure = ap is_media e }
 
-answer_plain : (work : Work) (call : Call) (reply : Reply) → Answers work call reply → IsPlain reply
+pub answer_plain : (work : Work) (call : Call) (reply : Reply) → Answers work call reply → IsPlain reply
 answer_plain work (Get key) reply answers = found_plain (get work.table key) reply answers
 answer_plain work (Put key value) reply answers = record { done = ap is_refusal answers; uncommitted = ap is_committed answers; sure = ap is_media answers }
 answer_plain work (Del key) reply answers = removed_plain (get work.table key) reply answers

@@ -18,3 +18,6 @@ pub mod Fronts
 pub mod Resting
 pub mod Listed
 pub mod Placing
+pub mod Causing
+pub mod Going
+pub mod Carrying

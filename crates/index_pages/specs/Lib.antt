@@ -11,3 +11,4 @@ pub mod Fetched
 pub mod Acts
 pub mod Faults
 pub mod Parts
+pub mod Checked

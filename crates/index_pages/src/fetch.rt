@@ -14,7 +14,7 @@ use eaw_face::EawStore;
 use page_store::{PageFault, Pages};
 use record_slots::{SLOT_LEN, Slot, Super, read_slot, read_super};
 
-const SLOTS_IN_PAGE: u32 = 8;
+pub(crate) const SLOTS_IN_PAGE: u32 = 8;
 
 /// How many pages an index has, among them the super page: half of the array's.
 pub fn index_page_count<S: EawStore>(pages: &Pages<S>) -> u32

@@ -2,6 +2,7 @@
 #![tactic(auto)]
 
 mod action;
+mod checking;
 mod fault;
 mod fetch;
 mod laws;
@@ -9,6 +10,7 @@ mod page;
 mod place;
 
 pub use action::{PagePart, act, act_all};
+pub use checking::check_slot;
 pub use fault::{check_fault, index_fault};
 pub use fetch::{fetch_page, fetch_slot, fetch_super, index_page_count};
 pub use laws::{

@@ -1,12 +1,11 @@
 -- Tests of a chain, step by step.
 use Rattle.std.proofs.Common.{◌≡◌, ◌≢◌, ℕ, suc, ◌<◌, ◌≤◌, Bool, inl, inr, List, [], ◌∷◌, Option, Result, Ok, Err, refl, sym, ◌∙◌, ap, subst}
-use Rattle.record_slots.specs.Slots.{slot_said}
-use Rattle.record_slots.specs.Places.{slot_of, next_page, IsOfKey, Carries, AreGiven, IsSuper, page_bytes}
-use Rattle.record_slots.specs.declared.slot.Slot.{Slot}
+use Rattle.record_slots.specs.Places.{next_page, AreGiven, IsSuper, page_bytes}
 use Rattle.page_store.specs.Pairs.{Pair, Rise}
 use Rattle.page_store.specs.declared.index_fault.CheckFault.{CheckFault}
 use Rattle.page_store.specs.declared.index_fault.CheckFault.TheVariants.{Damaged, Media, Dead}
 use Rattle.index_pages.specs.Chain.{key_end, behind, IsChain, IsChainPage, IsSoundChain}
+use Rattle.index_pages.specs.Checked.{SlotCause}
 use Rattle.index_pages.specs.Failing.{PairsFail, IsChainHead, IsLink, ChainFails, IsFirstDamagedOfChain}
 use Rattle.index_pages.specs.Page.{page_pairs, pairs_said, link_of, kind_said, level_said, count_said, link_said}
 use Rattle.std.specs.Prelude.{IsTrue, IsErrOf}
@@ -16,14 +15,13 @@ use Rattle.page_store.specs.Looks.{CheckCause}
 use Rattle.key_list.specs.Index.{chain}
 use Rattle.key_list.specs.Checked.{low_of, IsHead, PairCause, PairsCause}
 
--- what a slot says of a pair
-pub carries_said : (bytes : List ℕ) (key slot : ℕ) (said : Option Slot) → said ≡ slot_said (slot_of bytes slot) → IsOfKey key said → Carries bytes (key, slot)
-unfolding Carries
-carries_said bytes key slot said is of_key = subst (λ (o : Option Slot). IsOfKey key o) is of_key
-
-pub carries_not : (bytes : List ℕ) (key slot : ℕ) (said : Option Slot) → said ≡ slot_said (slot_of bytes slot) → (IsOfKey key said → ⊥) → ¬ Carries bytes (key, slot)
-unfolding Carries
-carries_not bytes key slot said is other carries = other (subst (λ (o : Option Slot). IsOfKey key o) (sym is) carries)
+-- the test of a pair's slot as that of the pair, whose key may follow
+pub pair_cause : (bytes : List ℕ) (page low : ℕ) (pair : Pair) → low ≤ pair.0 → (r : Result (Unit {0}) CheckFault) → SlotCause bytes page pair r → PairCause bytes page low pair r
+pair_cause bytes page low pair le (Ok tt) cause = (le, cause.0, cause.1)
+pair_cause bytes page low pair le (Err (Damaged bad)) (inl f) = inl ((λ both. f.0 both.1), f.1)
+pair_cause bytes page low pair le (Err (Damaged bad)) (inr f) = inr (le, f.0, f.1, f.2)
+pair_cause bytes page low pair le (Err Media) cause = tt
+pair_cause bytes page low pair le (Err Dead) cause = tt
 
 -- Of all pairs after a lower bound these are left after another: if they pass, so do all, and the page that is bad by one of
 -- them is bad for all.

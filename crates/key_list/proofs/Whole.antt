@@ -25,7 +25,7 @@ use Rattle.index_pages.specs.Faults.{as_index}
 use Rattle.key_list.specs.Index.{chain, half_for}
 use Rattle.key_list.specs.Located.{IsLocated, Locates, adding_pages, adding_parts, cutting_pages, cutting_parts}
 use Rattle.key_list.specs.declared.place.Located.{Located}
-use Rattle.key_list.proofs.Going.{Going, going_looks, going_more, going_act, inserts_done, inserts_refused, inserts_look_err, inserts_act_err}
+use Rattle.index_pages.proofs.Going.{Going, going_looks, going_more, going_act, inserts_done, inserts_refused, inserts_look_err, inserts_act_err}
 use Rattle.key_list.proofs.Data.{adding_grows, cutting_grows, half_short}
 use Rattle.key_list.proofs.Counting.{fits_same, lacking_same, added_cause, added_lacks, pages_run_out, cut_lacks, both_cause, second_lacks}
 
@@ -54,8 +54,8 @@ module _ (tells : Bool) (E : Shape → List ℕ → List ℕ → Type 0) (t key 
     (absent : IsTrue tells → IsAlive v0.store → found (pairs_of_chain v0.store.state.bytes) key ≡ None) (long : IsTrue tells → length v0.store.state.bytes ≡ data_len v0.store.shape)
     (looks : Looks tells (E v0.store.shape) false v0 v1) (alive : IsAlive v0.store) (front : Super) (page link : ℕ) (pairs : List Pair)
     (loc : IsLocated v0.store.shape front page link pairs) (said : IsTrue tells → Locates v0.store.state.bytes key front page link pairs) (other : front.next_slot ≢ 8 * half) where
-  going1 : Going tells (E v0.store.shape) t key v0 v1
-  going1 = going_looks tells (E v0.store.shape) t key v0 v1 sound looks
+  going1 : Going chain tells (E v0.store.shape) t key v0 v1
+  going1 = going_looks chain tells (E v0.store.shape) t key v0 v1 sound looks
 
   slot : front.next_slot < slots_of v0.store.shape
   slot = (let ne : front.next_slot ≡ 8 * half → ⊥ = other in omega (arith, loc.front_is.slots, all))
@@ -92,7 +92,7 @@ module _ (tells : Bool) (E : Shape → List ℕ → List ℕ → Type 0) (t key 
     added_done v2 acts' =
         let r : Result (Unit {0}) PageFault = Ok tt in
         let acts = added_acts v1 v2 front page link pairs r looks.shape acts' in
-        inserts_done tells (E v0.store.shape) t key v0 v1 v2 going1 (adding_pages half front page) (adding_parts half front page link pairs key) may1 front.next_slot acts
+        inserts_done chain tells (E v0.store.shape) t key v0 v1 v2 going1 (adding_pages half front page) (adding_parts half front page link pairs key) may1 front.next_slot acts
         (λ told living. let d = data1 told in ((said told).slot_is, d.0, d.1))
         (alive, slot, λ told. added_cause v0.store t key half (long told) all front page link pairs (said told) slot room (fits_same v0.store v1.store t (adding_pages half front page) looks.shape logged1 acts.cause.1))
 
@@ -102,7 +102,7 @@ module _ (tells : Bool) (E : Shape → List ℕ → List ℕ → Type 0) (t key 
     added_err v2 fault acts' =
         let r : Result (Unit {0}) PageFault = Err fault in
         let acts = added_acts v1 v2 front page link pairs r looks.shape acts' in
-        inserts_act_err tells (E v0.store.shape) t key v0 v1 v2 going1 (adding_pages half front page) (adding_parts half front page link pairs key) may1 alive
+        inserts_act_err chain tells (E v0.store.shape) t key v0 v1 v2 going1 (adding_pages half front page) (adding_parts half front page link pairs key) may1 alive
         (λ g h n lacks. let lacks' = lacking_same v0.store v1.store t (adding_pages half front page) g h n looks.shape logged1 lacks in
         (alive, (adding_pages half front page, omega arith, lacks'), λ told. added_lacks v0.store t key half (long told) all front page link pairs (said told) slot room g h n lacks'))
         fault acts
@@ -110,9 +110,9 @@ module _ (tells : Bool) (E : Shape → List ℕ → List ℕ → Type 0) (t key 
   module _ (full : length pairs ≡ 30) where
     -- no page is left
     pub pages_full : front.next_page ≡ half → (let s : Result ℕ IndexFault = Err (index.PagesFull (half - 1)) in Inserts tells (E v0.store.shape) chain t key v0 v1 s)
-    pages_full none = inserts_refused tells (E v0.store.shape) t key v0 v1 going1 (index.PagesFull (half - 1))
+    pages_full none = inserts_refused chain tells (E v0.store.shape) t key v0 v1 going1 (index.PagesFull (half - 1))
         (refl, (alive, ap (λ (n : ℕ). n - 1) half_is, λ told. pages_run_out v0.store t key half (long told) all front page link pairs (said told) slot full (none ∙ half_is)))
-        (λ n e told living. let e' : half - 1 ≡ n = cc in omega (arith, none, (said told).next_is, ap next_page (same1 told)))
+        (λ n e told living. let e' : half - 1 ≡ n = cc in inl (omega (arith, none, (said told).next_is, ap next_page (same1 told))))
 
     module _ (some : front.next_page ≢ half) where
       next : front.next_page < index_pages_of v0.store.shape
@@ -141,7 +141,7 @@ module _ (tells : Bool) (E : Shape → List ℕ → List ℕ → Type 0) (t key 
           → (let s : Result ℕ IndexFault = Err (as_index fault) in Inserts tells (E v0.store.shape) chain t key v0 v2 s)
       cut_err v2 fault acts' =
           let r : Result (Unit {0}) PageFault = Err fault in
-          inserts_act_err tells (E v0.store.shape) t key v0 v1 v2 going1 (cutting_pages front page) (cutting_parts front page link pairs) may2 alive
+          inserts_act_err chain tells (E v0.store.shape) t key v0 v1 v2 going1 (cutting_pages front page) (cutting_parts front page link pairs) may2 alive
           (λ g h n lacks. let lacks' = lacking_same v0.store v1.store t (cutting_pages front page) g h n looks.shape logged1 lacks in
           (alive, (cutting_pages front page, omega arith, lacks'), λ told. cut_lacks v0.store t key half (long told) all front page link pairs (said told) slot full next g h n lacks'))
           fault (on_start v2 r acts')
@@ -150,8 +150,8 @@ module _ (tells : Bool) (E : Shape → List ℕ → List ℕ → Type 0) (t key 
         cut_acts : (let r : Result (Unit {0}) PageFault = Ok tt in Acts tells (E v0.store.shape) t (cutting_pages front page) (cutting_parts front page link pairs) v1 v2 r)
         cut_acts = (let r : Result (Unit {0}) PageFault = Ok tt in on_start v2 r acts')
 
-        pub going2 : Going tells (E v0.store.shape) t key v0 v2
-        going2 = going_act tells (E v0.store.shape) t key v0 v1 v2 going1 (cutting_pages front page) (cutting_parts front page link pairs) may2 cut_acts (λ told living. let d = data2 told in (d.0, d.1))
+        pub going2 : Going chain tells (E v0.store.shape) t key v0 v2
+        going2 = going_act chain tells (E v0.store.shape) t key v0 v1 v2 going1 (cutting_pages front page) (cutting_parts front page link pairs) may2 cut_acts (λ told living. let d = data2 told in (d.0, d.1))
 
         pub sound2 : IsTrue tells → IsSoundChain v2.store.state.bytes
         sound2 told = (going2.made told alive).0.sound
@@ -163,12 +163,12 @@ module _ (tells : Bool) (E : Shape → List ℕ → List ℕ → Type 0) (t key 
             → (let s : Result ℕ IndexFault = Err (as_index fault) in Inserts tells (E v0.store.shape) chain t key v0 v3 s)
         located_err v3 fault looks' =
             let r : Result Located PageFault = Err fault in
-            inserts_look_err tells (E v0.store.shape) t key Located v0 v2 v3 going2 fault (subst (λ (s : Shape). Looks tells (E s) (is_failed r) v2 v3) going2.shape looks'.0, looks'.1)
+            inserts_look_err chain tells (E v0.store.shape) t key Located v0 v2 v3 going2 fault (subst (λ (s : Shape). Looks tells (E s) (is_failed r) v2 v3) going2.shape looks'.0, looks'.1)
 
         module _ (v3 : PagesView) (looks2 : Looks tells (E v2.store.shape) false v2 v3) (hfront : Super) (hpage hlink : ℕ) (hpairs : List Pair)
             (hloc : IsLocated v2.store.shape hfront hpage hlink hpairs) (hsaid : IsTrue tells → Locates v2.store.state.bytes key hfront hpage hlink hpairs) where
-          going3 : Going tells (E v0.store.shape) t key v0 v3
-          going3 = going_more tells (E v0.store.shape) t key v0 v2 v3 going2 (subst (λ (s : Shape). Looks tells (E s) false v2 v3) going2.shape looks2)
+          going3 : Going chain tells (E v0.store.shape) t key v0 v3
+          going3 = going_more chain tells (E v0.store.shape) t key v0 v2 v3 going2 (subst (λ (s : Shape). Looks tells (E s) false v2 v3) going2.shape looks2)
 
           -- a top action that is not open stays so
           pub closed3 : v0.top t ≡ None → v3.top t ≡ None
@@ -189,10 +189,10 @@ module _ (tells : Bool) (E : Shape → List ℕ → List ℕ → Type 0) (t key 
               omega (arith, e, d.4)
 
           pub damaged_slot : hfront.next_slot ≢ front.next_slot → (let s : Result ℕ IndexFault = Err (index.Damaged 0) in Inserts tells (E v0.store.shape) chain t key v0 v3 s)
-          damaged_slot ne = inserts_refused tells (E v0.store.shape) t key v0 v3 going3 (index.Damaged 0) (refl, (alive, λ told. ne (hslot told))) (λ n e. absurd (cc))
+          damaged_slot ne = inserts_refused chain tells (E v0.store.shape) t key v0 v3 going3 (index.Damaged 0) (refl, (alive, λ told. ne (hslot told))) (λ n e. absurd (cc))
 
           pub damaged_page : 30 ≤ length hpairs → (let s : Result ℕ IndexFault = Err (index.Damaged hpage) in Inserts tells (E v0.store.shape) chain t key v0 v3 s)
-          damaged_page many = inserts_refused tells (E v0.store.shape) t key v0 v3 going3 (index.Damaged hpage) (refl, (alive, λ told. omega (arith, many, hshort told))) (λ n e. absurd (cc))
+          damaged_page many = inserts_refused chain tells (E v0.store.shape) t key v0 v3 going3 (index.Damaged hpage) (refl, (alive, λ told. omega (arith, many, hshort told))) (λ n e. absurd (cc))
 
           module _ (hroom : length hpairs < 30) (hsame : hfront.next_slot ≡ front.next_slot) where
             data3 : IsTrue tells → Grows chain v0.store.state.bytes (applied (adding_parts half hfront hpage hlink hpairs key) v3.store.state.bytes)
@@ -226,7 +226,7 @@ module _ (tells : Bool) (E : Shape → List ℕ → List ℕ → Type 0) (t key 
             halved_done v4 acts'' =
                 let r : Result (Unit {0}) PageFault = Ok tt in
                 let acts = added_acts v3 v4 hfront hpage hlink hpairs r going3.shape acts'' in
-                inserts_done tells (E v0.store.shape) t key v0 v3 v4 going3 (adding_pages half hfront hpage) (adding_parts half hfront hpage hlink hpairs key) may3 front.next_slot acts
+                inserts_done chain tells (E v0.store.shape) t key v0 v3 v4 going3 (adding_pages half hfront hpage) (adding_parts half hfront hpage hlink hpairs key) may3 front.next_slot acts
                 (λ told living. let d = data3 told in ((said told).slot_is, d.0, d.1)) (
                   alive,
                   slot,
@@ -240,7 +240,7 @@ module _ (tells : Bool) (E : Shape → List ℕ → List ℕ → Type 0) (t key 
             halved_err v4 fault acts'' =
                 let r : Result (Unit {0}) PageFault = Err fault in
                 let acts = added_acts v3 v4 hfront hpage hlink hpairs r going3.shape acts'' in
-                inserts_act_err tells (E v0.store.shape) t key v0 v3 v4 going3 (adding_pages half hfront hpage) (adding_parts half hfront hpage hlink hpairs key) may3 alive
+                inserts_act_err chain tells (E v0.store.shape) t key v0 v3 v4 going3 (adding_pages half hfront hpage) (adding_parts half hfront hpage hlink hpairs key) may3 alive
                 (λ g h n lacks. let lacks' = lacking_same v0.store v3.store t (adding_pages half hfront hpage) g h n going3.shape (going3.logs.ranges t) lacks in (
                   alive,
                   (adding_pages half hfront hpage, omega arith, lacks'),

@@ -1,9 +1,9 @@
 -- What the tests of a chain say.
-use Rattle.std.specs.Prelude.{ℕ, suc, ◌≡◌, ◌<◌, ◌≤◌, ◌⊎◌, Bool, true, false, List, Option, Some, None, Result, Ok, Err}
+use Rattle.std.specs.Prelude.{ℕ, suc, ◌≡◌, ◌<◌, ◌≤◌, ◌⊎◌, List, Option, Some, None, Result, Ok, Err}
 use Rattle.record_slots.specs.Places.{next_slot, Carries, AreGiven, slot_page}
 use Rattle.page_store.specs.Pairs.{Pair, Rise}
 use Rattle.page_store.specs.declared.index_fault.CheckFault.{CheckFault}
-use Rattle.page_store.specs.declared.index_fault.CheckFault.TheVariants.{Damaged, Media}
+use Rattle.page_store.specs.declared.index_fault.CheckFault.TheVariants.{Damaged}
 use Rattle.index_pages.specs.Chain.{key_end, behind}
 use Rattle.index_pages.specs.Failing.{PairsFail}
 use Rattle.index_pages.specs.Page.{kind_said, level_said, count_said, link_said}
@@ -19,11 +19,6 @@ pub record IsHead (page : ℕ) (bytes : List ℕ) : Type 0 where
   pub level : level_said bytes ≡ 0
   pub most : count_said bytes ≤ 30
   pub some : count_said bytes ≡ 0 → (page ≡ 1) × (link_said bytes ≡ 0)
-
--- whether the medium failed
-abbrev pub is_media : {T : Type 0} → Result T CheckFault → Bool
-is_media (Err Media) = true
-is_media _ = false
 
 -- what a test of a pair says, after keys below a lower bound: the pair passes, or a page is bad
 abbrev pub PairCause : List ℕ → ℕ → ℕ → Pair → Result (Unit {0}) CheckFault → Type 0

@@ -1,27 +1,24 @@
 // The test of the whole chain.
 ghost use Rattle.std.specs.Prelude.{◌≡◌, ◌<◌, ◌≤◌, ◌↔◌, ◌^◌, IfOk, IfSome, IfNone, IsErrOf, IsTrue};
 ghost use Rattle.eaw_face.specs.Causes.{IsAlive};
-ghost use Rattle.record_slots.specs.Places.{next_slot, IsOfKey};
+ghost use Rattle.record_slots.specs.Places.{next_slot};
 ghost use Rattle.page_store.specs.Index.{slots_of, index_pages_of};
 ghost use Rattle.page_store.specs.Looks.{Looks, CheckCause, is_check_failed};
 ghost use Rattle.page_store.specs.Shown.{pages_of};
+ghost use Rattle.index_pages.specs.Checked.{is_media};
 ghost use Rattle.index_pages.specs.Page.{count_said, pairs_said};
 ghost use Rattle.index_pages.specs.Written.{SaysLeaf};
-ghost use Rattle.key_list.specs.Checked.{low_of, IsHead, PairCause, PairsCause, is_media};
+ghost use Rattle.key_list.specs.Checked.{low_of, IsHead, PairCause, PairsCause};
 ghost use Rattle.key_list.specs.Index.{chain};
 
 use crate::place::FORM;
 use eaw_face::EawStore;
 use index_pages::{
-    LeafHead, PAGE_LEN, check_fault, fetch_page, fetch_slot, fetch_super, index_page_count,
-    read_leaf_head, read_pair,
+    LeafHead, PAGE_LEN, check_fault, check_slot, fetch_page, fetch_super, read_leaf_head, read_pair,
 };
 use page_store::{CheckFault, PageFault, Pages};
-use record_slots::Slot;
 
 const FIRST_PAGE: u32 = 1;
-
-const SLOTS_IN_PAGE: u32 = 8;
 
 // Tests the super page, and then the pages of the chain one after another.
 pub fn check<S: EawStore>(pages: &mut Pages<S>) -> Result<(), CheckFault>
@@ -134,23 +131,7 @@ fn check_pair<S: EawStore>(
     if !is_above(last, pair.0) {
         return Err(CheckFault::Damaged { page });
     }
-    if pair.1 >= u64::from(slots) {
-        return Err(CheckFault::Damaged { page });
-    }
-    let slot = pair.1 as u32;
-    let count = index_page_count(pages);
-    match fetch_slot(pages, slot) {
-        Ok(said) => {
-            if is_of_key(&said, pair.0) {
-                Ok(())
-            } else {
-                Err(CheckFault::Damaged {
-                    page: count + slot / SLOTS_IN_PAGE,
-                })
-            }
-        }
-        Err(fault) => Err(check_fault(fault)),
-    }
+    check_slot(pages, page, pair, slots)
 }
 
 // Whether the key may follow the last one.
@@ -160,16 +141,5 @@ fn is_above(last: Option<u64>, key: u64) -> bool
     match last {
         None => true,
         Some(last) => last < key,
-    }
-}
-
-// Whether what was read is a slot of this key.
-fn is_of_key(said: &Option<Slot>, key: u64) -> bool
-    ensures { IsTrue result ↔ IsOfKey key said.now }
-{
-    match said {
-        None => false,
-        Some(Slot::Absent { key: other }) => *other == key,
-        Some(Slot::Present { key: other, .. }) => *other == key,
     }
 }

@@ -1,21 +1,19 @@
 -- What a whole turn guarantees, given what its steps guarantee and what the core's step does.
-use Rattle.std.proofs.Common.{◌≡◌, ℕ, ◌+◌, Bool, true, false, List, [], ◌∷◌, ◌++◌, length, Option, Some, None, refl, sym, ap, ◌∙◌, subst, arith, map, length-append}
+use Rattle.std.proofs.Common.{◌≡◌, ℕ, ◌+◌, Bool, true, false, [], ◌∷◌, ◌++◌, length, Option, Some, None, refl, sym, ap, ◌∙◌, subst, arith, map, length-append}
 use Rattle.std.specs.Prelude.{IsTrue, MatchBool, unwrap_or}
-use Rattle.std.specs.FinMap.{get}
 use Rattle.std.proofs.lemmas.Bool.{true≢false, cond-true, cond-false}
-use Rattle.history.specs.Table.{Granted, Work, Answers, found, removed}
+use Rattle.history.specs.Table.{Granted}
 use Rattle.history.specs.declared.call.Call.{Call}
-use Rattle.history.specs.declared.call.Call.TheVariants.{Get, Put, Del, Scan, Save, Back}
 use Rattle.history.specs.declared.call.Reply.{Reply}
 use Rattle.history.specs.declared.call.Reply.TheVariants.{Committed, Dead}
 use Rattle.history.specs.Legal.{IsLegal}
 use Rattle.core_face.specs.State.{State, calls_of, done_by}
-use Rattle.core_face.specs.Fate.{is_refusal, is_committed}
+use Rattle.core_face.specs.Fate.{is_committed}
 use Rattle.core_face.specs.Prefix.{Grows}
 use Rattle.core_face.specs.Step.{Step}
 use Rattle.core_face.specs.Core.{Steps}
 use Rattle.core_face.proofs.Continuing.{grows_on}
-use Rattle.core_face.proofs.Fates.{Fate, step_fate}
+use Rattle.core_face.proofs.Fates.{Fate, step_fate, refusal_none, answer_plain}
 use Rattle.core_face.proofs.Fates.Fate.{refused, failed, began, granted, committed, doubted, aborted}
 use Rattle.atomic_table.specs.Table.{Me, rest}
 use Rattle.mars_manager.specs.declared.view.Known.{Known}
@@ -30,33 +28,12 @@ use Rattle.mars_manager.proofs.Past.{after_grows, own_commits, other_commits, si
 use Rattle.mars_manager.proofs.Notes.{noted_step, met_step}
 use Rattle.mars_manager.proofs.Turns.{out, some_same, Moved}
 
-refusal_none : (reply : Reply) → is_refusal reply ≡ true → is_committed reply ≡ false
-refusal_none (Committed n) e = absurd (true≢false (sym e))
-refusal_none _ e = refl
-
-found_none : (o : Option (List ℕ)) (reply : Reply) → reply ≡ found o → is_committed reply ≡ false
-found_none None reply e = ap is_committed e
-found_none (Some v) reply e = ap is_committed e
-
-removed_none : (o : Option (List ℕ)) (reply : Reply) → reply ≡ removed o → is_committed reply ≡ false
-removed_none None reply e = ap is_committed e
-removed_none (Some v) reply e = ap is_committed e
-
-answer_none : (work : Work) (call : Call) (reply : Reply) → Answers work call reply → is_committed reply ≡ false
-answer_none work (Get key) reply answers = found_none (get work.table key) reply answers
-answer_none work (Put key value) reply answers = ap is_committed answers
-answer_none work (Del key) reply answers = removed_none (get work.table key) reply answers
-answer_none work (Scan low high) reply answers = ap is_committed answers
-answer_none work Save reply answers = ap is_committed answers
-answer_none work (Back n) reply answers = ap is_committed answers.1
-answer_none work _ reply answers = absurd answers
-
 -- if the core tells its records, the reply to a commit has its number
 number_at : (old : State) (caller : ℕ) (call : Call) (reply : Reply) (new : State) → Fate old caller call reply new → is_committed reply ≡ true → reply ≡ Committed (length old.history + 1)
 number_at old caller call reply new (refused refusal sure index e) is = absurd (true≢false (sym is ∙ refusal_none reply refusal))
 number_at old caller call reply new (failed r index e) is = absurd (true≢false (sym is ∙ ap is_committed r))
 number_at old caller call reply new (began c r e) is = absurd (true≢false (sym is ∙ ap is_committed r))
-number_at old caller call reply new (granted calls l free answers index e) is = absurd (true≢false (sym is ∙ answer_none _ call reply answers))
+number_at old caller call reply new (granted calls l free answers index e) is = absurd (true≢false (sym is ∙ (answer_plain _ call reply answers).uncommitted))
 number_at old caller call reply new (committed calls c r l e) is = r
 number_at old caller call reply new (doubted calls c r l index e) is = absurd (true≢false (sym is ∙ ap is_committed r))
 number_at old caller call reply new (aborted c r e) is = absurd (true≢false (sym is ∙ ap is_committed r))

@@ -7,7 +7,7 @@ use Rattle.page_store.specs.declared.index_fault.CheckFault.{CheckFault}
 use Rattle.index_pages.specs.Page.{pairs_from, pair_said, pairs_said}
 use Rattle.index_pages.proofs.Looking.{looks_none, looks_next}
 use Rattle.index_pages.proofs.Reading.{from_step, from_end}
-use Rattle.btree_pages.specs.Checked.{SlotCause}
+use Rattle.index_pages.specs.Checked.{SlotCause}
 use Rattle.btree_pages.proofs.Checks.{whole_left, SlotsLeft, slots_all, slots_step, slots_fail}
 use Rattle.btree_pages.proofs.checking.check_slots.Goals as goal
 

@@ -15,7 +15,7 @@ use Rattle.btree_pages.specs.Leaf.{bound_in, AtLeaf}
 use Rattle.btree_pages.specs.Node.{IsNode}
 use Rattle.btree_pages.specs.declared.page.Head.{Head}
 use Rattle.btree_pages.specs.declared.look.Leaf.{Leaf}
-use Rattle.btree_pages.proofs.Causing.{look_cause}
+use Rattle.index_pages.proofs.Causing.{look_cause}
 use Rattle.btree_pages.proofs.Descending.{Down, down_first, down_step, down_node, down_last}
 use Rattle.btree_pages.proofs.look.descend.Goals as goal
 

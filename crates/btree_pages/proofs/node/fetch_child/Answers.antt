@@ -10,7 +10,7 @@ use Rattle.index_pages.proofs.Sizes.{index_pages_are}
 use Rattle.btree_pages.specs.Descent.{child_for}
 use Rattle.btree_pages.specs.Node.{IsNode}
 use Rattle.btree_pages.specs.declared.node.Node.{Node}
-use Rattle.btree_pages.proofs.Causing.{look_cause, still_same}
+use Rattle.index_pages.proofs.Causing.{look_cause, still_same}
 use Rattle.btree_pages.proofs.Children.{reached_child}
 use Rattle.btree_pages.proofs.node.fetch_child.Goals as goal
 

@@ -1,23 +1,7 @@
-use Rattle.std.proofs.Common.{inr, sym, ◌∙◌, arith}
-use Rattle.std.proofs.lemmas.Bool.{false≢true}
-use Rattle.index_pages.proofs.Sizes.{slot_page_is}
-use Rattle.key_list.proofs.Testing.{carries_said, carries_not}
+use Rattle.key_list.proofs.Testing.{pair_cause}
+use Rattle.key_list.specs.Checked.{low_of}
 use Rattle.key_list.proofs.checking.check_pair.Goals as goal
 
-pub returns-then-is_of_key-clause-cause : goal.returns-then-is_of_key-clause-cause
-returns-then-is_of_key-clause-cause g c = λ told slots.
-    let b = (g.S.EawStore.view c.args.pages.now.store).state.bytes in (
-      c.is_above.ensures.0 c.if-not-is_above.false,
-      omega (arith, c.if-pair-from.false, c.from.ensures, slots),
-      carries_said b c.args.pair.0 c.args.pair.1 c.in-Ok.said (c.in-Ok.ensures.said told) (c.is_of_key.ensures.0 c.if-is_of_key.true),
-    )
-
-pub returns-else-is_of_key-clause-cause : goal.returns-else-is_of_key-clause-cause
-returns-else-is_of_key-clause-cause g c = λ told slots.
-    let view = g.S.EawStore.view c.args.pages.now.store in
-    inr (
-      c.is_above.ensures.0 c.if-not-is_above.false,
-      omega (arith, c.if-pair-from.false, c.from.ensures, slots),
-      carries_not view.state.bytes c.args.pair.0 c.args.pair.1 c.in-Ok.said (c.in-Ok.ensures.said told) (λ is. false≢true (sym c.if-is_of_key.false ∙ c.is_of_key.ensures.1 is)),
-      sym (slot_page_is view.shape view.state.bytes (g.met.S.EawStore.long c.args.pages.now.store told) c.index_page_count-count.result c.args.pair.1 c.index_page_count-count.ensures.all),
-    )
+pub returns-clause-cause : goal.returns-clause-cause
+returns-clause-cause g c = λ told slots.
+    pair_cause (g.S.EawStore.view c.args.pages.now.store).state.bytes c.args.page (low_of c.args.last) c.args.pair (c.is_above.ensures.0 c.if-not-is_above.false) c.check_slot.result (c.check_slot.ensures.cause told slots)

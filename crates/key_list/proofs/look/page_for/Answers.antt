@@ -11,7 +11,7 @@ use Rattle.index_pages.specs.declared.page.LeafHead.{LeafHead}
 use Rattle.index_pages.proofs.Looking.{looks_next}
 use Rattle.index_pages.proofs.Sizes.{index_pages_are}
 use Rattle.key_list.specs.Linked.{IsLinked}
-use Rattle.key_list.proofs.Causing.{look_cause, still_same}
+use Rattle.index_pages.proofs.Causing.{look_cause, still_same}
 use Rattle.key_list.proofs.Walking.{place_first, first_linked, place_linked, place_some, place_here, place_step, first_said}
 use Rattle.key_list.proofs.look.page_for.Goals as goal
 

@@ -9,7 +9,7 @@ use Rattle.index_pages.proofs.Looking.{looks_next}
 use Rattle.index_pages.proofs.Sizes.{index_pages_are}
 use Rattle.key_list.specs.Linked.{IsLinked}
 use Rattle.key_list.specs.declared.place.Located.{Located}
-use Rattle.key_list.proofs.Causing.{look_cause}
+use Rattle.index_pages.proofs.Causing.{look_cause}
 use Rattle.key_list.proofs.Walking.{key_page_linked}
 use Rattle.key_list.proofs.place.locate.Goals as goal
 

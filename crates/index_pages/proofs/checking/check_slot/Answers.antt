@@ -1,8 +1,8 @@
 use Rattle.std.proofs.Common.{inr, sym, ◌∙◌, arith}
 use Rattle.std.proofs.lemmas.Bool.{false≢true}
 use Rattle.index_pages.proofs.Sizes.{slot_page_is}
-use Rattle.btree_pages.proofs.Checks.{carries_said, carries_not}
-use Rattle.btree_pages.proofs.checking.check_slot.Goals as goal
+use Rattle.index_pages.proofs.Carrying.{carries_said, carries_not}
+use Rattle.index_pages.proofs.checking.check_slot.Goals as goal
 
 pub returns-then-is_of_key-clause-cause : goal.returns-then-is_of_key-clause-cause
 returns-then-is_of_key-clause-cause g c = λ told slots.
