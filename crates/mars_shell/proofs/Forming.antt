@@ -1,5 +1,6 @@
 -- Which index the data has, and work under that index.
 use Rattle.std.proofs.Common.{◌≡◌, ℕ, zero, suc, Bool, true, inl, List, refl, sym, ap, subst, ◌∙◌, length, arith, Result, Ok, Err}
+use Rattle.std.specs.FinMap.{entries}
 use Rattle.std.specs.Prelude.{IsTrue}
 use Rattle.counted.proofs.Going as going
 use Rattle.array_shape.specs.declared.shape.Shape.{Shape}
@@ -19,7 +20,7 @@ use Rattle.mars_core.specs.declared.fault.CoreFault.{CoreFault}
 use Rattle.mars_core.specs.declared.fault.CoreFault.TheVariants.{Damaged, Media, NoMemory}
 use Rattle.script_io.specs.Written.{IsWritten}
 use Rattle.script_run.specs.declared.ended.Ended.{Ended}
-use Rattle.mars_shell.specs.Dump.{dump_text}
+use Rattle.mars_shell.specs.Dump.{dump_lines}
 use Rattle.mars_shell.specs.Forms.{index_of_form, index_at}
 use Rattle.mars_shell.specs.Run.{begun_on}
 use Rattle.mars_shell.specs.Served.{SaysForm, opens_of, Untaken, Served, Serves, Told, Tells}
@@ -112,7 +113,7 @@ module _ (tells : Bool) (told : IsTrue tells) (Opens : Shape → List ℕ → Li
       shape = said.shape ∙ says.shape;
       alive = said.alive;
       end = said.end;
-      wrote = subst (λ (b : List ℕ). IsWritten cut text (dump_text (table_of index b))) bytes_are said.wrote;
+      wrote = subst (λ (b : List ℕ). IsWritten cut text (dump_lines (entries (table_of index b)))) bytes_are said.wrote;
       time = time_on said.time;
       now = λ image left. subst (λ (b : List ℕ). Opens old.shape image b) bytes_are (subst (λ (s : Shape). Opens s image mid.state.bytes) says.shape (said.now image left));
     }

@@ -1,5 +1,6 @@
 -- A run over an array that was opened: its records were read, and its lines answered.
 use Rattle.std.proofs.Common.{◌≡◌, ℕ, ◌≤◌, length, false, inl, inr, ⊎_elim, List, [], Bool, refl, sym, ap, subst, ◌∙◌, arith}
+use Rattle.std.specs.FinMap.{entries}
 use Rattle.std.specs.Prelude.{IsTrue, Err}
 use Rattle.pcm_media.specs.Images.{MayLeave}
 use Rattle.pcm_media.specs.View.{View}
@@ -20,7 +21,7 @@ use Rattle.mars_core.specs.declared.fault.CoreFault.{CoreFault}
 use Rattle.mars_core.specs.declared.fault.CoreFault.TheVariants as core
 use Rattle.script_io.specs.Written.{IsWritten}
 use Rattle.script_run.specs.declared.ended.Ended.{Ended}
-use Rattle.mars_shell.specs.Dump.{Dumps, dump_text}
+use Rattle.mars_shell.specs.Dump.{Dumps, dump_lines}
 use Rattle.mars_shell.specs.Forms.{index_at, index_in}
 use Rattle.mars_shell.specs.Outcome.{Idle, OutcomeOf}
 use Rattle.mars_shell.specs.Run.{HoldsRecords, IsDamaged, begun_on, HasAll, TakesTurns}
@@ -129,7 +130,7 @@ module _ (tells : Bool) (told : IsTrue tells) (old : View) (only_now : (image : 
         shape = store.shape;
         holds = holds said.sound;
         end = said.end;
-        wrote = subst (λ (b : List ℕ). IsWritten cut text (dump_text (table_of (index_at b) b))) (attached.bytes told) said.wrote;
+        wrote = subst (λ (b : List ℕ). IsWritten cut text (dump_lines (entries (table_of (index_at b) b)))) (attached.bytes told) said.wrote;
         quiet = subst (λ (s : Shape). HasNoVote s new.content.bytes) said.shape (behind.quiet told said.alive);
         now = λ image left. subst (λ (b : List ℕ). Opens store.shape image b) (attached.bytes told) (said.now image (left_now image left));
         since = λ all image left. looked said.time store.shape all image left;

@@ -12,7 +12,7 @@ use Rattle.mars_core.specs.Over.{Begins}
 use Rattle.mars_core.specs.declared.fault.CoreFault.TheVariants.{NoMemory}
 use Rattle.script_io.specs.Written.{IsWritten}
 use Rattle.script_run.specs.declared.ended.Ended.{Ended}
-use Rattle.mars_shell.specs.Dump.{dump_lines, dump_text, IsCutAt}
+use Rattle.mars_shell.specs.Dump.{dump_lines, IsCutAt}
 use Rattle.mars_shell.specs.Served.{Untaken, Told}
 
 module _ (tells : Bool) (Opens : Shape → List ℕ → List ℕ → Type 0) (index : Index) (old mid : StoreView) (core : CoreView) (begins : Begins tells (Opens old.shape) index old mid core) (told : IsTrue tells) where
@@ -20,7 +20,7 @@ module _ (tells : Bool) (Opens : Shape → List ℕ → List ℕ → Type 0) (in
   pub untold : Untaken Opens index old NoMemory false [] mid
   untold = record { whole = refl; silent = refl; cause = tt; time = begins.time told }
 
-  text_is : (rows : List (ℕ × List ℕ)) (text : List ℕ) → rows ≡ entries core.state.base → text ≡ dump_lines rows → text ≡ dump_text (table_of index old.state.bytes)
+  text_is : (rows : List (ℕ × List ℕ)) (text : List ℕ) → rows ≡ entries core.state.base → text ≡ dump_lines rows → text ≡ dump_lines (entries (table_of index old.state.bytes))
   text_is rows text base is = is ∙ ap dump_lines (base ∙ ap (λ (s : State). entries s.base) (begins.state told))
 
   pub all_told : (only : (image : List ℕ) → old.left_since old.moment image → Opens old.shape image old.state.bytes) (counts : (image : List ℕ) → mid.left_since mid.moment image → mid.left_since old.moment image)

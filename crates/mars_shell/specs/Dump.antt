@@ -10,31 +10,20 @@ use Rattle.array_image.specs.Decided.{settled_data}
 use Rattle.device_recovery.specs.Recovered.{HasNoVote}
 use Rattle.eaw_device.specs.Opens.{Opens, AllOpen, OpensLike}
 use Rattle.record_table.specs.Shown.{table_of}
-use Rattle.history.specs.Writes.{Table}
+use Rattle.history_text.specs.Text.{rec_line}
 use Rattle.script_io.specs.Written.{IsWritten}
 use Rattle.script_run.specs.declared.ended.Ended.{Ended}
 use Rattle.script_run.specs.declared.ended.Ended.TheVariants.{All, WriteFault}
 use Rattle.mars_shell.specs.Forms.{index_in}
 use Rattle.mars_shell.specs.Run.{HoldsRecords}
 
--- the line of a record
-abbrev pub rec_line : ℕ × List ℕ → List ℕ
-rec_line row = codes "rec " ++ (decimal row.0 ++ 32 ∷ (row.1 ++ 10 ∷ []))
-
 -- a line of a word and a number
 abbrev pub number_line : List ℕ → ℕ → List ℕ
 number_line word n = word ++ 32 ∷ (decimal n ++ 10 ∷ [])
 
--- the last line, which says how many records there are
-abbrev pub count_line : ℕ → List ℕ
-count_line n = number_line (codes "records") n
-
--- the lines of rows by rising key, and of their count
+-- the lines of rows by rising key, and the last line, which says how many there are
 abbrev pub dump_lines : List (ℕ × List ℕ) → List ℕ
-dump_lines rows = flat_map rec_line rows ++ count_line (length rows)
-
-abbrev pub dump_text : Table → List ℕ
-dump_text table = dump_lines (entries table)
+dump_lines rows = flat_map rec_line rows ++ number_line (codes "records") (length rows)
 
 -- whether the sink cut the text short, by how the dump ended, which it does in these two ways only
 abbrev pub IsCutAt : Ended → Bool → Type 0
@@ -49,7 +38,7 @@ pub record Dumps (old : View) (ended : Ended) (new : View) (cut : Bool) (text : 
   pub shape : Shape
   pub holds : HoldsRecords shape old
   pub end : IsCutAt ended cut
-  pub wrote : IsWritten cut text (dump_text (table_of (index_in shape old) (settled_data shape old.content.bytes)))
+  pub wrote : IsWritten cut text (dump_lines (entries (table_of (index_in shape old) (settled_data shape old.content.bytes))))
   pub quiet : HasNoVote shape new.content.bytes
   pub now : (image : List ℕ) → MayLeave new.content image → Opens shape image (settled_data shape old.content.bytes)
   pub since : AllOpen shape old.content → (image : List ℕ) → new.left_since old.moment image → OpensLike shape old.content image

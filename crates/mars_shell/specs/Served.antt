@@ -1,4 +1,5 @@
 -- What is done over a store whose records are read first.
+use Rattle.std.specs.FinMap.{entries}
 use Rattle.std.specs.Prelude.{ℕ, ◌≡◌, List, [], length, Bool, true, false, IsTrue, Result, Ok, Err}
 use Rattle.counted.specs.Causes.{Rose}
 use Rattle.array_shape.specs.declared.shape.Shape.{Shape}
@@ -21,7 +22,7 @@ use Rattle.script_io.specs.Written.{IsWritten}
 use Rattle.script_run.specs.Counts.{Counts}
 use Rattle.script_run.specs.declared.ended.Ended.{Ended}
 use Rattle.script_run.specs.declared.ended.Ended.TheVariants.{All}
-use Rattle.mars_shell.specs.Dump.{dump_text, IsCutAt}
+use Rattle.mars_shell.specs.Dump.{dump_lines, IsCutAt}
 use Rattle.mars_shell.specs.Run.{begun_on, HasAll}
 
 -- The super page of the store's data names this form. Nothing was written, and whatever a loss of power might have left meanwhile opens
@@ -69,7 +70,7 @@ pub record Told (Opens : Shape → List ℕ → List ℕ → Type 0) (index : In
   pub shape : new.shape ≡ old.shape
   pub alive : IsAlive new
   pub end : IsCutAt ended cut
-  pub wrote : IsWritten cut text (dump_text (table_of index old.state.bytes))
+  pub wrote : IsWritten cut text (dump_lines (entries (table_of index old.state.bytes)))
   pub time : LeavesOnly (λ image. Opens old.shape image old.state.bytes) old new
   pub now : (image : List ℕ) → new.left_since new.moment image → Opens old.shape image old.state.bytes
 

@@ -1,10 +1,10 @@
 // A dump of the records of an array.
-ghost use Rattle.std.specs.Prelude.{◌≡◌, ◌++◌, ℕ, List, None, IsTrue, IfOk, IfErr, OnOk, ◌⊎◌};
+ghost use Rattle.std.specs.Prelude.{◌≡◌, ℕ, List, None, IsTrue, IfOk, IfErr, ◌⊎◌};
 ghost use Rattle.eaw_face.specs.Causes.{IsAlive};
 ghost use Rattle.script_io.specs.Written.{Wrote};
 ghost use Rattle.command_words.specs.declared.words.Words.TheVariants.{Dump};
 ghost use Rattle.mars_shell.specs.Asked.{OutcomeFor};
-ghost use Rattle.mars_shell.specs.Dump.{rec_line, dump_lines};
+ghost use Rattle.mars_shell.specs.Dump.{dump_lines};
 ghost use Rattle.mars_shell.specs.Forms.{index_at};
 ghost use Rattle.mars_shell.specs.Served.{Tells, ServedCounts};
 ghost use Rattle.mars_shell.specs.Statuses.{Counts, IsEarly, IsRefusal};
@@ -17,13 +17,12 @@ use btree_pages::BTreePages;
 use counted::NoMemory;
 use eaw_face::EawStore;
 use history::Rows;
-use itoa::Buffer;
+use history_text::write_records;
 use key_list::KeyList;
 use mars_core::{Core, CoreFault};
 use outside::Sink;
 use page_store::{KeyIndex, SaveRoom};
 use pcm_media::Media;
-use record_slots::Value;
 use record_table::Form;
 use script_io::write_whole;
 use script_run::Ended;
@@ -110,23 +109,8 @@ fn tell_under<K: Sink, S: EawStore, I: KeyIndex>(
 fn dump_lines(alloc: Global, rows: &Rows) -> Result<Vec<u8>, NoMemory>
     ensures { IfOk result (λ text. text.items ≡ dump_lines rows.now) }
 {
-    let rows = rows.as_slice();
     let mut text = Vec::new(alloc);
-    for row in rows {
-        append_row(&mut text, row.0, &row.1)?;
-    }
-    append_number(&mut text, b"records", rows.len() as u64)?;
+    write_records(&mut text, rows)?;
+    append_number(&mut text, b"records", rows.as_slice().len() as u64)?;
     Ok(text)
-}
-
-fn append_row(text: &mut Vec<u8>, key: u64, value: &Value) -> Result<(), NoMemory>
-    ensures { OnOk result (text.new.items ≡ text.old.items ++ rec_line (key, value.now)) }
-{
-    let mut buffer = Buffer::new();
-    text.extend_from_slice(b"rec ")?;
-    text.extend_from_slice(buffer.format(key).as_bytes())?;
-    text.extend_from_slice(b" ")?;
-    text.extend_from_slice(value.as_bytes())?;
-    text.extend_from_slice(b"\n")?;
-    Ok(())
 }
