@@ -66,9 +66,9 @@ module _ (limits : Limits) (old : State) (caller : ℕ) where
   one_at (Some calls) Begin one other new next ok ok' a b = a.0 ∙ sym b.0
   one_at (Some calls) Commit one other new next ok ok' (inr (inl a)) (inr (inl b)) = a.0 ∙ sym b.0
   one_at (Some calls) Commit one other new next ok ok' (inl a) b = absurd (true≢false (sym (ap is_of_array a.0) ∙ ok))
-  one_at (Some calls) Commit one other new next ok ok' (inr (inr a)) b = absurd (true≢false (sym (ap is_of_array a.0) ∙ ok))
+  one_at (Some calls) Commit one other new next ok ok' (inr (inr a)) b = absurd (true≢false (sym (ap is_of_array a.1) ∙ ok))
   one_at (Some calls) Commit one other new next ok ok' (inr (inl a)) (inl b) = absurd (true≢false (sym (ap is_of_array b.0) ∙ ok'))
-  one_at (Some calls) Commit one other new next ok ok' (inr (inl a)) (inr (inr b)) = absurd (true≢false (sym (ap is_of_array b.0) ∙ ok'))
+  one_at (Some calls) Commit one other new next ok ok' (inr (inl a)) (inr (inr b)) = absurd (true≢false (sym (ap is_of_array b.1) ∙ ok'))
   one_at (Some calls) Abort one other new next ok ok' (inl a) (inl b) = a.0 ∙ sym b.0
   one_at (Some calls) Abort one other new next ok ok' (inl a) (inr b) = absurd (true≢false (sym (ap is_of_array b.0) ∙ ok'))
   one_at (Some calls) Abort one other new next ok ok' (inr a) b = absurd (true≢false (sym (ap is_of_array a.0) ∙ ok))

@@ -86,7 +86,7 @@ module _ (limits : Limits) (old : State) (caller : ℕ) (new : State) where
   fate_at (Some calls) (Back n) reply is (inr (some, a)) = asks calls (Back n) reply is a
   fate_at (Some calls) Commit reply is (inl short) = says Commit reply NoMemory refl refl short
   fate_at (Some calls) Commit reply is (inr (inl (re, e))) = committed calls refl re is e
-  fate_at (Some calls) Commit reply is (inr (inr (re, index, e))) = doubted calls refl re is index e
+  fate_at (Some calls) Commit reply is (inr (inr (wrote, re, index, e))) = doubted calls refl re is index e
   fate_at (Some calls) Abort reply is (inl (re, e)) = aborted refl re e
   fate_at (Some calls) Abort reply is (inr (re, index, e)) = failed re index e
 

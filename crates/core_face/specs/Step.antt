@@ -1,5 +1,6 @@
 -- How a call of a caller is answered, and what it leaves.
 use Rattle.std.specs.Prelude.{ℕ, ◌≡◌, ◌+◌, ◌<◌, ◌≤◌, ◌⊎◌, Bool, true, false, IsTrue, IsFalse, List, [], ◌∷◌, ◌++◌, length, Option, Some, None}
+use Rattle.history.specs.Log.{log_of}
 use Rattle.history.specs.Table.{Granted, Answers, has_save}
 use Rattle.history.specs.declared.call.Call.{Call}
 use Rattle.history.specs.declared.call.Call.TheVariants.{Begin, Save, Back, Commit, Abort}
@@ -44,10 +45,10 @@ abbrev pub Commits : Granted → State → ℕ → Reply → State → Type 0
 Commits calls old caller reply new =
     (reply ≡ Committed (length old.history + 1)) × (new ≡ record (with_live old caller None) { history = old.history ++ done_by old caller calls ∷ [] })
 
--- the medium failed in a commit, so the transaction is in doubt
+-- the medium failed in a commit of a transaction that has written something, so it is in doubt
 abbrev pub Doubts : Granted → State → ℕ → Reply → State → Type 0
 Doubts calls old caller reply new =
-    (reply ≡ Media) × (index : Index) × (new ≡ record (with_live old caller None) { doubt = Some (done_by old caller calls); index = index; is_dead = true })
+    (0 < length (log_of calls).writes) × (reply ≡ Media) × (index : Index) × (new ≡ record (with_live old caller None) { doubt = Some (done_by old caller calls); index = index; is_dead = true })
 
 -- A step with this as the caller's live transaction, if the medium has not failed before.
 abbrev pub StepAt : Limits → Option Granted → State → ℕ → Call → Reply → State → Type 0

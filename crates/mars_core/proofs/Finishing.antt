@@ -1,5 +1,5 @@
 -- The end of a transaction: a commit, an abort, and a fault of the medium in either.
-use Rattle.std.proofs.Common.{◌≡◌, ◌+◌, ◌⊎◌, ℕ, inl, inr, Bool, true, false, nat_eq, List, [], ◌∷◌, ◌++◌, length, IsTrue, Option, Some, None, unwrap_or, Result, Ok, Err, refl, sym, ap, subst, ◌∙◌}
+use Rattle.std.proofs.Common.{◌≡◌, ◌<◌, ◌+◌, ◌⊎◌, ℕ, inl, inr, Bool, true, false, nat_eq, List, [], ◌∷◌, ◌++◌, length, IsTrue, Option, Some, None, unwrap_or, Result, Ok, Err, refl, sym, ap, subst, ◌∙◌}
 use Rattle.std.specs.Option.{option_to_list}
 use Rattle.std.specs.Map.{update}
 use Rattle.std.proofs.lemmas.Map.{update_here, update_apart}
@@ -10,7 +10,7 @@ use Rattle.eaw_face.specs.StoreView.{LeavesOnly}
 use Rattle.eaw_face.specs.Causes.{IsAlive}
 use Rattle.page_store.specs.Index as below
 use Rattle.page_store.specs.Shown.{PagesView}
-use Rattle.history.specs.Writes.{Table, all_written}
+use Rattle.history.specs.Writes.{Table, Write, all_written}
 use Rattle.history.specs.Table.{Granted, IsRight}
 use Rattle.history.specs.Legal.{records, with_doubt}
 use Rattle.history.specs.Log.{log_of}
@@ -189,7 +189,11 @@ module _ (tells : Bool) (Opens : Shape → List ℕ → List ℕ → Type 0) (in
 
   -- the medium failed in the commit
   module _ (done : Done) (done_is : done ≡ done_by s t calls) (does : (let r : Result (Unit {0}) TableFault = Err fault.Media in Does tells (Opens p.store.shape) index (commit t) p q r))
-      (live : new.live ≡ update nat_eq s.live t None) (history : new.history ≡ s.history) (doubt : new.doubt ≡ Some done) where
+      (live : new.live ≡ update nat_eq s.live t None) (history : new.history ≡ s.history) (doubt : new.doubt ≡ Some done)
+      (due : IsTrue tells → 0 < length ((state_of index p).writes t)) where
+    wrote : IsTrue tells → 0 < length (log_of calls).writes
+    wrote told = subst (λ (ws : List Write). 0 < length ws) ((kept.tied told alive).mirrors.writes t ∙ ap (λ (cs : Granted). (log_of cs).writes) at) (due told)
+
     died : new.is_dead ≡ true
     died = shows_new.dead ∙ (does.dies refl).0
 
@@ -198,6 +202,7 @@ module _ (tells : Bool) (Opens : Shape → List ℕ → List ℕ → Type 0) (in
 
     step_doubt : IsTrue tells → Step (limits_of p.store.shape) s t Commit reply.Media new
     step_doubt told = step_of (limits_of p.store.shape) (Some calls) s new t Commit reply.Media living_state is (inr (inr (
+      wrote told,
       refl,
       new.index,
       λ i. record { base = base i; history = history i; live = live i; doubt = (doubt ∙ ap (λ (d : Done). Some d) done_is) i; is_dead = died i; index = new.index },

@@ -31,9 +31,19 @@ use Rattle.record_table.specs.Shown.{state_of, shown_by, keys_of}
 use Rattle.record_table.specs.State.{TableState, Keys}
 use Rattle.record_table.specs.declared.fault.TableFault.{TableFault}
 use Rattle.record_table.specs.declared.fault.TableFault.TheVariants.{SavesFull}
+use Rattle.record_table.specs.declared.fault.TableFault.TheVariants as table
 use Rattle.record_table.proofs.Doing.{does_dead, holds_dead, holds_same, indexed_same}
 use Rattle.record_table.proofs.SlotParts.{Laws, applied_parts}
 use Rattle.record_table.proofs.States.{shown_save, shown_back, shown_commit, shown_abort, parts_back, parts_abort, parts_commit}
+
+-- only a fault of the medium is told as one
+pub media_told : {T : Type 0} (r : Result T PageFault) (s : Result T TableFault) → s ≡ told_as r → s ≡ Err table.Media → r ≡ Err fault.Media
+media_told (Ok answer) s is e = absurd (cc)
+media_told (Err fault.Media) s is e = refl
+media_told (Err fault.Dead) s is e = absurd (cc)
+media_told (Err fault.SavesFull) s is e = absurd (cc)
+media_told (Err (fault.LogFull g h n)) s is e = absurd (cc)
+media_told (Err (fault.Damaged page)) s is e = absurd (cc)
 
 same_number : (a b : ℕ) → Some a ≡ Some b → a ≡ b
 same_number a b e = cc

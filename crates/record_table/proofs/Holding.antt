@@ -1,12 +1,16 @@
 -- What loggers hold of a number is the writes to their slots.
 use Rattle.std.proofs.Common.{◌≡◌, ℕ, suc, ◌+◌, ◌*◌, Bool, true, false, cond, List, [], ◌∷◌, length, refl, sym, ◌∙◌, ap, subst, arith}
 use Rattle.std.specs.Prelude.{nat_eq, filter, Option, IsSome}
+use Rattle.std.specs.Option.{option_map}
+use Rattle.std.proofs.lemmas.List.{length-map}
 use Rattle.array_shape.specs.declared.shape.Shape.{Shape}
 use Rattle.array_shape.specs.Places.{data_len, logger_of}
 use Rattle.array_shape.specs.Logged.{Part, ranges_of}
 use Rattle.eaw_face.specs.State.{listed, count_on, is_range_on}
+use Rattle.eaw_face.specs.StoreView.{log_len}
 use Rattle.page_store.specs.Index.{Index, slots_of}
 use Rattle.page_store.specs.Shown.{PagesView}
+use Rattle.page_store.proofs.Laying.{length-ranges}
 use Rattle.page_store.proofs.Outline.{listed-ranges}
 use Rattle.page_store.proofs.Shown.{IsTold}
 use Rattle.record_table.specs.Invariant.{IsSlotPart, AreSlotParts, IsTied}
@@ -42,3 +46,10 @@ named index d (p ∷ ps) parts = (subst (λ (o : Option ℕ). IsSome o) (sym par
 
 pub named_are : (index : Index) (pages : PagesView) → IsTied index pages → (t : ℕ) → AreNamed (index.pairs pages.store.state.bytes) ((state_of index pages).writes t)
 named_are index pages tied t = named index pages.store.state.bytes (listed (pages.store.state.logs t)) (tied.parts t)
+
+-- a number has as many writes as it has logged parts
+pub as_many_writes : (index : Index) (pages : PagesView) (t : ℕ) → pages.store.ranges t ≡ option_map ranges_of (pages.store.state.logs t)
+    → log_len pages.store t ≡ length ((state_of index pages).writes t)
+as_many_writes index pages t outlined =
+    let log = listed (pages.store.state.logs t) in
+    ap (λ (o : Option (List (ℕ × ℕ))). length (listed o)) outlined ∙ ap length (listed-ranges (pages.store.state.logs t)) ∙ length-ranges log ∙ sym (length-map log write_of)

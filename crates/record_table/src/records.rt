@@ -217,6 +217,9 @@ impl<S: EawStore, K: KeyIndex> Records<S, K> {
         requires { tid < (S.view self.old.store).shape.numbers }
         ensures does { Does S.tells (S.opens (S.view self.old.store).shape) K.index (commit tid)
             (pages_of (S.view self.old.store) self.old) (pages_of (S.view self.new.store) self.new) result }
+        // A commit of nothing uses no medium.
+        ensures due { IsTrue S.tells → IsAlive (S.view self.old.store) → IsErrOf result TableFault.Media
+            → 0 < length ((state_of K.index (pages_of (S.view self.old.store) self.old)).writes tid) }
         ensures dead { IsErrOf result TableFault.Dead → self.new ≡ self.old }
     {
         told(self.pages.end(tid, true))
