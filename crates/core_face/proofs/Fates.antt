@@ -63,7 +63,7 @@ module _ (limits : Limits) (old : State) (caller : ℕ) (new : State) where
   asks calls call reply is (inr (inl held)) = says call reply (Busy held.0) refl refl held.2
   asks calls call reply is (inr (inr (free, inl (answers, fits, index, indexes, e)))) = granted calls is free answers index e
   asks calls call reply is (inr (inr (free, inr (inl (lacks, index, indexes, e))))) = let both = lacks_refusal limits old caller call reply lacks in refused both.0 both.1 index e
-  asks calls call reply is (inr (inr (free, inr (inr (re, index, e))))) = failed re index e
+  asks calls call reply is (inr (inr (free, inr (inr (uses, (re, index, e)))))) = failed re index e
 
   fate_at : (live : Option Granted) (call : Call) (reply : Reply) → old.live caller ≡ live → StepAt limits live old caller call reply new → Fate old caller call reply new
   fate_at None Begin reply is (re, e) = began refl re e
@@ -87,8 +87,7 @@ module _ (limits : Limits) (old : State) (caller : ℕ) (new : State) where
   fate_at (Some calls) Commit reply is (inl short) = says Commit reply NoMemory refl refl short
   fate_at (Some calls) Commit reply is (inr (inl (re, e))) = committed calls refl re is e
   fate_at (Some calls) Commit reply is (inr (inr (wrote, re, index, e))) = doubted calls refl re is index e
-  fate_at (Some calls) Abort reply is (inl (re, e)) = aborted refl re e
-  fate_at (Some calls) Abort reply is (inr (re, index, e)) = failed re index e
+  fate_at (Some calls) Abort reply is (re, e) = aborted refl re e
 
   fate_if : (dead : Bool) (call : Call) (reply : Reply) → StepIf limits dead old caller call reply new → Fate old caller call reply new
   fate_if true call reply s = says call reply Dead refl refl s

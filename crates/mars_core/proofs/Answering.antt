@@ -302,7 +302,7 @@ module _ (tells : Bool) (Opens : Shape → List ℕ → List ℕ → Type 0) (in
     step_failed : IsTrue tells → Step (limits_of p.store.shape) s t call reply.Media new
     step_failed told = step_of (limits_of p.store.shape) (Some calls) s new t call reply.Media living_state is
         (asks_at (limits_of p.store.shape) calls s new t call reply.Media of (saves_at index p s shows (tied told).mirrors (tells_writes.held told alive) t (right told) call has)
-        (inr (inr (free, inr (inr (refl, new.index, λ i. record { base = base i; history = history i; live = live i; doubt = doubt i; is_dead = died i; index = new.index }))))))
+        (inr (inr (free, inr (inr (works.due refl, (refl, new.index, λ i. record { base = base i; history = history i; live = live i; doubt = doubt i; is_dead = died i; index = new.index })))))))
 
     safe_failed : IsTrue tells → IsSafe (core_over Opens index q.store new) q.store.moment (length new.history)
     safe_failed told = safe_dead tells Opens index one p q old_laws new_laws told works.shape alive (tied told).index_sound s new (tied told).mirrors.table base history (time told (Err Media) works)

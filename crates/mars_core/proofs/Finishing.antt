@@ -247,7 +247,7 @@ module _ (tells : Bool) (Opens : Shape → List ℕ → List ℕ → Type 0) (in
 
         step_abort : Step (limits_of p.store.shape) s t Abort Fine new
         step_abort = step_of (limits_of p.store.shape) (Some calls) s new t Abort Fine living_state is
-            (inl (refl, λ i. record { base = base i; history = history i; live = live i; doubt = doubt i; is_dead = dead_alike i; index = index_alike i }))
+            (refl, λ i. record { base = base i; history = history i; live = live i; doubt = doubt i; is_dead = dead_alike i; index = index_alike i })
 
         tied_abort : IsTied index q new
         tied_abort =
@@ -280,33 +280,6 @@ module _ (tells : Bool) (Opens : Shape → List ℕ → List ℕ → Type 0) (in
         others = λ other ne. ap (λ (f : ℕ → Option Granted). f other) live ∙ update_apart s.live t None other ne;
         refused = λ refusal _. absurd (false≢true refusal);
       }) (λ failed. absurd (false≢true failed)) (λ _. (does.faults refl).1) step_abort time_abort safe_abort
-
-    module _ (does : (let r : Result (Unit {0}) TableFault = Err fault.Media in Does tells (Opens p.store.shape) index (abort t) p q r)) (live : new.live ≡ s.live) where
-      gone : new.is_dead ≡ true
-      gone = shows_new.dead ∙ (does.dies refl).0
-
-      step_gone : IsTrue tells → Step (limits_of p.store.shape) s t Abort reply.Media new
-      step_gone told = step_of (limits_of p.store.shape) (Some calls) s new t Abort reply.Media living_state is
-          (inr (refl, new.index, λ i. record { base = base i; history = history i; live = live i; doubt = doubt i; is_dead = gone i; index = new.index }))
-
-      time_gone : IsTrue tells → LeavesOnly (HasPrefixOf (OpensWith (Opens q.store.shape) index) new (length s.history)) p.store q.store
-      time_gone told = let was = kept.tied told alive in
-          time_same tells Opens index p q s new (state_of index p).table (after (abort t) (state_of index p)).table does.shape was.mirrors.table was.mirrors.table base history (does.time told alive)
-
-      safe_gone : IsTrue tells → IsSafe (core_over Opens index q.store new) q.store.moment (length new.history)
-      safe_gone told = let was = kept.tied told alive in safe_dead tells Opens index one p q old_laws new_laws told does.shape alive was.index_sound s new was.mirrors.table base history (time_gone told)
-
-      pub unended_keeps : IsKept tells Opens index q count' rows new
-      unended_keeps = record {
-        seats = same_count ∙ kept.seats ∙ sym (ap (λ (h : Shape). h.numbers) does.shape);
-        in_order = kept.in_order;
-        tied = λ told living. absurd (false≢true (sym living ∙ (does.dies refl).0));
-        safe = safe_gone;
-      }
-
-      pub unended_steps : Steps tells t Abort (core_over Opens index p.store s) (core_over Opens index q.store new) reply.Media
-      unended_steps = steps_of tells Opens index p q s new t Abort reply.Media does.shape (moves_refused s new t Abort reply.Media base history live (gone ∙ sym (or_true s.is_dead)) refl refl)
-          (λ _. (does.dies refl).1) (λ well. absurd (false≢true (sym well))) step_gone time_gone safe_gone
 
 -- a commit for which the history has no memory
 pub unkept : (tells : Bool) (Opens : Shape → List ℕ → List ℕ → Type 0) (index : below.Index) (p : PagesView) (s new : State) (shows : ShowsPages index p s) (count : ℕ) (rows : List (ℕ × List ℕ))

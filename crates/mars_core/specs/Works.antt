@@ -1,5 +1,5 @@
 -- A call of a transaction, as the records make it.
-use Rattle.std.specs.Prelude.{ℕ, ◌≡◌, ◌≤◌, ◌<◌, ◌+◌, ◌⊎◌, Bool, true, IsTrue, IsFalse, List, length, filter, Result, OnOk, OnErr, IfOk}
+use Rattle.std.specs.Prelude.{ℕ, ◌≡◌, ◌≤◌, ◌<◌, ◌+◌, ◌⊎◌, Bool, true, IsTrue, IsFalse, List, length, filter, Result, OnOk, OnErr, IfOk, IsErrOf}
 use Rattle.std.specs.FinMap.{get}
 use Rattle.counted.specs.Causes.{Rose}
 use Rattle.eaw_face.specs.StoreView.{LeavesOnly}
@@ -21,6 +21,7 @@ use Rattle.record_table.specs.Shown.{state_of, keys_of, held_on, is_write_on, Ar
 use Rattle.record_table.specs.declared.fault.TableFault.{TableFault}
 use Rattle.record_table.specs.declared.fault.TableFault.TheVariants.{SlotsFull, PagesFull, SavesFull, LogFull, Media, Dead, Damaged, NoMemory}
 use Rattle.core_face.specs.Fate.{is_refusal, is_committed}
+use Rattle.core_face.specs.Step.{uses_index}
 use Rattle.mars_core.specs.declared.asking.Answer.{Answer}
 
 -- the call of records for a caller's call; a begin has none, so a look stands for it
@@ -74,6 +75,7 @@ pub record Works (tells : Bool) (Opens : List ℕ → List ℕ → Type 0) (inde
   pub indexed : IsTrue tells → IsAlive old.store → IsFalse (is_failed result) → Indexed (command_of t call) (keys_of index old.store.state.bytes) (keys_of index new.store.state.bytes) result
   pub time : IsTrue tells → IsAlive old.store
       → LeavesOnly (λ image. OpensWith Opens index image (state_of index old).table ⊎ OpensWith Opens index image (after (command_of t call) (state_of index old)).table) old.store new.store
+  pub due : IsErrOf result Media → IsTrue (uses_index call)
   pub same : IfOk result (λ answer. answer.kept ≡ answer.told)
   pub granted : IfOk result (λ answer. IsFalse (is_refusal answer.told))
   pub plain : IfOk result (λ answer. IsFalse (is_committed answer.told))

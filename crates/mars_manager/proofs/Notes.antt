@@ -157,7 +157,7 @@ module _ (limits : Limits) (old : State) (caller : ℕ) (new : State) where
   asks calls call reply (inr (inr (free, inr (inl (lacks, index, indexes, e))))) =
       let now = subst (λ i. Indexes limits call reply old.index i) (sym (ap (λ (s : State). s.index) e)) indexes in
       record { told = lacks_told call reply lacks now; index = λ alive. index_moves limits call reply old.index new.index now }
-  asks calls call reply (inr (inr (free, inr (inr (re, index, e))))) = fails call reply re (ap (λ (s : State). s.is_dead) e)
+  asks calls call reply (inr (inr (free, inr (inr (uses, (re, index, e)))))) = fails call reply re (ap (λ (s : State). s.is_dead) e)
 
   left_at : (live : Option Granted) (call : Call) (reply : Reply) → StepAt limits live old caller call reply new → Left limits old caller new call reply
   unfolding T
@@ -181,9 +181,8 @@ module _ (limits : Limits) (old : State) (caller : ℕ) (new : State) where
   left_at (Some calls) (Back n) reply (inr (some, a)) = asks calls (Back n) reply a
   left_at (Some calls) Commit reply (inl short) = says Commit reply NoMemory tt short
   left_at (Some calls) Commit reply (inr (inl (re, e))) = same Commit reply (subst (λ r. Told limits old caller new Commit r) (sym re) tt) (ap (λ (s : State). s.index) e)
-  left_at (Some calls) Commit reply (inr (inr (re, index, e))) = fails Commit reply re (ap (λ (s : State). s.is_dead) e)
-  left_at (Some calls) Abort reply (inl (re, e)) = same Abort reply (subst (λ r. Told limits old caller new Abort r) (sym re) tt) (ap (λ (s : State). s.index) e)
-  left_at (Some calls) Abort reply (inr (re, index, e)) = fails Abort reply re (ap (λ (s : State). s.is_dead) e)
+  left_at (Some calls) Commit reply (inr (inr (wrote, re, index, e))) = fails Commit reply re (ap (λ (s : State). s.is_dead) e)
+  left_at (Some calls) Abort reply (re, e) = same Abort reply (subst (λ r. Told limits old caller new Abort r) (sym re) tt) (ap (λ (s : State). s.index) e)
 
   left_if : (dead : Bool) (call : Call) (reply : Reply) → old.is_dead ≡ dead → StepIf limits dead old caller call reply new → Left limits old caller new call reply
   unfolding T

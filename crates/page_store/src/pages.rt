@@ -171,6 +171,7 @@ impl<S: EawStore> Pages<S> {
         ensures count { IfOk result (λ n. n ≡ length (counts_in self.new.marks tid)) }
         ensures refused { OnErr result (self.new ≡ self.old) }
         ensures idle { self.new.store ≡ self.old.store }
+        ensures due { IsErrOf result PageFault.Media → ⊥ }
     {
         if self.store.is_dead() {
             return Err(PageFault::Dead);
@@ -195,6 +196,7 @@ impl<S: EawStore> Pages<S> {
             (pages_of (S.view self.old.store) self.old) (pages_of (S.view self.new.store) self.new) result }
         ensures refused { OnErr result (self.new ≡ self.old) }
         ensures idle { (S.view self.new.store).moment ≡ (S.view self.old.store).moment }
+        ensures due { IsErrOf result PageFault.Media → ⊥ }
     {
         if self.store.is_dead() {
             return Err(PageFault::Dead);
@@ -245,7 +247,8 @@ impl<S: EawStore> Pages<S> {
         ensures does { Does S.tells (S.opens (S.view self.old.store).shape) (end tid commits)
             (pages_of (S.view self.old.store) self.old) (pages_of (S.view self.new.store) self.new) result }
         ensures refused { IfErr result (λ fault. fault ≢ PageFault.Media → self.new ≡ self.old) }
-        ensures due { IsErrOf result PageFault.Media → 0 < log_len (S.view self.old.store) tid }
+        // An abort uses no medium, nor does a commit of nothing.
+        ensures due { IsErrOf result PageFault.Media → IsTrue commits × (0 < log_len (S.view self.old.store) tid) }
         ensures idle { log_len (S.view self.old.store) tid ≡ 0 → (S.view self.new.store).moment ≡ (S.view self.old.store).moment }
     {
         if self.store.is_dead() {
@@ -471,7 +474,7 @@ fn end_number<S: EawStore>(store: &mut S, tid: u8, commits: bool) -> Result<(), 
     ensures does { DoesWhereLive ((S.view store.old).ranges tid) (store.new ≡ store.old) S.tells (S.opens (S.view store.old).shape) (if commits then commit tid else abort tid)
         (S.view store.old) (S.view store.new) result }
     ensures refused { IfErr result (λ fault. fault ≢ PageFault.Media → store.new ≡ store.old) }
-    ensures due { IsErrOf result PageFault.Media → 0 < log_len (S.view store.old) tid }
+    ensures due { IsErrOf result PageFault.Media → IsTrue commits × (0 < log_len (S.view store.old) tid) }
     ensures idle { log_len (S.view store.old) tid ≡ 0 → (S.view store.new).moment ≡ (S.view store.old).moment }
 {
     if !store.is_live(tid) {

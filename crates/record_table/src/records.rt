@@ -192,6 +192,7 @@ impl<S: EawStore, K: KeyIndex> Records<S, K> {
             (pages_of (S.view self.old.store) self.old) (pages_of (S.view self.new.store) self.new) result }
         ensures count { IfOk result (λ n. n ≡ length (counts_in self.new.marks tid)) }
         ensures refused { OnErr result (self.new ≡ self.old) }
+        ensures due { IsErrOf result TableFault.Media → ⊥ }
     {
         told(self.pages.save(tid))
     }
@@ -205,6 +206,7 @@ impl<S: EawStore, K: KeyIndex> Records<S, K> {
         ensures does { Does S.tells (S.opens (S.view self.old.store).shape) K.index (back tid n)
             (pages_of (S.view self.old.store) self.old) (pages_of (S.view self.new.store) self.new) result }
         ensures refused { OnErr result (self.new ≡ self.old) }
+        ensures due { IsErrOf result TableFault.Media → ⊥ }
     {
         if self.pages.is_dead() {
             return Err(TableFault::Dead);
@@ -231,6 +233,7 @@ impl<S: EawStore, K: KeyIndex> Records<S, K> {
         ensures does { Does S.tells (S.opens (S.view self.old.store).shape) K.index (abort tid)
             (pages_of (S.view self.old.store) self.old) (pages_of (S.view self.new.store) self.new) result }
         ensures dead { IsErrOf result TableFault.Dead → self.new ≡ self.old }
+        ensures due { IsErrOf result TableFault.Media → ⊥ }
     {
         told(self.pages.end(tid, false))
     }

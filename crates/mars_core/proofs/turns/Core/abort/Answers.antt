@@ -17,7 +17,7 @@ use Rattle.mars_core.specs.Seats.{Seats, live_in, calls_at}
 use Rattle.mars_core.specs.Works.{reply_to}
 use Rattle.mars_core.proofs.Prefixes.{StoreLaws}
 use Rattle.mars_core.proofs.Staying.{some_of}
-use Rattle.mars_core.proofs.Finishing.{abort_fails, aborted_keeps, aborted_steps, unended_keeps, unended_steps}
+use Rattle.mars_core.proofs.Finishing.{abort_fails, aborted_keeps, aborted_steps}
 use Rattle.mars_core.proofs.turns.Core.abort.Given.{Over}
 use Rattle.mars_core.proofs.turns.Core.abort.Goals as goal
 
@@ -39,11 +39,8 @@ invariant_of-self g c = aborted_keeps g.S.EawStore.tells g.S.EawStore.opens g.K.
     (subst (λ (h : Held g.row.S.Denot). IsAlive (g.S.EawStore.view h.records.store)) (sym c.self.view_is) c.requires.alive) c.args.caller (calls_at c.self.inside.seats c.args.caller) (live_is c.self.inside.seats c.args.caller (sym c.if-not-is_live.ensures)) refl refl c.in-Ok.ensures.does c.end.ensures.live
 
 pub invariant_of-self-in-Err : goal.invariant_of-self-in-Err
-invariant_of-self-in-Err g c = unended_keeps g.S.EawStore.tells g.S.EawStore.opens g.K.KeyIndex.index g.met.S.EawStore.one_data (pages_of (g.S.EawStore.view c.self.inside.records.store) c.self.inside.records) (pages_of (g.S.EawStore.view c.abort.new.self.store) c.abort.new.self)
-    (laws_at g c.self.inside.records.store) (laws_at g c.abort.new.self.store) (state_at g.K.KeyIndex.index (g.S.EawStore.view c.self.inside.records.store) (table_of c.self.inside.base) c.self.inside.history (live_in c.self.inside.seats) c.self.inside.doubt) (state_at g.K.KeyIndex.index (g.S.EawStore.view c.abort.new.self.store) (table_of c.self.inside.base) c.self.inside.history (live_in c.self.inside.seats) c.self.inside.doubt) (record { indexed = refl; dead = refl }) (record { indexed = refl; dead = refl })
-    refl (length c.self.inside.seats) (length c.self.inside.seats) refl c.self.inside.base c.self.invariant
-    (subst (λ (h : Held g.row.S.Denot). IsAlive (g.S.EawStore.view h.records.store)) (sym c.self.view_is) c.requires.alive) c.args.caller (calls_at c.self.inside.seats c.args.caller) (live_is c.self.inside.seats c.args.caller (sym c.if-not-is_live.ensures)) refl refl (subst (λ (f : TableFault). (let r : Result (Unit {0}) TableFault = Err f in Does g.S.EawStore.tells (g.S.EawStore.opens (g.S.EawStore.view c.self.inside.records.store).shape) g.K.KeyIndex.index (abort c.args.caller)
-    (pages_of (g.S.EawStore.view c.self.inside.records.store) c.self.inside.records) (pages_of (g.S.EawStore.view c.abort.new.self.store) c.abort.new.self) r)) (abort_fails g.S.EawStore.tells g.K.KeyIndex.index (pages_of (g.S.EawStore.view c.self.inside.records.store) c.self.inside.records) c.args.caller (subst (λ (h : Held g.row.S.Denot). IsAlive (g.S.EawStore.view h.records.store)) (sym c.self.view_is) c.requires.alive) c.in-Err.fault c.in-Err.ensures.does.cause) c.in-Err.ensures.does) refl
+-- an abort uses no medium
+invariant_of-self-in-Err g c = absurd (c.abort.ensures.due (c.in-Err.is ∙ ap (λ (f : TableFault). (let r : Result (Unit {0}) TableFault = Err f in r)) (abort_fails g.S.EawStore.tells g.K.KeyIndex.index (pages_of (g.S.EawStore.view c.self.inside.records.store) c.self.inside.records) c.args.caller (subst (λ (h : Held g.row.S.Denot). IsAlive (g.S.EawStore.view h.records.store)) (sym c.self.view_is) c.requires.alive) c.in-Err.fault c.in-Err.ensures.does.cause)))
 
 pub returns-in-Ok : goal.returns-in-Ok
 returns-in-Ok g c = record {
@@ -57,19 +54,8 @@ returns-in-Ok g c = record {
 }
 
 pub returns-in-Err : goal.returns-in-Err
-returns-in-Err g c = record {
-  steps = subst (λ (r : Reply). Steps g.S.EawStore.tells c.args.caller Abort (core_of g.S.EawStore.opens g.K.KeyIndex.index (g.S.EawStore.view c.args.self.now.records.store) c.args.self.now)
-      (core_of g.S.EawStore.opens g.K.KeyIndex.index (g.S.EawStore.view c.abort.new.self.store)
-      (record { records = c.abort.new.self; base = c.self.inside.base; seats = c.self.inside.seats; history = c.self.inside.history; doubt = c.self.inside.doubt })) r) (sym (c.reply_to.ensures ∙ ap reply_to (abort_fails g.S.EawStore.tells g.K.KeyIndex.index (pages_of (g.S.EawStore.view c.self.inside.records.store) c.self.inside.records) c.args.caller (subst (λ (h : Held g.row.S.Denot). IsAlive (g.S.EawStore.view h.records.store)) (sym c.self.view_is) c.requires.alive) c.in-Err.fault c.in-Err.ensures.does.cause)))
-      (subst (λ (h : Held g.row.S.Denot). Steps g.S.EawStore.tells c.args.caller Abort (core_of g.S.EawStore.opens g.K.KeyIndex.index (g.S.EawStore.view h.records.store) h)
-      (core_of g.S.EawStore.opens g.K.KeyIndex.index (g.S.EawStore.view c.abort.new.self.store)
-      (record { records = c.abort.new.self; base = c.self.inside.base; seats = c.self.inside.seats; history = c.self.inside.history; doubt = c.self.inside.doubt })) reply.Media) c.self.view_is
-      (unended_steps g.S.EawStore.tells g.S.EawStore.opens g.K.KeyIndex.index g.met.S.EawStore.one_data (pages_of (g.S.EawStore.view c.self.inside.records.store) c.self.inside.records) (pages_of (g.S.EawStore.view c.abort.new.self.store) c.abort.new.self)
-      (laws_at g c.self.inside.records.store) (laws_at g c.abort.new.self.store) (state_at g.K.KeyIndex.index (g.S.EawStore.view c.self.inside.records.store) (table_of c.self.inside.base) c.self.inside.history (live_in c.self.inside.seats) c.self.inside.doubt) (state_at g.K.KeyIndex.index (g.S.EawStore.view c.abort.new.self.store) (table_of c.self.inside.base) c.self.inside.history (live_in c.self.inside.seats) c.self.inside.doubt) (record { indexed = refl; dead = refl }) (record { indexed = refl; dead = refl })
-      refl (length c.self.inside.seats) (length c.self.inside.seats) refl c.self.inside.base c.self.invariant
-      (subst (λ (h : Held g.row.S.Denot). IsAlive (g.S.EawStore.view h.records.store)) (sym c.self.view_is) c.requires.alive) c.args.caller (calls_at c.self.inside.seats c.args.caller) (live_is c.self.inside.seats c.args.caller (sym c.if-not-is_live.ensures)) refl refl (subst (λ (f : TableFault). (let r : Result (Unit {0}) TableFault = Err f in Does g.S.EawStore.tells (g.S.EawStore.opens (g.S.EawStore.view c.self.inside.records.store).shape) g.K.KeyIndex.index (abort c.args.caller)
-      (pages_of (g.S.EawStore.view c.self.inside.records.store) c.self.inside.records) (pages_of (g.S.EawStore.view c.abort.new.self.store) c.abort.new.self) r)) (abort_fails g.S.EawStore.tells g.K.KeyIndex.index (pages_of (g.S.EawStore.view c.self.inside.records.store) c.self.inside.records) c.args.caller (subst (λ (h : Held g.row.S.Denot). IsAlive (g.S.EawStore.view h.records.store)) (sym c.self.view_is) c.requires.alive) c.in-Err.fault c.in-Err.ensures.does.cause) c.in-Err.ensures.does) refl));
-}
+-- an abort uses no medium
+returns-in-Err g c = absurd (c.abort.ensures.due (c.in-Err.is ∙ ap (λ (f : TableFault). (let r : Result (Unit {0}) TableFault = Err f in r)) (abort_fails g.S.EawStore.tells g.K.KeyIndex.index (pages_of (g.S.EawStore.view c.self.inside.records.store) c.self.inside.records) c.args.caller (subst (λ (h : Held g.row.S.Denot). IsAlive (g.S.EawStore.view h.records.store)) (sym c.self.view_is) c.requires.alive) c.in-Err.fault c.in-Err.ensures.does.cause)))
 
 pub is_live-requires : goal.is_live-requires
 is_live-requires g c = subst (λ (n : ℕ). c.args.caller < n) (sym c.self.invariant.seats) (subst (λ (h : Held g.row.S.Denot). c.args.caller < (g.S.EawStore.view h.records.store).shape.numbers) (sym c.self.view_is) c.requires.inside)

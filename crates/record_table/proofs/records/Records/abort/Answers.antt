@@ -1,8 +1,9 @@
 use Rattle.std.proofs.Common.{false}
+use Rattle.std.proofs.lemmas.Bool.{false≢true}
 use Rattle.page_store.specs.Command as page
 use Rattle.page_store.specs.Shown.{pages_of}
 use Rattle.record_table.specs.Command.{abort}
-use Rattle.record_table.proofs.Ending.{ended, err_same, abort_is}
+use Rattle.record_table.proofs.Ending.{ended, err_same, abort_is, media_told}
 use Rattle.record_table.proofs.SlotParts.{Laws}
 use Rattle.record_table.proofs.records.Records.abort.Goals as goal
 
@@ -25,3 +26,6 @@ returns-clause-does g c =
     (ended V g.S.EawStore.tells g.S.EawStore.opens g.K.KeyIndex.index (abort c.args.tid) c.args.self.now inside c.self.view_is (page.end c.args.tid false) c.end.new.self c.self.invariant (Unit {0})
     (λ alive. abort_is g.S.EawStore.tells g.K.KeyIndex.index laws (pages_of (V inside.store) inside) (c.self.invariant alive) c.args.tid (Unit {0})) c.end.result c.end.ensures.does
     (err_same c.end.result c.end.ensures.refused) c.told.result c.told.ensures).0
+
+pub returns-clause-due : goal.returns-clause-due
+returns-clause-due g c = λ failed. false≢true (c.end.ensures.due (media_told c.end.result c.told.result c.told.ensures failed)).0

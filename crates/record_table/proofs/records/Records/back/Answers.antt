@@ -2,7 +2,7 @@ use Rattle.std.proofs.Common.{◌≤◌, length, sym, subst}
 use Rattle.page_store.specs.Command as page
 use Rattle.page_store.specs.Shown.{Shown, pages_of, counts_in}
 use Rattle.record_table.specs.Command.{back}
-use Rattle.record_table.proofs.Ending.{ended, on_err_same, back_is}
+use Rattle.record_table.proofs.Ending.{ended, on_err_same, back_is, media_told}
 use Rattle.record_table.proofs.SlotParts.{Laws}
 use Rattle.record_table.proofs.records.Records.back.Goals as goal
 
@@ -29,3 +29,6 @@ returns-clause-does g c =
     (subst (λ (p : Shown g.row.S.Denot). c.args.n ≤ length (counts_in p.marks c.args.tid)) (sym c.self.view_is) c.requires.there) (c.is_dead.ensures.ordered alive)
     (λ told. record { long = g.met.S.EawStore.long inside.store told; outlines = λ t. g.met.S.EawStore.outlines inside.store t told alive; placed = λ t. g.met.S.EawStore.placed inside.store t })) c.back.result c.back.ensures.does
     (on_err_same c.back.result c.back.ensures.refused) c.told.result c.told.ensures).0
+
+pub returns-clause-due : goal.returns-clause-due
+returns-clause-due g c = λ failed. c.back.ensures.due (media_told c.back.result c.told.result c.told.ensures failed)

@@ -35,5 +35,5 @@ returns-clause-due g c = λ told alive failed.
     let inside = c.self.inside.pages in
     let living : IsAlive (V inside.store) = subst (λ p. IsAlive (V p.store)) (sym c.self.view_is) alive in
     let many = as_many_writes g.K.KeyIndex.index (pages_of (V inside.store) inside) c.args.tid (g.met.S.EawStore.outlines inside.store c.args.tid told living) in
-    let due = c.end.ensures.due (media_told c.end.result c.told.result c.told.ensures failed) in
+    let due = (c.end.ensures.due (media_told c.end.result c.told.result c.told.ensures failed)).1 in
     subst (λ p. 0 < length ((state_of g.K.KeyIndex.index (pages_of (V p.store) p)).writes c.args.tid)) c.self.view_is (subst (λ (n : ℕ). 0 < n) many due)

@@ -2,7 +2,7 @@ use Rattle.std.proofs.Common.{ℕ}
 use Rattle.page_store.specs.Command as page
 use Rattle.page_store.specs.Shown.{pages_of}
 use Rattle.record_table.specs.Command.{save}
-use Rattle.record_table.proofs.Ending.{ended, on_err_same, save_is}
+use Rattle.record_table.proofs.Ending.{ended, on_err_same, save_is, media_told}
 use Rattle.record_table.proofs.SlotParts.{Laws}
 use Rattle.record_table.proofs.records.Records.save.Goals as goal
 
@@ -25,3 +25,6 @@ returns-clause-does g c =
     (ended V g.S.EawStore.tells g.S.EawStore.opens g.K.KeyIndex.index (save c.args.tid) c.args.self.now inside c.self.view_is (page.save c.args.tid) c.save.new.self c.self.invariant ℕ
     (λ alive. save_is g.S.EawStore.tells g.K.KeyIndex.index laws (pages_of (V inside.store) inside) (c.self.invariant alive) c.args.tid ℕ) c.save.result c.save.ensures.does
     (on_err_same c.save.result c.save.ensures.refused) c.told.result c.told.ensures).0
+
+pub returns-clause-due : goal.returns-clause-due
+returns-clause-due g c = λ failed. c.save.ensures.due (media_told c.save.result c.told.result c.told.ensures failed)
