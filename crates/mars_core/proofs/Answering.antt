@@ -7,7 +7,6 @@ use Rattle.array_shape.specs.Places.{data_len}
 use Rattle.eaw_face.specs.StoreView.{LeavesOnly}
 use Rattle.eaw_face.specs.Causes.{IsAlive}
 use Rattle.page_store.specs.Index as below
-use Rattle.page_store.specs.Index.{slots_of}
 use Rattle.page_store.specs.Shown.{PagesView}
 use Rattle.history.specs.Writes.{Write}
 use Rattle.history.specs.Table.{Granted, IsRight}
@@ -16,7 +15,6 @@ use Rattle.history.specs.Log.{log_of}
 use Rattle.history.specs.declared.call.Call.{Call}
 use Rattle.history.specs.declared.call.Call.TheVariants.{Begin, Get, Put, Del, Scan, Save, Back, Commit, Abort}
 use Rattle.history.specs.declared.call.Reply.{Reply}
-use Rattle.history.specs.declared.call.Reply.TheVariants.{Fine}
 use Rattle.history.specs.declared.call.Reply.TheVariants as reply
 use Rattle.record_table.specs.State.{TableState}
 use Rattle.record_table.specs.Causes.{Cause, IsSavedOut, IsScan}

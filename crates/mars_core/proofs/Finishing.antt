@@ -38,7 +38,7 @@ use Rattle.mars_core.specs.Kept.{Mirrors, HasHeld, IsTied, IsKept}
 use Rattle.mars_core.proofs.Mirroring.{with_one_here, mirrors_at, apart}
 use Rattle.mars_core.proofs.Entering.{room_empty}
 use Rattle.mars_core.proofs.Prefixes.{StoreLaws, prefix_all, prefix_more, sound_after, safe_dead, safe_alive}
-use Rattle.mars_core.proofs.Stepping.{ShowsPages, or_false, or_true, moves_refused, step_of, steps_of, steps_same, time_same}
+use Rattle.mars_core.proofs.Stepping.{ShowsPages, or_false, or_true, step_of, steps_of, steps_same, time_same}
 
 -- what was pushed last is what is removed
 no_tail : {A : Type 0} (x : A) (xs : List A) → x ∷ xs ≡ [] → ⊥

@@ -5,16 +5,12 @@ use Rattle.page_store.specs.Shown.{pages_of}
 use Rattle.history.specs.Rows.{table_of}
 use Rattle.history.specs.Table.{Granted}
 use Rattle.history.specs.declared.call.Call.TheVariants.{Abort}
-use Rattle.history.specs.declared.call.Reply.{Reply}
-use Rattle.history.specs.declared.call.Reply.TheVariants.{Fine, Committed, NoMemory}
-use Rattle.history.specs.declared.call.Reply.TheVariants as reply
+use Rattle.history.specs.declared.call.Reply.TheVariants.{Fine}
 use Rattle.record_table.specs.Command.{abort}
-use Rattle.record_table.specs.Does.{Does}
 use Rattle.record_table.specs.declared.fault.TableFault.{TableFault}
 use Rattle.core_face.specs.Core.{Steps}
 use Rattle.mars_core.specs.Held.{Held, core_of, state_at}
 use Rattle.mars_core.specs.Seats.{Seats, live_in, calls_at}
-use Rattle.mars_core.specs.Works.{reply_to}
 use Rattle.mars_core.proofs.Prefixes.{StoreLaws}
 use Rattle.mars_core.proofs.Staying.{some_of}
 use Rattle.mars_core.proofs.Finishing.{abort_fails, aborted_keeps, aborted_steps}

@@ -7,7 +7,7 @@ use Rattle.history.specs.Rows.{table_of}
 use Rattle.history.specs.Table.{Granted}
 use Rattle.history.specs.declared.call.Call.TheVariants.{Commit}
 use Rattle.history.specs.declared.call.Reply.{Reply}
-use Rattle.history.specs.declared.call.Reply.TheVariants.{Fine, Committed, NoMemory}
+use Rattle.history.specs.declared.call.Reply.TheVariants.{Committed, NoMemory}
 use Rattle.history.specs.declared.call.Reply.TheVariants as reply
 use Rattle.history.specs.declared.transaction.Done.{Done}
 use Rattle.record_table.specs.Command.{commit}
