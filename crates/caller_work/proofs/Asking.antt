@@ -1,6 +1,6 @@
 -- What comes of a call between begin and end.
-use Rattle.std.proofs.Common.{ℕ, ◌≡◌, Bool, true, false, List, [], ◌∷◌, ◌++◌, Option, Some, Result, Ok, Err, refl, sym, ap, ◌∙◌, subst}
-use Rattle.std.specs.Prelude.{IsFalse, IfOk, IfErr, unwrap_or}
+use Rattle.std.proofs.Common.{ℕ, ◌≡◌, inl, Bool, true, false, List, [], ◌∷◌, ◌++◌, Option, Some, Result, Ok, Err, refl, sym, ap, ◌∙◌, subst}
+use Rattle.std.specs.Prelude.{IsTrue, IsFalse, IfOk, IfErr, unwrap_or}
 use Rattle.std.proofs.lemmas.Bool.{true≢false}
 use Rattle.std.proofs.lemmas.List.{map-append}
 use Rattle.history.specs.Table.{Granted}
@@ -14,8 +14,10 @@ use Rattle.core_face.specs.Fate.{is_refusal, is_media, live_with}
 use Rattle.core_face.specs.Core.{CoreView}
 use Rattle.mars_manager.specs.declared.view.Known.{Known}
 use Rattle.mars_manager.specs.declared.setup.Setup.{Setup}
-use Rattle.mars_manager.specs.Notes.{is_noted}
-use Rattle.mars_manager.specs.Sharing.{MarsView, Called}
+use Rattle.core_face.specs.Own.{nothing_own, live_by}
+use Rattle.core_face.proofs.Running.{turn_run}
+use Rattle.core_face.proofs.Owning.{turns_live}
+use Rattle.mars_manager.specs.Sharing.{MarsView, Called, live_of}
 use Rattle.caller_work.specs.declared.stop.Heard.{Heard}
 use Rattle.caller_work.specs.declared.stop.Heard.TheVariants as heard
 use Rattle.caller_plans.specs.Plans.{is_of_table}
@@ -57,20 +59,6 @@ busy_same : (reply : Reply) (holder : ℕ) → heard_of reply ≡ Ok (heard.Busy
 busy_same (says.Busy n) holder e = cc
 busy_same _ holder e = absurd (cc)
 
-refused_noted : (reply other : Reply) → heard_of reply ≡ Ok (heard.Refused other) → is_noted reply ≡ true
-refused_noted says.NoTransaction other e = refl
-refused_noted says.Already other e = refl
-refused_noted (says.NoSave n) other e = refl
-refused_noted says.SavesFull other e = refl
-refused_noted (says.LogFull g h n) other e = refl
-refused_noted (says.SlotsFull n) other e = refl
-refused_noted (says.PagesFull n) other e = refl
-refused_noted (says.Damaged n) other e = refl
-refused_noted says.Media other e = refl
-refused_noted says.Dead other e = refl
-refused_noted (says.Busy n) other e = refl
-refused_noted _ other e = absurd (cc)
-
 live_grows : (calls : Granted) (call : Call) (reply : Reply) → is_of_table call ≡ true → live_with calls call reply ≡ Some (calls ++ (call, reply) ∷ [])
 live_grows calls Begin reply e = absurd (true≢false (sym e))
 live_grows calls Commit reply e = absurd (true≢false (sym e))
@@ -84,6 +72,14 @@ module _ {C : Type 0} (tells : Bool) (show : C → CoreView) (mars : MarsView C)
   limits_are : (show step.old).limits ≡ limits_of show mars
   limits_are = step.since.limits ∙ ap (λ (s : Setup C). (show s.first).limits) (setup_one step.setup mars.setup (sym step.setup_is ∙ setup))
 
+  -- the live transaction in the core is the one that the caller's turns say
+  live_was : IsTrue tells → (show step.old).state.live was.number ≡ live_of was
+  live_was told =
+      let first = (show step.setup.first).state in
+      turns_live tells (show step.setup.first).limits was.number first (show step.old).state step.turns nothing_own
+      (turn_run tells (show step.setup.first).limits was.number was.seen first (show step.old).state step.turns step.last) (inl told) (step.ready.live was.number)
+      ∙ ap (live_by was.number) (sym step.told)
+
   -- what came of the call
   pub heard_at : (h : Heard) → heard_of reply ≡ Ok h → (before : List Call) → IsLive before was → IsHeard tells (limits_of show mars) before call now h
   heard_at heard.Granted e before live = record {
@@ -93,10 +89,10 @@ module _ {C : Type 0} (tells : Bool) (show : C → CoreView) (mars : MarsView C)
   }
   heard_at (heard.Busy holder) e before live =
       let is = busy_same reply holder e in
-      subst (λ (r : Reply). HasMet now.hit call r) is (met_now tells show was now call reply step (ap is_noted is))
+      subst (λ (r : Reply). HasMet now.told call r) is (met_now tells show was now call reply step)
   heard_at (heard.Refused other) e before live = λ told.
       let made : Step (limits_of show mars) (show step.old).state was.number call reply (show step.new).state = subst (λ (l : Limits). Step l (show step.old).state was.number call reply (show step.new).state) limits_are (step.steps.step told) in
-      let why = may_refuse (limits_of show mars) (show step.old).state was.number (show step.new).state live.granted (step.live ∙ live.live) reply other e call plain made in (
+      let why = may_refuse (limits_of show mars) (show step.old).state was.number (show step.new).state live.granted (live_was told ∙ live.live) reply other e call plain made in (
         subst (λ (l : List Call). MayRefuse (limits_of show mars) l call other) live.calls_are why,
-        subst (λ (r : Reply). HasMet now.hit call r) (refused_same reply other e) (met_now tells show was now call reply step (refused_noted reply other e)),
+        subst (λ (r : Reply). HasMet now.told call r) (refused_same reply other e) (met_now tells show was now call reply step),
       )

@@ -8,8 +8,9 @@ use Rattle.history.specs.declared.transaction.Done.{Done}
 use Rattle.core_face.specs.State.{State}
 use Rattle.core_face.specs.Room.{Limits}
 use Rattle.core_face.specs.Core.{CoreView}
-use Rattle.mars_manager.specs.Notes.{Gained}
-use Rattle.mars_manager.specs.Pass.{HasNoOthers, commits_of}
+use Rattle.core_face.specs.Run.{Turn, HasNoOthers, commits_of}
+use Rattle.core_face.specs.Step.{Runs}
+use Rattle.core_face.specs.Shown.{Gained}
 use Rattle.mars_manager.specs.Sharing.{Since}
 use Rattle.caller_plans.specs.declared.plan.Plan.{Plan}
 use Rattle.caller_plans.specs.declared.fate.Fate.{Fate}
@@ -50,6 +51,8 @@ pub record Worked (tells : Bool) (plans : List (List Plan)) (first last : CoreVi
   pub dead : last.state.is_dead ≡ is_fault end
   pub others : HasNoOthers (length plans) last.state
   pub each : length fates ≡ length plans
+  pub turns : List Turn
+  pub runs : IsTrue tells → Runs first.limits first.state turns last.state
   pub fated : IsTrue tells → (caller : ℕ) → caller < length plans →
       AreFated last.limits (StillLacks last.limits last.state) caller (of_caller plans caller) (of_caller fates caller) (commits_of caller last.state.history)
   pub whole : end ≡ work.All → (caller : ℕ) → caller < length plans → length (of_caller fates caller) ≡ length (of_caller plans caller)

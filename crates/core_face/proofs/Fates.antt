@@ -106,7 +106,7 @@ refusal_none _ e = refl
 pub record IsPlain (reply : Reply) : Type 0 where
   done : is_refusal reply ≡ false
   pub uncommitted : is_committed reply ≡ false
-  sure : is_media reply ≡ false
+  pub sure : is_media reply ≡ false
 
 found_plain : (o : Option (List ℕ)) (reply : Reply) → reply ≡ found o → IsPlain reply
 found_plain None reply e = record { done = ap is_refusal e; uncommitted = ap is_committed e; sure = ap is_media e }
@@ -224,6 +224,6 @@ pub step_moves : (limits : Limits) (old : State) (caller : ℕ) (call : Call) (r
 step_moves limits old caller call reply new step = fate_moves old caller call reply new (step_fate limits old caller new call reply step)
 
 -- a run keeps the base
-pub runs_base : (limits : Limits) (old : State) (lines : List (ℕ × Call × Reply)) (new : State) → Runs limits old lines new → new.base ≡ old.base
+pub runs_base : (limits : Limits) (old : State) (turns : List (ℕ × Call × Reply)) (new : State) → Runs limits old turns new → new.base ≡ old.base
 runs_base limits old [] new e = ap (λ (s : State). s.base) e
-runs_base limits old (line ∷ lines) new (mid, step, runs) = runs_base limits mid lines new runs ∙ (step_moves limits old line.0 line.1 line.2 mid step).base
+runs_base limits old (turn ∷ turns) new (mid, step, runs) = runs_base limits mid turns new runs ∙ (step_moves limits old turn.0 turn.1 turn.2 mid step).base

@@ -1,6 +1,6 @@
 -- Opening the table, dealing out the passes, taking them in, and the end.
 use Rattle.std.proofs.Common.{◌≡◌, ◌≢◌, ◌⊎◌, ℕ, zero, suc, ◌+◌, ◌-◌, ◌<◌, ◌≤◌, eqb, List, [], ◌∷◌, ◌++◌, length, set, get_or, false, Option, Some, None, refl, sym, ap, ◌∙◌, subst, inl, inr, ⊎_elim, arith, length-set, map, eq-eqb, ne_eqb, append_assoc}
-use Rattle.std.specs.Prelude.{if◌then◌else◌, IfSome, IsTrue}
+use Rattle.std.specs.Prelude.{if◌then◌else◌, IfSome}
 use Rattle.std.specs.Option.{option_to_list}
 use mathlib.Core.Logic.{dite}
 use mathlib.Core.List.{append-nil}
@@ -17,13 +17,13 @@ use Rattle.mars_manager.specs.declared.view.Stage.{Stage}
 use Rattle.mars_manager.specs.declared.view.Stage.TheVariants.{Vacant, Opening, Shared}
 use Rattle.mars_manager.specs.declared.view.View.{View}
 use Rattle.mars_manager.specs.declared.setup.Setup.{Setup}
-use Rattle.mars_manager.specs.Notes.{Notes, IsDeadAsMet, AreNoted}
-use Rattle.mars_manager.specs.Pass.{AllFit, AreSo, commits_of, times, newcomer, PassView, PassesView, AllOf, dealt, known_of, HasNoOthers}
+use Rattle.core_face.specs.Run.{Turn, GoesAlong, AreOf, LastTurn}
+use Rattle.core_face.proofs.Running.{turn_none}
+use Rattle.mars_manager.specs.Pass.{AllFit, AreSo, times, newcomer, PassView, PassesView, AllOf, dealt, known_of}
 use Rattle.mars_manager.specs.Sharing.{CanShare, Since}
 use Rattle.mars_manager.specs.Seat.{view, shared_view, opener, newcomers, behind, front, joined, spent}
 use Rattle.mars_manager.specs.Rule.{Face, total, IsFree, IsHeld, IsKept, IsFresh, IsOpening, Rule, began, gives_turn}
 use Rattle.mars_manager.proofs.Past.{since_shared}
-use Rattle.mars_manager.proofs.Notes.{none_noted, none_met}
 use Rattle.mars_manager.proofs.Seats.{times_append, at_only, each_set, total_set, total_two, total_snoc, total_has}
 use Rattle.mars_manager.proofs.Turns.{out, some_same, some≢none, is_open, vacant≢shared, opening≢shared, vacant≢opening}
 
@@ -52,9 +52,6 @@ module _ {C : Type 0} where
   none_above setup n m (suc count) l =
       let i = none_above setup n (suc m) count (omega arith) in
       let t : times n (newcomers setup m (suc count)) ≡ 0 + times n (newcomers setup (suc m) count) = ap (λ b. (if b then 1 else 0) + times n (newcomers setup (suc m) count)) (ne_eqb m n (λ e. omega arith)) in omega arith
-
-abbrev nothing : Notes
-nothing = record { asked = []; hit = []; doubt = None }
 
 module _ {C : Type 0} (f : Face C) (setup : Setup C) where
   abbrev V : Type 0
@@ -108,20 +105,17 @@ module _ {C : Type 0} (f : Face C) (setup : Setup C) where
         refl,
       )
 
-  fresh_fit : (state : CoreState) (m n : ℕ) → state.history ≡ [] → ((k : ℕ) → state.live k ≡ None) → AllFit setup state (λ caller. nothing) (newcomers setup m n)
-  fresh_fit state m zero none_done none_live = tt
-  fresh_fit state m (suc n) none_done none_live = (
+  -- a pass that was told nothing knows what is true at the beginning
+  fresh_fit : (m n : ℕ) → (f.show setup.first).state.history ≡ [] → AllFit f.tells f.show setup [] (f.show setup.first).state (newcomers setup m n)
+  fresh_fit m zero none_done = tt
+  fresh_fit m (suc n) none_done = (
     record {
       setup_is = refl;
-      seen = record { more = []; is = none_done };
-      mine = sym (ap (commits_of m) none_done);
-      live = sym (none_live m);
+      told = refl;
+      seen = subst (λ h. LastTurn f.tells (f.show setup.first).limits m h (f.show setup.first).state [] (f.show setup.first).state) none_done (turn_none f.tells (f.show setup.first).limits m (f.show setup.first).state);
       heard = omega arith;
-      asked = refl;
-      hit = refl;
-      doubt = refl;
     },
-    fresh_fit state (suc m) n none_done none_live,
+    fresh_fit (suc m) n none_done,
   )
 
   pub opens_keeps : (slots id : ℕ) → CanShare f.tells setup.callers (f.show setup.first) → setup.callers < 256
@@ -138,7 +132,7 @@ module _ {C : Type 0} (f : Face C) (setup : Setup C) where
         tt,
         inr (inr (record {
           core = core;
-          notes = λ caller. nothing;
+          turns = [];
           two = ap length words;
           one = length-set s.homes 0 (some (Some core)) ∙ x.0.one;
           told = ap (λ l. get_or l 1 0) words ∙ sym (ap length can.history);
@@ -148,15 +142,14 @@ module _ {C : Type 0} (f : Face C) (setup : Setup C) where
             nobody = only (λ v. v.held ≡ None) refl;
           });
           staged = only (λ v. v.stage ≡ Shared) refl;
-          fit = only (λ v. AllFit setup (f.show core).state (λ caller. nothing) v.passes) (fresh_fit (f.show core).state 0 setup.callers can.history can.live);
+          fit = only (λ v. AllFit f.tells f.show setup [] (f.show core).state v.passes) (fresh_fit 0 setup.callers can.history);
           once = λ n. (let t : count n (set s.views id w) ≡ times n w.passes + 0 = ap (count n) views in let o = once_each setup n 0 setup.callers in omega arith);
           below = λ n b. (let t : count n (set s.views id w) ≡ times n w.passes + 0 = ap (count n) views in let o = none_above setup n 0 setup.callers (omega arith) in omega arith);
           few = few;
-          enough = can.enough;
+          ready = can;
           since = since_shared f.tells setup.callers (f.show core) can;
-          strangers = λ n b. (ap (commits_of n) can.history, can.live n);
-          dead = none_met setup.callers (f.show core).state can.alive;
-          noted = λ told. none_noted (f.show core).limits setup.callers (f.show core).state can.live can.alive ((can.sound told).certain can.alive);
+          run = refl;
+          whose = tt;
         })),
         refl,
       )
@@ -189,7 +182,7 @@ module _ {C : Type 0} (f : Face C) (setup : Setup C) where
       let c = times_append n (k ∷ []) ks in
       omega arith) in record {
         core = h.core;
-        notes = h.notes;
+        turns = h.turns;
         two = h.two;
         one = h.one;
         told = h.told;
@@ -207,23 +200,22 @@ module _ {C : Type 0} (f : Face C) (setup : Setup C) where
             }))
             h.place;
         staged = after_deal (λ _ u. u.stage ≡ Shared) s.views id left right refl (λ _. refl) h.staged;
-        fit = after_deal (λ _ u. AllFit setup (f.show h.core).state h.notes u.passes) s.views id left right fit.1 (λ _. (fit.0, tt)) h.fit;
+        fit = after_deal (λ _ u. AllFit f.tells f.show setup h.turns (f.show h.core).state u.passes) s.views id left right fit.1 (λ _. (fit.0, tt)) h.fit;
         once = λ n. (let t = counts n in let o = h.once n in omega arith);
         below = λ n b. counts n ∙ h.below n b;
         few = h.few;
-        enough = h.enough;
+        ready = h.ready;
         since = h.since;
-        strangers = h.strangers;
-        dead = h.dead;
-        noted = h.noted;
+        run = h.run;
+        whose = h.whose;
       }
 
   pub deals_keeps : (id : ℕ) (k : Known C) (ks : List (Known C)) → Splits (Rule f setup) id (shared_view (k ∷ ks) None) (shared_view ks None) (shared_view (k ∷ []) None)
   deals_keeps id k ks s rule at = inr (inr (dealt_by s id k ks (is_open f setup s id (shared_view (k ∷ ks) None) rule at refl) at))
 
-  all_append : (setup : Setup C) (state : CoreState) (notes : ℕ → Notes) (ks ls : List (Known C)) → AllFit setup state notes ks → AllFit setup state notes ls → AllFit setup state notes (ks ++ ls)
-  all_append setup state notes [] ls a b = b
-  all_append setup state notes (k ∷ ks) ls a b = (a.0, all_append setup state notes ks ls a.1 b)
+  all_append : (turns : List Turn) (state : CoreState) (ks ls : List (Known C)) → AllFit f.tells f.show setup turns state ks → AllFit f.tells f.show setup turns state ls → AllFit f.tells f.show setup turns state (ks ++ ls)
+  all_append turns state [] ls a b = b
+  all_append turns state (k ∷ ks) ls a b = (a.0, all_append turns state ks ls a.1 b)
 
   after_join : (P : ℕ → V → Type 0) (vs : List V) (id other : ℕ) (both gone : V) → P id both → P other gone → ((j : ℕ) (v : V) → get_elem? vs j ≡ some v → P j v) → (j : ℕ) (v : V) → get_elem? (set (set vs id both) other gone) j ≡ some v → P j v
   after_join P vs id other both gone a b each = each_set P (set vs id both) other gone b (λ j v _ e. each_set P vs id both a (λ j v _ e. each j v e) j v e)
@@ -243,7 +235,7 @@ module _ {C : Type 0} (f : Face C) (setup : Setup C) where
       let c = times_append n ks ls in
       omega arith) in record {
         core = h.core;
-        notes = h.notes;
+        turns = h.turns;
         two = h.two;
         one = h.one;
         told = h.told;
@@ -261,15 +253,14 @@ module _ {C : Type 0} (f : Face C) (setup : Setup C) where
             }))
             h.place;
         staged = after_join (λ _ u. u.stage ≡ Shared) s.views id other both rest refl refl h.staged;
-        fit = after_join (λ _ u. AllFit setup (f.show h.core).state h.notes u.passes) s.views id other both rest (all_append setup (f.show h.core).state h.notes ks ls (h.fit id v at) (h.fit other w there)) tt h.fit;
+        fit = after_join (λ _ u. AllFit f.tells f.show setup h.turns (f.show h.core).state u.passes) s.views id other both rest (all_append h.turns (f.show h.core).state ks ls (h.fit id v at) (h.fit other w there)) tt h.fit;
         once = λ n. (let t = counts n in let o = h.once n in omega arith);
         below = λ n b. counts n ∙ h.below n b;
         few = h.few;
-        enough = h.enough;
+        ready = h.ready;
         since = h.since;
-        strangers = h.strangers;
-        dead = h.dead;
-        noted = h.noted;
+        run = h.run;
+        whose = h.whose;
       }
 
   pub gathers_keeps : (id other : ℕ) (ks ls : List (Known C)) → Joins (Rule f setup) id (shared_view ks None) other (shared_view ls None) (shared_view (ks ++ ls) None) (shared_view [] None)
@@ -278,12 +269,12 @@ module _ {C : Type 0} (f : Face C) (setup : Setup C) where
 
   -- what is known of the core in the slot at the end
   pub record Ended (ks : List (Known C)) (core : C) : Type 0 where
-    pub notes : ℕ → Notes
-    pub fit : AllFit setup (f.show core).state notes ks
+    pub turns : List Turn
+    pub fit : AllFit f.tells f.show setup turns (f.show core).state ks
     pub since : Since f.tells (f.show setup.first) (f.show core)
-    pub strangers : HasNoOthers setup.callers (f.show core).state
-    pub dead : IsDeadAsMet setup.callers (f.show core).state notes
-    pub noted : IsTrue f.tells → AreNoted (f.show setup.first).limits setup.callers (f.show setup.first).state.index (f.show core).state notes
+    pub run : GoesAlong f.tells (f.show setup.first).limits (f.show setup.first).state turns (f.show core).state
+    pub whose : AreOf setup.callers turns
+    pub ready : CanShare f.tells setup.callers (f.show setup.first)
 
   pub ends : (id : ℕ) (ks : List (Known C)) (ws : List ℕ) (xs : List (Option C)) → ((n : ℕ) → n < setup.callers → 0 < times n ks) → Final (Seen (Rule f setup) id (shared_view ks None)) ws xs
       → (core : C) × (get_elem? xs 0 ≡ some (Some core)) × Ended ks core
@@ -293,7 +284,7 @@ module _ {C : Type 0} (f : Face C) (setup : Setup C) where
       let v : V = shared_view ks None in
       let h : IsKept f setup s = is_open f setup s id v final.1.0 at refl in
       ⊎_elim
-      (λ (x : IsFree h.core s). (h.core, final.4 0 (Some h.core) x.home, record { notes = h.notes; fit = h.fit id v at; since = h.since; strangers = h.strangers; dead = h.dead; noted = h.noted }))
+      (λ (x : IsFree h.core s). (h.core, final.4 0 (Some h.core) x.home, record { turns = h.turns; fit = h.fit id v at; since = h.since; run = h.run; whose = h.whose; ready = h.ready }))
       (λ (x : IsHeld h.core s).
       let t = total_two (λ (v : View C). times x.number v.passes) s.views x.seat id x.holder v (not_holder s h.core x id v at refl) x.there at in
       let o = h.once x.number in
@@ -352,9 +343,9 @@ module _ {C : Type 0} (f : Face C) (setup : Setup C) where
       let G : Me (Option C) (View C) → Me (Option C) (View C) = λ m. (view Opening m.0.passes None, (0, None) ∷ []) in
       e2 ∙ ap F e1 ∙ ap (λ (m : Me (Option C) (View C)). F (G m)) e0
 
-  pub all_known : (core : C) (notes : ℕ → Notes) (ps : List (PassView C)) → AllFit setup (f.show core).state notes (map known_of ps) → AreSo setup (f.show core).state notes ps
-  all_known core notes [] a = tt
-  all_known core notes (p ∷ ps) a = (a.0, all_known core notes ps a.1)
+  pub all_known : (core : C) (turns : List Turn) (ps : List (PassView C)) → AllFit f.tells f.show setup turns (f.show core).state (map known_of ps) → AreSo f.tells f.show setup turns (f.show core).state ps
+  all_known core turns [] a = tt
+  all_known core turns (p ∷ ps) a = (a.0, all_known core turns ps a.1)
 
 module _ {C : Type 0} where
   pub popped : (table : TableId) (old new : List (PassView C)) (given : PassesView C) (result : Option (PassView C)) → old ≡ new ++ option_to_list result → AllOf table old → table ≡ given.table → old ≡ given.list

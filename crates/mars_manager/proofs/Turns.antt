@@ -4,26 +4,24 @@ use mathlib.Core.Logic.{dite}
 use mathlib.Core.Option.{some, none, some-injective}
 use native.Mathlib.Decide.{dec_le, ℕ_discrete}
 use lib.ListN.{get_elem?}
-use lib.Seq.{set-get_or}
 use prog.Atomic.{either}
-use Rattle.std.specs.Prelude.{IsTrue}
 use Rattle.history.specs.declared.call.Call.{Call}
 use Rattle.history.specs.declared.call.Reply.{Reply}
 use Rattle.core_face.specs.Room.{Limits}
 use Rattle.core_face.specs.Prefix.{Grows}
-use Rattle.core_face.proofs.Continuing.{grows_none, grows_on, grows_longer}
+use Rattle.core_face.specs.Run.{Turn, Goes}
+use Rattle.core_face.proofs.Continuing.{grows_longer}
+use Rattle.core_face.proofs.Running.{last_here, last_apart, all_of_append, turns_one, turn_own, turn_other, turn_grows}
 use Rattle.atomic_table.specs.Table.{State, Me, step, Act, keeps, takes, gives, stepped, Valid, carried_after, Allows}
-use Rattle.atomic_table.proofs.Lists.{set_here, set_else, set_again, exchanged}
+use Rattle.atomic_table.proofs.Lists.{set_here, set_else, exchanged}
 use Rattle.mars_manager.specs.declared.view.Known.{Known}
 use Rattle.mars_manager.specs.declared.view.Stage.TheVariants.{Vacant, Opening, Shared}
 use Rattle.mars_manager.specs.declared.view.View.{View}
 use Rattle.mars_manager.specs.declared.setup.Setup.{Setup}
-use Rattle.mars_manager.specs.Notes.{Notes, hits_of, doubt_of, IsDeadAsMet, AreNoted}
-use Rattle.mars_manager.specs.Pass.{Fits, AllFit, HasNoOthers, commits_of, times, hears}
+use Rattle.mars_manager.specs.Pass.{Fits, AllFit, times, finds, hears}
 use Rattle.mars_manager.specs.Sharing.{Since}
 use Rattle.mars_manager.specs.Seat.{shared_view, opener}
 use Rattle.mars_manager.specs.Rule.{Face, total, IsFree, IsHeld, IsKept, IsFresh, IsOpening, Rule, takes_turn, shown, tells_length, gives_turn, looks}
-use Rattle.mars_manager.proofs.Notes.{put_note, added, note_here, note_apart}
 use Rattle.mars_manager.proofs.Seats.{times_first, inside, at_only, each_set, total_set, total_has, total_two}
 
 pub vacant≢shared : {X : Type 0} → Vacant ≡ Shared → X
@@ -55,13 +53,8 @@ carried_same {A} a b e = let top : Some a ≡ Some b = ap (λ (l : List (ℕ × 
 -- what a step by the pass n does to a core
 pub record Moved {C : Type 0} (f : Face C) (setup : Setup C) (n : ℕ) (call : Call) (reply : Reply) (core new : C) : Type 0 where
   pub grows : Grows (f.show core).state.history (f.show new).state.history
-  pub others : (m : ℕ) → m ≢ n → (commits_of m (f.show new).state.history ≡ commits_of m (f.show core).state.history) × ((f.show new).state.live m ≡ (f.show core).state.live m)
   pub since : Since f.tells (f.show setup.first) (f.show core) → Since f.tells (f.show setup.first) (f.show new)
-  pub dead : (notes : ℕ → Notes) → n < setup.callers → IsDeadAsMet setup.callers (f.show core).state notes
-      → IsDeadAsMet setup.callers (f.show new).state (put_note notes n (added (notes n) call reply (doubt_of n (f.show new).state.doubt)))
-  pub noted : (notes : ℕ → Notes) → n < setup.callers → HasNoOthers setup.callers (f.show core).state → Since f.tells (f.show setup.first) (f.show core)
-      → (IsTrue f.tells → AreNoted (f.show setup.first).limits setup.callers (f.show setup.first).state.index (f.show core).state notes)
-      → IsTrue f.tells → AreNoted (f.show setup.first).limits setup.callers (f.show setup.first).state.index (f.show new).state (put_note notes n (added (notes n) call reply (doubt_of n (f.show new).state.doubt)))
+  pub goes : Since f.tells (f.show setup.first) (f.show core) → Goes f.tells (f.show setup.first).limits (f.show core).state n call reply (f.show new).state
 
 module _ {C : Type 0} (f : Face C) (setup : Setup C) where
   abbrev V : Type 0
@@ -103,35 +96,35 @@ module _ {C : Type 0} (f : Face C) (setup : Setup C) where
       let t = total_has (λ (v : View C). times n v.passes) s.views i v at in
       dite (dec_le setup.callers n) (λ (le : setup.callers ≤ n). let b = h.below n le in absurd (omega arith)) (λ (ge : ¬ (setup.callers ≤ n)). omega arith)
 
-  moves_one : (n : ℕ) (call : Call) (reply : Reply) (core new : C) (notes : ℕ → Notes) (note : Notes) (k : Known C) → Moved f setup n call reply core new → k.number ≢ n
-      → Fits setup (f.show core).state notes k → Fits setup (f.show new).state (put_note notes n note) k
-  moves_one n call reply core new notes note k m ne h = record {
+  moves_one : (n : ℕ) (call : Call) (reply : Reply) (core new : C) (turns : List Turn) (k : Known C) → Moved f setup n call reply core new → Since f.tells (f.show setup.first) (f.show core) → k.number ≢ n
+      → Fits f.tells f.show setup turns (f.show core).state k → Fits f.tells f.show setup (turns ++ (n, call, reply) ∷ []) (f.show new).state k
+  moves_one n call reply core new turns k m since ne h = record {
     setup_is = h.setup_is;
-    seen = grows_on k.seen (f.show core).state.history (f.show new).state.history h.seen m.grows;
-    mine = h.mine ∙ sym (m.others k.number ne).0;
-    live = h.live ∙ sym (m.others k.number ne).1;
+    told = h.told ∙ sym (last_apart k.number (n, call, reply) turns (λ e. ne (sym e)));
+    seen = turn_other f.tells (f.show setup.first).limits k.number k.seen (f.show setup.first).state (f.show core).state (f.show new).state turns n call reply (λ e. ne (sym e)) (m.goes since) h.seen;
     heard = (let l = grows_longer (f.show core).state.history (f.show new).state.history m.grows in let o = h.heard in omega arith);
-    asked = h.asked ∙ sym (ap (λ (x : Notes). x.asked) (note_apart notes n note k.number ne));
-    hit = h.hit ∙ sym (ap (λ (x : Notes). x.hit) (note_apart notes n note k.number ne));
-    doubt = h.doubt ∙ sym (ap (λ (x : Notes). x.doubt) (note_apart notes n note k.number ne));
   }
 
-  pub moves_all : (n : ℕ) (call : Call) (reply : Reply) (core new : C) (notes : ℕ → Notes) (note : Notes) (ks : List (Known C)) → Moved f setup n call reply core new → times n ks ≡ 0
-      → AllFit setup (f.show core).state notes ks → AllFit setup (f.show new).state (put_note notes n note) ks
-  moves_all n call reply core new notes note [] m zero_times h = tt
-  moves_all n call reply core new notes note (k ∷ ks) m zero_times h = (
-    moves_one n call reply core new notes note k m (λ (e : k.number ≡ n). let t = times_first k ks in let u : times k.number (k ∷ ks) ≡ 0 = ap (λ (x : ℕ). times x (k ∷ ks)) e ∙ zero_times in absurd (omega arith)) h.0,
-    moves_all n call reply core new notes note ks m (omega arith) h.1,
+  pub moves_all : (n : ℕ) (call : Call) (reply : Reply) (core new : C) (turns : List Turn) (ks : List (Known C)) → Moved f setup n call reply core new → Since f.tells (f.show setup.first) (f.show core) → times n ks ≡ 0
+      → AllFit f.tells f.show setup turns (f.show core).state ks → AllFit f.tells f.show setup (turns ++ (n, call, reply) ∷ []) (f.show new).state ks
+  moves_all n call reply core new turns [] m since zero_times h = tt
+  moves_all n call reply core new turns (k ∷ ks) m since zero_times h = (
+    moves_one n call reply core new turns k m since (λ (e : k.number ≡ n). let t = times_first k ks in let u : times k.number (k ∷ ks) ≡ 0 = ap (λ (x : ℕ). times x (k ∷ ks)) e ∙ zero_times in absurd (omega arith)) h.0,
+    moves_all n call reply core new turns ks m since (omega arith) h.1,
   )
 
+  -- what a pass knows stays true when it notes what it found
+  found_fit : (turns : List Turn) (core : C) (n : ℕ) (k : Known C) → Fits f.tells f.show setup turns (f.show core).state k → Fits f.tells f.show setup turns (f.show core).state (finds n k)
+  found_fit turns core n k h = record { setup_is = h.setup_is; told = h.told; seen = h.seen; heard = h.heard }
+
   turn_taken : (s : St) (id turn : ℕ) (k : Known C) (h : IsKept f setup s) → turn ≡ k.number + 1 → get_elem? s.views id ≡ some (shared_view (k ∷ []) None)
-      → (x : IsFree h.core s) → IsKept f setup (stepped s 0 turn id [] (shared_view (k ∷ []) (Some h.core)) (takes 0 (Some h.core)))
+      → (x : IsFree h.core s) → IsKept f setup (stepped s 0 turn id [] (shared_view (finds 0 k ∷ []) (Some h.core)) (takes 0 (Some h.core)))
   turn_taken s id turn k h is at x =
       let v : V = shared_view (k ∷ []) None in
-      let w : V = shared_view (k ∷ []) (Some h.core) in
+      let w : V = shared_view (finds 0 k ∷ []) (Some h.core) in
       let long : 0 < length s.words = (let t = h.two in omega arith) in record {
         core = h.core;
-        notes = h.notes;
+        turns = h.turns;
         two = length-set s.words 0 turn ∙ h.two;
         one = length-set s.homes 0 none ∙ h.one;
         told = get_or-set_other s.words 0 1 turn 0 (λ e. omega arith) ∙ h.told;
@@ -142,19 +135,18 @@ module _ {C : Type 0} (f : Face C) (setup : Setup C) where
           turn = get_or-set_same s.words 0 turn 0 long ∙ is;
           there = set_here s.views id w (inside s.views id v at);
           holds = refl;
-          has = times_first k [];
+          has = times_first (finds 0 k) [];
           others = λ i u ne e. x.nobody i u (sym (set_else s.views id i w ne) ∙ e);
         });
         staged = each_set (λ i u. u.stage ≡ Shared) s.views id w refl (λ j u _ e. h.staged j u e);
-        fit = each_set (λ i u. AllFit setup (f.show h.core).state h.notes u.passes) s.views id w (h.fit id v at) (λ j u _ e. h.fit j u e);
+        fit = each_set (λ i u. AllFit f.tells f.show setup h.turns (f.show h.core).state u.passes) s.views id w (found_fit h.turns h.core 0 k (h.fit id v at).0, tt) (λ j u _ e. h.fit j u e);
         once = λ n. (let t = same_count n s.views id v w at refl in let o = h.once n in omega arith);
         below = λ n b. same_count n s.views id v w at refl ∙ h.below n b;
         few = h.few;
-        enough = h.enough;
+        ready = h.ready;
         since = h.since;
-        strangers = h.strangers;
-        dead = h.dead;
-        noted = h.noted;
+        run = h.run;
+        whose = h.whose;
       }
 
   Taking : (s : St) (slots id turn : ℕ) (k : Known C) → ℕ → Type 0
@@ -165,7 +157,7 @@ module _ {C : Type 0} (f : Face C) (setup : Setup C) where
   hit s slots id turn k h is at free =
       ⊎_elim
       (λ (x : IsFree h.core s). (
-        shared_view (k ∷ []) (Some h.core),
+        shared_view (finds 0 k ∷ []) (Some h.core),
         takes 0 (Some h.core),
         x.home,
         inr (inr (turn_taken s id turn k h is at x)),
@@ -173,12 +165,13 @@ module _ {C : Type 0} (f : Face C) (setup : Setup C) where
           λ _. record {
             core = h.core;
             setup = setup;
-            notes = h.notes;
+            turns = h.turns;
             now = refl;
             fit = h.fit id (shared_view (k ∷ []) None) at;
             since = h.since;
-            doubt = λ told. (h.noted told).doubt;
-            few = λ n has. (let m = h.enough in let same = ap (λ (l : Limits). l.callers) h.since.limits in let l = number_below s h n id (shared_view (k ∷ []) None) at has in omega arith);
+            whose = h.whose;
+            ready = h.ready;
+            few = λ n has. (let m = h.ready.enough in let same = ap (λ (l : Limits). l.callers) h.since.limits in let l = number_below s h n id (shared_view (k ∷ []) None) at has in omega arith);
           },
           λ ne. absurd (ne free),
         ),
@@ -186,16 +179,50 @@ module _ {C : Type 0} (f : Face C) (setup : Setup C) where
       (λ (x : IsHeld h.core s). let t = x.turn in absurd (omega arith))
       h.place
 
-  miss : (s : St) (slots id turn : ℕ) (k : Known C) (h : IsKept f setup s) → Rule f setup s → get_elem? s.views id ≡ some (shared_view (k ∷ []) None) → get_or s.words 0 0 ≢ 0 → Taking s slots id turn k (get_or s.words 0 0)
+  -- a try that finds another number: nothing changes but what the pass found
+  missed_by : (s : St) (id n : ℕ) (k : Known C) (h : IsKept f setup s) → n ≡ get_or s.words 0 0 → get_elem? s.views id ≡ some (shared_view (k ∷ []) None)
+      → (x : IsHeld h.core s) → IsKept f setup (stepped s 0 n id [] (shared_view (finds n k ∷ []) None) keeps)
+  missed_by s id n k h is at x =
+      let v : V = shared_view (k ∷ []) None in
+      let w : V = shared_view (finds n k ∷ []) None in
+      let long : 0 < length s.words = (let t = h.two in omega arith) in
+      let ne : x.seat ≢ id = (λ e. some≢none h.core (sym x.holds ∙ ap (λ (u : V). u.held) (same_at s.views id x.holder v (subst (λ i. get_elem? s.views i ≡ some x.holder) e x.there) at))) in record {
+        core = h.core;
+        turns = h.turns;
+        two = length-set s.words 0 n ∙ h.two;
+        one = h.one;
+        told = get_or-set_other s.words 0 1 n 0 (λ e. omega arith) ∙ h.told;
+        place = inr (record {
+          number = x.number;
+          seat = x.seat;
+          holder = x.holder;
+          turn = get_or-set_same s.words 0 n 0 long ∙ is ∙ x.turn;
+          there = set_else s.views id x.seat w ne ∙ x.there;
+          holds = x.holds;
+          has = x.has;
+          others = λ i u apart e. each_set (λ i u. i ≢ x.seat → u.held ≡ None) s.views id w (λ _. refl) (λ j u _ e apart. x.others j u apart e) i u e apart;
+        });
+        staged = each_set (λ i u. u.stage ≡ Shared) s.views id w refl (λ j u _ e. h.staged j u e);
+        fit = each_set (λ i u. AllFit f.tells f.show setup h.turns (f.show h.core).state u.passes) s.views id w (found_fit h.turns h.core n k (h.fit id v at).0, tt) (λ j u _ e. h.fit j u e);
+        once = λ n. (let t = same_count n s.views id v w at refl in let o = h.once n in omega arith);
+        below = λ n b. same_count n s.views id v w at refl ∙ h.below n b;
+        few = h.few;
+        ready = h.ready;
+        since = h.since;
+        run = h.run;
+        whose = h.whose;
+      }
+
+  miss : (s : St) (slots id turn : ℕ) (k : Known C) (h : IsKept f setup s) → get_elem? s.views id ≡ some (shared_view (k ∷ []) None) → get_or s.words 0 0 ≢ 0 → Taking s slots id turn k (get_or s.words 0 0)
   unfolding Taking
-  miss s slots id turn k h rule at taken =
+  miss s slots id turn k h at taken =
       ⊎_elim
       (λ (x : IsFree h.core s). absurd (taken x.turn))
       (λ (x : IsHeld h.core s). (
-        shared_view (k ∷ []) None,
+        shared_view (finds (get_or s.words 0 0) k ∷ []) None,
         keeps,
         tt,
-        (let e : s ≡ stepped s 0 (get_or s.words 0 0) id [] (shared_view (k ∷ []) None) keeps = (λ i. record { words = sym (set-get_or s.words 0 0) i; homes = s.homes; views = sym (set_again s.views id (shared_view (k ∷ []) None) at) i }) in subst (Rule f setup) e rule),
+        inr (inr (missed_by s id (get_or s.words 0 0) k h refl at x)),
         (
           λ z. absurd (taken z),
           λ _. (
@@ -225,7 +252,7 @@ module _ {C : Type 0} (f : Face C) (setup : Setup C) where
   unfolding Taking
   takes_turn_keeps slots id turn k is s rule wide at _ =
       let h : IsKept f setup s = is_open s id (shared_view (k ∷ []) None) rule at refl in
-      exchanged (get_or s.words 0 0) 0 turn (Taking s slots id turn k) (hit s slots id turn k h is at) (miss s slots id turn k h rule at)
+      exchanged (get_or s.words 0 0) 0 turn (Taking s slots id turn k) (hit s slots id turn k h is at) (miss s slots id turn k h at)
 
   holder_is : (s : St) (h : IsKept f setup s) (id : ℕ) (v : V) (core : C) → get_elem? s.views id ≡ some v → v.held ≡ Some core → (x : IsHeld h.core s) × (x.seat ≡ id) × (x.holder ≡ v) × (h.core ≡ core)
   holder_is s h id v core at held =
@@ -244,12 +271,13 @@ module _ {C : Type 0} (f : Face C) (setup : Setup C) where
       let v : V = shared_view (k ∷ []) (Some old) in
       let w : V = shared_view (shown f call reply new k ∷ []) (Some new) in
       let long : 1 < length s.words = (let t = h.two in omega arith) in
-      let mine : Fits setup (f.show h.core).state h.notes k = (h.fit id v at).0 in
-      let note : Notes = added (h.notes k.number) call reply (doubt_of k.number (f.show new).state.doubt) in
-      let notes : ℕ → Notes = put_note h.notes k.number note in
+      let mine : Fits f.tells f.show setup h.turns (f.show h.core).state k = (h.fit id v at).0 in
+      let goes = m.goes h.since in
+      let run = turns_one f.tells (f.show setup.first).limits (f.show setup.first).state (f.show h.core).state (f.show new).state h.turns k.number call reply h.run goes in
+      let turns : List Turn = h.turns ++ (k.number, call, reply) ∷ [] in
       let few : k.number < setup.callers = number_below s h k.number id v at (times_first k []) in record {
         core = new;
-        notes = notes;
+        turns = turns;
         two = length-set s.words 1 told ∙ h.two;
         one = h.one;
         told = get_or-set_same s.words 1 told 0 long ∙ is;
@@ -264,30 +292,25 @@ module _ {C : Type 0} (f : Face C) (setup : Setup C) where
           others = λ i u ne e. x.others i u (λ z. ne (z ∙ seat)) (sym (set_else s.views id i w ne) ∙ e);
         });
         staged = each_set (λ i u. u.stage ≡ Shared) s.views id w refl (λ j u _ e. h.staged j u e);
-        fit = each_set (λ i u. AllFit setup (f.show new).state notes u.passes) s.views id w (
+        fit = each_set (λ i u. AllFit f.tells f.show setup turns (f.show new).state u.passes) s.views id w (
           record {
             setup_is = mine.setup_is;
-            seen = grows_none (f.show new).state.history;
-            mine = refl;
-            live = refl;
+            told = ap (λ l. l ++ (call, reply) ∷ []) mine.told ∙ sym (last_here k.number call reply h.turns);
+            seen = turn_own f.tells (f.show setup.first).limits k.number (f.show setup.first).state (f.show new).state turns run;
             heard = (let l = grows_longer (f.show h.core).state.history (f.show new).state.history m.grows in let o = mine.heard in omega arith);
-            asked = ap (λ l. l ++ call ∷ []) mine.asked ∙ sym (ap (λ (x : Notes). x.asked) (note_here h.notes k.number note));
-            hit = ap (λ l. l ++ hits_of call reply) mine.hit ∙ sym (ap (λ (x : Notes). x.hit) (note_here h.notes k.number note));
-            doubt = sym (ap (λ (x : Notes). x.doubt) (note_here h.notes k.number note));
           },
           tt,
         )
-            (λ j u ne e. moves_all k.number call reply h.core new h.notes note u.passes m
+            (λ j u ne e. moves_all k.number call reply h.core new h.turns u.passes m h.since
             (dite (ℕ_discrete (times k.number u.passes) 0) (λ (z : times k.number u.passes ≡ 0). z) (λ (nz : times k.number u.passes ≢ 0). absurd (ne (one_seat s h k.number j id u v e at (omega arith) (times_first k [])))))
             (h.fit j u e));
         once = λ n. (let t = same_count n s.views id v w at refl in let o = h.once n in omega arith);
         below = λ n b. same_count n s.views id v w at refl ∙ h.below n b;
         few = h.few;
-        enough = h.enough;
+        ready = h.ready;
         since = m.since h.since;
-        strangers = λ n b. (let ne : n ≢ k.number = (λ e. omega arith) in let o = m.others n ne in (o.0 ∙ (h.strangers n b).0, o.1 ∙ (h.strangers n b).1));
-        dead = m.dead h.notes few h.dead;
-        noted = m.noted h.notes few h.strangers h.since h.noted;
+        run = run;
+        whose = all_of_append setup.callers h.turns ((k.number, call, reply) ∷ []) h.whose (few, tt);
       }
 
   pub tells_keeps : (slots id told : ℕ) (k : Known C) (call : Call) (reply : Reply) (old new : C) → Moved f setup k.number call reply old new → told ≡ length ((f.show new).state.history)
@@ -311,7 +334,7 @@ module _ {C : Type 0} (f : Face C) (setup : Setup C) where
       let w : V = shared_view (k ∷ []) None in
       let long : 0 < length s.words = (let t = h.two in omega arith) in record {
         core = h.core;
-        notes = h.notes;
+        turns = h.turns;
         two = length-set s.words 0 0 ∙ h.two;
         one = length-set s.homes 0 (some (Some core)) ∙ h.one;
         told = get_or-set_other s.words 0 1 0 0 (λ e. omega arith) ∙ h.told;
@@ -321,15 +344,14 @@ module _ {C : Type 0} (f : Face C) (setup : Setup C) where
           nobody = each_set (λ i u. u.held ≡ None) s.views id w refl (λ j u ne e. x.others j u (λ z. ne (z ∙ seat)) e);
         });
         staged = each_set (λ i u. u.stage ≡ Shared) s.views id w refl (λ j u _ e. h.staged j u e);
-        fit = each_set (λ i u. AllFit setup (f.show h.core).state h.notes u.passes) s.views id w (h.fit id v at) (λ j u _ e. h.fit j u e);
+        fit = each_set (λ i u. AllFit f.tells f.show setup h.turns (f.show h.core).state u.passes) s.views id w (h.fit id v at) (λ j u _ e. h.fit j u e);
         once = λ n. (let t = same_count n s.views id v w at refl in let o = h.once n in omega arith);
         below = λ n b. same_count n s.views id v w at refl ∙ h.below n b;
         few = h.few;
-        enough = h.enough;
+        ready = h.ready;
         since = h.since;
-        strangers = h.strangers;
-        dead = h.dead;
-        noted = h.noted;
+        run = h.run;
+        whose = h.whose;
       }
 
   pub gives_keeps : (slots id : ℕ) (k : Known C) (core : C)
@@ -346,10 +368,10 @@ module _ {C : Type 0} (f : Face C) (setup : Setup C) where
       let n : ℕ = get_or s.words 1 0 in
       let v : V = shared_view (k ∷ []) None in
       let w : V = shared_view (hears n k ∷ []) None in
-      let mine : Fits setup (f.show h.core).state h.notes k = (h.fit id v at).0 in
+      let mine : Fits f.tells f.show setup h.turns (f.show h.core).state k = (h.fit id v at).0 in
       let long : 1 < length s.words = (let t = h.two in omega arith) in record {
         core = h.core;
-        notes = h.notes;
+        turns = h.turns;
         two = length-set s.words 1 n ∙ h.two;
         one = h.one;
         told = get_or-set_same s.words 1 n 0 long ∙ h.told;
@@ -371,17 +393,16 @@ module _ {C : Type 0} (f : Face C) (setup : Setup C) where
             }))
             h.place;
         staged = each_set (λ i u. u.stage ≡ Shared) s.views id w refl (λ j u _ e. h.staged j u e);
-        fit = each_set (λ i u. AllFit setup (f.show h.core).state h.notes u.passes) s.views id w
-            (record { setup_is = mine.setup_is; seen = mine.seen; mine = mine.mine; live = mine.live; heard = (let e = h.told in omega arith); asked = mine.asked; hit = mine.hit; doubt = mine.doubt }, tt)
+        fit = each_set (λ i u. AllFit f.tells f.show setup h.turns (f.show h.core).state u.passes) s.views id w
+            (record { setup_is = mine.setup_is; told = mine.told; seen = mine.seen; heard = (let e = h.told in omega arith) }, tt)
             (λ j u _ e. h.fit j u e);
         once = λ n. (let t = same_count n s.views id v w at refl in let o = h.once n in omega arith);
         below = λ n b. same_count n s.views id v w at refl ∙ h.below n b;
         few = h.few;
-        enough = h.enough;
+        ready = h.ready;
         since = h.since;
-        strangers = h.strangers;
-        dead = h.dead;
-        noted = h.noted;
+        run = h.run;
+        whose = h.whose;
       }
 
   pub looks_keeps : (slots id : ℕ) (k : Known C)
@@ -389,12 +410,12 @@ module _ {C : Type 0} (f : Face C) (setup : Setup C) where
   looks_keeps slots id k s rule wide at _ =
       let v : V = shared_view (k ∷ []) None in
       let h : IsKept f setup s = is_open s id v rule at refl in
-      let mine : Fits setup (f.show h.core).state h.notes k = (h.fit id v at).0 in (
+      let mine : Fits f.tells f.show setup h.turns (f.show h.core).state k = (h.fit id v at).0 in (
         shared_view (hears (get_or s.words 1 0) k ∷ []) None,
         keeps,
         tt,
         inr (inr (looked_by s id k h at)),
-        (refl, ((let l = grows_longer k.seen (f.show h.core).state.history mine.seen in let e = h.told in omega arith), (let o = mine.heard in let e = h.told in omega arith), tt)),
+        (refl, ((let l = grows_longer k.seen (f.show h.core).state.history (turn_grows f.tells (f.show setup.first).limits k.number k.seen (f.show setup.first).state (f.show h.core).state h.turns mine.seen) in let e = h.told in omega arith), (let o = mine.heard in let e = h.told in omega arith), tt)),
       )
 
   -- the moves at a given seat

@@ -1,6 +1,6 @@
 -- The rule of the table, and what each step guarantees. Word 0 is the turn: 0, or one more than the number of the pass that has it. Word 1
 -- is the length of the history as last published. The slot has the core while the turn is free.
-use Rattle.std.specs.Prelude.{ℕ, ◌≡◌, ◌≢◌, ◌⊎◌, ◌+◌, ◌<◌, ◌≤◌, Bool, IsTrue, List, [], ◌∷◌, map, length, slice_index, Option, Some, None}
+use Rattle.std.specs.Prelude.{ℕ, ◌≡◌, ◌≢◌, ◌⊎◌, ◌+◌, ◌<◌, ◌≤◌, Bool, List, [], ◌∷◌, map, length, slice_index, Option, Some, None}
 use mathlib.Core.Option.{some}
 use lib.ListN.{get_elem?}
 use Rattle.history.specs.declared.call.Call.{Call}
@@ -11,9 +11,9 @@ use Rattle.mars_manager.specs.declared.view.Known.{Known}
 use Rattle.mars_manager.specs.declared.view.Stage.TheVariants.{Vacant, Opening, Shared}
 use Rattle.mars_manager.specs.declared.view.View.{View}
 use Rattle.mars_manager.specs.declared.setup.Setup.{Setup}
-use Rattle.mars_manager.specs.Notes.{Notes, doubt_of, IsDeadAsMet, AreNoted}
-use Rattle.mars_manager.specs.Pass.{AllFit, known_after, hears, times, HasNoOthers}
-use Rattle.mars_manager.specs.Sharing.{Since}
+use Rattle.core_face.specs.Run.{Turn, GoesAlong, AreOf}
+use Rattle.mars_manager.specs.Pass.{AllFit, known_after, finds, hears, times}
+use Rattle.mars_manager.specs.Sharing.{CanShare, Since}
 use Rattle.mars_manager.specs.Seat.{view, shared_view, opener}
 
 -- how a kind of core is seen
@@ -68,25 +68,24 @@ module _ {C : Type 0} where
     pub views : s.views ≡ opener Opening setup ∷ []
 
   module _ (f : Face C) where
-    -- From the opening on: the core that was reported last is one that the shared core has come to. The length of its history is published,
-    -- and what each pass knows is true of it. No caller has two passes.
+    -- From the opening on: the core that was reported last is one that the shared core has come to by a run of these callers. The length of
+    -- its history is published, and what each pass knows is true of the run. No caller has two passes.
     pub record IsKept (setup : Setup C) (s : State (Option C) (View C)) : Type 0 where
       pub core : C
-      pub notes : ℕ → Notes
+      pub turns : List Turn
       pub two : length s.words ≡ 2
       pub one : length s.homes ≡ 1
       pub told : slice_index s.words 1 ≡ length (f.show core).state.history
       pub place : IsFree core s ⊎ IsHeld core s
       pub staged : (i : ℕ) (v : View C) → get_elem? s.views i ≡ some v → v.stage ≡ Shared
-      pub fit : (i : ℕ) (v : View C) → get_elem? s.views i ≡ some v → AllFit setup (f.show core).state notes v.passes
+      pub fit : (i : ℕ) (v : View C) → get_elem? s.views i ≡ some v → AllFit f.tells f.show setup turns (f.show core).state v.passes
       pub once : (n : ℕ) → total (λ v. times n v.passes) s.views ≤ 1
       pub below : (n : ℕ) → setup.callers ≤ n → total (λ v. times n v.passes) s.views ≡ 0
       pub few : setup.callers < 256
-      pub enough : setup.callers ≤ (f.show setup.first).limits.callers
+      pub ready : CanShare f.tells setup.callers (f.show setup.first)
       pub since : Since f.tells (f.show setup.first) (f.show core)
-      pub strangers : HasNoOthers setup.callers (f.show core).state
-      pub dead : IsDeadAsMet setup.callers (f.show core).state notes
-      pub noted : IsTrue f.tells → AreNoted (f.show setup.first).limits setup.callers (f.show setup.first).state.index (f.show core).state notes
+      pub run : GoesAlong f.tells (f.show setup.first).limits (f.show setup.first).state turns (f.show core).state
+      pub whose : AreOf setup.callers turns
 
     abbrev pub Rule : Setup C → State (Option C) (View C) → Type 0
     Rule setup s = IsFresh setup s ⊎ (IsOpening setup s ⊎ IsKept setup s)
@@ -99,17 +98,18 @@ module _ {C : Type 0} where
     pub record Took (m n : Me (Option C) (View C)) : Type 0 where
       pub core : C
       pub setup : Setup C
-      pub notes : ℕ → Notes
-      pub now : n ≡ (shared_view m.0.passes (Some core), (0, Some core) ∷ [])
-      pub fit : AllFit setup (f.show core).state notes m.0.passes
+      pub turns : List Turn
+      pub now : n ≡ (shared_view (map (finds 0) m.0.passes) (Some core), (0, Some core) ∷ [])
+      pub fit : AllFit f.tells f.show setup turns (f.show core).state m.0.passes
       pub since : Since f.tells (f.show setup.first) (f.show core)
-      pub doubt : IsTrue f.tells → (n : ℕ) → (notes n).doubt ≡ doubt_of n (f.show core).state.doubt
+      pub whose : AreOf setup.callers turns
+      pub ready : CanShare f.tells setup.callers (f.show setup.first)
       pub few : (k : ℕ) → 0 < times k m.0.passes → k < (f.show core).limits.callers
 
     -- What a step guarantees, by the step, the seat before, the number found and the seat after. If the turn was not free, another pass had
-    -- it, and the seat stays as it was.
+    -- it, and the seat just notes what it found.
     abbrev pub takes_turn : Step (Option C) → Me (Option C) (View C) → ℕ → Me (Option C) (View C) → Type 0
-    takes_turn st m r n = (r ≡ 0 → Took m n) × (r ≢ 0 → (n ≡ m) × (r < 256) × ((k : ℕ) → r ≡ k + 1 → times k m.0.passes ≡ 0) × AreAbove r m.0.passes)
+    takes_turn st m r n = (r ≡ 0 → Took m n) × (r ≢ 0 → (n ≡ (shared_view (map (finds r) m.0.passes) None, [])) × (r < 256) × ((k : ℕ) → r ≡ k + 1 → times k m.0.passes ≡ 0) × AreAbove r m.0.passes)
 
     abbrev pub tells_length : Call → Reply → Step (Option C) → Me (Option C) (View C) → ℕ → Me (Option C) (View C) → Type 0
     tells_length call reply st m r n = (core : C) → m.1 ≡ (0, Some core) ∷ [] → n ≡ (shared_view (map (shown call reply core) m.0.passes) (Some core), m.1)

@@ -1,20 +1,21 @@
 -- What holds for a core while it is shared, and what a call does.
-use Rattle.std.specs.Prelude.{ℕ, ◌≡◌, ◌≤◌, Bool, false, IsTrue, MatchBool, List, [], ◌∷◌, ◌++◌, length, Some, None, unwrap_or}
+use Rattle.std.specs.Prelude.{ℕ, ◌≡◌, ◌≤◌, Bool, false, IsTrue, MatchBool, List, [], ◌∷◌, ◌++◌, length, Option, Some, None, unwrap_or}
 use Rattle.counted.specs.Causes.{Rose}
 use Rattle.atomic_table.specs.Seated.{TableId}
 use Rattle.history.specs.Writes.{Table}
+use Rattle.history.specs.Table.{Granted}
 use Rattle.history.specs.Legal.{IsLegal}
 use Rattle.history.specs.declared.transaction.Done.{Done}
 use Rattle.history.specs.declared.call.Call.{Call}
 use Rattle.history.specs.declared.call.Reply.{Reply}
 use Rattle.history.specs.declared.call.Reply.TheVariants.{Committed, Dead}
 use Rattle.core_face.specs.Fate.{is_committed}
-use Rattle.core_face.specs.Prefix.{Grows}
 use Rattle.core_face.specs.Sound.{IsSound}
 use Rattle.core_face.specs.Core.{CoreView, IsSafe, Steps, Continues}
+use Rattle.core_face.specs.Run.{Turn, GoesAlong, AreOf, turns_of, commits_of, LastTurn}
+use Rattle.core_face.specs.Own.{live_by}
 use Rattle.mars_manager.specs.declared.setup.Setup.{Setup}
 use Rattle.mars_manager.specs.declared.view.Known.{Known}
-use Rattle.mars_manager.specs.Notes.{Notes, doubt_of, IsDeadAsMet, AreNoted}
 use Rattle.mars_manager.specs.Pass.{PassView, AreSo, known_after}
 
 -- what contracts see of a shared core: its table and how it was shared
@@ -43,47 +44,57 @@ pub record Since (tells : Bool) (first core : CoreView) : Type 0 where
   pub continues : IsTrue tells → Continues first core
 
 module _ {C : Type 0} where
-  -- A call that got the turn is one step of a core that the shared one has come to. What the pass had seen is a prefix of that core's
-  -- history. Its live calls were its caller's, and so was its transaction in doubt, if the core tells its records. What the pass knows then
-  -- is true after the step.
+  -- A call that got the turn is one step of a core that the shared one has come to by a run. Before it, the pass was told just its caller's
+  -- turns of that run, and had seen the history at its last turn in it. Now it is told one turn more, and has seen the history after the step.
   pub record Called (tells : Bool) (show : C → CoreView) (was : Known C) (call : Call) (reply : Reply) (now : Known C) : Type 0 where
     pub setup : Setup C
+    pub turns : List Turn
     pub old : C
     pub new : C
     pub setup_is : was.setup ≡ Some setup
     pub since : Since tells (show setup.first) (show old)
     pub comes : Since tells (show setup.first) (show new)
-    pub seen : Grows was.seen (show old).state.history
-    pub live : (show old).state.live was.number ≡ was.live
-    pub doubt : IsTrue tells → was.doubt ≡ doubt_of was.number (show old).state.doubt
+    pub whose : AreOf setup.callers turns
+    pub told : was.told ≡ turns_of was.number turns
+    pub ready : CanShare tells setup.callers (show setup.first)
+    pub last : LastTurn tells (show setup.first).limits was.number was.seen (show setup.first).state turns (show old).state
     pub steps : Steps tells was.number call (show old) (show new) reply
     pub dead : IsTrue (show old).state.is_dead → (reply ≡ Dead) × (new ≡ old)
     pub after : now ≡ known_after was (show new).state call reply
 
-  -- What these passes know is true of the core that comes back, and what their callers have asked for and met is in the notes. On any core,
-  -- the medium has failed exactly when a caller was told so.
+  -- The core that comes back was reached by a run of these callers, and what these passes know is true of it: each was told just its caller's
+  -- turns.
   pub record AreGathered (tells : Bool) (show : C → CoreView) (setup : Setup C) (core : C) (passes : List (PassView C)) : Type 0 where
-    pub notes : ℕ → Notes
-    pub each : AreSo setup (show core).state notes passes
-    pub dead : IsDeadAsMet setup.callers (show core).state notes
-    pub noted : IsTrue tells → AreNoted (show setup.first).limits setup.callers (show setup.first).state.index (show core).state notes
+    pub turns : List Turn
+    pub run : GoesAlong tells (show setup.first).limits (show setup.first).state turns (show core).state
+    pub whose : AreOf setup.callers turns
+    pub ready : CanShare tells setup.callers (show setup.first)
+    pub each : AreSo tells show setup turns (show core).state passes
 
   -- what a pass has seen is a legal history on the records at the opening
   abbrev pub IsLegalIn : (C → CoreView) → Known C → Type 0
   IsLegalIn show known = (setup : Setup C) → known.setup ≡ Some setup → IsLegal (show setup.first).state.base known.seen
 
+  -- the live transaction of its caller, as its turns say
+  abbrev pub live_of : Known C → Option Granted
+  live_of known = live_by known.number known.told
+
   -- the transaction that a pass commits
   abbrev pub done_of : Known C → ℕ → Done
-  done_of was at = record { caller = was.number; calls = unwrap_or was.live []; at = at }
+  done_of was at = record { caller = was.number; calls = unwrap_or (live_of was) []; at = at }
+
+  -- the transactions of its caller that a pass has seen
+  abbrev pub mine_of : Known C → List Done
+  mine_of known = commits_of known.number known.seen
 
   -- A commit: the last transaction that the pass has then seen is its caller's, with exactly its live calls, and it is the only new one
   -- among the caller's own. If the core tells its records, the reply has its number.
   pub record HasCommitted (tells : Bool) (was : Known C) (reply : Reply) (now : Known C) : Type 0 where
     pub before : List Done
     pub seen : now.seen ≡ before ++ done_of was (length now.seen) ∷ []
-    pub mine : now.mine ≡ was.mine ++ done_of was (length now.seen) ∷ []
+    pub mine : mine_of now ≡ mine_of was ++ done_of was (length now.seen) ∷ []
     pub told : IsTrue tells → reply ≡ Committed (length now.seen)
 
   -- that at a commit; at any other reply the caller's own transactions stay the same
   abbrev pub Commits : Bool → Known C → Reply → Known C → Type 0
-  Commits tells was reply now = MatchBool (is_committed reply) (HasCommitted tells was reply now) (now.mine ≡ was.mine)
+  Commits tells was reply now = MatchBool (is_committed reply) (HasCommitted tells was reply now) (mine_of now ≡ mine_of was)

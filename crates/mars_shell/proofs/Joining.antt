@@ -13,7 +13,7 @@ use Rattle.core_face.specs.Room.{Limits}
 use Rattle.core_face.specs.Core.{CoreView}
 use Rattle.mars_core.specs.Over.{limits_of, Begins}
 use Rattle.mars_core.specs.declared.fault.CoreFault.TheVariants as fault
-use Rattle.mars_manager.specs.Pass.{HasNoOthers, commits_of}
+use Rattle.core_face.specs.Run.{HasNoOthers, commits_of}
 use Rattle.mars_manager.specs.Sharing.{CanShare}
 use Rattle.caller_plans.specs.declared.plan.Plan.{Plan}
 use Rattle.caller_plans.specs.declared.fate.Fate.{Fate}

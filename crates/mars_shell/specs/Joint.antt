@@ -9,8 +9,8 @@ use Rattle.history.specs.Legal.{records}
 use Rattle.history.specs.declared.transaction.Done.{Done}
 use Rattle.core_face.specs.State.{State}
 use Rattle.core_face.specs.Room.{Limits}
-use Rattle.mars_manager.specs.Notes.{Gained}
-use Rattle.mars_manager.specs.Pass.{commits_of, HasNoOthers}
+use Rattle.core_face.specs.Shown.{Gained}
+use Rattle.core_face.specs.Run.{commits_of, HasNoOthers}
 use Rattle.caller_plans.specs.declared.fate.Fate.{Fate}
 use Rattle.caller_plans.specs.Plans.{AllSay, faults_from, plans_from}
 use Rattle.caller_work.specs.Fates.{AreFated, IsUndecided}

@@ -1,4 +1,4 @@
-use Rattle.std.proofs.Common.{◌≡◌, ℕ, ◌+◌, ◌<◌, List, [], ◌∷◌, Option, Some, None, refl, sym, ap, ◌∙◌, subst, arith}
+use Rattle.std.proofs.Common.{◌≡◌, ℕ, ◌+◌, ◌-◌, ◌%◌, ◌<◌, List, [], ◌∷◌, Option, Some, None, refl, sym, ap, ◌∙◌, subst, arith, map}
 use Rattle.std.specs.Prelude.{IsTrue}
 use Rattle.history.specs.declared.call.Reply.TheVariants.{Dead}
 use Rattle.core_face.specs.Prefix.{Grows}
@@ -8,7 +8,7 @@ use mathlib.Core.Option.{none}
 use Rattle.atomic_table.specs.Table.{Me, rest, Allows, step}
 use Rattle.mars_manager.specs.declared.view.Known.{Known}
 use Rattle.mars_manager.specs.declared.view.View.{View}
-use Rattle.mars_manager.specs.Pass.{PassView, Fits, AllFit, times}
+use Rattle.mars_manager.specs.Pass.{PassView, Fits, AllFit, times, finds}
 use Rattle.mars_manager.specs.Sharing.{MarsView, Called, Commits, IsLegalIn}
 use Rattle.mars_manager.specs.Seat.{first_of}
 use Rattle.mars_manager.specs.Rule.{face, Rule, shown, tells_length, AreAbove}
@@ -45,9 +45,11 @@ returns-then-found-ne0-clause-again g c =
             let above = (subst (λ (ks : List (Known g.row.C.Denot)). AreAbove c.compare_exchange-found.result ks) (ap (λ (m : Me (Option g.row.C.Denot) (View g.row.C.Denot)). m.0.passes) i.1) missed.3).0 setup (ap (λ (k : Known g.row.C.Denot). k.setup) known ∙ is) in
             omega arith),
       ),
-      (let back : PassView g.row.C.Denot = record { table = c.compare_exchange-found.new.seat.table_id; known = first_of c.compare_exchange-found.new.seat.me.0.passes } in
-          let p : back ≡ record { table = c.pass.inside.seat.table_id; known = first_of c.pass.inside.seat.me.0.passes } = (λ j. record { table = e.0 j; known = first_of (missed.0 j).0.passes }) in
-          p ∙ c.pass.view_is),
+      (let one : c.compare_exchange-found.result - 1 + 1 ≡ c.compare_exchange-found.result = (let ne = c.if-found-ne0.true in omega arith) in
+          let cast : (c.compare_exchange-found.result - 1) % 256 ≡ c.compare_exchange-found.result - 1 = (let few = missed.1 in omega arith) in
+          ap (λ (m : Me (Option g.row.C.Denot) (View g.row.C.Denot)). first_of m.0.passes) missed.0
+          ∙ ap (λ (m : Me (Option g.row.C.Denot) (View g.row.C.Denot)). first_of (map (finds c.compare_exchange-found.result) m.0.passes)) i.1
+          ∙ (λ j. finds (sym one j) (known j))),
     )
 
 pub returns-then-found-ne0-clause-seen : goal.returns-then-found-ne0-clause-seen
@@ -55,7 +57,11 @@ returns-then-found-ne0-clause-seen g c =
     let i = c.pass.invariant in
     let e = c.compare_exchange-found.ensures in
     let missed = e.2.1 c.if-found-ne0.true in
-    let same : first_of c.compare_exchange-found.new.seat.me.0.passes ≡ c.args.pass.now.known = ap (λ (m : Me (Option g.row.C.Denot) (View g.row.C.Denot)). first_of m.0.passes) missed.0 ∙ ap (λ (p : PassView g.row.C.Denot). p.known) c.pass.view_is in
+    let known : i.0 ≡ c.args.pass.now.known = sym (ap (λ (m : Me (Option g.row.C.Denot) (View g.row.C.Denot)). first_of m.0.passes) i.1) ∙ ap (λ (p : PassView g.row.C.Denot). p.known) c.pass.view_is in
+    let same : first_of c.compare_exchange-found.new.seat.me.0.passes ≡ finds c.compare_exchange-found.result c.args.pass.now.known =
+    ap (λ (m : Me (Option g.row.C.Denot) (View g.row.C.Denot)). first_of m.0.passes) missed.0
+    ∙ ap (λ (m : Me (Option g.row.C.Denot) (View g.row.C.Denot)). first_of (map (finds c.compare_exchange-found.result) m.0.passes)) i.1
+    ∙ ap (finds c.compare_exchange-found.result) known in
     subst (λ (k : Known g.row.C.Denot). Grows c.args.pass.now.known.seen k.seen) (sym same) (grows_none c.args.pass.now.known.seen)
 
 pub exchange-requires : goal.exchange-requires
@@ -90,11 +96,12 @@ tell-requires g c =
     let steps : Steps g.C.Core.tells i.0.number c.args.call.now (g.C.Core.view took.core) (g.C.Core.view c.step-reply.new.self) c.step-reply.result =
     subst (λ (n : ℕ). Steps g.C.Core.tells n c.args.call.now (g.C.Core.view took.core) (g.C.Core.view c.step-reply.new.self) c.step-reply.result) (sym i.2)
     (subst (λ (x : g.row.C.Denot). Steps g.C.Core.tells c.pass.inside.number c.args.call.now (g.C.Core.view x) (g.C.Core.view c.step-reply.new.self) c.step-reply.result) (sym core) c.step-reply.ensures.steps) in
+    let dead = subst (λ (x : g.row.C.Denot). IsTrue (g.C.Core.view x).state.is_dead → (c.step-reply.result ≡ Dead) × (c.step-reply.new.self ≡ x)) (sym core) c.step-reply.ensures.dead in
     let home = homed f _ _ _ _ i.0 took.core c.step-reply.new.self None i.1 took.now c.exchange.ensures.3 c.exchange-2.ensures.3 in
     let seat = c.exchange-2.new.seat in
     let call = c.args.call.now in
     let reply = c.step-reply.result in
-    let rule = tells_as f c.self.inside.table.shared.key c.self.inside.table.shared.table_id.slots seat.id c.told-told.result i.0 call reply took.core c.step-reply.new.self seat.me home (moved f c.self.inside.table.shared.key _ _ _ _ _ steps) c.told-told.ensures in record {
+    let rule = tells_as f c.self.inside.table.shared.key c.self.inside.table.shared.table_id.slots seat.id c.told-told.result (finds 0 i.0) call reply took.core c.step-reply.new.self seat.me home (moved f c.self.inside.table.shared.key _ _ _ _ _ steps dead) c.told-told.ensures in record {
       table = c.exchange-2.ensures.0 ∙ c.exchange.ensures.0 ∙ e.0 ∙ ap (λ (p : PassView g.row.C.Denot). p.table) c.pass.view_is ∙ c.requires;
       picked = (refl, refl);
       rule = subst (λ (m : MarsView g.row.C.Denot). Allows (Rule f m.setup) m.table.slots seat.id seat.me 1 (λ _. c.told-told.result) (λ _. tells_length f call reply (step m.table.slots 1 c.told-told.result 0 none) seat.me c.told-told.result)) c.self.view_is rule;
@@ -107,7 +114,7 @@ store-requires g c =
     let e = c.compare_exchange-found.ensures in
     let took = e.2.0 c.if-found-ne0.false in
     let home = homed f _ _ _ _ i.0 took.core c.step-reply.new.self None i.1 took.now c.exchange.ensures.3 c.exchange-2.ensures.3 in
-    let told = told_seat f _ _ i.0 c.args.call.now c.step-reply.result took.core c.step-reply.new.self home c.tell.ensures.told in (
+    let told = told_seat f _ _ (finds 0 i.0) c.args.call.now c.step-reply.result took.core c.step-reply.new.self home c.tell.ensures.told in (
       c.tell.ensures.same.0 ∙ c.exchange-2.ensures.0 ∙ c.exchange.ensures.0 ∙ e.0 ∙ ap (λ (p : PassView g.row.C.Denot). p.table) c.pass.view_is ∙ c.requires ∙ sym (ap (λ (m : MarsView g.row.C.Denot). m.table) c.self.view_is),
       (let w = c.self.invariant.0 in omega arith),
       gives_as f c.self.inside.table.shared.key _ _ (shown f c.args.call.now c.step-reply.result c.step-reply.new.self i.0) c.step-reply.new.self _ told,
@@ -120,7 +127,7 @@ invariant_of-pass-2 g c =
     let e = c.compare_exchange-found.ensures in
     let took = e.2.0 c.if-found-ne0.false in
     let home = homed f _ _ _ _ i.0 took.core c.step-reply.new.self None i.1 took.now c.exchange.ensures.3 c.exchange-2.ensures.3 in
-    let told = told_seat f _ _ i.0 c.args.call.now c.step-reply.result took.core c.step-reply.new.self home c.tell.ensures.told in
+    let told = told_seat f _ _ (finds 0 i.0) c.args.call.now c.step-reply.result took.core c.step-reply.new.self home c.tell.ensures.told in
     (shown f c.args.call.now c.step-reply.result c.step-reply.new.self i.0, idle_again f _ _ i.0 c.args.call.now c.step-reply.result c.step-reply.new.self told c.store.ensures.2, i.2)
 
 pub returns-clause-step : goal.returns-clause-step
@@ -134,13 +141,13 @@ returns-clause-step g c =
     let steps : Steps g.C.Core.tells i.0.number c.args.call.now (g.C.Core.view took.core) (g.C.Core.view c.step-reply.new.self) c.step-reply.result =
     subst (λ (n : ℕ). Steps g.C.Core.tells n c.args.call.now (g.C.Core.view took.core) (g.C.Core.view c.step-reply.new.self) c.step-reply.result) (sym i.2)
     (subst (λ (x : g.row.C.Denot). Steps g.C.Core.tells c.pass.inside.number c.args.call.now (g.C.Core.view x) (g.C.Core.view c.step-reply.new.self) c.step-reply.result) (sym core) c.step-reply.ensures.steps) in
+    let dead = subst (λ (x : g.row.C.Denot). IsTrue (g.C.Core.view x).state.is_dead → (c.step-reply.result ≡ Dead) × (c.step-reply.new.self ≡ x)) (sym core) c.step-reply.ensures.dead in
     let home = homed f _ _ _ _ i.0 took.core c.step-reply.new.self None i.1 took.now c.exchange.ensures.3 c.exchange-2.ensures.3 in
-    let told = told_seat f _ _ i.0 c.args.call.now c.step-reply.result took.core c.step-reply.new.self home c.tell.ensures.told in
+    let told = told_seat f _ _ (finds 0 i.0) c.args.call.now c.step-reply.result took.core c.step-reply.new.self home c.tell.ensures.told in
     let known : i.0 ≡ c.args.pass.now.known = sym (ap (λ (m : Me (Option g.row.C.Denot) (View g.row.C.Denot)). first_of m.0.passes) i.1) ∙ ap (λ (p : PassView g.row.C.Denot). p.known) c.pass.view_is in
     let after : shown f c.args.call.now c.step-reply.result c.step-reply.new.self i.0 ≡ first_of c.store.new.seat.me.0.passes = sym (ap (λ (m : Me (Option g.row.C.Denot) (View g.row.C.Denot)). first_of m.0.passes) (idle_again f _ _ i.0 c.args.call.now c.step-reply.result c.step-reply.new.self told c.store.ensures.2)) in
-    let fits : Fits took.setup (g.C.Core.view took.core).state took.notes i.0 = (subst (λ (ks : List (Known g.row.C.Denot)). AllFit took.setup (g.C.Core.view took.core).state took.notes ks) (ap (λ (m : Me (Option g.row.C.Denot) (View g.row.C.Denot)). m.0.passes) i.1) took.fit).0 in
-    let dead = subst (λ (x : g.row.C.Denot). IsTrue (g.C.Core.view x).state.is_dead → (c.step-reply.result ≡ Dead) × (c.step-reply.new.self ≡ x)) (sym core) c.step-reply.ensures.dead in
-    subst (λ (v : Known g.row.C.Denot × Known g.row.C.Denot). Called g.C.Core.tells g.C.Core.view v.0 c.args.call.now c.step-reply.result v.1) (λ j. (known j, after j)) (called f took.setup took.notes took.core c.step-reply.new.self i.0 c.args.call.now c.step-reply.result fits steps took.since took.doubt dead)
+    let fits : Fits g.C.Core.tells g.C.Core.view took.setup took.turns (g.C.Core.view took.core).state i.0 = (subst (λ (ks : List (Known g.row.C.Denot)). AllFit g.C.Core.tells g.C.Core.view took.setup took.turns (g.C.Core.view took.core).state ks) (ap (λ (m : Me (Option g.row.C.Denot) (View g.row.C.Denot)). m.0.passes) i.1) took.fit).0 in
+    subst (λ (v : Known g.row.C.Denot × Known g.row.C.Denot). Called g.C.Core.tells g.C.Core.view v.0 c.args.call.now c.step-reply.result v.1) (λ j. (known j, after j)) (called f took.setup took.turns took.core c.step-reply.new.self i.0 c.args.call.now c.step-reply.result fits steps dead took.since took.whose took.ready)
 
 pub returns-clause-seen : goal.returns-clause-seen
 returns-clause-seen g c =
@@ -153,12 +160,13 @@ returns-clause-seen g c =
     let steps : Steps g.C.Core.tells i.0.number c.args.call.now (g.C.Core.view took.core) (g.C.Core.view c.step-reply.new.self) c.step-reply.result =
     subst (λ (n : ℕ). Steps g.C.Core.tells n c.args.call.now (g.C.Core.view took.core) (g.C.Core.view c.step-reply.new.self) c.step-reply.result) (sym i.2)
     (subst (λ (x : g.row.C.Denot). Steps g.C.Core.tells c.pass.inside.number c.args.call.now (g.C.Core.view x) (g.C.Core.view c.step-reply.new.self) c.step-reply.result) (sym core) c.step-reply.ensures.steps) in
+    let dead = subst (λ (x : g.row.C.Denot). IsTrue (g.C.Core.view x).state.is_dead → (c.step-reply.result ≡ Dead) × (c.step-reply.new.self ≡ x)) (sym core) c.step-reply.ensures.dead in
     let home = homed f _ _ _ _ i.0 took.core c.step-reply.new.self None i.1 took.now c.exchange.ensures.3 c.exchange-2.ensures.3 in
-    let told = told_seat f _ _ i.0 c.args.call.now c.step-reply.result took.core c.step-reply.new.self home c.tell.ensures.told in
+    let told = told_seat f _ _ (finds 0 i.0) c.args.call.now c.step-reply.result took.core c.step-reply.new.self home c.tell.ensures.told in
     let known : i.0 ≡ c.args.pass.now.known = sym (ap (λ (m : Me (Option g.row.C.Denot) (View g.row.C.Denot)). first_of m.0.passes) i.1) ∙ ap (λ (p : PassView g.row.C.Denot). p.known) c.pass.view_is in
     let after : shown f c.args.call.now c.step-reply.result c.step-reply.new.self i.0 ≡ first_of c.store.new.seat.me.0.passes = sym (ap (λ (m : Me (Option g.row.C.Denot) (View g.row.C.Denot)). first_of m.0.passes) (idle_again f _ _ i.0 c.args.call.now c.step-reply.result c.step-reply.new.self told c.store.ensures.2)) in
-    let fits : Fits took.setup (g.C.Core.view took.core).state took.notes i.0 = (subst (λ (ks : List (Known g.row.C.Denot)). AllFit took.setup (g.C.Core.view took.core).state took.notes ks) (ap (λ (m : Me (Option g.row.C.Denot) (View g.row.C.Denot)). m.0.passes) i.1) took.fit).0 in
-    subst (λ (v : Known g.row.C.Denot × Known g.row.C.Denot). Grows v.0.seen v.1.seen) (λ j. (known j, after j)) (seen_grows f took.setup took.notes took.core c.step-reply.new.self i.0 c.args.call.now c.step-reply.result fits steps)
+    let fits : Fits g.C.Core.tells g.C.Core.view took.setup took.turns (g.C.Core.view took.core).state i.0 = (subst (λ (ks : List (Known g.row.C.Denot)). AllFit g.C.Core.tells g.C.Core.view took.setup took.turns (g.C.Core.view took.core).state ks) (ap (λ (m : Me (Option g.row.C.Denot) (View g.row.C.Denot)). m.0.passes) i.1) took.fit).0 in
+    subst (λ (v : Known g.row.C.Denot × Known g.row.C.Denot). Grows v.0.seen v.1.seen) (λ j. (known j, after j)) (seen_grows f took.setup took.turns took.core c.step-reply.new.self i.0 c.args.call.now c.step-reply.result fits steps dead)
 
 pub returns-clause-legal : goal.returns-clause-legal
 returns-clause-legal g c =
@@ -171,12 +179,13 @@ returns-clause-legal g c =
     let steps : Steps g.C.Core.tells i.0.number c.args.call.now (g.C.Core.view took.core) (g.C.Core.view c.step-reply.new.self) c.step-reply.result =
     subst (λ (n : ℕ). Steps g.C.Core.tells n c.args.call.now (g.C.Core.view took.core) (g.C.Core.view c.step-reply.new.self) c.step-reply.result) (sym i.2)
     (subst (λ (x : g.row.C.Denot). Steps g.C.Core.tells c.pass.inside.number c.args.call.now (g.C.Core.view x) (g.C.Core.view c.step-reply.new.self) c.step-reply.result) (sym core) c.step-reply.ensures.steps) in
+    let dead = subst (λ (x : g.row.C.Denot). IsTrue (g.C.Core.view x).state.is_dead → (c.step-reply.result ≡ Dead) × (c.step-reply.new.self ≡ x)) (sym core) c.step-reply.ensures.dead in
     let home = homed f _ _ _ _ i.0 took.core c.step-reply.new.self None i.1 took.now c.exchange.ensures.3 c.exchange-2.ensures.3 in
-    let told = told_seat f _ _ i.0 c.args.call.now c.step-reply.result took.core c.step-reply.new.self home c.tell.ensures.told in
+    let told = told_seat f _ _ (finds 0 i.0) c.args.call.now c.step-reply.result took.core c.step-reply.new.self home c.tell.ensures.told in
     let known : i.0 ≡ c.args.pass.now.known = sym (ap (λ (m : Me (Option g.row.C.Denot) (View g.row.C.Denot)). first_of m.0.passes) i.1) ∙ ap (λ (p : PassView g.row.C.Denot). p.known) c.pass.view_is in
     let after : shown f c.args.call.now c.step-reply.result c.step-reply.new.self i.0 ≡ first_of c.store.new.seat.me.0.passes = sym (ap (λ (m : Me (Option g.row.C.Denot) (View g.row.C.Denot)). first_of m.0.passes) (idle_again f _ _ i.0 c.args.call.now c.step-reply.result c.step-reply.new.self told c.store.ensures.2)) in
-    let fits : Fits took.setup (g.C.Core.view took.core).state took.notes i.0 = (subst (λ (ks : List (Known g.row.C.Denot)). AllFit took.setup (g.C.Core.view took.core).state took.notes ks) (ap (λ (m : Me (Option g.row.C.Denot) (View g.row.C.Denot)). m.0.passes) i.1) took.fit).0 in
-    λ told. subst (λ (k : Known g.row.C.Denot). IsLegalIn g.C.Core.view k) after (legal_now f took.setup took.notes took.core c.step-reply.new.self i.0 c.args.call.now c.step-reply.result fits steps took.since told)
+    let fits : Fits g.C.Core.tells g.C.Core.view took.setup took.turns (g.C.Core.view took.core).state i.0 = (subst (λ (ks : List (Known g.row.C.Denot)). AllFit g.C.Core.tells g.C.Core.view took.setup took.turns (g.C.Core.view took.core).state ks) (ap (λ (m : Me (Option g.row.C.Denot) (View g.row.C.Denot)). m.0.passes) i.1) took.fit).0 in
+    λ told. subst (λ (k : Known g.row.C.Denot). IsLegalIn g.C.Core.view k) after (legal_now f took.setup took.turns took.core c.step-reply.new.self i.0 c.args.call.now c.step-reply.result fits steps dead took.since told)
 
 pub returns-clause-commit : goal.returns-clause-commit
 returns-clause-commit g c =
@@ -189,9 +198,10 @@ returns-clause-commit g c =
     let steps : Steps g.C.Core.tells i.0.number c.args.call.now (g.C.Core.view took.core) (g.C.Core.view c.step-reply.new.self) c.step-reply.result =
     subst (λ (n : ℕ). Steps g.C.Core.tells n c.args.call.now (g.C.Core.view took.core) (g.C.Core.view c.step-reply.new.self) c.step-reply.result) (sym i.2)
     (subst (λ (x : g.row.C.Denot). Steps g.C.Core.tells c.pass.inside.number c.args.call.now (g.C.Core.view x) (g.C.Core.view c.step-reply.new.self) c.step-reply.result) (sym core) c.step-reply.ensures.steps) in
+    let dead = subst (λ (x : g.row.C.Denot). IsTrue (g.C.Core.view x).state.is_dead → (c.step-reply.result ≡ Dead) × (c.step-reply.new.self ≡ x)) (sym core) c.step-reply.ensures.dead in
     let home = homed f _ _ _ _ i.0 took.core c.step-reply.new.self None i.1 took.now c.exchange.ensures.3 c.exchange-2.ensures.3 in
-    let told = told_seat f _ _ i.0 c.args.call.now c.step-reply.result took.core c.step-reply.new.self home c.tell.ensures.told in
+    let told = told_seat f _ _ (finds 0 i.0) c.args.call.now c.step-reply.result took.core c.step-reply.new.self home c.tell.ensures.told in
     let known : i.0 ≡ c.args.pass.now.known = sym (ap (λ (m : Me (Option g.row.C.Denot) (View g.row.C.Denot)). first_of m.0.passes) i.1) ∙ ap (λ (p : PassView g.row.C.Denot). p.known) c.pass.view_is in
     let after : shown f c.args.call.now c.step-reply.result c.step-reply.new.self i.0 ≡ first_of c.store.new.seat.me.0.passes = sym (ap (λ (m : Me (Option g.row.C.Denot) (View g.row.C.Denot)). first_of m.0.passes) (idle_again f _ _ i.0 c.args.call.now c.step-reply.result c.step-reply.new.self told c.store.ensures.2)) in
-    let fits : Fits took.setup (g.C.Core.view took.core).state took.notes i.0 = (subst (λ (ks : List (Known g.row.C.Denot)). AllFit took.setup (g.C.Core.view took.core).state took.notes ks) (ap (λ (m : Me (Option g.row.C.Denot) (View g.row.C.Denot)). m.0.passes) i.1) took.fit).0 in
-    subst (λ (v : Known g.row.C.Denot × Known g.row.C.Denot). Commits g.C.Core.tells v.0 c.step-reply.result v.1) (λ j. (known j, after j)) (commits f took.setup took.notes took.core c.step-reply.new.self i.0 c.args.call.now c.step-reply.result fits steps)
+    let fits : Fits g.C.Core.tells g.C.Core.view took.setup took.turns (g.C.Core.view took.core).state i.0 = (subst (λ (ks : List (Known g.row.C.Denot)). AllFit g.C.Core.tells g.C.Core.view took.setup took.turns (g.C.Core.view took.core).state ks) (ap (λ (m : Me (Option g.row.C.Denot) (View g.row.C.Denot)). m.0.passes) i.1) took.fit).0 in
+    subst (λ (v : Known g.row.C.Denot × Known g.row.C.Denot). Commits g.C.Core.tells v.0 c.step-reply.result v.1) (λ j. (known j, after j)) (commits f took.setup took.turns took.core c.step-reply.new.self i.0 c.args.call.now c.step-reply.result fits steps dead (took.ready.live i.0.number))

@@ -2,7 +2,7 @@ use Rattle.std.proofs.Common.{ℕ, ◌<◌, List, [], ◌∷◌, ◌++◌, Optio
 use Rattle.std.specs.Option.{IsSome}
 use Rattle.atomic_table.specs.Table.{Me}
 use Rattle.mars_manager.specs.declared.view.View.{View}
-use Rattle.mars_manager.specs.Pass.{PassView, AllOf, HasEach, HasNoOthers, times, known_of}
+use Rattle.mars_manager.specs.Pass.{PassView, AllOf, HasEach, times, known_of}
 use Rattle.mars_manager.specs.Sharing.{MarsView, Since, AreGathered}
 use Rattle.mars_manager.specs.Seat.{view}
 use Rattle.mars_manager.specs.Rule.{face}
@@ -67,18 +67,6 @@ returns-clause-since g c =
     let end = ended_as f key _ last.0 c.unwrap-core.result c.take.result last.1 c.unwrap-core.ensures last.2 in
     subst (λ (m : MarsView g.row.C.Denot). Since g.C.Core.tells (g.C.Core.view m.setup.first) (g.C.Core.view c.unwrap-core.result)) c.self.view_is end.since
 
-pub returns-clause-others : goal.returns-clause-others
-returns-clause-others g c =
-    let f = face g.C.Core.tells g.C.Core.view in
-    let key = c.self.inside.table.shared.key in
-    let i = c.loop-pass.invariant in
-    let gone = sym c.loop-pass.pass-iterator.rest.ok.0 ∙ c.in-None.ensures.steps.0 in
-    let all = taken_all f key _ i.taken.0 c.loop-pass.pass-iterator.rest.items c.args.passes.list i.taken.1 i.taken.2 gone in
-    let each : (n : ℕ) → n < key.callers → 0 < times n (map known_of c.args.passes.list) = subst (λ (m : MarsView g.row.C.Denot). HasEach m.setup.callers c.args.passes.list) (sym c.self.view_is) c.requires.all in
-    let last = last_core f key _ (map known_of c.args.passes.list) _ _ _ c.take.result all each c.close_with-closed.ensures.values.2 c.take.ensures.value in
-    let end = ended_as f key _ last.0 c.unwrap-core.result c.take.result last.1 c.unwrap-core.ensures last.2 in
-    subst (λ (m : MarsView g.row.C.Denot). HasNoOthers m.setup.callers (g.C.Core.view c.unwrap-core.result).state) c.self.view_is end.strangers
-
 pub returns-clause-passes : goal.returns-clause-passes
 returns-clause-passes g c =
     let f = face g.C.Core.tells g.C.Core.view in
@@ -90,4 +78,4 @@ returns-clause-passes g c =
     let last = last_core f key _ (map known_of c.args.passes.list) _ _ _ c.take.result all each c.close_with-closed.ensures.values.2 c.take.ensures.value in
     let end = ended_as f key _ last.0 c.unwrap-core.result c.take.result last.1 c.unwrap-core.ensures last.2 in
     subst (λ (m : MarsView g.row.C.Denot). AreGathered g.C.Core.tells g.C.Core.view m.setup c.unwrap-core.result c.args.passes.list) c.self.view_is
-    (record { notes = end.notes; each = all_known f key c.unwrap-core.result end.notes c.args.passes.list end.fit; dead = end.dead; noted = end.noted })
+    (record { turns = end.turns; run = end.run; whose = end.whose; ready = end.ready; each = all_known f key c.unwrap-core.result end.turns c.args.passes.list end.fit })
