@@ -1,6 +1,7 @@
 -- What a pass knows.
 use Rattle.std.specs.Prelude.{ℕ, zero, suc, ◌≡◌, ◌≢◌, ◌+◌, ◌<◌, ◌≤◌, ◌==◌, if◌then◌else◌, Bool, List, [], ◌∷◌, ◌++◌, map, length, Some}
 use Rattle.atomic_table.specs.Seated.{TableId}
+use Rattle.history.specs.Table.{Granted}
 use Rattle.history.specs.declared.call.Call.{Call}
 use Rattle.history.specs.declared.call.Reply.{Reply}
 use Rattle.core_face.specs.State.{State}
@@ -22,6 +23,10 @@ module _ {C : Type 0} where
   abbrev pub AllFit : Bool → (C → CoreView) → Setup C → List Turn → State → List (Known C) → Type 0
   AllFit tells show setup turns state [] = Unit {0}
   AllFit tells show setup turns state (known ∷ others) = Fits tells show setup turns state known × AllFit tells show setup turns state others
+
+  -- what a pass was told: its caller's calls and their replies
+  abbrev pub told_of : Known C → Granted
+  told_of known = known.told
 
   -- the number of another pass of the same shared core
   abbrev pub IsOther : Known C → ℕ → Type 0
