@@ -12,12 +12,12 @@ use Rattle.caller_work.specs.Standing.{IsSame, Adds}
 
 module _ {C : Type 0} where
   -- one call of a pass adds one turn
-  pub adds_one : (tells : Bool) (show : C → CoreView) (was now : PassView C) (call : Call) (reply : Reply) → Called tells show was.known call reply now.known → now.table ≡ was.table
+  pub adds_one : (tells : Bool) (show : C → CoreView) (was now : PassView C) (call : Call) (reply : Reply) → Called tells show was.known call reply now.known → told_of now.known ≡ told_of was.known ++ (call, reply) ∷ [] → now.table ≡ was.table
       → (Holds : Granted → Type 0) → Holds ((call, reply) ∷ []) → Adds was now Holds
-  adds_one tells show was now call reply called table Holds holds = record {
+  adds_one tells show was now call reply called told table Holds holds = record {
     same = record { table = table; number = ap (λ (k : Known C). k.number) called.after; setup = ap (λ (k : Known C). k.setup) called.after };
     more = (call, reply) ∷ [];
-    told = ap (λ (k : Known C). told_of k) called.after;
+    told = told;
     holds = holds;
   }
 

@@ -15,6 +15,7 @@ use Rattle.core_face.proofs.Telling.{told_by_some, some_line}
 use Rattle.mars_manager.specs.declared.setup.Setup.{Setup}
 use Rattle.mars_manager.specs.Pass.{PassView, Fits, AreSo, known_of, times, newcomer}
 use Rattle.mars_manager.specs.Sharing.{MarsView, Since, AreGathered}
+use Rattle.mars_manager.proofs.Calls.{told_all}
 use Rattle.caller_plans.specs.declared.plan.Plan.{Plan}
 use Rattle.caller_plans.specs.declared.fate.Fate.{Fate}
 use Rattle.caller_work.specs.declared.stop.Stop.{Stop}
@@ -87,7 +88,7 @@ module _ {C : Type 0} where
     works k within =
         let d = done k somebody within in
         let fits = fits_at tells show mars.setup turns now passes k somebody gathered.each (omega arith) in
-        subst (λ (l : Granted). IsWork (Times tries) (of_caller plans k) l (of_caller told k) (get_or stops k None)) (fits.told ∙ ap (λ (n : ℕ). turns_of n turns) d.number) d.works
+        subst (λ (l : Granted). IsWork (Times tries) (of_caller plans k) l (of_caller told k) (get_or stops k None)) (told_all tells show mars.setup turns now (get_or passes k somebody).known fits ∙ ap (λ (n : ℕ). turns_of n turns) d.number) d.works
 
     dead_is : now.is_dead ≡ has_fault turns
     dead_is = turns_dead tells limits first now turns gathered.run ∙ ap (λ b. b || has_fault turns) gathered.ready.alive

@@ -157,31 +157,34 @@ module _ (tells : Bool) (limits : Limits) where
   turns_tell first now (turn ∷ turns) told a = (a.0, a.1.step told, turns_tell a.0 now turns told a.2)
 
   -- The last turn: at the beginning,
-  pub turn_none : (caller : ℕ) (first : State) → LastTurn tells limits caller first.history first [] first
-  turn_none caller first = record { before = []; after = []; mid = first; turns_are = refl; until = refl; since = refl; none = refl; shown = refl }
+  pub turn_none : (caller : ℕ) (first : State) → LastTurn tells limits caller [] first.history first [] first
+  turn_none caller first = record { after = []; mid = first; turns_are = refl; until = refl; since = refl; none = refl; shown = refl }
 
   -- after the caller's own,
-  pub turn_own : (caller : ℕ) (first now : State) (turns : List Turn) → GoesAlong tells limits first turns now → LastTurn tells limits caller now.history first turns now
-  turn_own caller first now turns a = record { before = turns; after = []; mid = now; turns_are = sym (append-nil turns); until = a; since = refl; none = refl; shown = refl }
+  pub turn_own : (caller : ℕ) (first now : State) (turns : List Turn) → GoesAlong tells limits first turns now → LastTurn tells limits caller turns now.history first turns now
+  turn_own caller first now turns a = record { after = []; mid = now; turns_are = sym (append-nil turns); until = a; since = refl; none = refl; shown = refl }
 
   -- and after another's.
-  pub turn_other : (caller : ℕ) (seen : List Done) (first old new : State) (turns : List Turn) (other : ℕ) (call : Call) (reply : Reply) → other ≢ caller → Goes tells limits old other call reply new
-      → LastTurn tells limits caller seen first turns old → LastTurn tells limits caller seen first (turns ++ (other, call, reply) ∷ []) new
-  turn_other caller seen first old new turns other call reply ne goes t = record {
-    before = t.before;
+  pub turn_other : (caller : ℕ) (past : List Turn) (seen : List Done) (first old new : State) (turns : List Turn) (other : ℕ) (call : Call) (reply : Reply) → other ≢ caller → Goes tells limits old other call reply new
+      → LastTurn tells limits caller past seen first turns old → LastTurn tells limits caller past seen first (turns ++ (other, call, reply) ∷ []) new
+  turn_other caller past seen first old new turns other call reply ne goes t = record {
     after = t.after ++ (other, call, reply) ∷ [];
     mid = t.mid;
-    turns_are = ap (λ (l : List Turn). l ++ (other, call, reply) ∷ []) t.turns_are ∙ append_assoc t.before t.after ((other, call, reply) ∷ []);
+    turns_are = ap (λ (l : List Turn). l ++ (other, call, reply) ∷ []) t.turns_are ∙ append_assoc past t.after ((other, call, reply) ∷ []);
     until = t.until;
     since = turns_one t.mid old new t.after other call reply t.since goes;
     none = last_apart caller (other, call, reply) t.after ne ∙ t.none;
     shown = t.shown;
   }
 
-  module _ (caller : ℕ) (seen : List Done) (first now : State) (turns : List Turn) (t : LastTurn tells limits caller seen first turns now) where
+  module _ (caller : ℕ) (past : List Turn) (seen : List Done) (first now : State) (turns : List Turn) (t : LastTurn tells limits caller past seen first turns now) where
     -- the whole run
     pub turn_run : GoesAlong tells limits first turns now
-    turn_run = subst (λ (l : List Turn). GoesAlong tells limits first l now) (sym t.turns_are) (turns_on first t.mid now t.before t.after t.until t.since)
+    turn_run = subst (λ (l : List Turn). GoesAlong tells limits first l now) (sym t.turns_are) (turns_on first t.mid now past t.after t.until t.since)
+
+    -- what it was told
+    pub turn_told : turns_of caller past ≡ turns_of caller turns
+    turn_told = sym (append-nil (turns_of caller past)) ∙ ap (λ (l : Granted). turns_of caller past ++ l) (sym t.none) ∙ sym (lines_append caller past t.after) ∙ ap (turns_of caller) (sym t.turns_are)
 
     pub turn_grows : Grows seen now.history
     turn_grows = subst (λ (h : List Done). Grows h now.history) (sym t.shown) (turns_grow t.mid now t.after t.since)

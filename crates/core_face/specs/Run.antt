@@ -48,13 +48,12 @@ has_fault turns = list_any (λ (turn : Turn). is_media turn.2) turns
 abbrev pub HasNoOthers : ℕ → State → Type 0
 HasNoOthers callers state = (caller : ℕ) → callers ≤ caller → (commits_of caller state.history ≡ []) × (state.live caller ≡ None)
 
--- The last turn of a caller in a run, or the beginning if it had none: the history was then this one, and since then the others have gone on.
-pub record LastTurn (tells : Bool) (limits : Limits) (caller : ℕ) (seen : List Done) (first : State) (turns : List Turn) (now : State) : Type 0 where
-  pub before : List Turn
+-- The run up to a caller's last turn, or an empty one if it had none: the history was then this one, and since then the others have gone on.
+pub record LastTurn (tells : Bool) (limits : Limits) (caller : ℕ) (past : List Turn) (seen : List Done) (first : State) (turns : List Turn) (now : State) : Type 0 where
   pub after : List Turn
   pub mid : State
-  pub turns_are : turns ≡ before ++ after
-  pub until : GoesAlong tells limits first before mid
+  pub turns_are : turns ≡ past ++ after
+  pub until : GoesAlong tells limits first past mid
   pub since : GoesAlong tells limits mid after now
   pub none : turns_of caller after ≡ []
   pub shown : seen ≡ mid.history

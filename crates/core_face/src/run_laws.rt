@@ -48,11 +48,14 @@ pub fn a_caller_knows_its_own()
         → first.doubt ≡ None → (done : Done) → now.doubt ≡ Some done → done.caller < callers }
 {}
 
-/// What a pass has seen at its last turn: the history then, which has all of its caller's transactions up to now.
+/// What a caller knows of its last turn: the turns up to it begin the run and have all of its own, and the history then has all of its
+/// transactions up to now.
 pub fn what_was_seen_at_the_last_turn()
-    ensures run { (tells : Bool) (limits : Limits) (caller : ℕ) (seen : List Done) (first now : State) (turns : List Turn) → LastTurn tells limits caller seen first turns now → GoesAlong tells limits first turns now }
-    ensures grows { (tells : Bool) (limits : Limits) (caller : ℕ) (seen : List Done) (first now : State) (turns : List Turn) → LastTurn tells limits caller seen first turns now → Grows seen now.history }
-    ensures mine { (tells : Bool) (limits : Limits) (caller : ℕ) (seen : List Done) (first now : State) (turns : List Turn) → LastTurn tells limits caller seen first turns now
+    ensures run { (tells : Bool) (limits : Limits) (caller : ℕ) (past : List Turn) (seen : List Done) (first now : State) (turns : List Turn) → LastTurn tells limits caller past seen first turns now → GoesAlong tells limits first turns now }
+    ensures told { (tells : Bool) (limits : Limits) (caller : ℕ) (past : List Turn) (seen : List Done) (first now : State) (turns : List Turn) → LastTurn tells limits caller past seen first turns now
+        → turns_of caller past ≡ turns_of caller turns }
+    ensures grows { (tells : Bool) (limits : Limits) (caller : ℕ) (past : List Turn) (seen : List Done) (first now : State) (turns : List Turn) → LastTurn tells limits caller past seen first turns now → Grows seen now.history }
+    ensures mine { (tells : Bool) (limits : Limits) (caller : ℕ) (past : List Turn) (seen : List Done) (first now : State) (turns : List Turn) → LastTurn tells limits caller past seen first turns now
         → commits_of caller seen ≡ commits_of caller now.history }
 {}
 

@@ -7,26 +7,40 @@ use Rattle.history.specs.declared.call.Call.{Call}
 use Rattle.history.specs.declared.call.Reply.{Reply}
 use Rattle.history.specs.declared.call.Reply.TheVariants.{Committed, Dead}
 use Rattle.history.specs.Legal.{IsLegal}
-use Rattle.core_face.specs.State.{calls_of, done_by}
+use Rattle.core_face.specs.State.{State, calls_of, done_by}
 use Rattle.core_face.specs.Fate.{is_committed}
 use Rattle.core_face.specs.Prefix.{Grows}
 use Rattle.core_face.specs.Step.{Step}
 use Rattle.core_face.specs.Core.{CoreView, Steps}
-use Rattle.core_face.specs.Run.{Turn, Goes, AreOf, commits_of}
+use Rattle.core_face.specs.Run.{Turn, Goes, AreOf, turns_of, commits_of}
 use Rattle.core_face.specs.Own.{live_by}
 use Rattle.core_face.proofs.Continuing.{grows_on, after_grows}
-use Rattle.core_face.proofs.Running.{own_commits, turn_run, turn_grows, turn_commits}
+use Rattle.core_face.proofs.Running.{own_commits, last_here, turn_run, turn_told, turn_grows, turn_commits}
 use Rattle.core_face.proofs.Owning.{number_of_commit, turns_live}
 use Rattle.atomic_table.specs.Table.{Me, rest}
 use Rattle.mars_manager.specs.declared.view.Known.{Known}
 use Rattle.mars_manager.specs.declared.view.View.{View}
 use Rattle.mars_manager.specs.declared.setup.Setup.{Setup}
-use Rattle.mars_manager.specs.Pass.{Fits, finds}
+use Rattle.mars_manager.specs.Pass.{Fits, AllFit, finds, told_of}
 use Rattle.mars_manager.specs.Sharing.{CanShare, Since, Called, IsLegalIn, done_of, mine_of, HasCommitted, Commits}
 use Rattle.mars_manager.specs.Seat.{shared_view}
-use Rattle.mars_manager.specs.Rule.{Face, shown}
+use Rattle.mars_manager.specs.Rule.{Face, shown, Took, Told}
 use Rattle.mars_manager.proofs.Past.{since_step}
-use Rattle.mars_manager.proofs.Turns.{out, some_same, Moved}
+use Rattle.mars_manager.proofs.Turns.{out, top_of, some_same, found_fit, Moved}
+
+module _ {C : Type 0} where
+  -- a pass was told all of its caller's turns
+  pub told_all : (tells : Bool) (show : C → CoreView) (setup : Setup C) (turns : List Turn) (state : State) (known : Known C) → Fits tells show setup turns state known → told_of known ≡ turns_of known.number turns
+  told_all tells show setup turns state known fit = turn_told tells (show setup.first).limits known.number known.past known.seen (show setup.first).state state turns fit.last
+
+module _ {C : Type 0} (tells : Bool) (show : C → CoreView) (was : Known C) (call : Call) (reply : Reply) (now : Known C) (c : Called tells show was call reply now) where
+  -- before a call the pass was told all of its caller's turns,
+  pub told_was : told_of was ≡ turns_of was.number c.turns
+  told_was = turn_told tells (show c.setup.first).limits was.number was.past was.seen (show c.setup.first).state (show c.old).state c.turns c.last
+
+  -- and after it one more
+  pub told_on : told_of now ≡ told_of was ++ (call, reply) ∷ []
+  told_on = ap told_of c.after ∙ last_here was.number call reply c.turns ∙ ap (λ (l : Granted). l ++ (call, reply) ∷ []) (sym told_was)
 
 module _ {C : Type 0} (f : Face C) where
   goes_on : (setup : Setup C) (n : ℕ) (call : Call) (reply : Reply) (old new : C) → Steps f.tells n call (f.show old) (f.show new) reply → (IsTrue (f.show old).state.is_dead → (reply ≡ Dead) × (new ≡ old))
@@ -47,7 +61,7 @@ module _ {C : Type 0} (f : Face C) where
 
   module _ (setup : Setup C) (turns : List Turn) (old new : C) (k : Known C) (call : Call) (reply : Reply) (fit : Fits f.tells f.show setup turns (f.show old).state k)
       (s : Steps f.tells k.number call (f.show old) (f.show new) reply) (dead : IsTrue (f.show old).state.is_dead → (reply ≡ Dead) × (new ≡ old)) where
-    pub called : Since f.tells (f.show setup.first) (f.show old) → AreOf setup.callers turns → CanShare f.tells setup.callers (f.show setup.first) → Called f.tells f.show k call reply (shown f call reply new k)
+    pub called : Since f.tells (f.show setup.first) (f.show old) → AreOf setup.callers turns → CanShare f.tells setup.callers (f.show setup.first) → Called f.tells f.show k call reply (shown f call reply turns new k)
     called since whose ready = record {
       setup = setup;
       turns = turns;
@@ -58,18 +72,17 @@ module _ {C : Type 0} (f : Face C) where
       comes = since_step f.tells k.number call reply (f.show setup.first) (f.show old) (f.show new) s since;
       whose = whose;
       ready = ready;
-      told = fit.told;
-      last = fit.seen;
+      last = fit.last;
       steps = s;
       dead = dead;
       after = refl;
     }
 
-    pub seen_grows : Grows k.seen (shown f call reply new k).seen
-    seen_grows = grows_on k.seen (f.show old).state.history (f.show new).state.history (turn_grows f.tells (f.show setup.first).limits k.number k.seen (f.show setup.first).state (f.show old).state turns fit.seen)
+    pub seen_grows : Grows k.seen (shown f call reply turns new k).seen
+    seen_grows = grows_on k.seen (f.show old).state.history (f.show new).state.history (turn_grows f.tells (f.show setup.first).limits k.number k.past k.seen (f.show setup.first).state (f.show old).state turns fit.last)
         (subst (λ h. Grows (f.show old).state.history h) (sym s.moves.history) (after_grows (f.show old).state k.number reply))
 
-    pub legal_now : Since f.tells (f.show setup.first) (f.show old) → IsTrue f.tells → IsLegalIn f.show (shown f call reply new k)
+    pub legal_now : Since f.tells (f.show setup.first) (f.show old) → IsTrue f.tells → IsLegalIn f.show (shown f call reply turns new k)
     legal_now since told given is =
         let comes = since_step f.tells k.number call reply (f.show setup.first) (f.show old) (f.show new) s since in
         let same : setup ≡ given = some_same setup given (sym fit.setup_is ∙ is) in
@@ -78,7 +91,7 @@ module _ {C : Type 0} (f : Face C) where
 
     -- the caller's transactions are those that its pass has seen
     mine_is : mine_of k ≡ commits_of k.number (f.show old).state.history
-    mine_is = turn_commits f.tells (f.show setup.first).limits k.number k.seen (f.show setup.first).state (f.show old).state turns fit.seen
+    mine_is = turn_commits f.tells (f.show setup.first).limits k.number k.past k.seen (f.show setup.first).state (f.show old).state turns fit.last
 
     alive_if : (b : Bool) → (f.show old).state.is_dead ≡ b → is_committed reply ≡ true → (f.show old).state.is_dead ≡ false
     alive_if true is committed = absurd (true≢false (sym committed ∙ ap is_committed (dead is).0))
@@ -86,16 +99,16 @@ module _ {C : Type 0} (f : Face C) where
 
     module _ (fresh : (f.show setup.first).state.live k.number ≡ None) where
       -- a commit is answered only while the medium has not failed, so the caller's turns say what its live calls are
-      live_is : is_committed reply ≡ true → (f.show old).state.live k.number ≡ live_by k.number k.told
+      live_is : is_committed reply ≡ true → (f.show old).state.live k.number ≡ live_by k.number (told_of k)
       live_is committed =
           turns_live f.tells (f.show setup.first).limits k.number (f.show setup.first).state (f.show old).state turns _
-          (turn_run f.tells (f.show setup.first).limits k.number k.seen (f.show setup.first).state (f.show old).state turns fit.seen) (inr (alive_if (f.show old).state.is_dead refl committed)) fresh
-          ∙ ap (live_by k.number) (sym fit.told)
+          (turn_run f.tells (f.show setup.first).limits k.number k.past k.seen (f.show setup.first).state (f.show old).state turns fit.last) (inr (alive_if (f.show old).state.is_dead refl committed)) fresh
+          ∙ ap (live_by k.number) (sym (told_all f.tells f.show setup turns (f.show old).state k fit))
 
       done_is : is_committed reply ≡ true → done_by (f.show old).state k.number (calls_of (f.show old).state k.number) ≡ done_of k (length (f.show old).state.history + 1)
       done_is committed = ap (λ (live : Option Granted). record { caller = k.number; calls = unwrap_or live []; at = length (f.show old).state.history + 1 }) (live_is committed)
 
-      commits_at : (b : Bool) → is_committed reply ≡ b → MatchBool b (HasCommitted f.tells k reply (shown f call reply new k)) (mine_of (shown f call reply new k) ≡ mine_of k)
+      commits_at : (b : Bool) → is_committed reply ≡ b → MatchBool b (HasCommitted f.tells k reply (shown f call reply turns new k)) (mine_of (shown f call reply turns new k) ≡ mine_of k)
       commits_at true is =
           let log = (f.show old).state.history in
           let done = done_by (f.show old).state k.number (calls_of (f.show old).state k.number) in
@@ -113,30 +126,69 @@ module _ {C : Type 0} (f : Face C) where
           ap (commits_of k.number) s.moves.history ∙ own_commits (f.show old).state k.number reply
           ∙ cond-false (is_committed reply) (commits_of k.number (f.show old).state.history ++ done_by (f.show old).state k.number (calls_of (f.show old).state k.number) ∷ []) (commits_of k.number (f.show old).state.history) is ∙ sym mine_is
 
-      pub commits : Commits f.tells k reply (shown f call reply new k)
+      pub commits : Commits f.tells k reply (shown f call reply turns new k)
       commits = commits_at (is_committed reply) refl
 
   abbrev Sat : Type 0
   Sat = Me (Option C) (View C)
 
-  -- the seat once the core is back in its slot
-  pub homed : (m0 m1 m2 m3 : Sat) (k : Known C) (core new : C) (a : Option C) → m0 ≡ (shared_view (k ∷ []) None, []) → m1 ≡ (shared_view (map (finds 0) m0.0.passes) (Some core), out core) → m2 ≡ (m1.0, (0, a) ∷ rest m1.1)
-      → m3 ≡ (m2.0, (0, Some new) ∷ rest m2.1) → m3 ≡ (shared_view (finds 0 k ∷ []) (Some core), out new)
-  homed m0 m1 m2 m3 k core new a e0 e1 e2 e3 =
-      let F : Sat → Sat = λ m. (m.0, (0, Some new) ∷ rest m.1) in
-      let G : Sat → Sat = λ m. (m.0, (0, a) ∷ rest m.1) in
-      let H : Sat → Sat = λ m. (shared_view (map (finds 0) m.0.passes) (Some core), out core) in
-      e3 ∙ ap F e2 ∙ ap (λ (m : Sat). F (G m)) e1 ∙ ap (λ (m : Sat). F (G (H m))) e0
+  -- what a turn leaves in a seat
+  pub record Made (was : Known C) (call : Call) (reply : Reply) (m : Sat) : Type 0 where
+    pub now : Known C
+    pub idle : m ≡ (shared_view (now ∷ []) None, [])
+    pub number : now.number ≡ was.number
+    pub called : Called f.tells f.show was call reply now
+    pub told : told_of now ≡ told_of was ++ (call, reply) ∷ []
+    pub seen : Grows was.seen now.seen
+    pub legal : IsTrue f.tells → IsLegalIn f.show now
+    pub commits : Commits f.tells was reply now
 
-  -- the seat once the length is published
-  pub told_seat : (m3 m4 : Sat) (k : Known C) (call : Call) (reply : Reply) (core new : C) → m3 ≡ (shared_view (k ∷ []) (Some core), out new) → ((c : C) → m3.1 ≡ out c → m4 ≡ (shared_view (map (shown f call reply c) m3.0.passes) (Some c), m3.1))
-      → m4 ≡ (shared_view (shown f call reply new k ∷ []) (Some new), out new)
-  told_seat m3 m4 k call reply core new e tells =
-      let F : Sat → Sat = λ m. (shared_view (map (shown f call reply new) m.0.passes) (Some new), m.1) in
-      tells new (ap (λ (m : Sat). m.1) e) ∙ ap F e
+  -- the core that the seat takes out of its slot
+  pub core_is : (m0 m1 : Sat) (core : C) (home : Option C) (took : Took f m0 m1) → m1.1 ≡ (0, home) ∷ rest m1.1 → home ≡ Some core → took.core ≡ core
+  core_is m0 m1 core home took taken is = some_same took.core core (ap (λ (l : List (ℕ × Option C)). top_of l) (sym (ap (λ (m : Sat). m.1) took.now) ∙ taken) ∙ is)
 
-  pub idle_again : (m4 m5 : Sat) (k : Known C) (call : Call) (reply : Reply) (new : C) → m4 ≡ (shared_view (shown f call reply new k ∷ []) (Some new), out new) → m5 ≡ (shared_view m4.0.passes None, []) → m5 ≡ (shared_view (shown f call reply new k ∷ []) None, [])
-  idle_again m4 m5 k call reply new e give = let F : Sat → Sat = λ m. (shared_view m.0.passes None, []) in give ∙ ap F e
+  module _ (m0 m1 m2 m3 : Sat) (k : Known C) (core new : C) (home : Option C) (idle : m0 ≡ (shared_view (k ∷ []) None, [])) (took : Took f m0 m1)
+      (taken : m1.1 ≡ (0, home) ∷ rest m1.1) (is : home ≡ Some core) (out_is : m2 ≡ (m1.0, (0, None) ∷ rest m1.1)) (back : m3 ≡ (m2.0, (0, Some new) ∷ rest m2.1)) where
+    -- the seat once the core is back in its slot
+    pub homed : m3 ≡ (shared_view (finds 0 k ∷ []) (Some core), out new)
+    homed =
+        let F : Sat → Sat = λ m. (m.0, (0, Some new) ∷ rest m.1) in
+        let G : Sat → Sat = λ m. (m.0, (0, None) ∷ rest m.1) in
+        let H : C → Sat → Sat = λ c m. (shared_view (map (finds 0) m.0.passes) (Some c), out c) in
+        back ∙ ap F out_is ∙ ap (λ (m : Sat). F (G m)) took.now ∙ (λ i. F (G (H (core_is m0 m1 core home took taken is i) (idle i))))
+
+    module _ (n : ℕ) (call : Call) (reply : Reply) (number : k.number ≡ n) (steps : Steps f.tells n call (f.show core) (f.show new) reply) (dead : IsTrue (f.show core).state.is_dead → (reply ≡ Dead) × (new ≡ core)) where
+      steps_as : Steps f.tells k.number call (f.show core) (f.show new) reply
+      steps_as = subst (λ n. Steps f.tells n call (f.show core) (f.show new) reply) (sym number) steps
+
+      pub moves : (setup : Setup C) → Moved f setup k.number call reply core new
+      moves setup = moved setup k.number call reply core new steps_as dead
+
+      -- the step is recorded, and the turn is given back
+      module _ (m4 : Sat) (tells : (was now : C) → m3.0.held ≡ Some was → m3.1 ≡ out now → Told f call reply was now m3 m4) where
+        pub record_of : Told f call reply core new m3 m4
+        record_of = tells core new (ap (λ (m : Sat). m.0.held) homed) (ap (λ (m : Sat). m.1) homed)
+
+        -- the seat once the length is published
+        pub told_seat : m4 ≡ (shared_view (shown f call reply record_of.turns new k ∷ []) (Some new), out new)
+        told_seat = let F : Sat → Sat = λ m. (shared_view (map (shown f call reply record_of.turns new) m.0.passes) (Some new), m.1) in record_of.now ∙ ap F homed
+
+        -- the seat once the turn is given back
+        pub made : (m5 : Sat) → m5 ≡ (shared_view m4.0.passes None, []) → Made k call reply m5
+        made m5 give =
+            let t = record_of in
+            let all = subst (λ (ks : List (Known C)). AllFit f.tells f.show t.setup t.turns (f.show core).state ks) (ap (λ (m : Sat). m.0.passes) homed) t.fit in
+            let fit : Fits f.tells f.show t.setup t.turns (f.show core).state k = found_fit f t.setup t.turns core k.found (finds 0 k) all.0 in
+            let F : Sat → Sat = λ m. (shared_view m.0.passes None, []) in record {
+              now = shown f call reply t.turns new k;
+              idle = give ∙ ap F told_seat;
+              number = refl;
+              called = called t.setup t.turns core new k call reply fit steps_as dead t.since t.whose t.ready;
+              told = told_on f.tells f.show k call reply (shown f call reply t.turns new k) (called t.setup t.turns core new k call reply fit steps_as dead t.since t.whose t.ready);
+              seen = seen_grows t.setup t.turns core new k call reply fit steps_as dead;
+              legal = legal_now t.setup t.turns core new k call reply fit steps_as dead t.since;
+              commits = commits t.setup t.turns core new k call reply fit steps_as dead (t.ready.live k.number);
+            }
 
 module _ {C : Type 0} where
   -- what a pass found does not matter to its next call
@@ -151,7 +203,6 @@ module _ {C : Type 0} where
     comes = c.comes;
     whose = c.whose;
     ready = c.ready;
-    told = c.told;
     last = c.last;
     steps = c.steps;
     dead = c.dead;

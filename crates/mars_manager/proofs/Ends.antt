@@ -111,8 +111,7 @@ module _ {C : Type 0} (f : Face C) (setup : Setup C) where
   fresh_fit m (suc n) none_done = (
     record {
       setup_is = refl;
-      told = refl;
-      seen = subst (λ h. LastTurn f.tells (f.show setup.first).limits m h (f.show setup.first).state [] (f.show setup.first).state) none_done (turn_none f.tells (f.show setup.first).limits m (f.show setup.first).state);
+      last = subst (λ h. LastTurn f.tells (f.show setup.first).limits m [] h (f.show setup.first).state [] (f.show setup.first).state) none_done (turn_none f.tells (f.show setup.first).limits m (f.show setup.first).state);
       heard = omega arith;
     },
     fresh_fit (suc m) n none_done,

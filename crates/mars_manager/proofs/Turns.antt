@@ -11,7 +11,7 @@ use Rattle.core_face.specs.Room.{Limits}
 use Rattle.core_face.specs.Prefix.{Grows}
 use Rattle.core_face.specs.Run.{Turn, Goes}
 use Rattle.core_face.proofs.Continuing.{grows_longer}
-use Rattle.core_face.proofs.Running.{last_here, last_apart, all_of_append, turns_one, turn_own, turn_other, turn_grows}
+use Rattle.core_face.proofs.Running.{all_of_append, turns_one, turn_own, turn_other, turn_grows}
 use Rattle.atomic_table.specs.Table.{State, Me, step, Act, keeps, takes, gives, stepped, Valid, carried_after, Allows}
 use Rattle.atomic_table.proofs.Lists.{set_here, set_else, exchanged}
 use Rattle.mars_manager.specs.declared.view.Known.{Known}
@@ -100,8 +100,7 @@ module _ {C : Type 0} (f : Face C) (setup : Setup C) where
       → Fits f.tells f.show setup turns (f.show core).state k → Fits f.tells f.show setup (turns ++ (n, call, reply) ∷ []) (f.show new).state k
   moves_one n call reply core new turns k m since ne h = record {
     setup_is = h.setup_is;
-    told = h.told ∙ sym (last_apart k.number (n, call, reply) turns (λ e. ne (sym e)));
-    seen = turn_other f.tells (f.show setup.first).limits k.number k.seen (f.show setup.first).state (f.show core).state (f.show new).state turns n call reply (λ e. ne (sym e)) (m.goes since) h.seen;
+    last = turn_other f.tells (f.show setup.first).limits k.number k.past k.seen (f.show setup.first).state (f.show core).state (f.show new).state turns n call reply (λ e. ne (sym e)) (m.goes since) h.last;
     heard = (let l = grows_longer (f.show core).state.history (f.show new).state.history m.grows in let o = h.heard in omega arith);
   }
 
@@ -114,8 +113,8 @@ module _ {C : Type 0} (f : Face C) (setup : Setup C) where
   )
 
   -- what a pass knows stays true when it notes what it found
-  found_fit : (turns : List Turn) (core : C) (n : ℕ) (k : Known C) → Fits f.tells f.show setup turns (f.show core).state k → Fits f.tells f.show setup turns (f.show core).state (finds n k)
-  found_fit turns core n k h = record { setup_is = h.setup_is; told = h.told; seen = h.seen; heard = h.heard }
+  pub found_fit : (turns : List Turn) (core : C) (n : ℕ) (k : Known C) → Fits f.tells f.show setup turns (f.show core).state k → Fits f.tells f.show setup turns (f.show core).state (finds n k)
+  found_fit turns core n k h = record { setup_is = h.setup_is; last = h.last; heard = h.heard }
 
   turn_taken : (s : St) (id turn : ℕ) (k : Known C) (h : IsKept f setup s) → turn ≡ k.number + 1 → get_elem? s.views id ≡ some (shared_view (k ∷ []) None)
       → (x : IsFree h.core s) → IsKept f setup (stepped s 0 turn id [] (shared_view (finds 0 k ∷ []) (Some h.core)) (takes 0 (Some h.core)))
@@ -164,13 +163,7 @@ module _ {C : Type 0} (f : Face C) (setup : Setup C) where
         (
           λ _. record {
             core = h.core;
-            setup = setup;
-            turns = h.turns;
             now = refl;
-            fit = h.fit id (shared_view (k ∷ []) None) at;
-            since = h.since;
-            whose = h.whose;
-            ready = h.ready;
             few = λ n has. (let m = h.ready.enough in let same = ap (λ (l : Limits). l.callers) h.since.limits in let l = number_below s h n id (shared_view (k ∷ []) None) at has in omega arith);
           },
           λ ne. absurd (ne free),
@@ -266,10 +259,10 @@ module _ {C : Type 0} (f : Face C) (setup : Setup C) where
 
   told_by : (s : St) (id told : ℕ) (k : Known C) (call : Call) (reply : Reply) (old new : C) (h : IsKept f setup s) → Moved f setup k.number call reply h.core new → told ≡ length ((f.show new).state.history) → get_elem? s.views id ≡ some (shared_view (k ∷ []) (Some old))
       → (x : IsHeld h.core s) → x.seat ≡ id → x.holder ≡ shared_view (k ∷ []) (Some old)
-      → IsKept f setup (stepped s 1 told id ((0, Some new) ∷ []) (shared_view (shown f call reply new k ∷ []) (Some new)) keeps)
+      → IsKept f setup (stepped s 1 told id ((0, Some new) ∷ []) (shared_view (shown f call reply h.turns new k ∷ []) (Some new)) keeps)
   told_by s id told k call reply old new h m is at x seat holder =
       let v : V = shared_view (k ∷ []) (Some old) in
-      let w : V = shared_view (shown f call reply new k ∷ []) (Some new) in
+      let w : V = shared_view (shown f call reply h.turns new k ∷ []) (Some new) in
       let long : 1 < length s.words = (let t = h.two in omega arith) in
       let mine : Fits f.tells f.show setup h.turns (f.show h.core).state k = (h.fit id v at).0 in
       let goes = m.goes h.since in
@@ -295,8 +288,7 @@ module _ {C : Type 0} (f : Face C) (setup : Setup C) where
         fit = each_set (λ i u. AllFit f.tells f.show setup turns (f.show new).state u.passes) s.views id w (
           record {
             setup_is = mine.setup_is;
-            told = ap (λ l. l ++ (call, reply) ∷ []) mine.told ∙ sym (last_here k.number call reply h.turns);
-            seen = turn_own f.tells (f.show setup.first).limits k.number (f.show setup.first).state (f.show new).state turns run;
+            last = turn_own f.tells (f.show setup.first).limits k.number (f.show setup.first).state (f.show new).state turns run;
             heard = (let l = grows_longer (f.show h.core).state.history (f.show new).state.history m.grows in let o = mine.heard in omega arith);
           },
           tt,
@@ -319,11 +311,20 @@ module _ {C : Type 0} (f : Face C) (setup : Setup C) where
       let v : V = shared_view (k ∷ []) (Some old) in
       let h : IsKept f setup s = is_open s id v rule at refl in
       let x = holder_is s h id v old at refl in (
-        shared_view (shown f call reply new k ∷ []) (Some new),
+        shared_view (shown f call reply h.turns new k ∷ []) (Some new),
         keeps,
         tt,
         inr (inr (told_by s id told k call reply old new h (subst (λ c. Moved f setup k.number call reply c new) (sym x.3) m) is at x.0 x.1 x.2)),
-        λ core e. let now : C → Sat = λ c. (shared_view (shown f call reply c k ∷ []) (Some c), (0, Some new) ∷ []) in ap now (carried_same new core e),
+        λ was core held e. let now : C → Sat = λ c. (shared_view (shown f call reply h.turns c k ∷ []) (Some c), (0, Some new) ∷ []) in
+            let old_is : h.core ≡ was = x.3 ∙ some_same old was held in record {
+              setup = setup;
+              turns = h.turns;
+              now = ap now (carried_same new core e);
+              fit = subst (λ c. AllFit f.tells f.show setup h.turns (f.show c).state (k ∷ [])) old_is (h.fit id v at);
+              since = subst (λ c. Since f.tells (f.show setup.first) (f.show c)) old_is h.since;
+              whose = h.whose;
+              ready = h.ready;
+            },
       )
 
   given_by : (s : St) (id : ℕ) (k : Known C) (core : C) (h : IsKept f setup s) → h.core ≡ core → get_elem? s.views id ≡ some (shared_view (k ∷ []) (Some core))
@@ -394,7 +395,7 @@ module _ {C : Type 0} (f : Face C) (setup : Setup C) where
             h.place;
         staged = each_set (λ i u. u.stage ≡ Shared) s.views id w refl (λ j u _ e. h.staged j u e);
         fit = each_set (λ i u. AllFit f.tells f.show setup h.turns (f.show h.core).state u.passes) s.views id w
-            (record { setup_is = mine.setup_is; told = mine.told; seen = mine.seen; heard = (let e = h.told in omega arith) }, tt)
+            (record { setup_is = mine.setup_is; last = mine.last; heard = (let e = h.told in omega arith) }, tt)
             (λ j u _ e. h.fit j u e);
         once = λ n. (let t = same_count n s.views id v w at refl in let o = h.once n in omega arith);
         below = λ n b. same_count n s.views id v w at refl ∙ h.below n b;
@@ -415,7 +416,7 @@ module _ {C : Type 0} (f : Face C) (setup : Setup C) where
         keeps,
         tt,
         inr (inr (looked_by s id k h at)),
-        (refl, ((let l = grows_longer k.seen (f.show h.core).state.history (turn_grows f.tells (f.show setup.first).limits k.number k.seen (f.show setup.first).state (f.show h.core).state h.turns mine.seen) in let e = h.told in omega arith), (let o = mine.heard in let e = h.told in omega arith), tt)),
+        (refl, ((let l = grows_longer k.seen (f.show h.core).state.history (turn_grows f.tells (f.show setup.first).limits k.number k.past k.seen (f.show setup.first).state (f.show h.core).state h.turns mine.last) in let e = h.told in omega arith), (let o = mine.heard in let e = h.told in omega arith), tt)),
       )
 
   -- the moves at a given seat

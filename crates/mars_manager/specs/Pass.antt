@@ -11,22 +11,21 @@ use Rattle.mars_manager.specs.declared.setup.Setup.{Setup}
 use Rattle.mars_manager.specs.declared.view.Known.{Known}
 
 module _ {C : Type 0} where
-  -- What a pass knows is true of a run that the shared core has made: it was told its caller's turns, it has seen the history at its last
-  -- turn, and the history is no shorter than it heard.
+  -- What a pass knows is true of a run that the shared core has made: its past is the run up to its caller's last turn, it has seen the
+  -- history then, and the history is no shorter than it heard.
   pub record Fits (tells : Bool) (show : C → CoreView) (setup : Setup C) (turns : List Turn) (state : State) (known : Known C) : Type 0 where
     pub setup_is : known.setup ≡ Some setup
-    pub told : known.told ≡ turns_of known.number turns
-    pub seen : LastTurn tells (show setup.first).limits known.number known.seen (show setup.first).state turns state
+    pub last : LastTurn tells (show setup.first).limits known.number known.past known.seen (show setup.first).state turns state
     pub heard : known.heard ≤ length state.history
+
+  -- what a pass was told: its caller's own calls and their replies, in order
+  abbrev pub told_of : Known C → Granted
+  told_of known = turns_of known.number known.past
 
   -- what each of these passes knows is true
   abbrev pub AllFit : Bool → (C → CoreView) → Setup C → List Turn → State → List (Known C) → Type 0
   AllFit tells show setup turns state [] = Unit {0}
   AllFit tells show setup turns state (known ∷ others) = Fits tells show setup turns state known × AllFit tells show setup turns state others
-
-  -- what a pass was told: its caller's calls and their replies
-  abbrev pub told_of : Known C → Granted
-  told_of known = known.told
 
   -- the number of another pass of the same shared core
   abbrev pub IsOther : Known C → ℕ → Type 0
@@ -34,11 +33,11 @@ module _ {C : Type 0} where
 
   -- a pass that was told nothing
   abbrev pub newcomer : Setup C → ℕ → Known C
-  newcomer setup caller = record { number = caller; setup = Some setup; told = []; seen = []; heard = 0; found = 0 }
+  newcomer setup caller = record { number = caller; setup = Some setup; past = []; seen = []; heard = 0; found = 0 }
 
-  -- what a pass knows after a step of its caller that left this state
-  abbrev pub known_after : Known C → State → Call → Reply → Known C
-  known_after was state call reply = record was { told = was.told ++ (call, reply) ∷ []; seen = state.history; found = 0 }
+  -- what a pass knows after a step of its caller that came after these turns and left this state
+  abbrev pub known_after : Known C → List Turn → State → Call → Reply → Known C
+  known_after was turns state call reply = record was { past = turns ++ (was.number, call, reply) ∷ []; seen = state.history; found = 0 }
 
   -- what a pass knows once it has tried for the turn and found this number
   abbrev pub finds : ℕ → Known C → Known C

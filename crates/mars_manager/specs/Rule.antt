@@ -90,21 +90,26 @@ module _ {C : Type 0} where
     abbrev pub Rule : Setup C → State (Option C) (View C) → Type 0
     Rule setup s = IsFresh setup s ⊎ (IsOpening setup s ⊎ IsKept setup s)
 
-    -- what a pass knows after a step that it made
-    abbrev pub shown : Call → Reply → C → Known C → Known C
-    shown call reply core known = known_after known (f.show core).state call reply
+    -- what a pass knows after a step that it made after these turns
+    abbrev pub shown : Call → Reply → List Turn → C → Known C → Known C
+    shown call reply turns core known = known_after known turns (f.show core).state call reply
 
     -- the turn was taken, with this core
     pub record Took (m n : Me (Option C) (View C)) : Type 0 where
       pub core : C
+      pub now : n ≡ (shared_view (map (finds 0) m.0.passes) (Some core), (0, Some core) ∷ [])
+      pub few : (k : ℕ) → 0 < times k m.0.passes → k < (f.show core).limits.callers
+
+    -- The step from one core to another was recorded as the last turn of a run. The shared core had come to the first of them by the turns
+    -- before, and what the seat knew was true of these.
+    pub record Told (call : Call) (reply : Reply) (old new : C) (m n : Me (Option C) (View C)) : Type 0 where
       pub setup : Setup C
       pub turns : List Turn
-      pub now : n ≡ (shared_view (map (finds 0) m.0.passes) (Some core), (0, Some core) ∷ [])
-      pub fit : AllFit f.tells f.show setup turns (f.show core).state m.0.passes
-      pub since : Since f.tells (f.show setup.first) (f.show core)
+      pub now : n ≡ (shared_view (map (shown call reply turns new) m.0.passes) (Some new), m.1)
+      pub fit : AllFit f.tells f.show setup turns (f.show old).state m.0.passes
+      pub since : Since f.tells (f.show setup.first) (f.show old)
       pub whose : AreOf setup.callers turns
       pub ready : CanShare f.tells setup.callers (f.show setup.first)
-      pub few : (k : ℕ) → 0 < times k m.0.passes → k < (f.show core).limits.callers
 
     -- What a step guarantees, by the step, the seat before, the number found and the seat after. If the turn was not free, another pass had
     -- it, and the seat just notes what it found.
@@ -112,7 +117,7 @@ module _ {C : Type 0} where
     takes_turn st m r n = (r ≡ 0 → Took m n) × (r ≢ 0 → (n ≡ (shared_view (map (finds r) m.0.passes) None, [])) × (r < 256) × ((k : ℕ) → r ≡ k + 1 → times k m.0.passes ≡ 0) × AreAbove r m.0.passes)
 
     abbrev pub tells_length : Call → Reply → Step (Option C) → Me (Option C) (View C) → ℕ → Me (Option C) (View C) → Type 0
-    tells_length call reply st m r n = (core : C) → m.1 ≡ (0, Some core) ∷ [] → n ≡ (shared_view (map (shown call reply core) m.0.passes) (Some core), m.1)
+    tells_length call reply st m r n = (old new : C) → m.0.held ≡ Some old → m.1 ≡ (0, Some new) ∷ [] → Told call reply old new m n
 
   abbrev pub began : Step (Option C) → Me (Option C) (View C) → ℕ → Me (Option C) (View C) → Type 0
   began st m r n = n ≡ (view Opening m.0.passes None, (0, None) ∷ [])

@@ -12,11 +12,11 @@ use Rattle.history.specs.declared.call.Reply.TheVariants.{Committed, Dead}
 use Rattle.core_face.specs.Fate.{is_committed}
 use Rattle.core_face.specs.Sound.{IsSound}
 use Rattle.core_face.specs.Core.{CoreView, IsSafe, Steps, Continues}
-use Rattle.core_face.specs.Run.{Turn, GoesAlong, AreOf, turns_of, commits_of, LastTurn}
+use Rattle.core_face.specs.Run.{Turn, GoesAlong, AreOf, commits_of, LastTurn}
 use Rattle.core_face.specs.Own.{live_by}
 use Rattle.mars_manager.specs.declared.setup.Setup.{Setup}
 use Rattle.mars_manager.specs.declared.view.Known.{Known}
-use Rattle.mars_manager.specs.Pass.{PassView, AreSo, known_after}
+use Rattle.mars_manager.specs.Pass.{PassView, AreSo, known_after, told_of}
 
 -- what contracts see of a shared core: its table and how it was shared
 pub record MarsView (C : Type 0) : Type 0 where
@@ -44,8 +44,9 @@ pub record Since (tells : Bool) (first core : CoreView) : Type 0 where
   pub continues : IsTrue tells → Continues first core
 
 module _ {C : Type 0} where
-  -- A call that got the turn is one step of a core that the shared one has come to by a run. Before it, the pass was told just its caller's
-  -- turns of that run, and had seen the history at its last turn in it. Now it is told one turn more, and has seen the history after the step.
+  -- A call that got the turn is one step of a core that the shared one has come to by a run. Before it, the past of the pass was this run up
+  -- to its last turn, and it had seen the history then. Now its past is the whole run with this call as the last turn, and it has seen the
+  -- history after the step. So the run of each call of a pass begins with that of the call before.
   pub record Called (tells : Bool) (show : C → CoreView) (was : Known C) (call : Call) (reply : Reply) (now : Known C) : Type 0 where
     pub setup : Setup C
     pub turns : List Turn
@@ -55,15 +56,14 @@ module _ {C : Type 0} where
     pub since : Since tells (show setup.first) (show old)
     pub comes : Since tells (show setup.first) (show new)
     pub whose : AreOf setup.callers turns
-    pub told : was.told ≡ turns_of was.number turns
     pub ready : CanShare tells setup.callers (show setup.first)
-    pub last : LastTurn tells (show setup.first).limits was.number was.seen (show setup.first).state turns (show old).state
+    pub last : LastTurn tells (show setup.first).limits was.number was.past was.seen (show setup.first).state turns (show old).state
     pub steps : Steps tells was.number call (show old) (show new) reply
     pub dead : IsTrue (show old).state.is_dead → (reply ≡ Dead) × (new ≡ old)
-    pub after : now ≡ known_after was (show new).state call reply
+    pub after : now ≡ known_after was turns (show new).state call reply
 
-  -- The core that comes back was reached by a run of these callers, and what these passes know is true of it: each was told just its caller's
-  -- turns.
+  -- The core that comes back was reached by a run of these callers, and what these passes know is true of it: the past of each is this one run
+  -- up to its last turn.
   pub record AreGathered (tells : Bool) (show : C → CoreView) (setup : Setup C) (core : C) (passes : List (PassView C)) : Type 0 where
     pub turns : List Turn
     pub run : GoesAlong tells (show setup.first).limits (show setup.first).state turns (show core).state
@@ -77,7 +77,7 @@ module _ {C : Type 0} where
 
   -- the live transaction of its caller, as its turns say
   abbrev pub live_of : Known C → Option Granted
-  live_of known = live_by known.number known.told
+  live_of known = live_by known.number (told_of known)
 
   -- the transaction that a pass commits
   abbrev pub done_of : Known C → ℕ → Done

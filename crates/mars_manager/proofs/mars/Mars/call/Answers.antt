@@ -1,20 +1,17 @@
-use Rattle.std.proofs.Common.{◌≡◌, ℕ, ◌+◌, ◌-◌, ◌%◌, ◌<◌, List, [], ◌∷◌, Option, Some, None, refl, sym, ap, ◌∙◌, subst, arith, map}
-use Rattle.std.specs.Prelude.{IsTrue}
-use Rattle.history.specs.declared.call.Reply.TheVariants.{Dead}
+use Rattle.std.proofs.Common.{◌≡◌, ℕ, ◌+◌, ◌-◌, ◌%◌, ◌<◌, List, [], ◌∷◌, ◌++◌, Option, Some, refl, sym, ap, ◌∙◌, subst, arith, map}
 use Rattle.core_face.specs.Prefix.{Grows}
-use Rattle.core_face.specs.Core.{Steps}
 use Rattle.core_face.proofs.Continuing.{grows_none}
 use mathlib.Core.Option.{none}
 use Rattle.atomic_table.specs.Table.{Me, rest, Allows, step}
 use Rattle.mars_manager.specs.declared.view.Known.{Known}
 use Rattle.mars_manager.specs.declared.view.View.{View}
-use Rattle.mars_manager.specs.Pass.{PassView, Fits, AllFit, times, finds}
+use Rattle.mars_manager.specs.Pass.{PassView, told_of, times, finds}
 use Rattle.mars_manager.specs.Sharing.{MarsView, Called, Commits, IsLegalIn}
 use Rattle.mars_manager.specs.Seat.{first_of}
-use Rattle.mars_manager.specs.Rule.{face, Rule, shown, tells_length, AreAbove}
+use Rattle.mars_manager.specs.Rule.{face, Rule, tells_length, AreAbove}
 use Rattle.mars_manager.proofs.Seats.{times_first}
-use Rattle.mars_manager.proofs.Turns.{top_of, some_same, takes_turn_as, tells_as, gives_as}
-use Rattle.mars_manager.proofs.Calls.{moved, called, legal_now, seen_grows, commits, homed, told_seat, idle_again}
+use Rattle.mars_manager.proofs.Turns.{takes_turn_as, tells_as, gives_as}
+use Rattle.mars_manager.proofs.Calls.{core_is, homed, moves, told_seat, made}
 use Rattle.mars_manager.proofs.mars.Mars.call.Goals as goal
 
 pub compare_exchange-found-requires : goal.compare_exchange-found-requires
@@ -75,11 +72,10 @@ exchange-requires g c =
 
 pub step-reply-requires : goal.step-reply-requires
 step-reply-requires g c =
+    let f = face g.C.Core.tells g.C.Core.view in
     let i = c.pass.invariant in
-    let e = c.compare_exchange-found.ensures in
-    let took = e.2.0 c.if-found-ne0.false in
-    let carried = ap (λ (m : Me (Option g.row.C.Denot) (View g.row.C.Denot)). m.1) took.now in
-    let core = some_same took.core c.unwrap-core.result (ap (λ (l : List (ℕ × Option g.row.C.Denot)). top_of l) (sym carried ∙ c.exchange.ensures.2) ∙ c.unwrap-core.ensures) in
+    let took = c.compare_exchange-found.ensures.2.0 c.if-found-ne0.false in
+    let core = core_is f _ _ c.unwrap-core.result _ took c.exchange.ensures.2 c.unwrap-core.ensures in
     let has = times_first i.0 [] in
     let same_times = ap (λ (m : Me (Option g.row.C.Denot) (View g.row.C.Denot)). times i.0.number m.0.passes) i.1 in
     let few : i.0.number < (g.C.Core.view took.core).limits.callers = took.few i.0.number (omega arith) in
@@ -91,17 +87,14 @@ tell-requires g c =
     let i = c.pass.invariant in
     let e = c.compare_exchange-found.ensures in
     let took = e.2.0 c.if-found-ne0.false in
-    let carried = ap (λ (m : Me (Option g.row.C.Denot) (View g.row.C.Denot)). m.1) took.now in
-    let core = some_same took.core c.unwrap-core.result (ap (λ (l : List (ℕ × Option g.row.C.Denot)). top_of l) (sym carried ∙ c.exchange.ensures.2) ∙ c.unwrap-core.ensures) in
-    let steps : Steps g.C.Core.tells i.0.number c.args.call.now (g.C.Core.view took.core) (g.C.Core.view c.step-reply.new.self) c.step-reply.result =
-    subst (λ (n : ℕ). Steps g.C.Core.tells n c.args.call.now (g.C.Core.view took.core) (g.C.Core.view c.step-reply.new.self) c.step-reply.result) (sym i.2)
-    (subst (λ (x : g.row.C.Denot). Steps g.C.Core.tells c.pass.inside.number c.args.call.now (g.C.Core.view x) (g.C.Core.view c.step-reply.new.self) c.step-reply.result) (sym core) c.step-reply.ensures.steps) in
-    let dead = subst (λ (x : g.row.C.Denot). IsTrue (g.C.Core.view x).state.is_dead → (c.step-reply.result ≡ Dead) × (c.step-reply.new.self ≡ x)) (sym core) c.step-reply.ensures.dead in
-    let home = homed f _ _ _ _ i.0 took.core c.step-reply.new.self None i.1 took.now c.exchange.ensures.3 c.exchange-2.ensures.3 in
-    let seat = c.exchange-2.new.seat in
+    let new = c.step-reply.new.self in
     let call = c.args.call.now in
     let reply = c.step-reply.result in
-    let rule = tells_as f c.self.inside.table.shared.key c.self.inside.table.shared.table_id.slots seat.id c.told-told.result (finds 0 i.0) call reply took.core c.step-reply.new.self seat.me home (moved f c.self.inside.table.shared.key _ _ _ _ _ steps dead) c.told-told.ensures in record {
+    let seat = c.exchange-2.new.seat in
+    let home = homed f _ _ _ _ i.0 c.unwrap-core.result new _ i.1 took c.exchange.ensures.2 c.unwrap-core.ensures c.exchange.ensures.3 c.exchange-2.ensures.3 in
+    let does = moves f _ _ _ _ i.0 c.unwrap-core.result new _ i.1 took c.exchange.ensures.2 c.unwrap-core.ensures c.exchange.ensures.3 c.exchange-2.ensures.3 _ call reply i.2 c.step-reply.ensures.steps c.step-reply.ensures.dead in
+    let key = c.self.inside.table.shared.key in
+    let rule = tells_as f key c.self.inside.table.shared.table_id.slots seat.id c.told-told.result (finds 0 i.0) call reply c.unwrap-core.result new seat.me home (does key) c.told-told.ensures in record {
       table = c.exchange-2.ensures.0 ∙ c.exchange.ensures.0 ∙ e.0 ∙ ap (λ (p : PassView g.row.C.Denot). p.table) c.pass.view_is ∙ c.requires;
       picked = (refl, refl);
       rule = subst (λ (m : MarsView g.row.C.Denot). Allows (Rule f m.setup) m.table.slots seat.id seat.me 1 (λ _. c.told-told.result) (λ _. tells_length f call reply (step m.table.slots 1 c.told-told.result 0 none) seat.me c.told-told.result)) c.self.view_is rule;
@@ -113,95 +106,39 @@ store-requires g c =
     let i = c.pass.invariant in
     let e = c.compare_exchange-found.ensures in
     let took = e.2.0 c.if-found-ne0.false in
-    let home = homed f _ _ _ _ i.0 took.core c.step-reply.new.self None i.1 took.now c.exchange.ensures.3 c.exchange-2.ensures.3 in
-    let told = told_seat f _ _ (finds 0 i.0) c.args.call.now c.step-reply.result took.core c.step-reply.new.self home c.tell.ensures.told in (
+    let told = told_seat f _ _ _ _ i.0 c.unwrap-core.result c.step-reply.new.self _ i.1 took c.exchange.ensures.2 c.unwrap-core.ensures c.exchange.ensures.3 c.exchange-2.ensures.3
+    _ c.args.call.now c.step-reply.result i.2 c.step-reply.ensures.steps c.step-reply.ensures.dead _ c.tell.ensures.told in (
       c.tell.ensures.same.0 ∙ c.exchange-2.ensures.0 ∙ c.exchange.ensures.0 ∙ e.0 ∙ ap (λ (p : PassView g.row.C.Denot). p.table) c.pass.view_is ∙ c.requires ∙ sym (ap (λ (m : MarsView g.row.C.Denot). m.table) c.self.view_is),
       (let w = c.self.invariant.0 in omega arith),
-      gives_as f c.self.inside.table.shared.key _ _ (shown f c.args.call.now c.step-reply.result c.step-reply.new.self i.0) c.step-reply.new.self _ told,
+      gives_as f c.self.inside.table.shared.key _ _ _ c.step-reply.new.self _ told,
     )
 
 pub invariant_of-pass-2 : goal.invariant_of-pass-2
 invariant_of-pass-2 g c =
     let f = face g.C.Core.tells g.C.Core.view in
     let i = c.pass.invariant in
-    let e = c.compare_exchange-found.ensures in
-    let took = e.2.0 c.if-found-ne0.false in
-    let home = homed f _ _ _ _ i.0 took.core c.step-reply.new.self None i.1 took.now c.exchange.ensures.3 c.exchange-2.ensures.3 in
-    let told = told_seat f _ _ (finds 0 i.0) c.args.call.now c.step-reply.result took.core c.step-reply.new.self home c.tell.ensures.told in
-    (shown f c.args.call.now c.step-reply.result c.step-reply.new.self i.0, idle_again f _ _ i.0 c.args.call.now c.step-reply.result c.step-reply.new.self told c.store.ensures.2, i.2)
+    let took = c.compare_exchange-found.ensures.2.0 c.if-found-ne0.false in
+    let made = made f _ _ _ _ i.0 c.unwrap-core.result c.step-reply.new.self _ i.1 took c.exchange.ensures.2 c.unwrap-core.ensures c.exchange.ensures.3 c.exchange-2.ensures.3
+    _ c.args.call.now c.step-reply.result i.2 c.step-reply.ensures.steps c.step-reply.ensures.dead _ c.tell.ensures.told _ c.store.ensures.2 in
+    (made.now, made.idle, made.number ∙ i.2)
 
-pub returns-clause-step : goal.returns-clause-step
-returns-clause-step g c =
+pub returns : goal.returns
+returns g c =
     let f = face g.C.Core.tells g.C.Core.view in
     let i = c.pass.invariant in
     let e = c.compare_exchange-found.ensures in
     let took = e.2.0 c.if-found-ne0.false in
-    let carried = ap (λ (m : Me (Option g.row.C.Denot) (View g.row.C.Denot)). m.1) took.now in
-    let core = some_same took.core c.unwrap-core.result (ap (λ (l : List (ℕ × Option g.row.C.Denot)). top_of l) (sym carried ∙ c.exchange.ensures.2) ∙ c.unwrap-core.ensures) in
-    let steps : Steps g.C.Core.tells i.0.number c.args.call.now (g.C.Core.view took.core) (g.C.Core.view c.step-reply.new.self) c.step-reply.result =
-    subst (λ (n : ℕ). Steps g.C.Core.tells n c.args.call.now (g.C.Core.view took.core) (g.C.Core.view c.step-reply.new.self) c.step-reply.result) (sym i.2)
-    (subst (λ (x : g.row.C.Denot). Steps g.C.Core.tells c.pass.inside.number c.args.call.now (g.C.Core.view x) (g.C.Core.view c.step-reply.new.self) c.step-reply.result) (sym core) c.step-reply.ensures.steps) in
-    let dead = subst (λ (x : g.row.C.Denot). IsTrue (g.C.Core.view x).state.is_dead → (c.step-reply.result ≡ Dead) × (c.step-reply.new.self ≡ x)) (sym core) c.step-reply.ensures.dead in
-    let home = homed f _ _ _ _ i.0 took.core c.step-reply.new.self None i.1 took.now c.exchange.ensures.3 c.exchange-2.ensures.3 in
-    let told = told_seat f _ _ (finds 0 i.0) c.args.call.now c.step-reply.result took.core c.step-reply.new.self home c.tell.ensures.told in
+    let made = made f _ _ _ _ i.0 c.unwrap-core.result c.step-reply.new.self _ i.1 took c.exchange.ensures.2 c.unwrap-core.ensures c.exchange.ensures.3 c.exchange-2.ensures.3
+    _ c.args.call.now c.step-reply.result i.2 c.step-reply.ensures.steps c.step-reply.ensures.dead _ c.tell.ensures.told _ c.store.ensures.2 in
     let known : i.0 ≡ c.args.pass.now.known = sym (ap (λ (m : Me (Option g.row.C.Denot) (View g.row.C.Denot)). first_of m.0.passes) i.1) ∙ ap (λ (p : PassView g.row.C.Denot). p.known) c.pass.view_is in
-    let after : shown f c.args.call.now c.step-reply.result c.step-reply.new.self i.0 ≡ first_of c.store.new.seat.me.0.passes = sym (ap (λ (m : Me (Option g.row.C.Denot) (View g.row.C.Denot)). first_of m.0.passes) (idle_again f _ _ i.0 c.args.call.now c.step-reply.result c.step-reply.new.self told c.store.ensures.2)) in
-    let fits : Fits g.C.Core.tells g.C.Core.view took.setup took.turns (g.C.Core.view took.core).state i.0 = (subst (λ (ks : List (Known g.row.C.Denot)). AllFit g.C.Core.tells g.C.Core.view took.setup took.turns (g.C.Core.view took.core).state ks) (ap (λ (m : Me (Option g.row.C.Denot) (View g.row.C.Denot)). m.0.passes) i.1) took.fit).0 in
-    subst (λ (v : Known g.row.C.Denot × Known g.row.C.Denot). Called g.C.Core.tells g.C.Core.view v.0 c.args.call.now c.step-reply.result v.1) (λ j. (known j, after j)) (called f took.setup took.turns took.core c.step-reply.new.self i.0 c.args.call.now c.step-reply.result fits steps dead took.since took.whose took.ready)
-
-pub returns-clause-seen : goal.returns-clause-seen
-returns-clause-seen g c =
-    let f = face g.C.Core.tells g.C.Core.view in
-    let i = c.pass.invariant in
-    let e = c.compare_exchange-found.ensures in
-    let took = e.2.0 c.if-found-ne0.false in
-    let carried = ap (λ (m : Me (Option g.row.C.Denot) (View g.row.C.Denot)). m.1) took.now in
-    let core = some_same took.core c.unwrap-core.result (ap (λ (l : List (ℕ × Option g.row.C.Denot)). top_of l) (sym carried ∙ c.exchange.ensures.2) ∙ c.unwrap-core.ensures) in
-    let steps : Steps g.C.Core.tells i.0.number c.args.call.now (g.C.Core.view took.core) (g.C.Core.view c.step-reply.new.self) c.step-reply.result =
-    subst (λ (n : ℕ). Steps g.C.Core.tells n c.args.call.now (g.C.Core.view took.core) (g.C.Core.view c.step-reply.new.self) c.step-reply.result) (sym i.2)
-    (subst (λ (x : g.row.C.Denot). Steps g.C.Core.tells c.pass.inside.number c.args.call.now (g.C.Core.view x) (g.C.Core.view c.step-reply.new.self) c.step-reply.result) (sym core) c.step-reply.ensures.steps) in
-    let dead = subst (λ (x : g.row.C.Denot). IsTrue (g.C.Core.view x).state.is_dead → (c.step-reply.result ≡ Dead) × (c.step-reply.new.self ≡ x)) (sym core) c.step-reply.ensures.dead in
-    let home = homed f _ _ _ _ i.0 took.core c.step-reply.new.self None i.1 took.now c.exchange.ensures.3 c.exchange-2.ensures.3 in
-    let told = told_seat f _ _ (finds 0 i.0) c.args.call.now c.step-reply.result took.core c.step-reply.new.self home c.tell.ensures.told in
-    let known : i.0 ≡ c.args.pass.now.known = sym (ap (λ (m : Me (Option g.row.C.Denot) (View g.row.C.Denot)). first_of m.0.passes) i.1) ∙ ap (λ (p : PassView g.row.C.Denot). p.known) c.pass.view_is in
-    let after : shown f c.args.call.now c.step-reply.result c.step-reply.new.self i.0 ≡ first_of c.store.new.seat.me.0.passes = sym (ap (λ (m : Me (Option g.row.C.Denot) (View g.row.C.Denot)). first_of m.0.passes) (idle_again f _ _ i.0 c.args.call.now c.step-reply.result c.step-reply.new.self told c.store.ensures.2)) in
-    let fits : Fits g.C.Core.tells g.C.Core.view took.setup took.turns (g.C.Core.view took.core).state i.0 = (subst (λ (ks : List (Known g.row.C.Denot)). AllFit g.C.Core.tells g.C.Core.view took.setup took.turns (g.C.Core.view took.core).state ks) (ap (λ (m : Me (Option g.row.C.Denot) (View g.row.C.Denot)). m.0.passes) i.1) took.fit).0 in
-    subst (λ (v : Known g.row.C.Denot × Known g.row.C.Denot). Grows v.0.seen v.1.seen) (λ j. (known j, after j)) (seen_grows f took.setup took.turns took.core c.step-reply.new.self i.0 c.args.call.now c.step-reply.result fits steps dead)
-
-pub returns-clause-legal : goal.returns-clause-legal
-returns-clause-legal g c =
-    let f = face g.C.Core.tells g.C.Core.view in
-    let i = c.pass.invariant in
-    let e = c.compare_exchange-found.ensures in
-    let took = e.2.0 c.if-found-ne0.false in
-    let carried = ap (λ (m : Me (Option g.row.C.Denot) (View g.row.C.Denot)). m.1) took.now in
-    let core = some_same took.core c.unwrap-core.result (ap (λ (l : List (ℕ × Option g.row.C.Denot)). top_of l) (sym carried ∙ c.exchange.ensures.2) ∙ c.unwrap-core.ensures) in
-    let steps : Steps g.C.Core.tells i.0.number c.args.call.now (g.C.Core.view took.core) (g.C.Core.view c.step-reply.new.self) c.step-reply.result =
-    subst (λ (n : ℕ). Steps g.C.Core.tells n c.args.call.now (g.C.Core.view took.core) (g.C.Core.view c.step-reply.new.self) c.step-reply.result) (sym i.2)
-    (subst (λ (x : g.row.C.Denot). Steps g.C.Core.tells c.pass.inside.number c.args.call.now (g.C.Core.view x) (g.C.Core.view c.step-reply.new.self) c.step-reply.result) (sym core) c.step-reply.ensures.steps) in
-    let dead = subst (λ (x : g.row.C.Denot). IsTrue (g.C.Core.view x).state.is_dead → (c.step-reply.result ≡ Dead) × (c.step-reply.new.self ≡ x)) (sym core) c.step-reply.ensures.dead in
-    let home = homed f _ _ _ _ i.0 took.core c.step-reply.new.self None i.1 took.now c.exchange.ensures.3 c.exchange-2.ensures.3 in
-    let told = told_seat f _ _ (finds 0 i.0) c.args.call.now c.step-reply.result took.core c.step-reply.new.self home c.tell.ensures.told in
-    let known : i.0 ≡ c.args.pass.now.known = sym (ap (λ (m : Me (Option g.row.C.Denot) (View g.row.C.Denot)). first_of m.0.passes) i.1) ∙ ap (λ (p : PassView g.row.C.Denot). p.known) c.pass.view_is in
-    let after : shown f c.args.call.now c.step-reply.result c.step-reply.new.self i.0 ≡ first_of c.store.new.seat.me.0.passes = sym (ap (λ (m : Me (Option g.row.C.Denot) (View g.row.C.Denot)). first_of m.0.passes) (idle_again f _ _ i.0 c.args.call.now c.step-reply.result c.step-reply.new.self told c.store.ensures.2)) in
-    let fits : Fits g.C.Core.tells g.C.Core.view took.setup took.turns (g.C.Core.view took.core).state i.0 = (subst (λ (ks : List (Known g.row.C.Denot)). AllFit g.C.Core.tells g.C.Core.view took.setup took.turns (g.C.Core.view took.core).state ks) (ap (λ (m : Me (Option g.row.C.Denot) (View g.row.C.Denot)). m.0.passes) i.1) took.fit).0 in
-    λ told. subst (λ (k : Known g.row.C.Denot). IsLegalIn g.C.Core.view k) after (legal_now f took.setup took.turns took.core c.step-reply.new.self i.0 c.args.call.now c.step-reply.result fits steps dead took.since told)
-
-pub returns-clause-commit : goal.returns-clause-commit
-returns-clause-commit g c =
-    let f = face g.C.Core.tells g.C.Core.view in
-    let i = c.pass.invariant in
-    let e = c.compare_exchange-found.ensures in
-    let took = e.2.0 c.if-found-ne0.false in
-    let carried = ap (λ (m : Me (Option g.row.C.Denot) (View g.row.C.Denot)). m.1) took.now in
-    let core = some_same took.core c.unwrap-core.result (ap (λ (l : List (ℕ × Option g.row.C.Denot)). top_of l) (sym carried ∙ c.exchange.ensures.2) ∙ c.unwrap-core.ensures) in
-    let steps : Steps g.C.Core.tells i.0.number c.args.call.now (g.C.Core.view took.core) (g.C.Core.view c.step-reply.new.self) c.step-reply.result =
-    subst (λ (n : ℕ). Steps g.C.Core.tells n c.args.call.now (g.C.Core.view took.core) (g.C.Core.view c.step-reply.new.self) c.step-reply.result) (sym i.2)
-    (subst (λ (x : g.row.C.Denot). Steps g.C.Core.tells c.pass.inside.number c.args.call.now (g.C.Core.view x) (g.C.Core.view c.step-reply.new.self) c.step-reply.result) (sym core) c.step-reply.ensures.steps) in
-    let dead = subst (λ (x : g.row.C.Denot). IsTrue (g.C.Core.view x).state.is_dead → (c.step-reply.result ≡ Dead) × (c.step-reply.new.self ≡ x)) (sym core) c.step-reply.ensures.dead in
-    let home = homed f _ _ _ _ i.0 took.core c.step-reply.new.self None i.1 took.now c.exchange.ensures.3 c.exchange-2.ensures.3 in
-    let told = told_seat f _ _ (finds 0 i.0) c.args.call.now c.step-reply.result took.core c.step-reply.new.self home c.tell.ensures.told in
-    let known : i.0 ≡ c.args.pass.now.known = sym (ap (λ (m : Me (Option g.row.C.Denot) (View g.row.C.Denot)). first_of m.0.passes) i.1) ∙ ap (λ (p : PassView g.row.C.Denot). p.known) c.pass.view_is in
-    let after : shown f c.args.call.now c.step-reply.result c.step-reply.new.self i.0 ≡ first_of c.store.new.seat.me.0.passes = sym (ap (λ (m : Me (Option g.row.C.Denot) (View g.row.C.Denot)). first_of m.0.passes) (idle_again f _ _ i.0 c.args.call.now c.step-reply.result c.step-reply.new.self told c.store.ensures.2)) in
-    let fits : Fits g.C.Core.tells g.C.Core.view took.setup took.turns (g.C.Core.view took.core).state i.0 = (subst (λ (ks : List (Known g.row.C.Denot)). AllFit g.C.Core.tells g.C.Core.view took.setup took.turns (g.C.Core.view took.core).state ks) (ap (λ (m : Me (Option g.row.C.Denot) (View g.row.C.Denot)). m.0.passes) i.1) took.fit).0 in
-    subst (λ (v : Known g.row.C.Denot × Known g.row.C.Denot). Commits g.C.Core.tells v.0 c.step-reply.result v.1) (λ j. (known j, after j)) (commits f took.setup took.turns took.core c.step-reply.new.self i.0 c.args.call.now c.step-reply.result fits steps dead (took.ready.live i.0.number))
+    let after : made.now ≡ first_of c.store.new.seat.me.0.passes = sym (ap (λ (m : Me (Option g.row.C.Denot) (View g.row.C.Denot)). first_of m.0.passes) made.idle) in
+    let call = c.args.call.now in
+    let reply = c.step-reply.result in record {
+      table = c.store.ensures.0 ∙ c.tell.ensures.same.0 ∙ c.exchange-2.ensures.0 ∙ c.exchange.ensures.0 ∙ e.0 ∙ ap (λ (p : PassView g.row.C.Denot). p.table) c.pass.view_is;
+      step = subst (λ (v : Known g.row.C.Denot × Known g.row.C.Denot). Called g.C.Core.tells g.C.Core.view v.0 call reply v.1) (λ j. (known j, after j)) made.called;
+      told = subst (λ (v : Known g.row.C.Denot × Known g.row.C.Denot). told_of v.1 ≡ told_of v.0 ++ (call, reply) ∷ []) (λ j. (known j, after j)) made.told;
+      seen = subst (λ (v : Known g.row.C.Denot × Known g.row.C.Denot). Grows v.0.seen v.1.seen) (λ j. (known j, after j)) made.seen;
+      legal = λ told. subst (λ (k : Known g.row.C.Denot). IsLegalIn g.C.Core.view k) after (made.legal told);
+      commit = subst (λ (v : Known g.row.C.Denot × Known g.row.C.Denot). Commits g.C.Core.tells v.0 reply v.1) (λ j. (known j, after j)) made.commits;
+      again = tt;
+    }
