@@ -1,4 +1,5 @@
 use crate::holds::{Flag, Hold, Holds};
+use crate::places::{Watch, Way};
 use counted::NoMemory;
 use mars_shell::{Gate, OpenGate, Place, Status, room, run};
 use outside::{MemorySink, MemorySource};
@@ -39,11 +40,16 @@ fn behind<R: AllocGlobal + Threads + Wait + Sync>(
     }
 }
 
-const FORMAT: &str = "format --loggers 2 --numbers 2 --entries 8 --pages 4";
-
-// An array that `format` has just made.
+// An array that `format` has just made, for two callers.
 fn fresh<R: AllocGlobal + Threads + Wait + Sync>(rt: &R) -> Result<MemoryMedia, Fail> {
-    let words = words_of(rt.alloc(), FORMAT)?;
+    formatted(rt, "format --loggers 2 --numbers 2 --entries 8 --pages 4")
+}
+
+fn formatted<R: AllocGlobal + Threads + Wait + Sync>(
+    rt: &R,
+    words: &str,
+) -> Result<MemoryMedia, Fail> {
+    let words = words_of(rt.alloc(), words)?;
     let media = zeros(rt.alloc(), room(rt.alloc(), &words)? as usize)?;
     behind(rt, media, &words, b"")
 }
@@ -210,4 +216,82 @@ fn who_is_last_is_refused_for_want_of_a_slot(rt: HostRuntime) -> Result<(), Fail
         &holds,
         wanted.as_bytes(),
     )
+}
+
+// What callers write who work over a fresh array for four of them, and whether none of them waited in vain.
+fn watched<R: AllocGlobal + Threads + Wait + Sync>(
+    rt: &R,
+    words: &str,
+    input: &[u8],
+    watch: &Watch<'_>,
+) -> Result<MemorySink, Fail> {
+    let media = formatted(rt, "format --loggers 2 --numbers 4 --entries 8 --pages 4")?;
+    let words = words_of(rt.alloc(), words)?;
+    worked(rt, media, &words, input, watch)
+}
+
+// Caller 1 puts a key and then asks for one whose stripe caller 0 holds, who stays within its transaction for so long, as caller 2 does.
+const THREE_WITHIN: &[u8] =
+    b"0 begin\n0 put 5 a\n0 commit\n1 begin\n1 put 6 b\n1 get 69\n1 commit\n2 begin\n2 put 7 c\n2 commit\n2 begin\n2 get 7\n2 abort\n";
+
+const ONE_IS_LAST: &[u8] =
+    b"txn 1 caller 0\n0 ok\ntxn 2 caller 2\n2 ok\ntxn 3 caller 1\n1 ok\n1 none\n2 aborted 2\nrec 5 a\nrec 6 b\nrec 7 c\n";
+
+const fn began(caller: u8, nth: u64) -> Place {
+    Place::Began { caller, nth }
+}
+
+const fn answered(caller: u8, nth: u64, call: u64) -> Place {
+    Place::Answered { caller, nth, call }
+}
+
+const fn ended(caller: u8, nth: u64) -> Place {
+    Place::Ended { caller, nth }
+}
+
+// All three are within transactions until caller 1 has given up its three tries. Then caller 0 commits, and behind it caller 2.
+fn all_within() -> [Hold; 6] {
+    [
+        Hold::new(answered(2, 1, 1), 1, Some(Flag::First), Some(Flag::Fourth)),
+        Hold::new(began(1, 1), 1, None, Some(Flag::First)),
+        Hold::new(answered(1, 1, 1), 1, None, Some(Flag::Second)),
+        Hold::new(answered(0, 1, 1), 1, Some(Flag::Second), Some(Flag::Third)),
+        Hold::new(ended(1, 1), 1, Some(Flag::Third), None),
+        Hold::new(ended(0, 1), 1, Some(Flag::Fourth), None),
+    ]
+}
+
+// Each caller comes to the gate once for each begin, each answer and each end, and anew at each try.
+#[test]
+fn three_callers_come_to_all_their_places(rt: HostRuntime) -> Result<(), Fail> {
+    let zero = [began(0, 1), answered(0, 1, 1), ended(0, 1)];
+    let one = [
+        began(1, 1),
+        answered(1, 1, 1),
+        answered(1, 1, 2),
+        began(1, 1),
+        answered(1, 1, 1),
+        answered(1, 1, 2),
+        began(1, 1),
+        answered(1, 1, 1),
+        answered(1, 1, 2),
+        ended(1, 1),
+    ];
+    let two = [
+        began(2, 1),
+        answered(2, 1, 1),
+        ended(2, 1),
+        began(2, 2),
+        answered(2, 2, 1),
+        ended(2, 2),
+    ];
+    let held = all_within();
+    let holds = Holds::new(&held);
+    let ways = [Way::new(&zero), Way::new(&one), Way::new(&two)];
+    let watch = Watch::new(&holds, &ways);
+    let sink = watched(&rt, "callers 3 --tries 3", THREE_WITHIN, &watch)?;
+    assert!(rt; holds.given_up() == 0);
+    assert!(rt; watch.is_as_wanted());
+    assert!(rt; sink.written() == ONE_IS_LAST);
+    Ok(())
 }

@@ -39,6 +39,7 @@ pub enum Flag {
     First,
     Second,
     Third,
+    Fourth,
 }
 
 #[derive(Drop)]
@@ -47,6 +48,7 @@ pub struct Holds<'a> {
     first: AtomicBool,
     second: AtomicBool,
     third: AtomicBool,
+    fourth: AtomicBool,
     given_up: AtomicU64,
 }
 
@@ -57,6 +59,7 @@ impl<'a> Holds<'a> {
             first: AtomicBool::new(false),
             second: AtomicBool::new(false),
             third: AtomicBool::new(false),
+            fourth: AtomicBool::new(false),
             given_up: AtomicU64::new(0),
         }
     }
@@ -71,6 +74,7 @@ impl<'a> Holds<'a> {
             Flag::First => &self.first,
             Flag::Second => &self.second,
             Flag::Third => &self.third,
+            Flag::Fourth => &self.fourth,
         }
     }
 

@@ -13,4 +13,6 @@ mod held_media;
 #[cfg(test)]
 mod holds;
 #[cfg(test)]
+mod places;
+#[cfg(test)]
 mod sharing;
