@@ -7,7 +7,7 @@ use crate::number::write_number;
 use caller_plans::Fate;
 use counted::NoMemory;
 use history::Reply;
-use script_text::write_reply_text;
+use script_text::put_reply_text;
 
 /// Appends a line for each of the caller's plans that was aborted or refused. At `Err` some of them may have been appended.
 pub fn write_fates(text: &mut Vec<u8>, caller: u8, fates: &[Fate]) -> Result<(), NoMemory>
@@ -46,7 +46,7 @@ fn write_refused(text: &mut Vec<u8>, caller: u8, n: u64, reply: &Reply) -> Resul
     text.extend_from_slice(b" refused ")?;
     write_number(text, n)?;
     text.extend_from_slice(b" ")?;
-    write_reply_text(text, reply)?;
+    put_reply_text(text, reply)?;
     text.extend_from_slice(b"\n")?;
     Ok(())
 }

@@ -10,4 +10,4 @@ mod transactions;
 pub use fates::write_fates;
 pub use faults::write_faults;
 pub use records::{write_records, write_row};
-pub use transactions::write_history;
+pub use transactions::put_history;

@@ -1,49 +1,48 @@
 // The transactions of a history.
-ghost use Rattle.std.specs.Prelude.{◌≡◌, [], ◌∷◌, ◌++◌, codes, decimal, OnOk};
+ghost use Rattle.std.specs.Prelude.{[], ◌∷◌, ◌++◌, codes, decimal};
 ghost use Rattle.std.specs.List.{flat_map};
+ghost use Rattle.script_io.specs.Written.{Appends};
 ghost use Rattle.script_text.specs.Replies.{reply_line};
 ghost use Rattle.history_text.specs.Text.{done_lines};
 
-use crate::number::write_number;
-use counted::NoMemory;
 use history::{Calls, Done, History};
-use script_text::write_reply;
+use itoa::Buffer;
+use script_io::{TextOut, put_pieces};
+use script_text::put_reply;
 
-/// Appends the lines of each transaction. At `Err` some of them may have been appended.
-pub fn write_history(text: &mut Vec<u8>, history: &History) -> Result<(), NoMemory>
-    ensures { OnOk result (text.new.items ≡ text.old.items ++ flat_map done_lines history.now) }
+/// Puts the lines of each transaction.
+pub fn put_history<E, T: TextOut<E>>(out: &mut T, history: &History) -> Result<(), E>
+    ensures { Appends T.tells (T.view out.old) (T.view out.new) result (flat_map done_lines history.now) }
 {
     for done in history.items() {
-        write_done(text, done)?;
+        put_done(out, done)?;
     }
     Ok(())
 }
 
-fn write_done(text: &mut Vec<u8>, done: &Done) -> Result<(), NoMemory>
-    ensures { OnOk result (text.new.items ≡ text.old.items ++ done_lines done.now) }
+fn put_done<E, T: TextOut<E>>(out: &mut T, done: &Done) -> Result<(), E>
+    ensures { Appends T.tells (T.view out.old) (T.view out.new) result (done_lines done.now) }
 {
-    write_head(text, done)?;
-    write_replies(text, done.caller, &done.calls)?;
-    Ok(())
+    put_head(out, done)?;
+    put_replies(out, done.caller, &done.calls)
 }
 
-// Appends the line with a transaction's number and caller.
-fn write_head(text: &mut Vec<u8>, done: &Done) -> Result<(), NoMemory>
-    ensures { OnOk result (text.new.items ≡ text.old.items ++ (codes "txn " ++ decimal done.now.at ++ codes " caller " ++ decimal done.now.caller ++ 10 ∷ [])) }
+// Puts the line with a transaction's number and caller.
+fn put_head<E, T: TextOut<E>>(out: &mut T, done: &Done) -> Result<(), E>
+    ensures { Appends T.tells (T.view out.old) (T.view out.new) result (codes "txn " ++ decimal done.now.at ++ codes " caller " ++ decimal done.now.caller ++ 10 ∷ []) }
 {
-    text.extend_from_slice(b"txn ")?;
-    write_number(text, done.at)?;
-    text.extend_from_slice(b" caller ")?;
-    write_number(text, u64::from(done.caller))?;
-    text.extend_from_slice(b"\n")?;
-    Ok(())
+    let mut first = Buffer::new();
+    let mut second = Buffer::new();
+    let number = first.format(done.at).as_bytes();
+    let caller = second.format(done.caller).as_bytes();
+    put_pieces(out, &[b"txn ", number, b" caller ", caller, b"\n"])
 }
 
-fn write_replies(text: &mut Vec<u8>, caller: u8, calls: &Calls) -> Result<(), NoMemory>
-    ensures { OnOk result (text.new.items ≡ text.old.items ++ flat_map (λ entry. reply_line caller entry.1) calls.now) }
+fn put_replies<E, T: TextOut<E>>(out: &mut T, caller: u8, calls: &Calls) -> Result<(), E>
+    ensures { Appends T.tells (T.view out.old) (T.view out.new) result (flat_map (λ entry. reply_line caller entry.1) calls.now) }
 {
     for (_, reply) in calls.entries() {
-        write_reply(text, caller, reply)?;
+        put_reply(out, caller, reply)?;
     }
     Ok(())
 }

@@ -32,9 +32,9 @@ abbrev pub media_line : List ℕ
 media_line = codes "media fault" ++ 10 ∷ []
 
 -- What is written at each end, given the whole text and the text of the history. If the medium failed, it is the history and the line that
--- says so, or that line alone if there was no memory for the history's text.
+-- says so.
 abbrev pub TellsWork : Ended → Bool → List ℕ → List ℕ → List ℕ → Type 0
-TellsWork MediaFault cut text whole history = IsWritten cut text (history ++ media_line) ⊎ IsWritten cut text media_line
+TellsWork MediaFault cut text whole history = IsWritten cut text (history ++ media_line)
 TellsWork NoMemory cut text whole history = (cut ≡ false) × (text ≡ [])
 TellsWork ended cut text whole history = IsCutAt ended cut × IsWritten cut text whole
 

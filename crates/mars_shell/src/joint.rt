@@ -1,11 +1,11 @@
 // The work of callers on threads.
-ghost use Rattle.std.specs.Prelude.{◌≡◌, ◌++◌, ◌<◌, ◌≤◌, ◌⊎◌, ◌↔◌, ℕ, List, None, length, IsTrue, IfErr, IfOk, OnOk};
+ghost use Rattle.std.specs.Prelude.{◌≡◌, ◌++◌, ◌<◌, ◌≤◌, ◌↔◌, ℕ, List, None, length, IsTrue, IfErr, IfOk, OnOk};
 ghost use Rattle.std.specs.FinMap.{entries};
 ghost use Rattle.std.specs.List.{flat_map};
 ghost use Rattle.eaw_face.specs.Causes.{IsAlive};
 ghost use Rattle.history.specs.Legal.{records};
 ghost use Rattle.history_text.specs.Text.{done_lines, work_text, all_fate_lines};
-ghost use Rattle.script_io.specs.Written.{IsWritten, Wrote};
+ghost use Rattle.script_io.specs.Written.{Appends, IsWritten, Wrote};
 ghost use Rattle.history.specs.Rows.{table_of};
 ghost use Rattle.mars_shell.specs.Forms.{index_at};
 ghost use Rattle.mars_shell.specs.Joint.{media_line, TellsWork, IsBrokenOff, JointWork};
@@ -18,13 +18,13 @@ use caller_work::{Fates, Gate, WorkEnd, work};
 use counted::NoMemory;
 use eaw_face::EawStore;
 use history::{History, Rows, play};
-use history_text::{write_fates, write_faults, write_history, write_records};
+use history_text::{put_history, write_fates, write_faults, write_records};
 use key_list::KeyList;
 use mars_core::{Core, CoreFault};
 use outside::Sink;
 use page_store::{KeyIndex, SaveRoom};
 use record_table::Form;
-use script_io::{write_front, write_whole};
+use script_io::{TextOut, write_whole};
 use script_run::Ended;
 use std::alloc::Global;
 use std::sync::Wait;
@@ -145,7 +145,7 @@ fn tell_end<K: Sink>(
             Err(NoMemory) => Ended::NoMemory,
         },
         WorkEnd::MediaFault => {
-            tell_media_fault(alloc, sink, history);
+            tell_media_fault(sink, history);
             Ended::MediaFault
         }
         WorkEnd::NoMemory => Ended::NoMemory,
@@ -166,7 +166,7 @@ fn work_text(
     let rows = play(history, base, alloc)?;
     let mut text = Vec::new(alloc);
     write_faults(&mut text, faults)?;
-    write_history(&mut text, history)?;
+    put_history(&mut text, history)?;
     write_all_fates(&mut text, fates)?;
     write_records(&mut text, &rows)?;
     Ok(text)
@@ -182,23 +182,20 @@ fn write_all_fates(text: &mut Vec<u8>, fates: &[Fates]) -> Result<(), NoMemory>
     Ok(())
 }
 
-// Writes the history and that the medium failed. If there is no memory for the history's text, the line of the fault is written alone, so
-// how the work ended does not depend on memory.
-fn tell_media_fault<K: Sink>(alloc: Global, sink: &mut K, history: &History)
+// Writes the history and that the medium failed. No text is formed, so how the work ended and what is told of it do not depend on memory.
+fn tell_media_fault<K: Sink>(sink: &mut K, history: &History)
     ensures { Wrote K.tells (K.written sink.old) (K.written sink.new) (K.faults sink.old) (K.faults sink.new)
-        (λ cut text. IsWritten cut text (flat_map done_lines history.now ++ media_line) ⊎ IsWritten cut text media_line) }
+        (λ cut text. IsWritten cut text (flat_map done_lines history.now ++ media_line)) }
 {
-    match fault_text(alloc, history) {
-        Ok(text) => write_front(sink, &text),
-        Err(NoMemory) => write_front(sink, MEDIA_LINE),
+    match put_fault_text(sink, history) {
+        Ok(()) => {}
+        Err(_) => {}
     }
 }
 
-fn fault_text(alloc: Global, history: &History) -> Result<Vec<u8>, NoMemory>
-    ensures { IfOk result (λ text. text.items ≡ flat_map done_lines history.now ++ media_line) }
+fn put_fault_text<E, T: TextOut<E>>(out: &mut T, history: &History) -> Result<(), E>
+    ensures { Appends T.tells (T.view out.old) (T.view out.new) result (flat_map done_lines history.now ++ media_line) }
 {
-    let mut text = Vec::new(alloc);
-    write_history(&mut text, history)?;
-    text.extend_from_slice(MEDIA_LINE)?;
-    Ok(text)
+    put_history(out, history)?;
+    out.put(MEDIA_LINE)
 }

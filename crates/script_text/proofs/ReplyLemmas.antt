@@ -5,7 +5,7 @@ use Rattle.std.specs.Fmt.{decimal}
 use Rattle.std.proofs.lemmas.List.{append-nil, take_at, length-append}
 use Rattle.history.specs.declared.call.Reply.{Reply}
 use Rattle.history.specs.declared.call.Reply.TheVariants.{Listed, LogFull, Media}
-use Rattle.script_text.specs.Replies.{reply_text, told_line, row_lines, reply_line, bad_line}
+use Rattle.script_text.specs.Replies.{reply_text, told_line, row_line, row_lines, reply_line, bad_line}
 
 -- the caller's number and what comes after it
 told_is : (caller : ℕ) (words number rest : List ℕ) → number ≡ decimal caller → rest ≡ 32 ∷ (words ++ 10 ∷ []) → number ++ rest ≡ told_line caller words
@@ -18,11 +18,24 @@ unfolding reply_line
 line_is caller reply number rest none first behind =
     told_is caller (reply_text reply) number rest first behind ∙ rw none (sym (append-nil (told_line caller (reply_text reply))))
 
--- what was appended piece by piece is the line of the reply and those of its rows
-pub lines_appended : (caller : ℕ) (reply : Reply) (old number words line new : List ℕ) → number ≡ old ++ (decimal caller ++ 32 ∷ []) → words ≡ number ++ reply_text reply
-    → line ≡ words ++ 10 ∷ [] → new ≡ line ++ row_lines caller reply → new ≡ old ++ reply_line caller reply
+-- the number, the words and the newline
+pub told_pieces : (caller : ℕ) (words number : List ℕ) → number ≡ decimal caller → (number ++ 32 ∷ []) ++ (words ++ 10 ∷ []) ≡ told_line caller words
+told_pieces caller words number is = rw is (simp append_assoc)
+
+-- the line of a row
+pub row_pieces : (caller at : ℕ) (value number key text : List ℕ) → number ≡ decimal caller → key ≡ decimal at → text ≡ value
+    → number ++ (codes " row " ++ (key ++ 32 ∷ (text ++ 10 ∷ []))) ≡ row_line caller (at, value)
+row_pieces caller at value number key text first second third = rw (first, second, third) (simp append_assoc)
+
+-- the words of a full log
+pub log_full_pieces : (logger held needed : ℕ) (first second third : List ℕ) → first ≡ decimal logger → second ≡ decimal held → third ≡ decimal needed
+    → codes "log full " ++ (first ++ 32 ∷ (second ++ 32 ∷ (third ++ []))) ≡ reply_text (LogFull logger held needed)
+log_full_pieces logger held needed first second third one two three = rw (one, two, three) (simp (append_assoc, append-nil))
+
+-- the line of a reply and those of its rows
+pub reply_lines : (caller : ℕ) (reply : Reply) (rows : List ℕ) → rows ≡ row_lines caller reply → told_line caller (reply_text reply) ++ rows ≡ reply_line caller reply
 unfolding reply_line
-lines_appended caller reply old number words line new first second third last = rw (last, third, second, first) (simp append_assoc)
+reply_lines caller reply rows is = ap (λ (lines : List ℕ). told_line caller (reply_text reply) ++ lines) is
 
 -- a reply that lists nothing has no lines of rows
 pub no_rows : (caller : ℕ) (reply : Reply) → ((rows : List (ℕ × List ℕ)) → reply ≡ Listed rows → ⊥) → row_lines caller reply ≡ []
@@ -50,8 +63,3 @@ pub media_fault_front : (caller : ℕ) (number copied beside rest behind : List 
     → take (length number + 13) (take (length number) (copied ++ rest) ++ (beside ++ behind)) ≡ reply_line caller Media
 media_fault_front caller number copied beside rest behind is first second =
     front_is number (codes " media fault" ++ 10 ∷ []) copied beside rest behind first second ∙ line_is caller Media number (codes " media fault" ++ 10 ∷ []) refl is refl
-
--- the words of a reply that is known
-pub said : {T E : Type 0} (result : Result T E) (old new : List ℕ) (now reply : Reply) (text : List ℕ) → now ≡ reply → text ≡ reply_text reply → OnOk result (new ≡ old ++ text)
-    → OnOk result (new ≡ old ++ reply_text now)
-said result old new now reply text is words ok = subst (λ (line : List ℕ). OnOk result (new ≡ old ++ line)) (words ∙ ap reply_text (sym is)) ok

@@ -2,18 +2,17 @@ ghost use Rattle.std.specs.Prelude.{◌≡◌, ◌++◌, OnOk, OnErr};
 ghost use Rattle.std.specs.List.{flat_map};
 
 use counted::NoMemory;
+use script_io::put_pieces;
 
-/// Appends the pieces one after another.
+/// Appends the pieces one after another, or nothing.
 pub fn append(out: &mut Vec<u8>, pieces: &[&[u8]]) -> Result<(), NoMemory>
     ensures ok { OnOk result (out.new.items ≡ out.old.items ++ flat_map (λ piece. piece.now) pieces.now) }
     ensures err { OnErr result (out.new.items ≡ out.old.items) }
 {
     let start = out.len();
-    for piece in pieces {
-        if out.extend_from_slice(piece).is_err() {
-            out.truncate(start);
-            return Err(NoMemory);
-        }
+    let answer = put_pieces(out, pieces);
+    if answer.is_err() {
+        out.truncate(start);
     }
-    Ok(())
+    answer
 }

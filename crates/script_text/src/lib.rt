@@ -21,4 +21,4 @@ pub use hex_text::bytes_of;
 pub use laws::{one_line, one_raw_line};
 pub use lent::{BLOCK, Lent};
 pub use line::{Line, read_line};
-pub use reply::{media_fault_line, write_bad_line, write_reply, write_reply_text};
+pub use reply::{media_fault_line, put_reply, put_reply_text, write_bad_line, write_reply};
