@@ -1,8 +1,8 @@
 -- Pieces that are appended one after another, of which the last may be cut short.
-use Rattle.std.proofs.Common.{◌≡◌, ℕ, ◌+◌, ◌<◌, ◌≤◌, Bool, true, false, List, [], ◌++◌, length, take, drop, get_or, refl, sym, ap, ◌∙◌, arith, subst, append_assoc, Result, Ok, Err}
-use Rattle.std.specs.Prelude.{IsTrue, IsOk, IsErr}
+use Rattle.std.proofs.Common.{◌≡◌, ℕ, ◌+◌, ◌<◌, Bool, true, false, List, ◌++◌, length, take, drop, get_or, refl, sym, ap, ◌∙◌, arith, subst, append_assoc, Result, Ok, Err}
+use Rattle.std.specs.Prelude.{IsTrue, IsErr}
 use Rattle.std.specs.List.{flat_map}
-use Rattle.std.proofs.lemmas.List.{append-nil, length-append, take_all, take_more, flat_map_more, take-append-drop, drop_more}
+use Rattle.std.proofs.lemmas.List.{length-append, take-append-drop, drop_more}
 use Rattle.std.proofs.lemmas.List.Concat.{flat_map-append}
 use Rattle.counted.specs.Causes.{Rose}
 use Rattle.script_io.specs.Written.{IsWritten, Wrote, TextSoFar, Appends}

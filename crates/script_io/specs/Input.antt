@@ -1,5 +1,5 @@
 -- How long an input may be, and when reading one fails.
-use Rattle.std.specs.Prelude.{ℕ, ◌≡◌, Result, Ok, Err}
+use Rattle.std.specs.Prelude.{ℕ, ◌≡◌, Result, Err}
 use Rattle.counted.specs.Causes.{Rose}
 use Rattle.script_io.specs.declared.input.InputFault.{InputFault}
 use Rattle.script_io.specs.declared.input.InputFault.TheVariants.{Failed}

@@ -99,12 +99,7 @@ fn put_count<E, T: TextOut<E>>(out: &mut T, words: &[u8], n: u64) -> Result<(), 
     put_pieces(out, &[words, buffer.format(n).as_bytes()])
 }
 
-fn put_log_full<E, T: TextOut<E>>(
-    out: &mut T,
-    logger: u8,
-    held: u16,
-    needed: u16,
-) -> Result<(), E>
+fn put_log_full<E, T: TextOut<E>>(out: &mut T, logger: u8, held: u16, needed: u16) -> Result<(), E>
     ensures { Appends T.tells (T.view out.old) (T.view out.new) result (reply_text (Reply.LogFull logger held needed)) }
 {
     let mut first = Buffer::new();
@@ -133,10 +128,7 @@ fn put_row<E, T: TextOut<E>>(out: &mut T, caller: u8, key: u64, value: &Value) -
     let mut second = Buffer::new();
     let number = first.format(caller).as_bytes();
     let key = second.format(key).as_bytes();
-    put_pieces(
-        out,
-        &[number, b" row ", key, b" ", value.as_bytes(), b"\n"],
-    )
+    put_pieces(out, &[number, b" row ", key, b" ", value.as_bytes(), b"\n"])
 }
 
 /// The line of the reply `Media`, which needs no memory but the buffer.

@@ -1,4 +1,4 @@
-use Rattle.std.proofs.Common.{arith, sym, ap, ◌∙◌, ◌≡◌, ◌-◌, ◌++◌, List, ℕ, length, take, drop}
+use Rattle.std.proofs.Common.{sym, ap, ◌∙◌, ◌≡◌, ◌-◌, ◌++◌, List, ℕ, length, take, drop}
 use Rattle.std.proofs.lemmas.List.{take_rest, take-append-drop, append_assoc}
 use Rattle.script_io.proofs.output.write_whole.Goals as goal
 

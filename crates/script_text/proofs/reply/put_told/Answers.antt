@@ -1,4 +1,4 @@
-use Rattle.std.proofs.Common.{ℕ, List, [], ◌∷◌, ◌++◌, ◌∙◌}
+use Rattle.std.proofs.Common.{[], ◌∷◌, ◌++◌, ◌∙◌}
 use Rattle.script_io.proofs.Appending.{same_text, all_of, and_then, cut_there}
 use Rattle.script_text.specs.Replies.{reply_text}
 use Rattle.script_text.proofs.ReplyLemmas.{told_pieces}
