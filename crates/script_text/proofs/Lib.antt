@@ -1,4 +1,3 @@
-mod Pieces
 pub mod ReplyLemmas
 pub mod Words
 pub mod Numbers
