@@ -1,5 +1,8 @@
 use Rattle.script_io.proofs.Appending.{wrote_front}
 use Rattle.mars_shell.proofs.joint.tell_media_fault.Goals as goal
 
-pub returns : goal.returns
-returns g c = wrote_front c.put_fault_text.result c.put_fault_text.ensures
+pub returns-in-Ok : goal.returns-in-Ok
+returns-in-Ok g c = wrote_front c.put_fault_text.result c.put_fault_text.ensures
+
+pub returns-in-Err : goal.returns-in-Err
+returns-in-Err g c = wrote_front c.put_fault_text.result c.put_fault_text.ensures
