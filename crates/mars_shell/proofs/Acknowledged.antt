@@ -1,5 +1,5 @@
 -- What was acknowledged as committed stands in the history.
-use Rattle.std.proofs.Common.{Bool, ◌≡◌, ℕ, ◌+◌, ◌<◌, ◌≤◌, ◌^◌, List, [], ◌∷◌, ◌++◌, length, get_or, Option, Some, None, inl, inr, refl, sym, ap, subst, ◌∙◌, arith}
+use Rattle.std.proofs.Common.{Bool, true, ◌≡◌, ℕ, ◌+◌, ◌<◌, ◌≤◌, ◌^◌, List, [], ◌∷◌, ◌++◌, length, get_or, Option, Some, None, inl, inr, refl, sym, ap, subst, ◌∙◌, arith}
 use Rattle.std.specs.Prelude.{Contains, codes}
 use Rattle.std.specs.Fmt.{decimal}
 use Rattle.std.specs.Str.Parse.{AllDigits}
@@ -14,8 +14,13 @@ use Rattle.history.specs.declared.call.Reply.{Reply}
 use Rattle.history.specs.declared.call.Reply.TheVariants.{Fine, Found, Absent, Listed, Saved, Committed, NoTransaction, Already, NoSave, SavesFull, Busy, LogFull, SlotsFull, PagesFull, Media, Dead, NoMemory, Damaged}
 use Rattle.history.specs.Table.{Work, found, removed, Answers}
 use Rattle.core_face.specs.State.{State, done_by}
+use Rattle.core_face.specs.Room.{Limits}
+use Rattle.core_face.specs.Run.{Turn}
+use Rattle.core_face.specs.Step.{Runs}
 use Rattle.core_face.proofs.Continuing.{grows_longer}
 use Rattle.core_face.proofs.Fates.{Fate, refused, failed, began, granted, committed, doubted, aborted, step_fate}
+use Rattle.core_face.proofs.Refusing.{line_is as turn_is}
+use Rattle.core_face.proofs.Running.{turns_grow}
 use Rattle.script_text.specs.Line.{Says}
 use Rattle.script_text.specs.Replies.{reply_text, row_lines, reply_line, bad_line}
 use Rattle.script_text.specs.declared.line.Line.{Line}
@@ -25,8 +30,7 @@ use Rattle.script_text.proofs.Numbers.{decimal_is_word}
 use Rattle.script_run.specs.Transcript.{Ends, Answered}
 use Rattle.script_run.specs.declared.ended.Ended.{Ended}
 use Rattle.script_run.specs.declared.ended.Ended.TheVariants.{All, WriteFault, MediaFault, NoMemory as Short}
-use Rattle.mars_shell.specs.Lines.{Turns, Takes, Gives, LineStops, call_script}
-use Rattle.mars_shell.proofs.Answering.{takes_grows}
+use Rattle.mars_shell.specs.Lines.{Gives, LineStops, call_script}
 
 first : List ℕ → ℕ
 first text = get_or text 0 0
@@ -128,55 +132,89 @@ committed_long old caller call k new (committed calls is re live e) =
 committed_long old caller call k new (doubted calls is re live index e) = absurd (cc)
 committed_long old caller call k new (aborted is re e) = absurd (cc)
 
-gives_longer : (old : Turns) (n : ℕ) (line : Line) (text : List ℕ) (new : Turns) → Gives old n line text new → length old.state.history ≤ length new.state.history
-gives_longer old n Nothing text new gives = omega (arith, ap (λ (s : Turns). length s.state.history) gives.1)
-gives_longer old n Bad text new gives = omega (arith, ap (λ (s : Turns). length s.state.history) gives.1)
-gives_longer old n (Told caller call) text new gives = grows_longer old.state.history new.state.history (takes_grows old caller call gives.0 new gives.2)
+-- The lines of a script only add turns.
+record Adds (old new : List Turn) : Type 0 where
+  pub more : List Turn
+  pub is : new ≡ old ++ more
 
-gives_limits : (old : Turns) (n : ℕ) (line : Line) (text : List ℕ) (new : Turns) → Gives old n line text new → new.limits.callers ≡ old.limits.callers
-gives_limits old n Nothing text new gives = ap (λ (s : Turns). s.limits.callers) gives.1
-gives_limits old n Bad text new gives = ap (λ (s : Turns). s.limits.callers) gives.1
-gives_limits old n (Told caller call) text new gives = ap (λ limits. limits.callers) gives.2.0
+none_added : (old new : List Turn) → new ≡ old → Adds old new
+none_added old new same = record { more = []; is = same ∙ sym (append-nil old) }
 
-stops_longer : (old : Turns) (n : ℕ) (bytes : List ℕ) (new : Turns) → LineStops old n bytes new → length old.state.history ≤ length new.state.history
-stops_longer old n bytes new (inl short) = grows_longer old.state.history new.state.history (takes_grows old short.0 short.1.0 NoMemory new short.1.2)
-stops_longer old n bytes new (inr done) = gives_longer old n done.1.0 done.0 new done.1.2
+gives_more : (old : List Turn) (n : ℕ) (line : Line) (text : List ℕ) (new : List Turn) → Gives old n line text new → Adds old new
+gives_more old n Nothing text new gives = none_added old new gives.1
+gives_more old n Bad text new gives = none_added old new gives.1
+gives_more old n (Told caller call) text new gives = record { more = (caller, call, gives.0) ∷ []; is = gives.2 }
 
-ends_longer : (old : Turns) (n : ℕ) (bytes : List ℕ) (ended : Ended) (cut : Bool) (rest : List ℕ) (new : Turns) → Ends call_script old n bytes ended cut rest new → length old.state.history ≤ length new.state.history
-ends_longer old n bytes WriteFault cut rest new ends = gives_longer old n ends.2.0 ends.1 new ends.2.2
-ends_longer old n bytes MediaFault cut rest new ends = grows_longer old.state.history new.state.history (takes_grows old ends.0 ends.1.0 Media new ends.1.2)
-ends_longer old n bytes Short cut rest new ends = stops_longer old n bytes new ends.2
-ends_longer old n bytes All cut rest new ends = absurd ends
+module _ (callers : ℕ) where
+  stops_more : (old : List Turn) (n : ℕ) (bytes : List ℕ) (new : List Turn) → LineStops callers old n bytes new → Adds old new
+  stops_more old n bytes new (inl short) = record { more = (short.0, short.1.0, NoMemory) ∷ []; is = short.1.2 }
+  stops_more old n bytes new (inr done) = gives_more old n done.1.0 done.0 new done.1.2
 
-answered_longer : (old : Turns) (n : ℕ) (lines : List (List ℕ)) (ended : Ended) (cut : Bool) (answers : List (List ℕ)) (rest : List ℕ) (new : Turns)
-    → Answered call_script old n lines ended cut answers rest new → length old.state.history ≤ length new.state.history
-answered_longer old n [] ended cut [] rest new is = omega (arith, ap (λ (s : Turns). length s.state.history) is.3)
-answered_longer old n [] ended cut (answer ∷ answers) rest new is = absurd is
-answered_longer old n (bytes ∷ lines) ended cut [] rest new ends = ends_longer old n bytes ended cut rest new ends
-answered_longer old n (bytes ∷ lines) ended cut (answer ∷ answers) rest new more =
-    omega (arith, gives_longer old n more.1.0 answer more.0 more.1.2, answered_longer more.0 (n + 1) lines ended cut answers rest new more.2)
+  ends_more : (old : List Turn) (n : ℕ) (bytes : List ℕ) (ended : Ended) (cut : Bool) (rest : List ℕ) (new : List Turn) → Ends (call_script callers) old n bytes ended cut rest new → Adds old new
+  ends_more old n bytes WriteFault cut rest new ends = gives_more old n ends.2.0 ends.1 new ends.2.2
+  ends_more old n bytes MediaFault cut rest new ends = record { more = (ends.0, ends.1.0, Media) ∷ []; is = ends.1.2 }
+  ends_more old n bytes Short cut rest new ends = stops_more old n bytes new ends.2
+  ends_more old n bytes All cut rest new ends = absurd ends
 
-gives_committed : (old : Turns) (n : ℕ) (bytes : List ℕ) (line : Line) (caller m : ℕ) (new : Turns) → old.limits.callers ≤ 2 ^ 64 → caller < 2 ^ 64 → m < 2 ^ 64 → Says old.limits.callers bytes line
-    → Gives old n line (reply_line caller (Committed m)) new → m ≤ length new.state.history
-gives_committed old n bytes Nothing caller m new most few fits says gives = absurd (not_empty caller m few gives.0)
-gives_committed old n bytes Bad caller m new most few fits says gives = absurd (not_bad caller m n few gives.0)
-gives_committed old n bytes (Told other call) caller m new most few fits says gives =
-    let same = same_line caller other gives.0 m few (omega (arith, most, says.0)) fits gives.3 in
-    let takes : Takes old other call (Committed same.0) new = subst (λ (r : Reply). Takes old other call r new) same.1 gives.2 in
-    omega (arith, same.2, committed_long old.state other call same.0 new.state (step_fate old.limits old.state other new.state call (Committed same.0) takes.1))
+  answered_more : (old : List Turn) (n : ℕ) (lines : List (List ℕ)) (ended : Ended) (cut : Bool) (answers : List (List ℕ)) (rest : List ℕ) (new : List Turn)
+      → Answered (call_script callers) old n lines ended cut answers rest new → Adds old new
+  answered_more old n [] ended cut [] rest new is = none_added old new is.3
+  answered_more old n [] ended cut (answer ∷ answers) rest new is = absurd is
+  answered_more old n (bytes ∷ lines) ended cut [] rest new ends = ends_more old n bytes ended cut rest new ends
+  answered_more old n (bytes ∷ lines) ended cut (answer ∷ answers) rest new more =
+      let first = gives_more old n more.1.0 answer more.0 more.1.2 in
+      let later = answered_more more.0 (n + 1) lines ended cut answers rest new more.2 in
+      record { more = first.more ++ later.more; is = later.is ∙ ap (λ (turns : List Turn). turns ++ later.more) first.is ∙ append_assoc old first.more later.more }
 
-pub committed_kept : (old : Turns) (n : ℕ) (lines : List (List ℕ)) (ended : Ended) (cut : Bool) (answers : List (List ℕ)) (rest : List ℕ) (new : Turns) → old.limits.callers ≤ 2 ^ 64
-    → Answered call_script old n lines ended cut answers rest new → (caller m : ℕ) → caller < 2 ^ 64 → m < 2 ^ 64 → Contains answers (reply_line caller (Committed m)) → m ≤ length new.state.history
-committed_kept old n lines ended cut [] rest new most answered caller m few fits has = absurd (omega (arith, has.1))
-committed_kept old n [] ended cut (answer ∷ answers) rest new most answered caller m few fits has = absurd answered
-committed_kept old n (bytes ∷ lines) ended cut (answer ∷ answers) rest new most more caller m few fits has = elim (Contains-append_cases (answer ∷ []) answers (reply_line caller (Committed m)) has) [
-  | inl first ↦ elim (Contains-push_cases [] answer (reply_line caller (Committed m)) first) [
-    | inl none ↦ absurd (omega (arith, none.1))
-    | inr same ↦ omega (
-      arith,
-      gives_committed old n bytes more.1.0 caller m more.0 most few fits more.1.1 (subst (λ (text : List ℕ). Gives old n more.1.0 text more.0) same more.1.2),
-      answered_longer more.0 (n + 1) lines ended cut answers rest new more.2,
-    )
+-- a turn was answered as a commit with this number or a higher one
+record IsTold (m : ℕ) (turns : List Turn) : Type 0 where
+  pub before : List Turn
+  pub caller : ℕ
+  pub call : Call
+  pub number : ℕ
+  pub after : List Turn
+  pub is : turns ≡ before ++ (caller, call, Committed number) ∷ after
+  pub enough : m ≤ number
+
+module _ (callers : ℕ) (most : callers ≤ 2 ^ 64) (caller m : ℕ) (few : caller < 2 ^ 64) (fits : m < 2 ^ 64) where
+  gives_told : (old : List Turn) (n : ℕ) (bytes : List ℕ) (line : Line) (new : List Turn) → Says callers bytes line → Gives old n line (reply_line caller (Committed m)) new → IsTold m new
+  gives_told old n bytes Nothing new says gives = absurd (not_empty caller m few gives.0)
+  gives_told old n bytes Bad new says gives = absurd (not_bad caller m n few gives.0)
+  gives_told old n bytes (Told other call) new says gives =
+      let same = same_line caller other gives.0 m few (omega (arith, most, says.0)) fits gives.3 in
+      record { before = old; caller = other; call = call; number = same.0; after = []; is = gives.2 ∙ ap (λ (r : Reply). old ++ (other, call, r) ∷ []) same.1; enough = same.2 }
+
+  told_on : (old new : List Turn) → IsTold m old → Adds old new → IsTold m new
+  told_on old new told adds = record {
+    before = told.before;
+    caller = told.caller;
+    call = told.call;
+    number = told.number;
+    after = told.after ++ adds.more;
+    is = adds.is ∙ ap (λ (turns : List Turn). turns ++ adds.more) told.is ∙ append_assoc told.before ((told.caller, told.call, Committed told.number) ∷ told.after) adds.more;
+    enough = told.enough;
+  }
+
+  -- An acknowledgement is the reply of some turn.
+  answered_told : (old : List Turn) (n : ℕ) (lines : List (List ℕ)) (ended : Ended) (cut : Bool) (answers : List (List ℕ)) (rest : List ℕ) (new : List Turn)
+      → Answered (call_script callers) old n lines ended cut answers rest new → Contains answers (reply_line caller (Committed m)) → IsTold m new
+  answered_told old n lines ended cut [] rest new answered has = absurd (omega (arith, has.1))
+  answered_told old n [] ended cut (answer ∷ answers) rest new answered has = absurd answered
+  answered_told old n (bytes ∷ lines) ended cut (answer ∷ answers) rest new more has = elim (Contains-append_cases (answer ∷ []) answers (reply_line caller (Committed m)) has) [
+    | inl first ↦ elim (Contains-push_cases [] answer (reply_line caller (Committed m)) first) [
+      | inl none ↦ absurd (omega (arith, none.1))
+      | inr same ↦ told_on more.0 new (gives_told old n bytes more.1.0 more.0 more.1.1 (subst (λ (text : List ℕ). Gives old n more.1.0 text more.0) same more.1.2))
+          (answered_more callers more.0 (n + 1) lines ended cut answers rest new more.2)
+    ]
+    | inr later ↦ answered_told more.0 (n + 1) lines ended cut answers rest new more.2 later
   ]
-  | inr later ↦ committed_kept more.0 (n + 1) lines ended cut answers rest new (omega (arith, most, gives_limits old n more.1.0 answer more.0 more.1.2)) more.2 caller m few fits later
-]
+
+  -- The history has all that was acknowledged.
+  pub committed_kept : (limits : Limits) (first final : State) (lines : List (List ℕ)) (ended : Ended) (cut : Bool) (answers : List (List ℕ)) (rest : List ℕ) (turns : List Turn)
+      → Runs limits first turns final → Answered (call_script callers) [] 1 lines ended cut answers rest turns → Contains answers (reply_line caller (Committed m)) → m ≤ length final.history
+  committed_kept limits first final lines ended cut answers rest turns runs answered has =
+      let told = answered_told [] 1 lines ended cut answers rest turns answered has in
+      let turn : Turn = (told.caller, told.call, Committed told.number) in
+      let at = turn_is limits first final told.before told.after turn (subst (λ (all : List Turn). Runs limits first all final) told.is runs) in
+      let long = committed_long at.old told.caller told.call told.number at.new (step_fate limits at.old told.caller at.new told.call (Committed told.number) at.step) in
+      omega (arith, told.enough, long, grows_longer at.new.history final.history (turns_grow true limits at.new final told.after at.since))

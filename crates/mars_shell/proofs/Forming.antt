@@ -1,7 +1,6 @@
 -- Which index the data has, and work under that index.
 use Rattle.std.proofs.Common.{◌≡◌, ℕ, zero, suc, Bool, true, inl, List, refl, sym, ap, subst, ◌∙◌, length, arith, Result, Ok, Err}
-use Rattle.std.specs.FinMap.{entries}
-use Rattle.std.specs.Prelude.{IsTrue}
+use Rattle.std.specs.Prelude.{IsTrue, IfOk}
 use Rattle.counted.proofs.Going as going
 use Rattle.array_shape.specs.declared.shape.Shape.{Shape}
 use Rattle.eaw_face.specs.State.{State}
@@ -14,16 +13,16 @@ use Rattle.btree_pages.specs.FailingFacts.{damaged_tree_is_not_sound}
 use Rattle.record_table.specs.Shown.{table_of}
 use Rattle.core_face.specs.State as face
 use Rattle.core_face.specs.Room.{Limits}
+use Rattle.core_face.specs.Run.{Turn}
+use Rattle.core_face.specs.Step.{Runs}
 use Rattle.mars_core.specs.Attached.{CoreCause}
 use Rattle.mars_core.specs.Over.{limits_of}
 use Rattle.mars_core.specs.declared.fault.CoreFault.{CoreFault}
 use Rattle.mars_core.specs.declared.fault.CoreFault.TheVariants.{Damaged, Media, NoMemory}
-use Rattle.script_io.specs.Written.{IsWritten}
 use Rattle.script_run.specs.declared.ended.Ended.{Ended}
-use Rattle.mars_shell.specs.Dump.{dump_lines}
 use Rattle.mars_shell.specs.Forms.{index_of_form, index_at}
 use Rattle.mars_shell.specs.Run.{begun_on}
-use Rattle.mars_shell.specs.Served.{SaysForm, opens_of, Untaken, Served, Serves, Told, Tells}
+use Rattle.mars_shell.specs.Served.{SaysForm, opens_of, Untaken, Served, Serves, Spared}
 
 -- the index that a super page of this form names
 pub of_form : (form : ℕ) (bytes : List ℕ) → form_said (page_bytes bytes 0) ≡ form → index_at bytes ≡ index_of_form form
@@ -77,6 +76,10 @@ module _ (tells : Bool) (told : IsTrue tells) (Opens : Shape → List ℕ → Li
   bytes_are : mid.state.bytes ≡ old.state.bytes
   bytes_are = ap (λ (s : State). s.bytes) (says.state told)
 
+  -- what holds of the first state
+  of_first : (P : Limits → face.State → Type 0) → P (limits_of mid.shape) (begun_on index mid.state.bytes) → P (limits_of old.shape) (begun_on index old.state.bytes)
+  of_first P holds = subst (λ (b : List ℕ). P (limits_of old.shape) (begun_on index b)) bytes_are (subst (λ (s : Shape). P (limits_of s) (begun_on index mid.state.bytes)) says.shape holds)
+
   module _ (new : StoreView) where
     time_on : LeavesOnly (λ image. Opens mid.shape image mid.state.bytes) mid new → LeavesOnly (λ image. Opens old.shape image old.state.bytes) old new
     time_on time = going.then (says.time told) (subst (λ (b : List ℕ). LeavesOnly (λ image. Opens old.shape image b) mid new) bytes_are
@@ -85,17 +88,18 @@ module _ (tells : Bool) (told : IsTrue tells) (Opens : Shape → List ℕ → Li
     untaken_on : (fault : CoreFault) (cut : Bool) (text : List ℕ) → Untaken Opens index mid fault cut text new → Untaken Opens index old fault cut text new
     untaken_on fault cut text off = record { whole = off.whole; silent = off.silent; cause = moved_cause index old mid bytes_are fault off.cause; time = time_on off.time }
 
-    served_on : (Says : Limits → face.State → face.State → Type 0) (ended : Ended) → Served Says Opens index mid ended new → Served Says Opens index old ended new
+    served_on : (Says : Limits → List Turn → face.State → Type 0) (ended : Ended) → Served Says Opens index mid ended new → Served Says Opens index old ended new
     served_on Says ended served =
         let sound = subst (λ (b : List ℕ). index.sound b) bytes_are served.sound in
         let base : served.final.base ≡ table_of index old.state.bytes = served.base ∙ ap (table_of index) bytes_are in
         record {
           sound = sound;
           shape = served.shape ∙ says.shape;
+          turns = served.turns;
           final = served.final;
+          runs = of_first (λ l s. Runs l s served.turns served.final) served.runs;
+          says = subst (λ (s : Shape). Says (limits_of s) served.turns served.final) says.shape served.says;
           base = base;
-          says = subst (λ (b : List ℕ). Says (limits_of old.shape) (begun_on index b) served.final) bytes_are
-              (subst (λ (s : Shape). Says (limits_of s) (begun_on index mid.state.bytes) served.final) says.shape served.says);
           legal = served.legal;
           since = going.then (going.weaker (λ image opens. record {
             count = 0;
@@ -107,23 +111,19 @@ module _ (tells : Bool) (told : IsTrue tells) (Opens : Shape → List ℕ → Li
           left = served.left;
         }
 
-    told_on : (ended : Ended) (cut : Bool) (text : List ℕ) → Told Opens index mid ended cut text new → Told Opens index old ended cut text new
-    told_on ended cut text said = record {
-      sound = subst (λ (b : List ℕ). index.sound b) bytes_are said.sound;
-      shape = said.shape ∙ says.shape;
-      alive = said.alive;
-      end = said.end;
-      wrote = subst (λ (b : List ℕ). IsWritten cut text (dump_lines (entries (table_of index b)))) bytes_are said.wrote;
-      time = time_on said.time;
-      now = λ image left. subst (λ (b : List ℕ). Opens old.shape image b) bytes_are (subst (λ (s : Shape). Opens s image mid.state.bytes) says.shape (said.now image left));
+    spared_on : Spared Opens mid new → Spared Opens old new
+    spared_on spared = record {
+      alive = spared.alive;
+      time = time_on spared.time;
+      now = λ image left. subst (λ (b : List ℕ). Opens old.shape image b) bytes_are (subst (λ (s : Shape). Opens s image mid.state.bytes) says.shape (spared.now image left));
     }
 
     -- the work was done under the store's own index
-    pub serves_on : (Says : Ended → Limits → face.State → face.State → Type 0) (result : Result Ended CoreFault) (cut : Bool) (text : List ℕ) → Serves Says Opens (index_of_form form) mid result cut text new
+    pub serves_on : (Says : Ended → Limits → List Turn → face.State → Type 0) (result : Result Ended CoreFault) (cut : Bool) (text : List ℕ) → Serves Says Opens (index_of_form form) mid result cut text new
         → Serves Says Opens (index_at old.state.bytes) old result cut text new
     serves_on Says (Ok ended) cut text served = subst (λ (i : Index). Served (Says ended) Opens i old ended new) (sym own) (served_on (Says ended) ended served)
     serves_on Says (Err fault) cut text off = subst (λ (i : Index). Untaken Opens i old fault cut text new) (sym own) (untaken_on fault cut text off)
 
-    pub tells_on : (result : Result Ended CoreFault) (cut : Bool) (text : List ℕ) → Tells Opens (index_of_form form) mid result cut text new → Tells Opens (index_at old.state.bytes) old result cut text new
-    tells_on (Ok ended) cut text said = subst (λ (i : Index). Told Opens i old ended cut text new) (sym own) (told_on ended cut text said)
-    tells_on (Err fault) cut text off = subst (λ (i : Index). Untaken Opens i old fault cut text new) (sym own) (untaken_on fault cut text off)
+    pub spared_if_on : (result : Result Ended CoreFault) → IfOk result (λ ended. Spared Opens mid new) → IfOk result (λ ended. Spared Opens old new)
+    spared_if_on (Ok ended) spared = spared_on spared
+    spared_if_on (Err fault) spared = tt

@@ -1,8 +1,9 @@
 -- The work of callers on threads over the records of a store, from what a core makes of it.
-use Rattle.std.proofs.Common.{◌≡◌, ℕ, zero, suc, ◌≤◌, List, [], ◌∷◌, None, length, Bool, false, Result, Ok, Err, refl, sym, ap, subst, ◌∙◌, arith}
-use Rattle.std.specs.Prelude.{IsTrue, All}
+use Rattle.std.proofs.Common.{◌≡◌, ◌↔◌, ℕ, zero, suc, ◌<◌, ◌≤◌, List, [], ◌∷◌, None, get_or, length, Bool, true, false, Result, Ok, Err, refl, sym, ap, subst, ◌∙◌, arith}
+use Rattle.std.specs.Prelude.{IsTrue}
 use Rattle.std.specs.FinMap.{entries}
 use Rattle.std.specs.List.{flat_map}
+use Rattle.std.proofs.lemmas.Bool.{true≢false}
 use Rattle.array_shape.specs.declared.shape.Shape.{Shape}
 use Rattle.eaw_face.specs.StoreView.{StoreView, LeavesOnly}
 use Rattle.page_store.specs.Index.{Index}
@@ -11,20 +12,22 @@ use Rattle.history.specs.declared.transaction.Done.{Done}
 use Rattle.history.specs.Legal.{records}
 use Rattle.core_face.specs.Room.{Limits}
 use Rattle.core_face.specs.Core.{CoreView}
+use Rattle.core_face.specs.Run.{AreOf, turns_of}
+use Rattle.core_face.specs.Step.{Runs}
+use Rattle.core_face.proofs.Running.{turns_tell}
 use Rattle.mars_core.specs.Over.{limits_of, Begins}
+use Rattle.mars_core.specs.declared.fault.CoreFault.{CoreFault}
 use Rattle.mars_core.specs.declared.fault.CoreFault.TheVariants as fault
-use Rattle.core_face.specs.Run.{HasNoOthers, commits_of}
 use Rattle.mars_manager.specs.Sharing.{CanShare}
 use Rattle.caller_plans.specs.declared.plan.Plan.{Plan}
 use Rattle.caller_plans.specs.declared.fate.Fate.{Fate}
 use Rattle.caller_plans.specs.declared.fate.LineFault.{LineFault}
-use Rattle.caller_plans.specs.Plans.{AllSay, planned, calls_by, faults_from, plans_from, ArePlain}
-use Rattle.std.proofs.lemmas.List.Elements.{All-from_recursion, All-append, All-nil}
+use Rattle.caller_plans.specs.Plans.{AllSay, planned, calls_by, faults_from, plans_from}
 use Rattle.caller_work.specs.declared.end.WorkEnd.{WorkEnd}
 use Rattle.caller_work.specs.declared.end.WorkEnd.TheVariants as work
-use Rattle.caller_work.specs.Fates.{AreFated, IsUndecided}
-use Rattle.caller_work.proofs.Plain.{outside}
-use Rattle.caller_work.specs.Worked.{Worked, StillLacks, is_fault, of_caller, IsPlanned}
+use Rattle.caller_work.specs.declared.tries.Tries.TheVariants.{Times}
+use Rattle.caller_work.specs.Tries.{IsWork}
+use Rattle.caller_work.specs.Worked.{Worked, is_fault, of_caller}
 use Rattle.history_text.specs.Text.{done_lines, work_text}
 use Rattle.script_io.specs.Lines.{lines_of}
 use Rattle.script_text.specs.declared.line.Line.{Line}
@@ -32,11 +35,10 @@ use Rattle.script_run.specs.declared.ended.Ended.{Ended}
 use Rattle.script_run.specs.declared.ended.Ended.TheVariants as ends
 use Rattle.mars_shell.specs.Joint.{TellsWork, IsBrokenOff, JointWork}
 use Rattle.mars_shell.specs.Opening.{IsUnopened}
+use Rattle.mars_shell.specs.Served.{Untaken}
 use Rattle.mars_shell.specs.Statuses.{served_status}
 use Rattle.mars_shell.specs.declared.status.Status.{Status}
 use Rattle.mars_shell.specs.declared.status.Status.TheVariants as says
-use Rattle.mars_core.specs.declared.fault.CoreFault.{CoreFault}
-use Rattle.mars_shell.specs.Served.{Untaken}
 use Rattle.mars_shell.proofs.Serving.{stands}
 
 -- each caller has its plans
@@ -57,12 +59,6 @@ retold ended cut text faults faults' history history' base base' fates fates' f 
     subst (λ (lines : List ℕ). TellsWork ended cut text (work_text faults' history' fates' (entries (records (rows.table_of base') history'))) lines) (ap (flat_map done_lines) h)
     (subst (λ (whole : List ℕ). TellsWork ended cut text whole (flat_map done_lines history)) (λ i. work_text (f i) (h i) (t i) (entries (records (rows.table_of (b i)) (h i)))) tells)
 
--- no plan has a begin, a commit or an abort among its calls
-pub all_plain : (caller n : ℕ) (said : List Line) → All ArePlain (plans_from caller n said)
-all_plain caller zero said = All-nil ArePlain
-all_plain caller (suc n) said = All-append ArePlain (planned None (calls_by caller said) ∷ []) (plans_from (suc caller) n said)
-    (All-from_recursion ArePlain (planned None (calls_by caller said) ∷ []) (outside (calls_by caller said), tt)) (all_plain (suc caller) n said)
-
 module _ (tells : Bool) (Opens : Shape → List ℕ → List ℕ → Type 0) (index : Index) (old mid : StoreView) (core : CoreView) (begins : Begins tells (Opens old.shape) index old mid core) where
   -- the core can be shared
   pub can_share : (callers : ℕ) → callers ≤ old.shape.numbers → (IsTrue tells → (image : List ℕ) → mid.left_since mid.moment image → Opens mid.shape image mid.state.bytes) → CanShare tells callers core
@@ -81,8 +77,8 @@ module _ (tells : Bool) (Opens : Shape → List ℕ → List ℕ → Type 0) (in
   pub untold : (new : StoreView) → IsTrue tells → new ≡ mid → Untaken Opens index old fault.NoMemory false [] new
   untold new told same = record { whole = refl; silent = refl; cause = tt; time = subst (λ (v : StoreView). LeavesOnly (λ image. Opens old.shape image old.state.bytes) old v) (sym same) (begins.time told) }
 
-module _ (tells : Bool) (told : IsTrue tells) (core last : CoreView) (callers : ℕ) (input : List ℕ) (said : List Line) (says : AllSay callers (lines_of input) said)
-    (plans : List (List Plan)) (plans_are : plans ≡ plans_from 0 callers said) (fates : List (List Fate)) (end : WorkEnd) (worked : Worked tells plans core last fates end) (enough : callers ≤ core.limits.callers) where
+module _ (tells : Bool) (core last : CoreView) (callers tries : ℕ) (input : List ℕ) (said : List Line) (says : AllSay callers (lines_of input) said)
+    (plans : List (List Plan)) (plans_are : plans ≡ plans_from 0 callers said) (fates : List (List Fate)) (end : WorkEnd) (worked : Worked tells tries plans core last fates end) (enough : callers ≤ core.limits.callers) where
   counted : length plans ≡ callers
   counted = ap length plans_are ∙ as_many 0 callers said
 
@@ -90,22 +86,31 @@ module _ (tells : Bool) (told : IsTrue tells) (core last : CoreView) (callers : 
   pub living : end ≡ work.All → last.state.is_dead ≡ false
   living all = worked.dead ∙ ap is_fault all
 
-  pub joint_work : (ended : Ended) (cut : Bool) (text : List ℕ) → ((IsBrokenOff ended → ⊥) → end ≡ work.All)
+  pub runs : IsTrue tells → Runs core.limits core.state worked.turns last.state
+  runs told = turns_tell tells core.limits core.state last.state worked.turns told worked.run
+
+  fault_of : (end : WorkEnd) → is_fault end ≡ true → end ≡ work.MediaFault
+  fault_of work.MediaFault is = refl
+  fault_of work.All is = absurd (true≢false (sym is))
+  fault_of work.NoMemory is = absurd (true≢false (sym is))
+
+  pub joint_work : (ended : Ended) (cut : Bool) (text : List ℕ) → ((IsBrokenOff ended → ⊥) → end ≡ work.All) → (ended ≡ ends.MediaFault) ↔ (end ≡ work.MediaFault)
       → TellsWork ended cut text (work_text (faults_from 1 (λ caller. false) said) last.state.history fates (entries (records last.state.base last.state.history))) (flat_map done_lines last.state.history)
-      → JointWork callers input ended cut text core.limits core.state last.state
-  joint_work ended cut text whole tells_work = record {
+      → JointWork callers tries input ended cut text core.limits worked.turns last.state
+  joint_work ended cut text whole fault tells_work = record {
     enough = enough;
     said = said;
     says = says;
+    whose = subst (λ (n : ℕ). AreOf n worked.turns) counted worked.whose;
     fates = fates;
-    fated = λ caller less. subst (λ (l : Limits). AreFated l (StillLacks l last.state) caller (of_caller (plans_from 0 callers said) caller) (of_caller fates caller) (commits_of caller last.state.history)) worked.since.limits
-        (subst (λ (all : List (List Plan)). AreFated last.limits (StillLacks last.limits last.state) caller (of_caller all caller) (of_caller fates caller) (commits_of caller last.state.history)) plans_are
-        (worked.fated told caller (omega (arith, less, counted))));
-    others = subst (λ (n : ℕ). HasNoOthers n last.state) counted worked.others;
-    whole = λ done caller less. worked.whole (whole done) caller (omega (arith, less, counted)) ∙ ap (λ (all : List (List Plan)). length (of_caller all caller)) plans_are;
-    doubt = λ done is. let its = worked.doubt told done is in
-        (omega (arith, its.0, counted), subst (λ (all : List (List Plan)). IsUndecided (of_caller all done.caller) (of_caller fates done.caller) done) plans_are its.1);
-    keys = λ lives. let its = worked.keys told lives in (its.0, its.1, subst (λ (all : List (List Plan)). All (IsPlanned all) its.0) plans_are its.2);
+    each = worked.each ∙ counted;
+    works = λ caller less.
+        let within : caller < length plans = omega (arith, less, counted) in (
+          get_or worked.stops caller None,
+          subst (λ (all : List (List Plan)). IsWork (Times tries) (of_caller all caller) (turns_of caller worked.turns) (of_caller fates caller) (get_or worked.stops caller None)) plans_are (worked.works caller within),
+          (λ unbroken. worked.whole (whole unbroken) caller within),
+        );
+    fault = (λ is. worked.fault ∙ ap is_fault (fault.0 is), λ has. fault.1 (fault_of end (sym worked.fault ∙ has)));
     tells = tells_work;
   }
 

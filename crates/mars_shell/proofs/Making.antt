@@ -12,6 +12,7 @@ use Rattle.history.specs.declared.call.Reply.{Reply}
 use Rattle.history.specs.declared.call.Reply.TheVariants as told
 use Rattle.core_face.specs.State.{State}
 use Rattle.core_face.specs.Room.{Limits}
+use Rattle.core_face.specs.Run.{Turn}
 use Rattle.core_face.specs.Step.{Step, Runs}
 use Rattle.core_face.specs.Fate.{is_committed, is_media}
 use Rattle.core_face.specs.Core.{CoreView, Steps}
@@ -20,7 +21,7 @@ use Rattle.drill_gen.specs.Drill.{alone, paired, one_by_one, in_pairs, drill, tr
 use Rattle.drill_gen.specs.declared.transaction.Transaction.{Transaction}
 use Rattle.script_run.specs.declared.responder.Stop.{Stop}
 use Rattle.script_run.specs.declared.responder.Stop.TheVariants.{Media, NoMemory}
-use Rattle.mars_shell.specs.Drill.{turn_of, GoOn}
+use Rattle.mars_shell.specs.Drill.{without_reply, GoOn}
 use Rattle.mars_shell.specs.Lines.{goes_on}
 use Rattle.mars_shell.specs.Made.{Made, EndsEarly}
 use Rattle.mars_shell.specs.Tally.{is_aborted, is_busy, is_full, tally_of, more_if, counted, Counted}
@@ -32,42 +33,42 @@ one_more : (so : Bool) (n : ℕ) → n + (0 + cond so 1 0) ≡ more_if so n
 one_more true n = refl
 one_more false n = omega arith
 
-count_more : (p : ℕ × Call × Reply → Bool) (lines : List (ℕ × Call × Reply)) (line : ℕ × Call × Reply) → count_by p (lines ++ line ∷ []) ≡ more_if (p line) (count_by p lines)
-count_more p lines line = sum_by-append (λ l. cond (p l) 1 0) lines (line ∷ []) ∙ one_more (p line) (count_by p lines)
+count_more : (p : Turn → Bool) (turns : List Turn) (turn : Turn) → count_by p (turns ++ turn ∷ []) ≡ more_if (p turn) (count_by p turns)
+count_more p turns turn = sum_by-append (λ l. cond (p l) 1 0) turns (turn ∷ []) ∙ one_more (p turn) (count_by p turns)
 
-pub tally_more : (lines : List (ℕ × Call × Reply)) (caller : ℕ) (call : Call) (reply : Reply) → tally_of (lines ++ (caller, call, reply) ∷ []) ≡ counted (tally_of lines) call reply
-tally_more lines caller call reply = λ i. record {
-  committed = count_more (λ line. is_committed line.2) lines (caller, call, reply) i;
-  aborted = count_more (λ line. is_aborted line.1 line.2) lines (caller, call, reply) i;
-  busy = count_more (λ line. is_busy line.2) lines (caller, call, reply) i;
-  refused = count_more (λ line. is_full line.2) lines (caller, call, reply) i;
+pub tally_more : (turns : List Turn) (caller : ℕ) (call : Call) (reply : Reply) → tally_of (turns ++ (caller, call, reply) ∷ []) ≡ counted (tally_of turns) call reply
+tally_more turns caller call reply = λ i. record {
+  committed = count_more (λ turn. is_committed turn.2) turns (caller, call, reply) i;
+  aborted = count_more (λ turn. is_aborted turn.1 turn.2) turns (caller, call, reply) i;
+  busy = count_more (λ turn. is_busy turn.2) turns (caller, call, reply) i;
+  refused = count_more (λ turn. is_full turn.2) turns (caller, call, reply) i;
 }
 
 -- ---- the calls
 
-runs_more : (limits : Limits) (old : State) (lines : List (ℕ × Call × Reply)) (mid : State) (line : ℕ × Call × Reply) (new : State) → Runs limits old lines mid → Step limits mid line.0 line.1 line.2 new
-    → Runs limits old (lines ++ line ∷ []) new
-runs_more limits old [] mid line new same step = (new, subst (λ (s : State). Step limits s line.0 line.1 line.2 new) same step, refl)
-runs_more limits old (first ∷ lines) mid line new runs step = (runs.0, runs.1, runs_more limits runs.0 lines mid line new runs.2 step)
+runs_more : (limits : Limits) (old : State) (turns : List Turn) (mid : State) (turn : Turn) (new : State) → Runs limits old turns mid → Step limits mid turn.0 turn.1 turn.2 new
+    → Runs limits old (turns ++ turn ∷ []) new
+runs_more limits old [] mid turn new same step = (new, subst (λ (s : State). Step limits s turn.0 turn.1 turn.2 new) same step, refl)
+runs_more limits old (first ∷ turns) mid turn new runs step = (runs.0, runs.1, runs_more limits runs.0 turns mid turn new runs.2 step)
 
-module _ (tells : Bool) (old : CoreView) (turns : List (ℕ × Call)) where
-  pub made_none : Made tells old turns [] old
-  made_none = record { limits = refl; turns_are = refl; runs = λ told. refl; comes = λ told sound safe. continues_none old sound safe }
+module _ (tells : Bool) (old : CoreView) (script : List (ℕ × Call)) where
+  pub made_none : Made tells old script [] old
+  made_none = record { limits = refl; drawn = refl; runs = λ told. refl; comes = λ told sound safe. continues_none old sound safe }
 
-  module _ (lines : List (ℕ × Call × Reply)) (mid new : CoreView) (caller : ℕ) (call : Call) (reply : Reply) (made : Made tells old turns lines mid) (steps : Steps tells caller call mid new reply) where
-    pub turns_more : (d : ℕ × Call) → length lines < length turns → get_or turns (length lines) d ≡ (caller, call)
-        → map turn_of (lines ++ (caller, call, reply) ∷ []) ≡ take (length lines + 1) turns
-    turns_more d more is = map-append turn_of lines ((caller, call, reply) ∷ []) ∙ ap (λ (l : List (ℕ × Call)). l ++ (caller, call) ∷ []) made.turns_are
-        ∙ ap (λ (t : ℕ × Call). take (length lines) turns ++ t ∷ []) (sym is) ∙ sym (take_more turns (length lines) d more)
+  module _ (turns : List Turn) (mid new : CoreView) (caller : ℕ) (call : Call) (reply : Reply) (made : Made tells old script turns mid) (steps : Steps tells caller call mid new reply) where
+    pub drawn_more : (d : ℕ × Call) → length turns < length script → get_or script (length turns) d ≡ (caller, call)
+        → map without_reply (turns ++ (caller, call, reply) ∷ []) ≡ take (length turns + 1) script
+    drawn_more d more is = map-append without_reply turns ((caller, call, reply) ∷ []) ∙ ap (λ (l : List (ℕ × Call)). l ++ (caller, call) ∷ []) made.drawn
+        ∙ ap (λ (t : ℕ × Call). take (length turns) script ++ t ∷ []) (sym is) ∙ sym (take_more script (length turns) d more)
 
-    abbrev more_lines : List (ℕ × Call × Reply)
-    more_lines = lines ++ (caller, call, reply) ∷ []
+    abbrev more_turns : List Turn
+    more_turns = turns ++ (caller, call, reply) ∷ []
 
-    pub made_more : (d : ℕ × Call) → length lines < length turns → get_or turns (length lines) d ≡ (caller, call) → Made tells old turns (lines ++ (caller, call, reply) ∷ []) new
+    pub made_more : (d : ℕ × Call) → length turns < length script → get_or script (length turns) d ≡ (caller, call) → Made tells old script (turns ++ (caller, call, reply) ∷ []) new
     made_more d more is = record {
       limits = steps.limits ∙ made.limits;
-      turns_are = turns_more d more is ∙ ap (λ (n : ℕ). take n turns) (sym (length-append lines ((caller, call, reply) ∷ [])));
-      runs = λ told. runs_more old.limits old.state lines mid.state (caller, call, reply) new.state (made.runs told)
+      drawn = drawn_more d more is ∙ ap (λ (n : ℕ). take n script) (sym (length-append turns ((caller, call, reply) ∷ [])));
+      runs = λ told. runs_more old.limits old.state turns mid.state (caller, call, reply) new.state (made.runs told)
           (subst (λ (l : Limits). Step l mid.state caller call reply new.state) made.limits (steps.step told));
       comes = λ told sound safe.
           let on = made.comes told sound safe in
@@ -75,10 +76,10 @@ module _ (tells : Bool) (old : CoreView) (turns : List (ℕ × Call)) where
     }
 
     -- a reply that ends the script
-    pub ends_early : (d : ℕ × Call) → length lines < length turns → get_or turns (length lines) d ≡ (caller, call) → GoOn lines → (tally later : Tally) (stop : Stop)
-        → (let r : Result (Unit {0}) Stop = Err stop in Counted tally caller call reply later r) → EndsEarly tells old turns stop new
-    ends_early d more is on tally later (Media number) counted = (more_lines, made_more d more is, (lines, caller, call, ap (λ (r : Reply). lines ++ (caller, call, r) ∷ []) counted.1, on))
-    ends_early d more is on tally later NoMemory counted = (more_lines, made_more d more is)
+    pub ends_early : (d : ℕ × Call) → length turns < length script → get_or script (length turns) d ≡ (caller, call) → GoOn turns → (tally later : Tally) (stop : Stop)
+        → (let r : Result (Unit {0}) Stop = Err stop in Counted tally caller call reply later r) → EndsEarly tells old script stop new
+    ends_early d more is on tally later (Media number) counted = (more_turns, made_more d more is, (turns, caller, call, ap (λ (r : Reply). turns ++ (caller, call, r) ∷ []) counted.1, on))
+    ends_early d more is on tally later NoMemory counted = (more_turns, made_more d more is)
 
     -- a reply that is no fault of the medium leaves the core alive
     pub stays_alive : mid.state.is_dead ≡ false → IsFalse (is_media reply) → new.state.is_dead ≡ false

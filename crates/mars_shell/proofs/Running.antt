@@ -1,6 +1,5 @@
 -- A run over an array that was opened: its records were read, and its lines answered.
 use Rattle.std.proofs.Common.{◌≡◌, ℕ, ◌≤◌, length, false, inl, inr, ⊎_elim, List, [], Bool, refl, sym, ap, subst, ◌∙◌, arith}
-use Rattle.std.specs.FinMap.{entries}
 use Rattle.std.specs.Prelude.{IsTrue, Err}
 use Rattle.pcm_media.specs.Images.{MayLeave}
 use Rattle.pcm_media.specs.View.{View}
@@ -16,17 +15,19 @@ use Rattle.page_store.specs.Index.{Index}
 use Rattle.record_table.specs.Shown.{table_of}
 use Rattle.core_face.specs.State.{State}
 use Rattle.core_face.specs.Room.{Limits}
+use Rattle.core_face.specs.Run.{Turn}
+use Rattle.core_face.specs.Step.{Runs}
 use Rattle.mars_core.specs.Over.{limits_of}
 use Rattle.mars_core.specs.declared.fault.CoreFault.{CoreFault}
 use Rattle.mars_core.specs.declared.fault.CoreFault.TheVariants as core
 use Rattle.script_io.specs.Written.{IsWritten}
 use Rattle.script_run.specs.declared.ended.Ended.{Ended}
-use Rattle.mars_shell.specs.Dump.{Dumps, dump_lines}
+use Rattle.mars_shell.specs.Dump.{Spares}
 use Rattle.mars_shell.specs.Forms.{index_at, index_in}
 use Rattle.mars_shell.specs.Outcome.{Idle, OutcomeOf}
 use Rattle.mars_shell.specs.Run.{HoldsRecords, IsDamaged, begun_on, HasAll, TakesTurns}
 use Rattle.mars_shell.specs.PrefixLaw.{Recovers}
-use Rattle.mars_shell.specs.Served.{opens_of, Untaken, Served, Told}
+use Rattle.mars_shell.specs.Served.{opens_of, Untaken, Served, Spared}
 use Rattle.mars_shell.specs.Statuses.{served_status}
 use Rattle.mars_shell.proofs.Forming.{sound_says}
 use Rattle.mars_shell.proofs.Unopened.{first_like}
@@ -95,7 +96,7 @@ module _ (tells : Bool) (told : IsTrue tells) (old : View) (only_now : (image : 
       left_now : (image : List ℕ) → MayLeave new.content image → later.left_since later.moment image
       left_now image left = subst (λ (t : ℕ). later.left_since t image) behind.moment (behind.left new.moment image (counts_now new.moment image told (omega arith) left))
 
-      module _ (Says : Limits → State → State → Type 0) (ended : Ended) (served : Served Says Opens (index_at store.state.bytes) store ended later) where
+      module _ (Says : Limits → List Turn → State → Type 0) (ended : Ended) (served : Served Says Opens (index_at store.state.bytes) store ended later) where
         recovers : (least : ℕ) (image : List ℕ) → opens_of Opens store.shape (index_at store.state.bytes) served.final least image → Recovers store.shape (index_in store.shape old) served.final least image
         recovers least image has = subst (λ (b : List ℕ). Recovers store.shape (index_at b) served.final least image) (attached.bytes told) has
 
@@ -111,9 +112,11 @@ module _ (tells : Bool) (told : IsTrue tells) (old : View) (only_now : (image : 
         takes_turns = record {
           shape = store.shape;
           holds = holds served.sound;
+          turns = served.turns;
           final = served.final;
+          runs = subst (λ (b : List ℕ). Runs (limits_of store.shape) (begun_on (index_at b) b) served.turns served.final) (attached.bytes told) served.runs;
+          says = served.says;
           base = served.base ∙ ap (λ (b : List ℕ). table_of (index_at b) b) (attached.bytes told);
-          says = subst (λ (b : List ℕ). Says (limits_of store.shape) (begun_on (index_at b) b) served.final) (attached.bytes told) served.says;
           legal = served.legal;
           prefix_law = record {
             now = λ image left. recovers (length served.final.history) image (served.now image (left_now image left));
@@ -124,14 +127,14 @@ module _ (tells : Bool) (told : IsTrue tells) (old : View) (only_now : (image : 
           left = λ all. own_all (served.left all).1;
         }
 
-      -- the records were written
-      pub dumps : (ended : Ended) (cut : Bool) (text : List ℕ) → Told Opens (index_at store.state.bytes) store ended cut text later → Dumps old ended new cut text
-      dumps ended cut text said = record {
-        shape = store.shape;
-        holds = holds said.sound;
-        end = said.end;
-        wrote = subst (λ (b : List ℕ). IsWritten cut text (dump_lines (entries (table_of (index_at b) b)))) (attached.bytes told) said.wrote;
-        quiet = subst (λ (s : Shape). HasNoVote s new.content.bytes) said.shape (behind.quiet told said.alive);
-        now = λ image left. subst (λ (b : List ℕ). Opens store.shape image b) (attached.bytes told) (said.now image (left_now image left));
-        since = λ all image left. looked said.time store.shape all image left;
-      }
+        -- and what was opened stays, if the store was spared
+        spares : Spared Opens store later → Spares store.shape old new
+        spares spared = record {
+          quiet = subst (λ (s : Shape). HasNoVote s new.content.bytes) served.shape (behind.quiet told spared.alive);
+          now = λ image left. subst (λ (b : List ℕ). Opens store.shape image b) (attached.bytes told) (spared.now image (left_now image left));
+          since = λ all image left. looked spared.time store.shape all image left;
+        }
+
+        pub spared_turns : Spared Opens store later → (taken : TakesTurns Says old ended new) × Spares taken.shape old new
+        unfolding takes_turns
+        spared_turns spared = (takes_turns, spares spared)

@@ -13,7 +13,7 @@ use Rattle.mars_shell.specs.Formats.{GiveLength, FormatOutcome}
 use Rattle.mars_shell.specs.Joint.{JointOutcome}
 use Rattle.mars_shell.specs.Outcome.{OutcomeOf}
 use Rattle.mars_shell.specs.Drill.{Drills}
-use Rattle.mars_shell.specs.Dump.{Dumps}
+use Rattle.mars_shell.specs.Dump.{Dumps, Spares}
 use Rattle.mars_shell.specs.Run.{HoldsRecords, TakesTurns, Answers, IsDamaged}
 use Rattle.mars_shell.specs.declared.status.Status.{Status}
 use Rattle.mars_shell.specs.declared.status.Status.TheVariants.{Usage, NoMemory}
@@ -46,9 +46,9 @@ IfReads _ Without Reads = Without
 -- does not.
 abbrev pub OutcomeFor : Words → View → Status → View → List ℕ → Bool → List ℕ → Type 0
 OutcomeFor Run old status new input cut text = OutcomeOf (λ ended. TakesTurns (Answers input ended cut text) old ended new) (IsDamaged old) (HoldsArray old) old status new cut text
-OutcomeFor (Callers numbers) old status new input cut text = JointOutcome numbers.callers old status new input cut text
+OutcomeFor (Callers numbers) old status new input cut text = JointOutcome numbers.callers numbers.tries old status new input cut text
 OutcomeFor Eaw old status new input cut text = OutcomeOf (λ ended. Obeys old input ended new cut text) (λ page. ⊥) ⊥ old status new cut text
-OutcomeFor Dump old status new input cut text = OutcomeOf (λ ended. Dumps old ended new cut text) (IsDamaged old) (HoldsArray old) old status new cut text
+OutcomeFor Dump old status new input cut text = OutcomeOf (λ ended. (taken : TakesTurns (Dumps ended cut text) old ended new) × Spares taken.shape old new) (IsDamaged old) (HoldsArray old) old status new cut text
 OutcomeFor (Drill numbers) old status new input cut text = OutcomeOf (λ ended. TakesTurns (Drills numbers ended cut text) old ended new) (IsDamaged old) (HoldsArray old) old status new cut text
 OutcomeFor (Format numbers) old status new input cut text = FormatOutcome numbers old status new cut text
 

@@ -4,11 +4,10 @@ use Rattle.std.specs.FinMap.{entries}
 use Rattle.std.specs.Fmt.{decimal}
 use Rattle.std.specs.List.{All, sum_by}
 use Rattle.history.specs.declared.call.Call.{Call}
-use Rattle.history.specs.declared.call.Reply.{Reply}
 use Rattle.history.specs.declared.call.Reply.TheVariants as reply
 use Rattle.core_face.specs.State.{State, records_of}
 use Rattle.core_face.specs.Room.{Limits}
-use Rattle.core_face.specs.Step.{Runs}
+use Rattle.core_face.specs.Run.{Turn}
 use Rattle.drill_gen.specs.Drill.{drill}
 use Rattle.command_words.specs.declared.words.DrillNumbers.{DrillNumbers}
 use Rattle.script_io.specs.Written.{IsWritten}
@@ -19,13 +18,13 @@ use Rattle.mars_shell.specs.Lines.{goes_on}
 use Rattle.mars_shell.specs.Tally.{tally_of}
 use Rattle.mars_shell.specs.declared.tally.Tally.{Tally}
 
--- a caller and its call, without the reply
-abbrev pub turn_of : ℕ × Call × Reply → ℕ × Call
-turn_of line = (line.0, line.1)
+-- a caller and its call
+abbrev pub without_reply : Turn → ℕ × Call
+without_reply turn = (turn.0, turn.1)
 
 -- after each of these replies the script goes on
-abbrev pub GoOn : List (ℕ × Call × Reply) → Type 0
-GoOn lines = All (λ line. IsTrue (goes_on line.2)) lines
+abbrev pub GoOn : List Turn → Type 0
+GoOn turns = All (λ turn. IsTrue (goes_on turn.2)) turns
 
 -- the sum of the keys of rows, modulo 2^64
 abbrev pub key_sum : List (ℕ × List ℕ) → ℕ
@@ -39,20 +38,18 @@ summary_text numbers tally rows = number_line (codes "drill " ++ decimal numbers
     ++ (number_line (codes "records") (length rows) ++ number_line (codes "sum") (key_sum rows))))))
 
 -- the medium failed at the last call
-abbrev pub FailsAtLast : List (ℕ × Call × Reply) → Type 0
-FailsAtLast lines = (made : List (ℕ × Call × Reply)) × (caller : ℕ) × (call : Call) × (lines ≡ made ++ (caller, call, reply.Media) ∷ []) × GoOn made
+abbrev pub FailsAtLast : List Turn → Type 0
+FailsAtLast turns = (made : List Turn) × (caller : ℕ) × (call : Call) × (turns ≡ made ++ (caller, call, reply.Media) ∷ []) × GoOn made
 
 -- What is written of these calls of a script and their replies, by how it ended. The summary is of all its calls. It may be cut short, and
 -- so may the line that reports a fault of the medium. If memory ran out, nothing is written.
-abbrev pub Summed : DrillNumbers → List (ℕ × Call) → Ended → Bool → List ℕ → List (ℕ × Call × Reply) → State → Type 0
-Summed numbers script MediaFault cut text lines final = FailsAtLast lines × IsWritten cut text (codes "media fault" ++ 10 ∷ [])
-Summed numbers script NoMemory cut text lines final = (cut ≡ false) × (text ≡ [])
-Summed numbers script ended cut text lines final = (map turn_of lines ≡ script) × GoOn lines × IsCutAt ended cut
-    × IsWritten cut text (summary_text numbers (tally_of lines) (entries (records_of final)))
+abbrev pub Summed : DrillNumbers → List (ℕ × Call) → Ended → Bool → List ℕ → List Turn → State → Type 0
+Summed numbers script MediaFault cut text turns final = FailsAtLast turns × IsWritten cut text (codes "media fault" ++ 10 ∷ [])
+Summed numbers script NoMemory cut text turns final = (cut ≡ false) × (text ≡ [])
+Summed numbers script ended cut text turns final = (map without_reply turns ≡ script) × GoOn turns × IsCutAt ended cut
+    × IsWritten cut text (summary_text numbers (tally_of turns) (entries (records_of final)))
 
--- The calls of the drawn script, or the first so many of them, were made one after another, with these replies.
-pub record Drills (numbers : DrillNumbers) (ended : Ended) (cut : Bool) (text : List ℕ) (limits : Limits) (first final : State) : Type 0 where
-  pub lines : List (ℕ × Call × Reply)
-  pub drawn : map turn_of lines ≡ take (length lines) (drill numbers.seed numbers.count limits.callers)
-  pub runs : Runs limits first lines final
-  pub told : Summed numbers (drill numbers.seed numbers.count limits.callers) ended cut text lines final
+-- The turns are the calls of the drawn script, or the first so many of them.
+pub record Drills (numbers : DrillNumbers) (ended : Ended) (cut : Bool) (text : List ℕ) (limits : Limits) (turns : List Turn) (final : State) : Type 0 where
+  pub drawn : map without_reply turns ≡ take (length turns) (drill numbers.seed numbers.count limits.callers)
+  pub told : Summed numbers (drill numbers.seed numbers.count limits.callers) ended cut text turns final

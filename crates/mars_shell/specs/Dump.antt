@@ -9,13 +9,13 @@ use Rattle.array_shape.specs.declared.shape.Shape.{Shape}
 use Rattle.array_image.specs.Decided.{settled_data}
 use Rattle.device_recovery.specs.Recovered.{HasNoVote}
 use Rattle.eaw_device.specs.Opens.{Opens, AllOpen, OpensLike}
-use Rattle.record_table.specs.Shown.{table_of}
+use Rattle.core_face.specs.State.{State, records_of}
+use Rattle.core_face.specs.Room.{Limits}
+use Rattle.core_face.specs.Run.{Turn}
 use Rattle.history_text.specs.Text.{rec_line}
 use Rattle.script_io.specs.Written.{IsWritten}
 use Rattle.script_run.specs.declared.ended.Ended.{Ended}
 use Rattle.script_run.specs.declared.ended.Ended.TheVariants.{All, WriteFault}
-use Rattle.mars_shell.specs.Forms.{index_in}
-use Rattle.mars_shell.specs.Run.{HoldsRecords}
 
 -- a line of a word and a number
 abbrev pub number_line : List ℕ → ℕ → List ℕ
@@ -31,14 +31,15 @@ IsCutAt All cut = cut ≡ false
 IsCutAt WriteFault cut = cut ≡ true
 IsCutAt _ cut = ⊥
 
--- The records of the array are written, or a front of that text if it was cut short. The medium is as an opening leaves it. Each image that
--- a loss of power may leave opens with the data that was opened. One that might have been left since the entry opens with the data of an
--- image that could be left at first, if all of those open.
-pub record Dumps (old : View) (ended : Ended) (new : View) (cut : Bool) (text : List ℕ) : Type 0 where
-  pub shape : Shape
-  pub holds : HoldsRecords shape old
+-- No call was made, and the records are written, or a front of that text if it was cut short.
+pub record Dumps (ended : Ended) (cut : Bool) (text : List ℕ) (limits : Limits) (turns : List Turn) (final : State) : Type 0 where
+  pub none : turns ≡ []
   pub end : IsCutAt ended cut
-  pub wrote : IsWritten cut text (dump_lines (entries (table_of (index_in shape old) (settled_data shape old.content.bytes))))
+  pub wrote : IsWritten cut text (dump_lines (entries (records_of final)))
+
+-- What was opened stays, however the work ended: no row is voted, and each image that a loss of power may leave opens with the data that was
+-- opened. One that might have been left since the entry opens with the data of an image that could be left at first, if all of those open.
+pub record Spares (shape : Shape) (old new : View) : Type 0 where
   pub quiet : HasNoVote shape new.content.bytes
   pub now : (image : List ℕ) → MayLeave new.content image → Opens shape image (settled_data shape old.content.bytes)
   pub since : AllOpen shape old.content → (image : List ℕ) → new.left_since old.moment image → OpensLike shape old.content image

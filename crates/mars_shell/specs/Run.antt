@@ -1,5 +1,5 @@
 -- What a run over records does on a medium that tells its bytes.
-use Rattle.std.specs.Prelude.{ℕ, ◌≡◌, ◌^◌, ◌<◌, ◌≤◌, List, ◌++◌, length, Bool, Contains}
+use Rattle.std.specs.Prelude.{ℕ, ◌≡◌, ◌^◌, ◌<◌, ◌≤◌, List, [], ◌++◌, length, Bool, Contains}
 use Rattle.std.specs.List.{concat}
 use Rattle.pcm_media.specs.View.{View}
 use Rattle.array_shape.specs.declared.shape.Shape.{Shape}
@@ -13,6 +13,8 @@ use Rattle.history.specs.Legal.{IsLegal, records, with_doubt}
 use Rattle.history.specs.declared.call.Reply.TheVariants.{Committed}
 use Rattle.core_face.specs.State.{State, opened}
 use Rattle.core_face.specs.Room.{Limits}
+use Rattle.core_face.specs.Run.{Turn}
+use Rattle.core_face.specs.Step.{Runs}
 use Rattle.mars_core.specs.Over.{limits_of, index_of}
 use Rattle.script_io.specs.Lines.{lines_of}
 use Rattle.script_run.specs.Transcript.{Answered}
@@ -20,7 +22,7 @@ use Rattle.script_run.specs.declared.ended.Ended.{Ended}
 use Rattle.script_run.specs.declared.ended.Ended.TheVariants.{All}
 use Rattle.script_text.specs.Replies.{reply_line}
 use Rattle.mars_shell.specs.Forms.{index_at, index_in}
-use Rattle.mars_shell.specs.Lines.{call_script, turns_at}
+use Rattle.mars_shell.specs.Lines.{call_script}
 use Rattle.mars_shell.specs.PrefixLaw.{PrefixLaw}
 
 -- the medium holds an array whose records are sound under the index that its data names
@@ -42,25 +44,27 @@ pub record HasAll (index : Index) (bytes : List ℕ) (state : State) : Type 0 wh
   pub table : table_of index bytes ≡ records state.base state.history
   pub keys : state.index ≡ index_of (keys_of index bytes)
 
--- Callers took turns over an array whose records are sound and are the base of each state. Says tells, of the limits of the array, the
--- first state and the last, what was done and written. The history, also with the transaction in doubt, is legal on the base and obeys the
--- prefix law. At the end of all turns the data has exactly the records of the history.
-pub record TakesTurns (Says : Limits → State → State → Type 0) (old : View) (ended : Ended) (new : View) : Type 0 where
+-- Callers took turns over an array whose records are sound: there is a run of steps from the state that was opened to the last one. Says
+-- tells, of the limits of the array, the turns and the last state, what was written. The history, also with the transaction
+-- in doubt, is legal on the base and obeys the prefix law. At the end of all turns the data has exactly the records of the history.
+pub record TakesTurns (Says : Limits → List Turn → State → Type 0) (old : View) (ended : Ended) (new : View) : Type 0 where
   pub shape : Shape
   pub holds : HoldsRecords shape old
+  pub turns : List Turn
   pub final : State
+  pub runs : Runs (limits_of shape) (begun_on (index_in shape old) (settled_data shape old.content.bytes)) turns final
+  pub says : Says (limits_of shape) turns final
   pub base : final.base ≡ table_of (index_in shape old) (settled_data shape old.content.bytes)
-  pub says : Says (limits_of shape) (begun_on (index_in shape old) (settled_data shape old.content.bytes)) final
   pub legal : IsLegal final.base (with_doubt final.history final.doubt)
   pub prefix_law : PrefixLaw shape old final new
   pub quiet : ended ≡ All → HasNoVote shape new.content.bytes
   pub left : ended ≡ All → HasAll (index_at (data_of shape new.content.bytes)) (data_of shape new.content.bytes) final
 
--- The lines of the input were answered one by one. What was acknowledged as committed is kept: the history has at least n transactions
--- if an answer is the whole line `c committed n`.
-pub record Answers (input : List ℕ) (ended : Ended) (cut : Bool) (text : List ℕ) (limits : Limits) (first final : State) : Type 0 where
+-- The lines of the input were answered one by one, each call of a caller by the reply of its turn. What was acknowledged as committed is
+-- kept: the history has at least n transactions if an answer is the whole line `c committed n`.
+pub record Answers (input : List ℕ) (ended : Ended) (cut : Bool) (text : List ℕ) (limits : Limits) (turns : List Turn) (final : State) : Type 0 where
   pub answers : List (List ℕ)
   pub rest : List ℕ
   pub text_is : text ≡ concat answers ++ rest
-  pub answered : Answered call_script (turns_at limits first) 1 (lines_of input) ended cut answers rest (turns_at limits final)
+  pub answered : Answered (call_script limits.callers) [] 1 (lines_of input) ended cut answers rest turns
   pub acknowledged : (caller n : ℕ) → caller < 2 ^ 64 → n < 2 ^ 64 → Contains answers (reply_line caller (Committed n)) → n ≤ length final.history

@@ -1,5 +1,4 @@
 -- What is done over a store whose records are read first.
-use Rattle.std.specs.FinMap.{entries}
 use Rattle.std.specs.Prelude.{ℕ, ◌≡◌, List, [], length, Bool, true, false, IsTrue, Result, Ok, Err}
 use Rattle.counted.specs.Causes.{Rose}
 use Rattle.array_shape.specs.declared.shape.Shape.{Shape}
@@ -13,16 +12,16 @@ use Rattle.record_table.specs.Shown.{table_of}
 use Rattle.history.specs.Legal.{IsLegal, with_doubt}
 use Rattle.core_face.specs.State.{State}
 use Rattle.core_face.specs.Room.{Limits}
+use Rattle.core_face.specs.Run.{Turn}
+use Rattle.core_face.specs.Step.{Runs}
 use Rattle.core_face.specs.Prefix.{HasPrefixOf}
 use Rattle.mars_core.specs.Over.{limits_of}
 use Rattle.mars_core.specs.Attached.{CoreCause}
 use Rattle.mars_core.specs.declared.fault.CoreFault.{CoreFault}
 use Rattle.mars_core.specs.declared.fault.CoreFault.TheVariants.{Media}
-use Rattle.script_io.specs.Written.{IsWritten}
 use Rattle.script_run.specs.Counts.{Counts}
 use Rattle.script_run.specs.declared.ended.Ended.{Ended}
 use Rattle.script_run.specs.declared.ended.Ended.TheVariants.{All}
-use Rattle.mars_shell.specs.Dump.{dump_lines, IsCutAt}
 use Rattle.mars_shell.specs.Run.{begun_on, HasAll}
 
 -- The super page of the store's data names this form. Nothing was written, and whatever a loss of power might have left meanwhile opens
@@ -49,34 +48,28 @@ pub record Untaken (Opens : Shape → List ℕ → List ℕ → Type 0) (index :
 
 -- Callers took turns over the records of the store's data, which are sound under an index. This is what is said of a run, in terms of the
 -- store.
-pub record Served (Says : Limits → State → State → Type 0) (Opens : Shape → List ℕ → List ℕ → Type 0) (index : Index) (old : StoreView) (ended : Ended) (new : StoreView) : Type 0 where
+pub record Served (Says : Limits → List Turn → State → Type 0) (Opens : Shape → List ℕ → List ℕ → Type 0) (index : Index) (old : StoreView) (ended : Ended) (new : StoreView) : Type 0 where
   pub sound : index.sound old.state.bytes
   pub shape : new.shape ≡ old.shape
+  pub turns : List Turn
   pub final : State
+  pub runs : Runs (limits_of old.shape) (begun_on index old.state.bytes) turns final
+  pub says : Says (limits_of old.shape) turns final
   pub base : final.base ≡ table_of index old.state.bytes
-  pub says : Says (limits_of old.shape) (begun_on index old.state.bytes) final
   pub legal : IsLegal final.base (with_doubt final.history final.doubt)
   pub since : LeavesOnly (opens_of Opens old.shape index final 0) old new
   pub now : (image : List ℕ) → new.left_since new.moment image → opens_of Opens old.shape index final (length final.history) image
   pub left : ended ≡ All → IsAlive new × HasAll index new.state.bytes final
 
-abbrev pub Serves : (Ended → Limits → State → State → Type 0) → (Shape → List ℕ → List ℕ → Type 0) → Index → StoreView → Result Ended CoreFault → Bool → List ℕ → StoreView → Type 0
+abbrev pub Serves : (Ended → Limits → List Turn → State → Type 0) → (Shape → List ℕ → List ℕ → Type 0) → Index → StoreView → Result Ended CoreFault → Bool → List ℕ → StoreView → Type 0
 Serves Says Opens index old (Ok ended) cut text new = Served (Says ended) Opens index old ended new
 Serves Says Opens index old (Err fault) cut text new = Untaken Opens index old fault cut text new
 
--- The records of the store's data, which are sound under an index, were written to the sink.
-pub record Told (Opens : Shape → List ℕ → List ℕ → Type 0) (index : Index) (old : StoreView) (ended : Ended) (cut : Bool) (text : List ℕ) (new : StoreView) : Type 0 where
-  pub sound : index.sound old.state.bytes
-  pub shape : new.shape ≡ old.shape
+-- The store is alive, and whatever a loss of power might have left meanwhile or may leave now opens with the data that it had.
+pub record Spared (Opens : Shape → List ℕ → List ℕ → Type 0) (old new : StoreView) : Type 0 where
   pub alive : IsAlive new
-  pub end : IsCutAt ended cut
-  pub wrote : IsWritten cut text (dump_lines (entries (table_of index old.state.bytes)))
   pub time : LeavesOnly (λ image. Opens old.shape image old.state.bytes) old new
   pub now : (image : List ℕ) → new.left_since new.moment image → Opens old.shape image old.state.bytes
-
-abbrev pub Tells : (Shape → List ℕ → List ℕ → Type 0) → Index → StoreView → Result Ended CoreFault → Bool → List ℕ → StoreView → Type 0
-Tells Opens index old (Ok ended) cut text new = Told Opens index old ended cut text new
-Tells Opens index old (Err fault) cut text new = Untaken Opens index old fault cut text new
 
 -- the counts of faults of the sink and of the medium
 abbrev pub ServedCounts : Result Ended CoreFault → ℕ → ℕ → ℕ → ℕ → Type 0

@@ -5,6 +5,7 @@ use Rattle.history.specs.declared.call.Call.TheVariants.{Abort}
 use Rattle.history.specs.declared.call.Reply.{Reply}
 use Rattle.history.specs.declared.call.Reply.TheVariants.{Fine, Busy, LogFull, SlotsFull, PagesFull, Media, NoMemory}
 use Rattle.core_face.specs.Fate.{is_committed}
+use Rattle.core_face.specs.Run.{Turn}
 use Rattle.script_run.specs.declared.responder.Stop.{Stop}
 use Rattle.script_run.specs.declared.responder.Stop.TheVariants as stop
 use Rattle.mars_shell.specs.Lines.{goes_on}
@@ -28,12 +29,12 @@ is_full _ = false
 
 -- of calls and their replies: the commits and aborts that were done, the calls whose keys were locked, and those for which the array was
 -- full
-abbrev pub tally_of : List (ℕ × Call × Reply) → Tally
-tally_of lines = record {
-  committed = count_by (λ line. is_committed line.2) lines;
-  aborted = count_by (λ line. is_aborted line.1 line.2) lines;
-  busy = count_by (λ line. is_busy line.2) lines;
-  refused = count_by (λ line. is_full line.2) lines;
+abbrev pub tally_of : List Turn → Tally
+tally_of turns = record {
+  committed = count_by (λ turn. is_committed turn.2) turns;
+  aborted = count_by (λ turn. is_aborted turn.1 turn.2) turns;
+  busy = count_by (λ turn. is_busy turn.2) turns;
+  refused = count_by (λ turn. is_full turn.2) turns;
 }
 
 abbrev pub total : Tally → ℕ

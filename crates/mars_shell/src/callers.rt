@@ -44,7 +44,7 @@ pub(crate) fn run_callers<
     ensures steady { IsTrue (S.steady source.old) → result.0 ≡ Status.ReadFault → ⊥ }
     ensures input { IsTrue S.tells → InputSays result.0 (S.left source.old) (S.left source.new) }
     ensures ran { Wrote K.tells (K.written sink.old) (K.written sink.new) (K.faults sink.old) (K.faults sink.new)
-        (λ cut text. (input : List ℕ) × (IsTrue S.tells → S.left source.old ≡ input) × (IsTrue M.tells → JointOutcome callers (M.view media) result.0 (M.view result.1) input cut text)) }
+        (λ cut text. (input : List ℕ) × (IsTrue S.tells → S.left source.old ≡ input) × (IsTrue M.tells → JointOutcome callers tries (M.view media) result.0 (M.view result.1) input cut text)) }
 {
     // The room for the pages is taken first, so that a lack of memory for it leaves the medium alone.
     let room = match SaveRoom::new(alloc) {

@@ -51,7 +51,7 @@ pub fn serve_jointly<R: Threads + Wait + Sync, K: Sink, S: EawStore + Drop + Sen
     requires enough { callers ≤ (S.view store).shape.numbers }
     requires tries { 1 ≤ tries }
     ensures joined { Wrote K.tells (K.written sink.old) (K.written sink.new) (K.faults sink.old) (K.faults sink.new)
-        (λ cut text. IsTrue S.tells → Serves (λ ended. JointWork callers input.now ended cut text) S.opens (index_at (S.view store).state.bytes) (S.view store) result.0 cut text (S.view result.1)) }
+        (λ cut text. IsTrue S.tells → Serves (λ ended. JointWork callers tries input.now ended cut text) S.opens (index_at (S.view store).state.bytes) (S.view store) result.0 cut text (S.view result.1)) }
     ensures untold { IfErr result.0 (λ fault. sink.new ≡ sink.old) }
     ensures counts { ServedCounts result.0 (K.faults sink.old) (K.faults sink.new) (S.view store).faults (S.view result.1).faults }
 {
@@ -91,7 +91,7 @@ fn work_under<
     requires enough { callers ≤ (S.view store).shape.numbers }
     requires tries { 1 ≤ tries }
     ensures joined { Wrote K.tells (K.written sink.old) (K.written sink.new) (K.faults sink.old) (K.faults sink.new)
-        (λ cut text. IsTrue S.tells → Serves (λ ended. JointWork callers input.now ended cut text) S.opens I.index (S.view store) result.0 cut text (S.view result.1)) }
+        (λ cut text. IsTrue S.tells → Serves (λ ended. JointWork callers tries input.now ended cut text) S.opens I.index (S.view store) result.0 cut text (S.view result.1)) }
     ensures untold { IfErr result.0 (λ fault. sink.new ≡ sink.old) }
     ensures counts { ServedCounts result.0 (K.faults sink.old) (K.faults sink.new) (S.view store).faults (S.view result.1).faults }
 {

@@ -14,27 +14,50 @@ pub struct LineCore<C: Core> {
 }
 
 impl<C: Core> Responder for LineCore<C> {
+    ghost use Rattle.std.specs.Prelude.{◌++◌, [], List, true};
+    ghost use Rattle.std.proofs.Common.{refl, sym, ap, subst, ◌∙◌};
+    ghost use Rattle.std.proofs.lemmas.List.{append-nil, append_assoc};
     ghost use Rattle.core_face.proofs.Continuing.{continues_none, continues_on};
-    ghost use Rattle.mars_shell.specs.Lines.{Turns, call_script};
-    ghost use Rattle.mars_shell.specs.Standing.{IsReady, Stands, Comes};
+    ghost use Rattle.core_face.proofs.Running.{turns_on, turns_tell, turns_of_runs};
+    ghost use Rattle.core_face.specs.Room.{Limits};
+    ghost use Rattle.core_face.specs.Run.{Turn};
+    ghost use Rattle.core_face.specs.Step.{Runs};
+    ghost use Rattle.mars_shell.specs.Standing.{Progress, line_script, IsReady, Stands, Comes};
 
     ghost tells = { C.tells };
 
-    ghost State = { Turns };
+    ghost State = { Progress };
 
-    ghost script = { call_script };
+    ghost script = { line_script };
 
     ghost is_ready = { λ lines. IsReady lines.callers (C.view lines.core) };
 
     ghost stands = { λ lines. Stands (C.view lines.core) };
 
-    ghost comes = { λ old before new. Comes (C.view old.core) (C.view new.core) };
+    ghost comes = { λ old before new. Comes (C.view old.core) before (C.view new.core) };
 
     ghost faults = { λ lines. (C.view lines.core).faults };
 
-    ghost comes_none = { λ lines turns told ready stands. (stands.is, continues_none (C.view lines.core) stands.sound stands.safe) };
+    ghost comes_none = { λ lines progress told ready stands. record {
+      more = [];
+      turns_are = sym (append-nil progress.turns);
+      runs = refl;
+      continues = continues_none (C.view lines.core) stands.sound stands.safe;
+    } };
 
-    ghost comes_on = { λ first mid last s t u told ready stands before behind. (behind.0, continues_on (C.view first.core) (C.view mid.core) (C.view last.core) before.1 behind.1) };
+    // One run after another is a run.
+    ghost comes_on = { λ first mid last s t u told ready stands before behind.
+        let old = C.view first.core in
+        let now = C.view mid.core in
+        let later = C.view last.core in
+        let run = subst (λ (limits : Limits). Runs limits now.state behind.more later.state) before.continues.limits behind.runs in
+        record {
+          more = before.more ++ behind.more;
+          turns_are = behind.turns_are ∙ ap (λ (turns : List Turn). turns ++ behind.more) before.turns_are ∙ append_assoc s.turns before.more behind.more;
+          runs = turns_tell true old.limits old.state later.state (before.more ++ behind.more) refl (turns_on true old.limits old.state now.state later.state before.more behind.more
+              (turns_of_runs old.limits old.state now.state before.more before.runs) (turns_of_runs old.limits now.state later.state behind.more run));
+          continues = continues_on old now later before.continues behind.continues;
+        } };
 
     fn answer(&mut self, line: &[u8], n: u64, out: &mut Vec<u8>) -> Result<(), Stop> {
         out.clear();

@@ -37,7 +37,7 @@ returns-in-Err-open-clause-ran g c =
       holds = (
         input,
         (λ _. refl),
-        λ told. (unopened_as (λ ended. TakesTurns (JointWork c.args.callers input ended false []) old ended new) (IsDamaged old) (HoldsArray old) old c.in-Err-open.ended.0 new c.in-Err-open.ensures.kind (c.in-Err-open.ensures.unopened told), λ is. absurd (not_usage c.in-Err-open.ended.0 c.in-Err-open.ensures.kind is)),
+        λ told. (unopened_as (λ ended. TakesTurns (JointWork c.args.callers c.args.tries input ended false []) old ended new) (IsDamaged old) (HoldsArray old) old c.in-Err-open.ended.0 new c.in-Err-open.ensures.kind (c.in-Err-open.ensures.unopened told), λ is. absurd (not_usage c.in-Err-open.ended.0 c.in-Err-open.ensures.kind is)),
       );
     }
 
@@ -80,9 +80,9 @@ returns-clause-ran g c =
         input,
         c.in-Ok-open.ensures.read,
         λ told.
-            subst (λ (s : Status). JointOutcome c.args.callers old s new input said.cut said.text) (sym c.served_status.ensures) (
+            subst (λ (s : Status). JointOutcome c.args.callers c.args.tries old s new input said.cut said.text) (sym c.served_status.ensures) (
               turns_outcome media.tells told old (met.only_now c.args.media) _ c.in-Ok-open.ensures.attached c.in-Ok-open.ensures.keeps _ new c.into_media-2.ensures (met.counts_now c.into_media-2.result)
-                  (λ ended. JointWork c.args.callers input ended said.cut said.text) c.serve_jointly-worked.result.0 said.cut said.text (rw c.deref.ensures.value at (said.holds told)),
+                  (λ ended. JointWork c.args.callers c.args.tries input ended said.cut said.text) c.serve_jointly-worked.result.0 said.cut said.text (rw c.deref.ensures.value at (said.holds told)),
               λ is. absurd (never_usage c.serve_jointly-worked.result.0 is),
             ),
       );

@@ -29,8 +29,8 @@ returns-in-Ok-write_whole-clause-served g c =
           let stand = stands s.tells s.opens g.I.KeyIndex.index (s.view c.args.store) (s.view first) _ begins told (λ image left. g.met.S.EawStore.only_now first image told begins.alive left) in
           let says = Drills c.args.numbers.now All false c.deref.result.now in
           subst (λ st. Served says s.opens g.I.KeyIndex.index (s.view c.args.store) All (s.view st)) (sym c.into_store-store.ensures.store)
-          (served s.tells s.opens g.I.KeyIndex.index (s.view c.args.store) (s.view first) _ begins told (s.view core.records.store) _ over (up.1.comes told stand.sound stand.safe) says All
-          (summary_told c.args.numbers.now s.tells told _ _ c.shape-callers.result.numbers callers_are c.in-Ok-summed.text.items All false c.deref.result.now up refl c.deref.ensures.value)
+          (served s.tells s.opens g.I.KeyIndex.index (s.view c.args.store) (s.view first) _ begins told (s.view core.records.store) _ over (up.1.comes told stand.sound stand.safe) says All up.0 (up.1.runs told)
+          (summary_told c.args.numbers.now s.tells _ _ c.shape-callers.result.numbers callers_are told c.in-Ok-summed.text.items All false c.deref.result.now up refl c.deref.ensures.value)
           (λ all. c.in-Ok-summed.ensures.alive));
     }
 
@@ -53,8 +53,8 @@ returns-in-Ok-summed-clause-served g c =
           let stand = stands s.tells s.opens g.I.KeyIndex.index (s.view c.args.store) (s.view first) _ begins told (λ image left. g.met.S.EawStore.only_now first image told begins.alive left) in
           let says = Drills c.args.numbers.now WriteFault true part.0 in
           subst (λ st. Served says s.opens g.I.KeyIndex.index (s.view c.args.store) WriteFault (s.view st)) (sym c.into_store-store.ensures.store)
-          (served s.tells s.opens g.I.KeyIndex.index (s.view c.args.store) (s.view first) _ begins told (s.view core.records.store) _ over (up.1.comes told stand.sound stand.safe) says WriteFault
-          (summary_told c.args.numbers.now s.tells told _ _ c.shape-callers.result.numbers callers_are c.in-Ok-summed.text.items WriteFault true part.0 up refl (subst (IsWritten true part.0) c.deref.ensures.value part.1))
+          (served s.tells s.opens g.I.KeyIndex.index (s.view c.args.store) (s.view first) _ begins told (s.view core.records.store) _ over (up.1.comes told stand.sound stand.safe) says WriteFault up.0 (up.1.runs told)
+          (summary_told c.args.numbers.now s.tells _ _ c.shape-callers.result.numbers callers_are told c.in-Ok-summed.text.items WriteFault true part.0 up refl (subst (IsWritten true part.0) c.deref.ensures.value part.1))
           (λ all. absurd (cc all)));
     }
 
@@ -77,8 +77,8 @@ returns-in-Media-clause-served g c =
           let stand = stands s.tells s.opens g.I.KeyIndex.index (s.view c.args.store) (s.view first) _ begins told (λ image left. g.met.S.EawStore.only_now first image told begins.alive left) in
           let says = Drills c.args.numbers.now MediaFault front.cut front.text in
           subst (λ st. Served says s.opens g.I.KeyIndex.index (s.view c.args.store) MediaFault (s.view st)) (sym c.into_store-store.ensures.store)
-          (served s.tells s.opens g.I.KeyIndex.index (s.view c.args.store) (s.view first) _ begins told (s.view core.records.store) _ over (early.1.comes told stand.sound stand.safe) says MediaFault
-          (fault_told c.args.numbers.now s.tells told _ _ c.shape-callers.result.numbers callers_are c.in-Media.number front.cut front.text early front.holds)
+          (served s.tells s.opens g.I.KeyIndex.index (s.view c.args.store) (s.view first) _ begins told (s.view core.records.store) _ over (early.1.comes told stand.sound stand.safe) says MediaFault early.0 (early.1.runs told)
+          (fault_told c.args.numbers.now s.tells _ _ c.shape-callers.result.numbers callers_are c.in-Media.number front.cut front.text early front.holds)
           (λ all. absurd (cc all)));
     }
 
@@ -100,8 +100,8 @@ returns-clause-served g c =
           let stand = stands s.tells s.opens g.I.KeyIndex.index (s.view c.args.store) (s.view first) _ begins told (λ image left. g.met.S.EawStore.only_now first image told begins.alive left) in
           let says = Drills c.args.numbers.now NoMemory false [] in
           subst (λ st. Served says s.opens g.I.KeyIndex.index (s.view c.args.store) NoMemory (s.view st)) (sym c.into_store-store.ensures.store)
-          (served s.tells s.opens g.I.KeyIndex.index (s.view c.args.store) (s.view first) _ begins told (s.view core.records.store) _ over (early.1.comes told stand.sound stand.safe) says NoMemory
-          (short_told c.args.numbers.now s.tells told _ _ c.shape-callers.result.numbers callers_are early)
+          (served s.tells s.opens g.I.KeyIndex.index (s.view c.args.store) (s.view first) _ begins told (s.view core.records.store) _ over (early.1.comes told stand.sound stand.safe) says NoMemory early.0 (early.1.runs told)
+          (short_told c.args.numbers.now s.tells _ _ c.shape-callers.result.numbers callers_are early)
           (λ all. absurd (cc all)));
     }
 

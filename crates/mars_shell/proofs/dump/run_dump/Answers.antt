@@ -3,8 +3,8 @@ use Rattle.std.proofs.lemmas.List.{append-nil}
 use Rattle.command_words.specs.declared.words.Words.TheVariants.{Dump}
 use Rattle.eaw_device.specs.Opens.{HoldsArray}
 use Rattle.mars_shell.specs.Asked.{OutcomeFor}
-use Rattle.mars_shell.specs.Dump.{Dumps}
-use Rattle.mars_shell.specs.Run.{IsDamaged}
+use Rattle.mars_shell.specs.Dump.{Dumps, Spares}
+use Rattle.mars_shell.specs.Run.{TakesTurns, IsDamaged}
 use Rattle.mars_shell.specs.declared.status.Status.{Status}
 use Rattle.mars_shell.proofs.Outcomes.{dump_outcome}
 use Rattle.mars_shell.proofs.Unopened.{idle_same, unopened_as}
@@ -33,7 +33,7 @@ returns-in-Err-open_array-clause-ran g c =
       text = [];
       wrote = λ _. sym (append-nil _);
       counts = refl;
-      holds = λ input told. unopened_as (λ ended. Dumps old ended new false []) (IsDamaged old) (HoldsArray old) old c.in-Err-open_array.ended.0 new c.in-Err-open_array.ensures.kind (c.in-Err-open_array.ensures.unopened told);
+      holds = λ input told. unopened_as (λ ended. (taken : TakesTurns (Dumps ended false []) old ended new) × Spares taken.shape old new) (IsDamaged old) (HoldsArray old) old c.in-Err-open_array.ended.0 new c.in-Err-open_array.ensures.kind (c.in-Err-open_array.ensures.unopened told);
     }
 
 pub returns-clause-ran : goal.returns-clause-ran
@@ -41,7 +41,7 @@ returns-clause-ran g c =
     let media = g.M.Media in
     let old = media.view c.args.media in
     let new = media.view c.into_media.result in
-    let said = c.tell_records-told.ensures.told in
+    let said = c.tell_records-told.ensures.served in
     record {
       cut = said.cut;
       text = said.text;
@@ -50,7 +50,7 @@ returns-clause-ran g c =
       holds = λ input told.
           subst (λ (s : Status). OutcomeFor Dump old s new input said.cut said.text) (sym c.served_status.ensures)
           (dump_outcome media.tells told old (g.met.M.Media.only_now c.args.media) _ c.in-Ok-open_array.ensures.attached c.in-Ok-open_array.ensures.keeps _ new c.into_media.ensures (g.met.M.Media.counts_now c.into_media.result)
-          input c.tell_records-told.result.0 said.cut said.text (said.holds told));
+          input c.tell_records-told.result.0 said.cut said.text (said.holds told) (c.tell_records-told.ensures.spared told));
     }
 
 pub returns-in-Err-clause-no_usage : goal.returns-in-Err-clause-no_usage

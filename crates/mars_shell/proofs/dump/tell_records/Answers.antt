@@ -1,38 +1,39 @@
 use Rattle.std.proofs.Common.{subst}
 use Rattle.record_table.specs.Form.{form_number}
 use Rattle.record_table.specs.declared.form.Form.{Form}
+use Rattle.mars_shell.specs.Dump.{Dumps}
 use Rattle.mars_shell.specs.Served.{SaysForm}
-use Rattle.mars_shell.proofs.Forming.{tells_on}
+use Rattle.mars_shell.proofs.Forming.{serves_on, spared_if_on}
 use Rattle.mars_shell.proofs.dump.tell_records.Goals as goal
 
-pub returns-in-Ok-Chain-clause-told : goal.returns-in-Ok-Chain-clause-told
-returns-in-Ok-Chain-clause-told g c =
+pub returns-in-Ok-Chain-clause-served : goal.returns-in-Ok-Chain-clause-served
+returns-in-Ok-Chain-clause-served g c =
     let s = g.S.EawStore in
     let old = s.view c.args.store in
     let mid = s.view c.find_form.new.store in
-    let said = c.tell_under.ensures.told in
+    let said = c.tell_under.ensures.served in
     let form = subst (λ (f : Form). SaysForm s.tells (s.opens old.shape) (form_number f) old mid) c.in-Ok-Chain.field-0-is c.in-Ok-Chain.ensures.says in
     record {
       cut = said.cut;
       text = said.text;
       wrote = said.wrote;
       counts = said.counts;
-      holds = λ told. tells_on s.tells told s.opens 0 old mid form (s.view c.tell_under.result.1) c.tell_under.result.0 said.cut said.text (said.holds told);
+      holds = λ told. serves_on s.tells told s.opens 0 old mid form (s.view c.tell_under.result.1) (λ ended. Dumps ended said.cut said.text) c.tell_under.result.0 said.cut said.text (said.holds told);
     }
 
-pub returns-in-Ok-Tree-clause-told : goal.returns-in-Ok-Tree-clause-told
-returns-in-Ok-Tree-clause-told g c =
+pub returns-in-Ok-Tree-clause-served : goal.returns-in-Ok-Tree-clause-served
+returns-in-Ok-Tree-clause-served g c =
     let s = g.S.EawStore in
     let old = s.view c.args.store in
     let mid = s.view c.find_form.new.store in
-    let said = c.tell_under-in-Ok-Tree.ensures.told in
+    let said = c.tell_under-in-Ok-Tree.ensures.served in
     let form = subst (λ (f : Form). SaysForm s.tells (s.opens old.shape) (form_number f) old mid) c.in-Ok-Tree.field-0-is c.in-Ok-Tree.ensures.says in
     record {
       cut = said.cut;
       text = said.text;
       wrote = said.wrote;
       counts = said.counts;
-      holds = λ told. tells_on s.tells told s.opens 1 old mid form (s.view c.tell_under-in-Ok-Tree.result.1) c.tell_under-in-Ok-Tree.result.0 said.cut said.text (said.holds told);
+      holds = λ told. serves_on s.tells told s.opens 1 old mid form (s.view c.tell_under-in-Ok-Tree.result.1) (λ ended. Dumps ended said.cut said.text) c.tell_under-in-Ok-Tree.result.0 said.cut said.text (said.holds told);
     }
 
 pub returns-in-Ok-Chain-clause-untold : goal.returns-in-Ok-Chain-clause-untold
@@ -52,3 +53,19 @@ returns-in-Ok-Tree-clause-end g c = c.tell_under-in-Ok-Tree.ensures.end
 
 pub returns-in-Ok-Tree-clause-counts : goal.returns-in-Ok-Tree-clause-counts
 returns-in-Ok-Tree-clause-counts g c = rw c.in-Ok-Tree.ensures.says.faults at c.tell_under-in-Ok-Tree.ensures.counts
+
+pub returns-in-Ok-Chain-clause-spared : goal.returns-in-Ok-Chain-clause-spared
+returns-in-Ok-Chain-clause-spared g c =
+    let s = g.S.EawStore in
+    let old = s.view c.args.store in
+    let mid = s.view c.find_form.new.store in
+    let form = subst (λ (f : Form). SaysForm s.tells (s.opens old.shape) (form_number f) old mid) c.in-Ok-Chain.field-0-is c.in-Ok-Chain.ensures.says in
+    λ told. spared_if_on s.tells told s.opens 0 old mid form (s.view c.tell_under.result.1) c.tell_under.result.0 (c.tell_under.ensures.spared told)
+
+pub returns-in-Ok-Tree-clause-spared : goal.returns-in-Ok-Tree-clause-spared
+returns-in-Ok-Tree-clause-spared g c =
+    let s = g.S.EawStore in
+    let old = s.view c.args.store in
+    let mid = s.view c.find_form.new.store in
+    let form = subst (λ (f : Form). SaysForm s.tells (s.opens old.shape) (form_number f) old mid) c.in-Ok-Tree.field-0-is c.in-Ok-Tree.ensures.says in
+    λ told. spared_if_on s.tells told s.opens 1 old mid form (s.view c.tell_under-in-Ok-Tree.result.1) c.tell_under-in-Ok-Tree.result.0 (c.tell_under-in-Ok-Tree.ensures.spared told)

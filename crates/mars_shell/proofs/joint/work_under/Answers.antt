@@ -1,12 +1,12 @@
-use Rattle.std.proofs.Common.{All, ◌≤◌, ◌≡◌, ℕ, [], false, length, inl, refl, sym, subst, ap, ◌∙◌, arith}
+use Rattle.std.proofs.Common.{◌≤◌, ◌≡◌, ℕ, [], false, length, inl, refl, sym, subst, ap, ◌∙◌, arith}
 use Rattle.std.proofs.lemmas.List.{append-nil}
 use Rattle.mars_core.specs.Held.{core_of}
 use Rattle.mars_core.specs.Over.{IsOver, limits_of}
 use Rattle.mars_manager.specs.Sharing.{CanShare}
+use Rattle.caller_work.specs.Worked.{Worked}
 use Rattle.mars_shell.specs.Joint.{JointWork}
 use Rattle.mars_shell.specs.Served.{Served}
-use Rattle.caller_plans.specs.Plans.{ArePlain}
-use Rattle.mars_shell.proofs.Joining.{as_many, all_plain, can_share, untold, retold, joint_work, living, unbroken}
+use Rattle.mars_shell.proofs.Joining.{as_many, can_share, untold, retold, joint_work, runs, living, unbroken}
 use Rattle.mars_shell.proofs.Serving.{untaken, served}
 use Rattle.mars_shell.proofs.joint.work_under.Goals as goal
 
@@ -15,11 +15,6 @@ work-requires-clause-few g c κs within =
     let read = c.in-Ok.ensures in
     let counted : length c.in-Ok.script.plans.items ≡ c.args.callers = ap length read.3 ∙ as_many 0 c.args.callers read.0 in
     omega (arith, counted, c.ranges.callers.fits)
-
-pub work-requires-clause-plain : goal.work-requires-clause-plain
-work-requires-clause-plain g c κs within =
-    let read = c.in-Ok.ensures in
-    subst (All ArePlain) (sym read.3) (all_plain 0 c.args.callers read.0)
 
 pub work-requires-clause-ready : goal.work-requires-clause-ready
 work-requires-clause-ready g c κs within =
@@ -45,19 +40,20 @@ returns-in-Ok-work-clause-joined g c =
     let core = c.in-Ok-work.core in
     let over = subst (λ st. IsOver s.tells (s.opens (s.view st).shape) g.I.KeyIndex.index (s.view st) (core_of s.opens g.I.KeyIndex.index (s.view st) core)) c.into_store.ensures.store c.into_store.ensures.over in
     let told = c.tell_end-ended.ensures.told in
-    let worked = c.in-Ok-work.ensures.worked in
+    let worked = subst (λ (n : ℕ). Worked s.tells n c.in-Ok.script.plans.items (core_of s.opens g.I.KeyIndex.index (s.view store) c.in-Ok-attach.core) (core_of s.opens g.I.KeyIndex.index (s.view core.records.store) core) c.in-Ok-work.fates.items c.in-Ok-work.end) c.from.ensures c.in-Ok-work.ensures.worked in
     let enough = subst (λ l. c.args.callers ≤ l.callers) (sym (begins.over.limits ∙ ap limits_of begins.shape)) c.requires.enough in
     record {
       cut = told.cut;
       text = told.text;
       wrote = told.wrote;
       counts = told.counts;
-      holds = λ tells. subst (λ st. Served (JointWork c.args.callers c.args.input.now c.tell_end-ended.result told.cut told.text) s.opens g.I.KeyIndex.index (s.view c.args.store) c.tell_end-ended.result (s.view st)) (sym c.into_store.ensures.store)
-          (served s.tells s.opens g.I.KeyIndex.index (s.view c.args.store) (s.view store) _ begins tells (s.view core.records.store) _ over (worked.since.continues tells) (JointWork c.args.callers c.args.input.now c.tell_end-ended.result told.cut told.text) c.tell_end-ended.result
-          (joint_work s.tells tells _ _ c.args.callers c.args.input.now read.0 read.1 c.in-Ok.script.plans.items read.3 c.in-Ok-work.fates.items c.in-Ok-work.end worked enough
-          c.tell_end-ended.result told.cut told.text c.tell_end-ended.ensures.whole
+      holds = λ tells. subst (λ st. Served (JointWork c.args.callers c.args.tries c.args.input.now c.tell_end-ended.result told.cut told.text) s.opens g.I.KeyIndex.index (s.view c.args.store) c.tell_end-ended.result (s.view st)) (sym c.into_store.ensures.store)
+          (served s.tells s.opens g.I.KeyIndex.index (s.view c.args.store) (s.view store) _ begins tells (s.view core.records.store) _ over (worked.since.continues tells) (JointWork c.args.callers c.args.tries c.args.input.now c.tell_end-ended.result told.cut told.text) c.tell_end-ended.result worked.turns
+          (runs s.tells _ _ c.args.callers c.args.tries c.args.input.now read.0 read.1 c.in-Ok.script.plans.items read.3 c.in-Ok-work.fates.items c.in-Ok-work.end worked enough tells)
+          (joint_work s.tells _ _ c.args.callers c.args.tries c.args.input.now read.0 read.1 c.in-Ok.script.plans.items read.3 c.in-Ok-work.fates.items c.in-Ok-work.end worked enough
+          c.tell_end-ended.result told.cut told.text c.tell_end-ended.ensures.whole c.tell_end-ended.ensures.fault
           (retold c.tell_end-ended.result told.cut told.text _ _ _ _ _ _ _ _ (c.items.ensures ∙ read.2) c.history.ensures c.base.ensures.base c.deref.ensures.value told.holds))
-          (λ all. living s.tells tells _ _ c.args.callers c.args.input.now read.0 read.1 c.in-Ok.script.plans.items read.3 c.in-Ok-work.fates.items c.in-Ok-work.end worked enough (c.tell_end-ended.ensures.whole (unbroken c.tell_end-ended.result all))));
+          (λ all. living s.tells _ _ c.args.callers c.args.tries c.args.input.now read.0 read.1 c.in-Ok.script.plans.items read.3 c.in-Ok-work.fates.items c.in-Ok-work.end worked enough (c.tell_end-ended.ensures.whole (unbroken c.tell_end-ended.result all))));
     }
 
 pub returns-clause-joined : goal.returns-clause-joined

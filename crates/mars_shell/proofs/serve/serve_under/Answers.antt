@@ -4,7 +4,7 @@ use Rattle.mars_core.specs.Held.{core_of}
 use Rattle.mars_core.specs.Over.{IsOver}
 use Rattle.mars_shell.specs.Run.{Answers}
 use Rattle.mars_shell.specs.Served.{Served}
-use Rattle.mars_shell.proofs.Serving.{untaken, stands, answers, served}
+use Rattle.mars_shell.proofs.Serving.{untaken, stands, runs, answers, served}
 use Rattle.mars_shell.proofs.serve.serve_under.Goals as goal
 
 pub returns-clause-served : goal.returns-clause-served
@@ -26,7 +26,8 @@ returns-clause-served g c =
           let input = c.args.input.now in
           let ended = c.answer_lines-ended.result in
           subst (λ st. Served (Answers input ended ran.cut ran.text) s.opens g.I.KeyIndex.index (s.view c.args.store) ended (s.view st)) (sym c.into_store.ensures.store)
-          (served s.tells s.opens g.I.KeyIndex.index (s.view c.args.store) (s.view store) _ begins told (s.view core.records.store) _ over lines.comes.1 (Answers input ended ran.cut ran.text) ended
+          (served s.tells s.opens g.I.KeyIndex.index (s.view c.args.store) (s.view store) _ begins told (s.view core.records.store) _ over lines.comes.continues (Answers input ended ran.cut ran.text) ended lines.final.turns
+          (runs s.tells s.opens g.I.KeyIndex.index (s.view c.args.store) (s.view store) _ begins told (s.view core.records.store) _ over input ended ran.cut ran.text lines)
           (answers s.tells s.opens g.I.KeyIndex.index (s.view c.args.store) (s.view store) _ begins told (s.view core.records.store) _ over input ended ran.cut ran.text lines)
           (λ all. (c.answer_lines-ended.ensures.ready all).alive));
     }

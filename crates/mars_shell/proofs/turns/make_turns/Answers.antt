@@ -1,8 +1,7 @@
 use Rattle.std.proofs.Common.{◌≡◌, ◌+◌, ◌≤◌, ◌<◌, ℕ, [], ◌∷◌, ◌++◌, length, get_or, refl, sym, ap, subst, ◌∙◌, arith, length-append}
 use Rattle.std.specs.Prelude.{IsTrue}
 use Rattle.std.proofs.lemmas.List.Elements.{All-nil, All-push}
-use Rattle.history.specs.declared.call.Call.{Call}
-use Rattle.history.specs.declared.call.Reply.{Reply}
+use Rattle.core_face.specs.Run.{Turn}
 use Rattle.mars_shell.specs.Lines.{goes_on}
 use Rattle.mars_shell.specs.Tally.{total, counted}
 use Rattle.mars_shell.specs.declared.tally.Tally.{Tally}
@@ -11,7 +10,7 @@ use Rattle.mars_shell.proofs.turns.make_turns.Goals as goal
 
 pub loop-turn-init : goal.loop-turn-init
 loop-turn-init g c = record {
-  made = ([], made_none g.C.Core.tells (g.C.Core.view c.args.core.now) c.args.turns.now, refl, All-nil (λ (line : ℕ × Call × Reply). IsTrue (goes_on line.2)), c.new-tally.ensures);
+  made = ([], made_none g.C.Core.tells (g.C.Core.view c.args.core.now) c.args.script.now, refl, All-nil (λ (turn : Turn). IsTrue (goes_on turn.2)), c.new-tally.ensures);
   few = subst (λ (t : Tally). total t ≤ 0) (sym c.new-tally.ensures) (omega arith);
   alive = c.requires.alive;
   faults = refl;
@@ -22,10 +21,10 @@ returns-in-Err-clause-early g c =
     let core = g.C.Core in
     let made = c.loop-turn.invariant.made in
     let turn = c.turn-item.result in
-    let turns = c.args.turns.now in
-    let within : length made.0 < length turns = omega (arith, made.2, c.loop-turn-test.true) in
-    let is : get_or turns (length made.0) turn ≡ (turn.0, turn.1) = ap (λ (n : ℕ). get_or turns n turn) made.2 ∙ sym c.turn-item.is in
-    ends_early core.tells (core.view c.args.core.now) turns made.0 (core.view c.loop-turn.core) (core.view c.step-reply.new.self) turn.0 turn.1 c.step-reply.result made.1 c.step-reply.ensures.steps
+    let script = c.args.script.now in
+    let within : length made.0 < length script = omega (arith, made.2, c.loop-turn-test.true) in
+    let is : get_or script (length made.0) turn ≡ (turn.0, turn.1) = ap (λ (n : ℕ). get_or script n turn) made.2 ∙ sym c.turn-item.is in
+    ends_early core.tells (core.view c.args.core.now) script made.0 (core.view c.loop-turn.core) (core.view c.step-reply.new.self) turn.0 turn.1 c.step-reply.result made.1 c.step-reply.ensures.steps
     turn within is made.3 c.loop-turn.tally c.count.new.self c.in-Err.stop c.in-Err.ensures.counted
 
 pub loop-turn-preserved : goal.loop-turn-preserved
@@ -33,25 +32,25 @@ loop-turn-preserved g c =
     let core = g.C.Core in
     let made = c.loop-turn.invariant.made in
     let turn = c.turn-item.result in
-    let turns = c.args.turns.now in
+    let script = c.args.script.now in
     let reply = c.step-reply.result in
     let steps = c.step-reply.ensures.steps in
     let old = core.view c.args.core.now in
     let mid = core.view c.loop-turn.core in
     let new = core.view c.step-reply.new.self in
-    let within : length made.0 < length turns = omega (arith, made.2, c.loop-turn-test.true) in
-    let is : get_or turns (length made.0) turn ≡ (turn.0, turn.1) = ap (λ (n : ℕ). get_or turns n turn) made.2 ∙ sym c.turn-item.is in
+    let within : length made.0 < length script = omega (arith, made.2, c.loop-turn-test.true) in
+    let is : get_or script (length made.0) turn ≡ (turn.0, turn.1) = ap (λ (n : ℕ). get_or script n turn) made.2 ∙ sym c.turn-item.is in
     let goes = c.in-Ok.ensures.counted in
     let longer : length (made.0 ++ (turn.0, turn.1, reply) ∷ []) ≡ c.loop-turn.turn-index + 1 = length-append made.0 ((turn.0, turn.1, reply) ∷ []) ∙ ap (λ (n : ℕ). n + 1) made.2 in
     record {
       made = (
         made.0 ++ (turn.0, turn.1, reply) ∷ [],
-        made_more core.tells old turns made.0 mid new turn.0 turn.1 reply made.1 steps turn within is,
+        made_more core.tells old script made.0 mid new turn.0 turn.1 reply made.1 steps turn within is,
         longer,
-        All-push (λ (line : ℕ × Call × Reply). IsTrue (goes_on line.2)) made.0 (turn.0, turn.1, reply) made.3 goes.0,
+        All-push (λ (turn : Turn). IsTrue (goes_on turn.2)) made.0 (turn.0, turn.1, reply) made.3 goes.0,
         goes.1 ∙ ap (λ (t : Tally). counted t turn.1 reply) made.4 ∙ sym (tally_more made.0 turn.0 turn.1 reply),
       );
       few = omega (arith, c.in-Ok.ensures.one, c.loop-turn.invariant.few);
-      alive = stays_alive core.tells old turns made.0 mid new turn.0 turn.1 reply made.1 steps c.loop-turn.invariant.alive (no_fault reply goes.0);
+      alive = stays_alive core.tells old script made.0 mid new turn.0 turn.1 reply made.1 steps c.loop-turn.invariant.alive (no_fault reply goes.0);
       faults = steps.kept (no_fault reply goes.0) ∙ c.loop-turn.invariant.faults;
     }

@@ -1,6 +1,5 @@
-use Rattle.std.proofs.Common.{◌≡◌, ◌≤◌, ℕ, List, length, false}
-use Rattle.history.specs.declared.call.Call.{Call}
-use Rattle.history.specs.declared.call.Reply.{Reply}
+use Rattle.std.proofs.Common.{◌≡◌, ◌≤◌, List, length, false}
+use Rattle.core_face.specs.Run.{Turn}
 use Rattle.mars_shell.specs.Drill.{GoOn}
 use Rattle.mars_shell.specs.Made.{Made}
 use Rattle.mars_shell.specs.Tally.{tally_of, total}
@@ -11,7 +10,7 @@ abbrev pub invariant-loop-turn : goal.invariant-loop-turn
 invariant-loop-turn g l =
     let core = g.C.Core in
     record {
-      made : (lines : List (ℕ × Call × Reply)) × Made core.tells (core.view l.fn.core) l.turns lines (core.view l.core) × (length lines ≡ l.turn-index) × GoOn lines × (l.tally ≡ tally_of lines);
+      made : (turns : List Turn) × Made core.tells (core.view l.fn.core) l.script turns (core.view l.core) × (length turns ≡ l.turn-index) × GoOn turns × (l.tally ≡ tally_of turns);
       few : total l.tally ≤ l.turn-index;
       alive : (core.view l.core).state.is_dead ≡ false;
       faults : (core.view l.core).faults ≡ (core.view l.fn.core).faults;

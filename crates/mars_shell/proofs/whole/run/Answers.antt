@@ -4,7 +4,7 @@ use Rattle.command_words.specs.declared.words.Words.TheVariants.{Run, Callers, E
 use Rattle.eaw_device.specs.Opens.{HoldsArray}
 use Rattle.mars_shell.specs.Commands.{Obeys}
 use Rattle.mars_shell.specs.Drill.{Drills}
-use Rattle.mars_shell.specs.Dump.{Dumps}
+use Rattle.mars_shell.specs.Dump.{Dumps, Spares}
 use Rattle.mars_shell.proofs.Endings.{is_early, silent_of, counts_unread, read_fault_early, no_dump, format_late}
 use Rattle.mars_shell.proofs.FormatLemmas.{no_usage}
 use Rattle.mars_shell.specs.Joint.{JointWork}
@@ -61,7 +61,7 @@ returns-in-Ok-Dump-clause-complete g c =
     let said = c.run_dump.ensures in
     words_say (map string_bytes c.args.words.now) c.run_dump.result.0 (Unit {0}) _ Dump said.no_usage (rw c.in-Ok-Dump.field-0-is at c.in-Ok-Dump.ensures.asked)
     (λ fit no_source no_sink no_media.
-    complete_of (λ ended. Dumps old ended new said.ran.cut said.ran.text) (IsDamaged old) (HoldsArray old) old new said.ran.cut said.ran.text [] _ 0 0 _ _ _ _
+    complete_of (λ ended. (taken : TakesTurns (Dumps ended said.ran.cut said.ran.text) old ended new) × Spares taken.shape old new) (IsDamaged old) (HoldsArray old) old new said.ran.cut said.ran.text [] _ 0 0 _ _ _ _
     (omega arith) fit.1.0 fit.1.1.array (λ page is. no_damage old fit.1.0 page fit.1.1 is) no_rise no_sink no_media c.run_dump.result.0 said.no_usage said.counts (nothing_read c.run_dump.result.0 said.late)
     (said.ran.holds [] fit.0))
 
@@ -127,7 +127,7 @@ returns-in-Ok-Callers-clause-complete g c =
     (λ fit no_source no_sink no_media.
     let input = said.ran.holds.0 in
     let outcome = said.ran.holds.2 fit.1 in
-    complete_of (λ ended. TakesTurns (JointWork numbers.callers input ended said.ran.cut said.ran.text) old ended new) (IsDamaged old) (HoldsArray old) old new said.ran.cut said.ran.text given _ _ _ _ _ _ _
+    complete_of (λ ended. TakesTurns (JointWork numbers.callers numbers.tries input ended said.ran.cut said.ran.text) old ended new) (IsDamaged old) (HoldsArray old) old new said.ran.cut said.ran.text given _ _ _ _ _ _ _
     fit.0.1 fit.2.0 fit.2.1.array (λ page is. no_damage old fit.2.0 page fit.2.1 is) no_source no_sink no_media c.run_callers.result.0
     (λ is. no_excess old fit.2.0 numbers.callers fit.2.1.array fit.2.2 (outcome.1 is)) said.counts (said.input fit.0.0) outcome.0)
 
