@@ -1,49 +1,49 @@
 -- A worker's turns report a fault of the medium exactly if that stopped it.
-use Rattle.std.proofs.Common.{◌≡◌, ◌||◌, inl, inr, ℕ, zero, suc, Bool, true, false, List, [], ◌∷◌, ◌++◌, Option, Some, Result, Ok, Err, drop, length, refl, sym, ap, ◌∙◌}
+use Rattle.std.proofs.Common.{◌≡◌, ◌||◌, inl, inr, ℕ, zero, suc, Bool, true, false, List, [], ◌∷◌, ◌++◌, Option, Some, None, Result, Ok, Err, drop, length, refl, sym, ap, ◌∙◌}
+use Rattle.std.specs.Prelude.{MatchBool, if◌then◌else◌, option_map}
+use Rattle.std.proofs.lemmas.Bool.{true≢false}
 use Rattle.std.proofs.lemmas.List.Folds.{list_any-append}
 use Rattle.history.specs.Table.{Granted}
 use Rattle.history.specs.declared.call.Call.{Call}
+use Rattle.history.specs.declared.call.Call.TheVariants.{Begin, Abort}
 use Rattle.history.specs.declared.call.Reply.{Reply}
 use Rattle.history.specs.declared.call.Reply.TheVariants as says
-use Rattle.core_face.specs.Fate.{is_media}
+use Rattle.core_face.specs.Fate.{is_media, is_refusal}
 use Rattle.core_face.specs.Own.{has_media}
 use Rattle.caller_plans.specs.declared.plan.Plan.{Plan}
 use Rattle.caller_plans.specs.declared.plan.PlanEnd.{PlanEnd}
 use Rattle.caller_plans.specs.declared.plan.PlanEnd.TheVariants as end
 use Rattle.caller_plans.specs.declared.fate.Fate.{Fate}
-use Rattle.caller_work.specs.declared.stop.Heard.{Heard}
-use Rattle.caller_work.specs.declared.stop.Heard.TheVariants as heard
-use Rattle.caller_work.specs.declared.stop.Stop.{Stop}
-use Rattle.caller_work.specs.declared.stop.Stop.TheVariants as stop
 use Rattle.caller_work.specs.declared.tries.Tries.{Tries}
-use Rattle.caller_work.specs.Tries.{begin_outcome, call_outcome, commit_outcome, abort_outcome, GivesUp, EndsAs, EndsAfter, FollowsCall, AreAsked, FollowsBegin, IsTry, AreHeldUp, IsMade, Works, IsWork}
+use Rattle.caller_work.specs.declared.tries.Tries.TheVariants.{NoLimit}
+use Rattle.caller_work.specs.Tries.{end_call, is_last, end_outcome, refusal_outcome, IsOne, GivesUp, Takes, IsTry, AreHeldUp, IsMade, Works, IsWork}
+use Rattle.caller_work.specs.Standing.{stop_for}
 use Rattle.caller_work.specs.Worked.{is_fault, end_of}
 
--- a result that is a stop by a fault of the medium
-abbrev fault_in : {X : Type 0} → Result X Stop → Bool
-fault_in (Ok x) = false
-fault_in (Err why) = is_fault (end_of (Some why))
+-- a try that a fault of the medium stopped
+abbrev fault_in : Result Fate Reply → Bool
+fault_in (Ok fate) = false
+fault_in (Err reply) = is_media reply
 
-at_begin : (reply : Reply) → is_media reply ≡ fault_in (begin_outcome reply)
-at_begin says.Media = refl
-at_begin says.NoMemory = refl
-at_begin reply = refl
+at_end : (ends : PlanEnd) (reply : Reply) → is_media reply ≡ fault_in (end_outcome ends reply)
+at_end end.Commit (says.Committed at) = refl
+at_end end.Commit reply = refl
+at_end end.Abort says.Fine = refl
+at_end end.Abort reply = refl
+at_end end.Unended says.Fine = refl
+at_end end.Unended reply = refl
 
-at_call : (reply : Reply) → is_media reply ≡ fault_in (call_outcome reply)
-at_call says.Media = refl
-at_call says.NoMemory = refl
-at_call reply = refl
+at_refusal : (reply : Reply) → fault_in (refusal_outcome reply) ≡ false
+at_refusal (says.Busy holder) = refl
+at_refusal reply = refl
 
-at_commit : (reply : Reply) → is_media reply ≡ fault_in (commit_outcome reply)
-at_commit says.Media = refl
-at_commit says.NoMemory = refl
-at_commit reply = refl
+granted_sure : (reply : Reply) → is_refusal reply ≡ false → is_media reply ≡ false
+granted_sure says.Media e = absurd (true≢false e)
+granted_sure reply e = refl
 
-at_abort : (made : Result Fate Stop) (reply : Reply) → fault_in made ≡ false → is_media reply ≡ fault_in (abort_outcome made reply)
-at_abort made says.Fine e = sym e
-at_abort made says.Media e = refl
-at_abort made says.NoMemory e = refl
-at_abort made reply e = refl
+not_last_sure : (reply : Reply) → is_last reply ≡ false → is_media reply ≡ false
+not_last_sure says.Media e = absurd (true≢false e)
+not_last_sure reply e = refl
 
 in_both : (xs ys : Granted) → has_media (xs ++ ys) ≡ (has_media xs || has_media ys)
 in_both xs ys = list_any-append (λ (entry : Call × Reply). is_media entry.1) xs ys
@@ -52,62 +52,61 @@ either_none : (b : Bool) → (b || false) ≡ b
 either_none true = refl
 either_none false = refl
 
--- one call
-in_one : (call : Call) (reply : Reply) (told : Granted) → told ≡ (call, reply) ∷ [] → has_media told ≡ is_media reply
-in_one call reply told is = ap has_media is ∙ either_none (is_media reply)
+in_one : (call : Call) (outcome : Reply → Result Fate Reply) (told : Granted) (made : Result Fate Reply) → ((reply : Reply) → is_media reply ≡ fault_in (outcome reply)) → IsOne call outcome told made → has_media told ≡ fault_in made
+in_one call outcome told made so (reply, is, came) = ap has_media is ∙ either_none (is_media reply) ∙ so reply ∙ ap fault_in (sym came)
 
-in_given_up : (outcome made : Result Fate Stop) (told : Granted) → fault_in outcome ≡ false → GivesUp outcome told made → has_media told ≡ fault_in made
-in_given_up outcome made told none (reply, is, came) = in_one _ reply told is ∙ at_abort outcome reply none ∙ ap fault_in (sym came)
+-- after the refusal itself
+in_given_up : (reply : Reply) (told : Granted) (made : Result Fate Reply) → GivesUp reply told made → (is_media reply || has_media told) ≡ fault_in made
+in_given_up reply told made gives = go (is_last reply) refl gives
+  where
+    aborts : (answer : Reply) (b : Bool) → is_refusal answer ≡ b → is_media answer ≡ fault_in (if b then Err answer else refusal_outcome reply)
+    aborts answer true e = refl
+    aborts answer false e = granted_sure answer e ∙ sym (at_refusal reply)
 
-in_ends : (ends : PlanEnd) (told : Granted) (made : Result Fate Stop) → EndsAs ends told made → has_media told ≡ fault_in made
-in_ends end.Commit told made (reply, is, came) = in_one _ reply told is ∙ at_commit reply ∙ ap fault_in (sym came)
-in_ends end.Abort told made given = in_given_up _ made told refl given
-in_ends end.Unended told made given = in_given_up _ made told refl given
+    go : (b : Bool) → is_last reply ≡ b → MatchBool b ((told ≡ []) × (made ≡ Err reply)) (IsOne Abort (λ answer. if is_refusal answer then Err answer else refusal_outcome reply) told made) → (is_media reply || has_media told) ≡ fault_in made
+    go true e (none, is) = ap (λ (l : Granted). is_media reply || has_media l) none ∙ either_none (is_media reply) ∙ ap fault_in (sym is)
+    go false e one = ap (λ (b : Bool). b || has_media told) (not_last_sure reply e) ∙ in_one Abort (λ answer. if is_refusal answer then Err answer else refusal_outcome reply) told made (λ answer. aborts answer (is_refusal answer) refl) one
 
--- after calls that met no fault, or after a stop
-in_ends_after : (ends : PlanEnd) (outcome : Result Heard Stop) (told : Granted) (made : Result Fate Stop) → EndsAfter ends outcome told made → (fault_in outcome || has_media told) ≡ fault_in made
-in_ends_after ends (Ok heard.Granted) told made is = in_ends ends told made is
-in_ends_after ends (Ok (heard.Busy holder)) told made is = in_given_up _ made told refl is
-in_ends_after ends (Ok (heard.Refused reply)) told made is = in_given_up _ made told refl is
-in_ends_after ends (Err why) told made (none, is) = ap (λ (l : Granted). is_fault (end_of (Some why)) || has_media l) none ∙ either_none (is_fault (end_of (Some why))) ∙ ap fault_in (sym is)
+in_takes : (calls : List Call) (ends : PlanEnd) (told : Granted) (made : Result Fate Reply) → Takes calls ends told made → has_media told ≡ fault_in made
+in_takes [] ends told made one = in_one (end_call ends) (end_outcome ends) told made (at_end ends) one
+in_takes (call ∷ calls) ends told made (reply, rest, is, follows) = ap has_media is ∙ go (λ takes. in_takes calls ends rest made takes) (is_refusal reply) refl follows
+  where
+    go : (Takes calls ends rest made → has_media rest ≡ fault_in made) → (b : Bool) → is_refusal reply ≡ b → MatchBool b (GivesUp reply rest made) (Takes calls ends rest made) → (is_media reply || has_media rest) ≡ fault_in made
+    go more true e gives = in_given_up reply rest made gives
+    go more false e takes = ap (λ (b : Bool). b || has_media rest) (granted_sure reply e) ∙ more takes
 
-in_follows : (calls : List Call) (first : Result Heard Stop) (rest : Granted) (outcome : Result Heard Stop) → ((told : Granted) → AreAsked calls told outcome → has_media told ≡ fault_in outcome)
-    → FollowsCall (AreAsked calls) first rest outcome → (fault_in first || has_media rest) ≡ fault_in outcome
-in_follows calls (Ok heard.Granted) rest outcome so others = so rest others
-in_follows calls (Ok (heard.Busy holder)) rest outcome so (none, is) = ap has_media none ∙ ap fault_in (sym is)
-in_follows calls (Ok (heard.Refused reply)) rest outcome so (none, is) = ap has_media none ∙ ap fault_in (sym is)
-in_follows calls (Err why) rest outcome so (none, is) = ap (λ (l : Granted). is_fault (end_of (Some why)) || has_media l) none ∙ either_none (is_fault (end_of (Some why))) ∙ ap fault_in (sym is)
-
-in_asked : (calls : List Call) (told : Granted) (outcome : Result Heard Stop) → AreAsked calls told outcome → has_media told ≡ fault_in outcome
-in_asked [] told outcome (none, is) = ap has_media none ∙ ap fault_in (sym is)
-in_asked (call ∷ calls) told outcome (reply, rest, is, follows) =
-    ap has_media is ∙ ap (λ (b : Bool). b || has_media rest) (at_call reply) ∙ in_follows calls (call_outcome reply) rest outcome (λ told' asked. in_asked calls told' outcome asked) follows
-
-in_follows_begin : (begun : Result (Unit {0}) Stop) (plan : Plan) (told : Granted) (made : Result Fate Stop) → FollowsBegin begun plan told made → (fault_in begun || has_media told) ≡ fault_in made
-in_follows_begin (Ok x) plan told made (asked, last, outcome, is, calls, ends) =
-    ap has_media is ∙ in_both asked last ∙ ap (λ (b : Bool). b || has_media last) (in_asked plan.calls asked outcome calls) ∙ in_ends_after plan.end outcome last made ends
-in_follows_begin (Err why) plan told made (none, is) = ap (λ (l : Granted). is_fault (end_of (Some why)) || has_media l) none ∙ either_none (is_fault (end_of (Some why))) ∙ ap fault_in (sym is)
-
-in_try : (plan : Plan) (told : Granted) (made : Result Fate Stop) → IsTry plan told made → has_media told ≡ fault_in made
-in_try plan told made (reply, rest, is, follows) = ap has_media is ∙ ap (λ (b : Bool). b || has_media rest) (at_begin reply) ∙ in_follows_begin (begin_outcome reply) plan rest made follows
+in_try : (plan : Plan) (told : Granted) (made : Result Fate Reply) → IsTry plan told made → has_media told ≡ fault_in made
+in_try plan told made one = in_takes (Begin ∷ plan.calls) plan.end told made one
 
 in_held_up : (plan : Plan) (n : ℕ) (told : Granted) → AreHeldUp plan n told → has_media told ≡ false
 in_held_up plan zero told none = ap has_media none
-in_held_up plan (suc n) told (front, last, is, before, held) =
-    ap has_media is ∙ in_both front last ∙ ap (λ (b : Bool). b || has_media last) (in_held_up plan n front before) ∙ in_try plan last _ held.1
+in_held_up plan (suc n) told (front, last, holder, is, before, one) =
+    ap has_media is ∙ in_both front last ∙ ap (λ (b : Bool). b || has_media last) (in_held_up plan n front before) ∙ in_try plan last (Err (says.Busy holder)) one
 
-in_made : (tries : Tries) (plan : Plan) (told : Granted) (made : Result Fate Stop) → IsMade tries plan told made → has_media told ≡ fault_in made
-in_made tries plan told made is =
-    ap has_media is.told_is ∙ in_both is.front is.last ∙ ap (λ (b : Bool). b || has_media is.last) (in_held_up plan is.held is.front is.before) ∙ in_try plan is.last made is.ends
+in_made : (tries : Tries) (plan : Plan) (told : Granted) (made : Result Fate Reply) → IsMade tries plan told made → has_media told ≡ fault_in made
+in_made tries plan told made (held, front, last, is, before, ends, count) =
+    ap has_media is ∙ in_both front last ∙ ap (λ (b : Bool). b || has_media last) (in_held_up plan held front before) ∙ in_try plan last made ends
 
-in_works : (tries : Tries) (plans : List Plan) (told : Granted) (fates : List Fate) (stops : Option Stop) → Works tries plans told fates stops → has_media told ≡ is_fault (end_of stops)
-in_works tries [] told [] stops (none, is) = ap has_media none ∙ ap (λ (s : Option Stop). is_fault (end_of s)) (sym is)
-in_works tries [] told (fate ∷ fates) stops works = absurd works
-in_works tries (plan ∷ plans) told [] stops (why, is, made) = in_made tries plan told (Err why) made ∙ ap (λ (s : Option Stop). is_fault (end_of s)) (sym is)
-in_works tries (plan ∷ plans) told (fate ∷ fates) stops (front, back, is, made, works) =
-    ap has_media is ∙ in_both front back ∙ ap (λ (b : Bool). b || has_media back) (in_made tries plan front (Ok fate) made) ∙ in_works tries plans back fates stops works
+-- whether a fault of the medium stopped a worker
+abbrev pub is_stopped_by_fault : Option Reply → Bool
+is_stopped_by_fault None = false
+is_stopped_by_fault (Some reply) = is_media reply
 
-pub in_work : (tries : Tries) (plans : List Plan) (told : Granted) (fates : List Fate) (stops : Option Stop) → IsWork tries plans told fates stops → has_media told ≡ is_fault (end_of stops)
-in_work tries plans told fates stops (inl works) = in_works tries plans told fates stops works
-in_work tries plans told fates stops (inr (front, back, early, late, holder, is, are, first, last)) =
-    ap has_media is ∙ in_both front back ∙ ap (λ (b : Bool). b || has_media back) (in_works tries plans front early (Some (stop.Busy holder)) first) ∙ in_works _ (drop (length early) plans) back late stops last
+in_works : (tries : Tries) (plans : List Plan) (told : Granted) (fates : List Fate) (stopped : Option Reply) → Works tries plans told fates stopped → has_media told ≡ is_stopped_by_fault stopped
+in_works tries [] told [] stopped (none, is) = ap has_media none ∙ ap is_stopped_by_fault (sym is)
+in_works tries [] told (fate ∷ fates) stopped works = absurd works
+in_works tries (plan ∷ plans) told [] stopped (reply, is, made) = in_made tries plan told (Err reply) made ∙ ap is_stopped_by_fault (sym is)
+in_works tries (plan ∷ plans) told (fate ∷ fates) stopped (front, back, is, made, works) =
+    ap has_media is ∙ in_both front back ∙ ap (λ (b : Bool). b || has_media back) (in_made tries plan front (Ok fate) made) ∙ in_works tries plans back fates stopped works
+
+fault_at : (stopped : Option Reply) → is_stopped_by_fault stopped ≡ is_fault (end_of (option_map stop_for stopped))
+fault_at None = refl
+fault_at (Some (says.Busy holder)) = refl
+fault_at (Some says.Media) = refl
+fault_at (Some says.NoMemory) = refl
+fault_at (Some reply) = refl
+
+pub in_work : (tries : Tries) (plans : List Plan) (told : Granted) (fates : List Fate) (stopped : Option Reply) → IsWork tries plans told fates stopped → has_media told ≡ is_fault (end_of (option_map stop_for stopped))
+in_work tries plans told fates stopped (inl works) = in_works tries plans told fates stopped works ∙ fault_at stopped
+in_work tries plans told fates stopped (inr (front, back, early, late, holder, is, are, first, last)) =
+    ap has_media is ∙ in_both front back ∙ ap (λ (b : Bool). b || has_media back) (in_works tries plans front early (Some (says.Busy holder)) first) ∙ in_works NoLimit (drop (length early) plans) back late stopped last ∙ fault_at stopped

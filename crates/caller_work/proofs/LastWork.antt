@@ -1,8 +1,11 @@
 -- What is left for last, once it is done.
-use Rattle.std.proofs.Common.{◌≡◌, ◌⊎◌, inl, inr, ℕ, List, length, drop, Option, None, sym, ap, ◌∙◌, subst}
+use Rattle.std.proofs.Common.{◌≡◌, ◌⊎◌, inl, inr, ℕ, List, length, drop, Option, Some, None, refl, sym, ap, ◌∙◌, subst}
+use Rattle.history.specs.declared.call.Reply.{Reply}
+use Rattle.history.specs.declared.call.Reply.TheVariants as says
+use Rattle.std.specs.Prelude.{option_map}
 use Rattle.mars_manager.specs.Pass.{PassView, told_of}
 use Rattle.mars_manager.specs.Sharing.{MarsView}
-use Rattle.caller_work.specs.declared.stop.Stop.{Stop}
+use Rattle.caller_work.specs.declared.stop.Stop.TheVariants as stop
 use Rattle.caller_plans.specs.declared.plan.Plan.{Plan}
 use Rattle.caller_plans.specs.declared.fate.Fate.{Fate}
 use Rattle.caller_work.specs.declared.tries.Tries.{Tries}
@@ -10,11 +13,23 @@ use Rattle.caller_work.specs.declared.tries.Tries.TheVariants.{NoLimit}
 use Rattle.caller_work.specs.declared.worker.Worker.{Worker}
 use Rattle.caller_work.specs.declared.end.WorkEnd.{WorkEnd}
 use Rattle.caller_work.specs.declared.end.WorkEnd.TheVariants as work
+use Rattle.caller_work.specs.Standing.{stop_for}
 use Rattle.caller_work.specs.Tries.{Works}
 use Rattle.caller_work.specs.Worked.{end_of, worse}
 use Rattle.caller_work.specs.Crew.{IsLeft, IsDone, WentOn}
 use Rattle.caller_work.proofs.TriesLemmas.{endless}
 use Rattle.caller_work.proofs.Ending.{worth_same, worth_now, left_busy, whole_none}
+
+-- the reply at which a locked key stopped a worker
+busy_at : (stopped : Option Reply) (holder : ℕ) → option_map stop_for stopped ≡ Some (stop.Busy holder) → stopped ≡ Some (says.Busy holder)
+busy_at None holder is = absurd (cc)
+busy_at (Some (says.Busy other)) holder is = cc
+busy_at (Some says.Fine) holder is = absurd (cc)
+busy_at (Some reply) holder is = absurd (cc)
+
+none_at : (stopped : Option Reply) → option_map stop_for stopped ≡ None → stopped ≡ None
+none_at None is = refl
+none_at (Some reply) is = absurd (cc)
 
 module _ {C : Type 0} (mars : MarsView C) (caller : ℕ) (was now : Worker C) (end next : WorkEnd) (left : IsLeft mars caller was) where
   pub table_now : WentOn end was now next → now.pass.table ≡ mars.table
@@ -31,36 +46,45 @@ module _ {C : Type 0} (mars : MarsView C) (caller : ℕ) (was now : Worker C) (e
     worth_next (inl (why, same, is)) = is ∙ worth_same done others was.stop now.stop end worth (sym (ap (λ (w : Worker C). w.stop) same))
     worth_next (inr (all, some, worked, is)) = is ∙ worth_now done others was.stop now.stop end worth all
 
-    pub done_next : WentOn end was now next → IsDone next caller was.tries was.plans now.fates.items now.stop now.pass
-    done_next (inl (why, same, is)) = subst (λ (w : Worker C). IsDone next caller was.tries was.plans w.fates.items w.stop w.pass) (sym same) (record {
-      number = left.number;
-      works = inl left.works;
-      whole = λ all. none why (sym is ∙ all);
-    })
+    pub done_next : WentOn end was now next → (stopped : Option Reply) × (now.stop ≡ option_map stop_for stopped) × IsDone next caller was.tries was.plans now.fates.items stopped now.pass
+    done_next (inl (why, same, is)) = (
+      left.stopped,
+      ap (λ (w : Worker C). w.stop) same ∙ left.stop_is,
+      subst (λ (w : Worker C). IsDone next caller was.tries was.plans w.fates.items left.stopped w.pass) (sym same) (record {
+        number = left.number;
+        works = inl left.works;
+        whole = λ all. none_at left.stopped (sym left.stop_is ∙ none why (sym is ∙ all));
+      }),
+    )
       where
         none : ((end ≡ work.All → ⊥) ⊎ (was.stop ≡ None)) → end ≡ work.All → was.stop ≡ None
         none (inl never) all = absurd (never all)
         none (inr stops) all = stops
     done_next (inr (all, some, worked, is)) =
-        let held = left_busy done others was.stop now.stop end worth all some in record {
-          number = worked.works.same.number ∙ left.number;
-          works = inr (
-            told_of was.pass.known,
-            worked.works.more,
-            was.fates.items,
-            worked.made,
-            held.0,
-            worked.works.told,
-            worked.fates,
-            subst (λ (s : Option Stop). Works was.tries was.plans (told_of was.pass.known) was.fates.items s) held.1 left.works,
-            worked.works.holds,
-          );
-          whole = λ ended. whole_none now.stop
-              (λ holder stops. endless (drop (length was.fates.items) was.plans) worked.works.more worked.made holder
-              (subst (λ (s : Option Stop). Works NoLimit (drop (length was.fates.items) was.plans) worked.works.more worked.made s) stops worked.works.holds))
-              (sym is ∙ ended);
-        }
+        let held = left_busy done others was.stop now.stop end worth all some in
+        let late = drop (length was.fates.items) was.plans in (
+          worked.stopped,
+          worked.stop_is,
+          record {
+            number = worked.works.same.number ∙ left.number;
+            works = inr (
+              told_of was.pass.known,
+              worked.works.more,
+              was.fates.items,
+              worked.made,
+              held.0,
+              worked.works.told,
+              worked.fates,
+              subst (λ (s : Option Reply). Works was.tries was.plans (told_of was.pass.known) was.fates.items s) (busy_at left.stopped held.0 (sym left.stop_is ∙ held.1)) left.works,
+              worked.works.holds,
+            );
+            whole = λ ended. none_at worked.stopped (sym worked.stop_is ∙ whole_none now.stop
+                (λ holder stops. endless late worked.works.more worked.made holder
+                (subst (λ (s : Option Reply). Works NoLimit late worked.works.more worked.made s) (busy_at worked.stopped holder (sym worked.stop_is ∙ stops)) worked.works.holds))
+                (sym is ∙ ended));
+          },
+        )
 
   -- what was done before stays done
-  pub done_then : WentOn end was now next → (n : ℕ) (tries : Tries) (plans : List Plan) (fates : List Fate) (stops : Option Stop) (pass : PassView C) → IsDone end n tries plans fates stops pass → IsDone next n tries plans fates stops pass
-  done_then went n tries plans fates stops pass done = record { number = done.number; works = done.works; whole = λ all. done.whole (all_before went all) }
+  pub done_then : WentOn end was now next → (n : ℕ) (tries : Tries) (plans : List Plan) (fates : List Fate) (stopped : Option Reply) (pass : PassView C) → IsDone end n tries plans fates stopped pass → IsDone next n tries plans fates stopped pass
+  done_then went n tries plans fates stopped pass done = record { number = done.number; works = done.works; whole = λ all. done.whole (all_before went all) }

@@ -1,7 +1,7 @@
 -- What all callers' work comes to, from what each pass has come to and from the core that is given back.
 use Rattle.std.proofs.Common.{◌≡◌, ◌||◌, ℕ, zero, suc, ◌+◌, ◌<◌, ◌≤◌, eqb, Bool, true, false, List, [], ◌∷◌, ◌++◌, get_or, take, drop, length, map, Option, None, arith, refl, sym, ap, ◌∙◌, subst, eq-eqb}
-use Rattle.std.specs.Prelude.{if◌then◌else◌}
-use Rattle.std.proofs.lemmas.List.{append-nil, take_all}
+use Rattle.std.specs.Prelude.{if◌then◌else◌, option_map}
+use Rattle.std.proofs.lemmas.List.{append-nil, take_all, length-map}
 use Rattle.history.specs.Table.{Granted}
 use Rattle.history.specs.declared.call.Call.{Call}
 use Rattle.history.specs.declared.call.Reply.{Reply}
@@ -21,9 +21,10 @@ use Rattle.caller_plans.specs.declared.fate.Fate.{Fate}
 use Rattle.caller_work.specs.declared.stop.Stop.{Stop}
 use Rattle.caller_work.specs.declared.tries.Tries.TheVariants.{Times}
 use Rattle.caller_work.specs.declared.end.WorkEnd.{WorkEnd}
+use Rattle.caller_work.specs.Standing.{stop_for}
 use Rattle.caller_work.specs.Tries.{IsWork}
 use Rattle.caller_work.specs.Crew.{IsDone}
-use Rattle.caller_work.specs.Worked.{of_caller, worst, is_fault, Worked}
+use Rattle.caller_work.specs.Worked.{of_caller, end_of, worst, is_fault, Worked}
 use Rattle.caller_work.proofs.Ending.{fault_of_one, one_of_fault}
 use Rattle.caller_work.proofs.Faults.{in_work}
 
@@ -62,10 +63,10 @@ module _ {C : Type 0} where
   fits_at tells show setup turns state (q ∷ passes) zero p so within = so.0
   fits_at tells show setup turns state (q ∷ passes) (suc i) p so within = fits_at tells show setup turns state passes i p so.1 (omega arith)
 
-  module _ (tells : Bool) (show : C → CoreView) (mars : MarsView C) (last : C) (tries : ℕ) (plans : List (List Plan)) (told : List (List Fate)) (stops : List (Option Stop)) (passes : List (PassView C)) (end : WorkEnd)
-      (few : mars.setup.callers ≡ length plans) (each : length told ≡ length plans) (each_stops : length stops ≡ length plans) (both : length passes ≡ length plans)
-      (done : (k : ℕ) (p : PassView C) → k < length plans → IsDone end k (Times tries) (of_caller plans k) (of_caller told k) (get_or stops k None) (get_or passes k p))
-      (end_is : end ≡ worst stops)
+  module _ (tells : Bool) (show : C → CoreView) (mars : MarsView C) (last : C) (tries : ℕ) (plans : List (List Plan)) (told : List (List Fate)) (stopped : List (Option Reply)) (passes : List (PassView C)) (end : WorkEnd)
+      (few : mars.setup.callers ≡ length plans) (each : length told ≡ length plans) (each_stopped : length stopped ≡ length plans) (both : length passes ≡ length plans)
+      (done : (k : ℕ) (p : PassView C) → k < length plans → IsDone end k (Times tries) (of_caller plans k) (of_caller told k) (get_or stopped k None) (get_or passes k p))
+      (end_is : end ≡ worst (map (option_map stop_for) stopped))
       (since : Since tells (show mars.setup.first) (show last))
       (gathered : AreGathered tells show mars.setup last passes) where
     somebody : PassView C
@@ -84,11 +85,20 @@ module _ {C : Type 0} where
     turns = gathered.turns
 
     -- each caller's turns are those that its plans ask for
-    works : (k : ℕ) → k < length plans → IsWork (Times tries) (of_caller plans k) (turns_of k turns) (of_caller told k) (get_or stops k None)
+    works : (k : ℕ) → k < length plans → IsWork (Times tries) (of_caller plans k) (turns_of k turns) (of_caller told k) (get_or stopped k None)
     works k within =
         let d = done k somebody within in
         let fits = fits_at tells show mars.setup turns now passes k somebody gathered.each (omega arith) in
-        subst (λ (l : Granted). IsWork (Times tries) (of_caller plans k) l (of_caller told k) (get_or stops k None)) (told_all tells show mars.setup turns now (get_or passes k somebody).known fits ∙ ap (λ (n : ℕ). turns_of n turns) d.number) d.works
+        subst (λ (l : Granted). IsWork (Times tries) (of_caller plans k) l (of_caller told k) (get_or stopped k None)) (told_all tells show mars.setup turns now (get_or passes k somebody).known fits ∙ ap (λ (n : ℕ). turns_of n turns) d.number) d.works
+
+    -- the stop of each, from its reply
+    stop_at : (k : ℕ) → get_or (map (option_map stop_for) stopped) k None ≡ option_map stop_for (get_or stopped k None)
+    stop_at k = from stopped k
+      where
+        from : (xs : List (Option Reply)) (k : ℕ) → get_or (map (option_map stop_for) xs) k None ≡ option_map stop_for (get_or xs k None)
+        from [] k = refl
+        from (x ∷ xs) zero = refl
+        from (x ∷ xs) (suc k) = from xs k
 
     dead_is : now.is_dead ≡ has_fault turns
     dead_is = turns_dead tells limits first now turns gathered.run ∙ ap (λ b. b || has_fault turns) gathered.ready.alive
@@ -97,13 +107,13 @@ module _ {C : Type 0} where
     fault_told fault =
         let cause = told_by_some (λ (entry : Call × Reply). is_media entry.1) mars.setup.callers turns gathered.whose fault in
         let within : cause.0 < length plans = (let l = cause.1 in omega arith) in
-        ap is_fault end_is ∙ fault_of_one stops cause.0 None (omega arith) (sym (in_work (Times tries) (of_caller plans cause.0) (turns_of cause.0 turns) (of_caller told cause.0) (get_or stops cause.0 None) (works cause.0 within)) ∙ cause.2)
+        ap is_fault end_is ∙ fault_of_one (map (option_map stop_for) stopped) cause.0 None (let e = length-map stopped (option_map stop_for) in omega arith) (ap (λ (s : Option Stop). is_fault (end_of s)) (stop_at cause.0) ∙ sym (in_work (Times tries) (of_caller plans cause.0) (turns_of cause.0 turns) (of_caller told cause.0) (get_or stopped cause.0 None) (works cause.0 within)) ∙ cause.2)
 
     fault_true : is_fault end ≡ true → has_fault turns ≡ true
     fault_true fault =
-        let one = one_of_fault stops None (sym (ap is_fault end_is) ∙ fault) in
-        let within : one.0 < length plans = (let l = one.1 in omega arith) in
-        some_line (λ (entry : Call × Reply). is_media entry.1) one.0 turns (in_work (Times tries) (of_caller plans one.0) (turns_of one.0 turns) (of_caller told one.0) (get_or stops one.0 None) (works one.0 within) ∙ one.2)
+        let one = one_of_fault (map (option_map stop_for) stopped) None (sym (ap is_fault end_is) ∙ fault) in
+        let within : one.0 < length plans = (let l = one.1 in let e = length-map stopped (option_map stop_for) in omega arith) in
+        some_line (λ (entry : Call × Reply). is_media entry.1) one.0 turns (in_work (Times tries) (of_caller plans one.0) (turns_of one.0 turns) (of_caller told one.0) (get_or stopped one.0 None) (works one.0 within) ∙ sym (ap (λ (s : Option Stop). is_fault (end_of s)) (stop_at one.0)) ∙ one.2)
 
     fault_as : has_fault turns ≡ is_fault end
     fault_as = alike (has_fault turns) (is_fault end) fault_told fault_true
@@ -117,8 +127,8 @@ module _ {C : Type 0} where
       dead = dead_is ∙ fault_as;
       fault = fault_as;
       each = each;
-      stops = stops;
-      each_stops = each_stops;
+      stopped = stopped;
+      each_stopped = each_stopped;
       works = works;
       end_is = end_is;
       whole = λ all k within. (done k somebody within).whole all;

@@ -1,5 +1,6 @@
 -- What comes of all callers' plans over one core.
-use Rattle.std.specs.Prelude.{ℕ, ◌≡◌, ◌<◌, Bool, true, false, List, [], ◌∷◌, length, slice_index_or, Option, Some, None}
+use Rattle.std.specs.Prelude.{ℕ, ◌≡◌, ◌<◌, Bool, true, false, List, [], ◌∷◌, length, map, slice_index_or, Option, Some, None, option_map}
+use Rattle.history.specs.declared.call.Reply.{Reply}
 use Rattle.core_face.specs.Core.{CoreView}
 use Rattle.core_face.specs.Run.{Turn, GoesAlong, AreOf, turns_of, has_fault}
 use Rattle.mars_manager.specs.Sharing.{Since}
@@ -10,6 +11,7 @@ use Rattle.caller_work.specs.declared.stop.Stop.TheVariants as stop
 use Rattle.caller_work.specs.declared.tries.Tries.TheVariants.{Times}
 use Rattle.caller_work.specs.declared.end.WorkEnd.{WorkEnd}
 use Rattle.caller_work.specs.declared.end.WorkEnd.TheVariants as work
+use Rattle.caller_work.specs.Standing.{stop_for}
 use Rattle.caller_work.specs.Tries.{IsWork}
 
 -- the list of one caller, empty if there is none
@@ -51,8 +53,8 @@ pub record Worked (tells : Bool) (tries : ℕ) (plans : List (List Plan)) (first
   pub dead : last.state.is_dead ≡ is_fault end
   pub fault : has_fault turns ≡ is_fault end
   pub each : length fates ≡ length plans
-  pub stops : List (Option Stop)
-  pub each_stops : length stops ≡ length plans
-  pub works : (caller : ℕ) → caller < length plans → IsWork (Times tries) (of_caller plans caller) (turns_of caller turns) (of_caller fates caller) (slice_index_or stops caller None)
-  pub end_is : end ≡ worst stops
-  pub whole : end ≡ work.All → (caller : ℕ) → caller < length plans → slice_index_or stops caller None ≡ None
+  pub stopped : List (Option Reply)
+  pub each_stopped : length stopped ≡ length plans
+  pub works : (caller : ℕ) → caller < length plans → IsWork (Times tries) (of_caller plans caller) (turns_of caller turns) (of_caller fates caller) (slice_index_or stopped caller None)
+  pub end_is : end ≡ worst (map (option_map stop_for) stopped)
+  pub whole : end ≡ work.All → (caller : ℕ) → caller < length plans → slice_index_or stopped caller None ≡ None

@@ -106,11 +106,11 @@ module _ (tells : Bool) (core last : CoreView) (callers tries : ℕ) (input : Li
     each = worked.each ∙ counted;
     works = λ caller less.
         let within : caller < length plans = omega (arith, less, counted) in (
-          get_or worked.stops caller None,
-          subst (λ (all : List (List Plan)). IsWork (Times tries) (of_caller all caller) (turns_of caller worked.turns) (of_caller fates caller) (get_or worked.stops caller None)) plans_are (worked.works caller within),
+          get_or worked.stopped caller None,
+          subst (λ (all : List (List Plan)). IsWork (Times tries) (of_caller all caller) (turns_of caller worked.turns) (of_caller fates caller) (get_or worked.stopped caller None)) plans_are (worked.works caller within),
           (λ unbroken. worked.whole (whole unbroken) caller within),
         );
-    fault = (λ is. worked.fault ∙ ap is_fault (fault.0 is), λ has. fault.1 (fault_of end (sym worked.fault ∙ has)));
+    fault = (λ is. worked.dead ∙ ap is_fault (fault.0 is), λ has. fault.1 (fault_of end (sym worked.dead ∙ has)));
     tells = tells_work;
   }
 

@@ -6,12 +6,12 @@ use Rattle.pcm_media.specs.View.{View}
 use Rattle.array_shape.specs.declared.shape.Shape.{Shape}
 use Rattle.eaw_device.specs.Opens.{IsArray, HoldsArray}
 use Rattle.history.specs.Legal.{records}
+use Rattle.history.specs.declared.call.Reply.{Reply}
 use Rattle.core_face.specs.State.{State}
 use Rattle.core_face.specs.Room.{Limits}
-use Rattle.core_face.specs.Run.{Turn, AreOf, turns_of, has_fault}
+use Rattle.core_face.specs.Run.{Turn, AreOf, turns_of}
 use Rattle.caller_plans.specs.declared.fate.Fate.{Fate}
 use Rattle.caller_plans.specs.Plans.{AllSay, faults_from, plans_from}
-use Rattle.caller_work.specs.declared.stop.Stop.{Stop}
 use Rattle.caller_work.specs.declared.tries.Tries.TheVariants.{Times}
 use Rattle.caller_work.specs.Tries.{IsWork}
 use Rattle.caller_work.specs.Worked.{of_caller}
@@ -45,8 +45,8 @@ IsBrokenOff NoMemory = Unit {0}
 IsBrokenOff ended = ⊥
 
 -- What comes of the callers' work on a core of these limits, which has at least as many callers: what the lines of the input say, and that
--- each caller's turns are those that its plans ask for, of which its fates are told. The work ended at a fault of the medium exactly if a
--- turn reports one, and unless it broke off each caller came to the end of its plans. TellsWork says what the text is.
+-- each caller's turns are those that its plans ask for, of which its fates are told. The work ended at a fault of the medium exactly if the
+-- medium has failed, and unless it broke off each caller came to the end of its plans. TellsWork says what the text is.
 pub record JointWork (callers tries : ℕ) (input : List ℕ) (ended : Ended) (cut : Bool) (text : List ℕ) (limits : Limits) (turns : List Turn) (final : State) : Type 0 where
   pub enough : callers ≤ limits.callers
   pub said : List Line
@@ -54,9 +54,9 @@ pub record JointWork (callers tries : ℕ) (input : List ℕ) (ended : Ended) (c
   pub whose : AreOf callers turns
   pub fates : List (List Fate)
   pub each : length fates ≡ callers
-  pub works : (caller : ℕ) → caller < callers → (stops : Option Stop) × IsWork (Times tries) (of_caller (plans_from 0 callers said) caller) (turns_of caller turns) (of_caller fates caller) stops
-      × ((IsBrokenOff ended → ⊥) → stops ≡ None)
-  pub fault : (ended ≡ MediaFault) ↔ IsTrue (has_fault turns)
+  pub works : (caller : ℕ) → caller < callers → (stopped : Option Reply) × IsWork (Times tries) (of_caller (plans_from 0 callers said) caller) (turns_of caller turns) (of_caller fates caller) stopped
+      × ((IsBrokenOff ended → ⊥) → stopped ≡ None)
+  pub fault : (ended ≡ MediaFault) ↔ IsTrue final.is_dead
   pub tells : TellsWork ended cut text (work_text (faults_from 1 (λ caller. false) said) final.history fates (entries (records final.base final.history)))
       (flat_map done_lines final.history)
 
