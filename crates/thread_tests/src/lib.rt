@@ -16,3 +16,5 @@ mod holds;
 mod places;
 #[cfg(test)]
 mod sharing;
+#[cfg(test)]
+mod sleeping;

@@ -25,9 +25,9 @@ type Store = Eaw<HeldMedia<MemoryMedia>>;
 /// Callers that take turns on the records of an array.
 pub type Callers = Core<Store, BTreePages>;
 
-/// A core of two callers over a fresh array; `None` where memory is short.
+/// A core of three callers over a fresh array; `None` where memory is short.
 pub fn fresh(alloc: Global, hold: Arc<Hold, Global>) -> Option<Callers>
-    ensures { IfSome result (λ core. CanShare ⟦<Callers as Steps>⟧.tells 2 (⟦<Callers as Steps>⟧.view core)) }
+    ensures { IfSome result (λ core. CanShare ⟦<Callers as Steps>⟧.tells 3 (⟦<Callers as Steps>⟧.view core)) }
 {
     opened(alloc, fresh_store(alloc, hold)?)
 }
@@ -35,9 +35,9 @@ pub fn fresh(alloc: Global, hold: Arc<Hold, Global>) -> Option<Callers>
 fn fresh_store(alloc: Global, hold: Arc<Hold, Global>) -> Option<Store>
     ensures alive { IfSome result (λ store. IsAlive (⟦<Store as EawStore>⟧.view store)) }
     ensures free { IfSome result (λ store. (t : ℕ) → (⟦<Store as EawStore>⟧.view store).ranges t ≡ None) }
-    ensures enough { IfSome result (λ store. 2 ≤ (⟦<Store as EawStore>⟧.view store).shape.numbers) }
+    ensures enough { IfSome result (λ store. 3 ≤ (⟦<Store as EawStore>⟧.view store).shape.numbers) }
 {
-    let shape = Shape::new(1, 2, 8, 4).ok()?;
+    let shape = Shape::new(1, 3, 8, 4).ok()?;
     let zeros = vec![in alloc; 0; shape.media_len() as usize].ok()?;
     let mut media = MemoryMedia::new(alloc, &zeros, CALLS, WRITTEN).ok()?;
     if format(&mut media, &shape).is_err() {
@@ -46,18 +46,18 @@ fn fresh_store(alloc: Global, hold: Arc<Hold, Global>) -> Option<Store>
     let Ok(store) = Eaw::attach(alloc, HeldMedia::new(media, hold)) else {
         return None;
     };
-    if store.shape().numbers < 2 {
+    if store.shape().numbers < 3 {
         return None;
     }
     Some(store)
 }
 
-// A core of two callers at least over the records of a store.
+// A core of three callers at least over the records of a store.
 fn opened<S: EawStore + Drop>(alloc: Global, store: S) -> Option<Core<S, BTreePages>>
     requires alive { IsAlive (S.view store) }
     requires free { (t : ℕ) → (S.view store).ranges t ≡ None }
-    requires enough { 2 ≤ (S.view store).shape.numbers }
-    ensures shared { IfSome result (λ core. CanShare ⟦<Core<S, BTreePages> as Steps>⟧.tells 2 (⟦<Core<S, BTreePages> as Steps>⟧.view core)) }
+    requires enough { 3 ≤ (S.view store).shape.numbers }
+    ensures shared { IfSome result (λ core. CanShare ⟦<Core<S, BTreePages> as Steps>⟧.tells 3 (⟦<Core<S, BTreePages> as Steps>⟧.view core)) }
 {
     let room = SaveRoom::new(alloc).ok()?;
     match Core::attach(alloc, room, store) {
