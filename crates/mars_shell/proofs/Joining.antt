@@ -1,5 +1,5 @@
 -- The work of callers on threads over the records of a store, from what a core makes of it.
-use Rattle.std.proofs.Common.{◌≡◌, ◌↔◌, ℕ, zero, suc, ◌<◌, ◌≤◌, List, [], ◌∷◌, None, get_or, length, Bool, true, false, Result, Ok, Err, refl, sym, ap, subst, ◌∙◌, arith}
+use Rattle.std.proofs.Common.{◌≡◌, ◌↔◌, ℕ, zero, suc, ◌+◌, ◌<◌, ◌≤◌, List, [], ◌∷◌, None, get_or, length, Bool, true, false, Result, Ok, Err, refl, sym, ap, subst, ◌∙◌, arith}
 use Rattle.std.specs.Prelude.{IsTrue}
 use Rattle.std.specs.FinMap.{entries}
 use Rattle.std.specs.List.{flat_map}
@@ -45,6 +45,12 @@ use Rattle.mars_shell.proofs.Serving.{stands}
 pub as_many : (caller callers : ℕ) (said : List Line) → length (plans_from caller callers said) ≡ callers
 as_many caller zero said = refl
 as_many caller (suc callers) said = ap suc (as_many (suc caller) callers said)
+
+-- and these are a caller's plans
+pub plans_at : (first callers caller at : ℕ) (said : List Line) → caller < callers → first + caller ≡ at → of_caller (plans_from first callers said) caller ≡ planned None (calls_by at said)
+plans_at first zero caller at said less is = absurd (omega arith)
+plans_at first (suc callers) zero at said less is = ap (λ (n : ℕ). planned None (calls_by n said)) (let e : first ≡ at = omega arith in e)
+plans_at first (suc callers) (suc caller) at said less is = plans_at (suc first) callers caller at said (omega arith) (omega arith)
 
 -- work that came to its end did not break off
 pub unbroken : (ended : Ended) → ended ≡ ends.All → IsBrokenOff ended → ⊥
@@ -107,7 +113,7 @@ module _ (tells : Bool) (core last : CoreView) (callers tries : ℕ) (input : Li
     works = λ caller less.
         let within : caller < length plans = omega (arith, less, counted) in (
           get_or worked.stopped caller None,
-          subst (λ (all : List (List Plan)). IsWork (Times tries) (of_caller all caller) (turns_of caller worked.turns) (of_caller fates caller) (get_or worked.stopped caller None)) plans_are (worked.works caller within),
+          subst (λ (his : List Plan). IsWork (Times tries) his (turns_of caller worked.turns) (of_caller fates caller) (get_or worked.stopped caller None)) (ap (λ (all : List (List Plan)). of_caller all caller) plans_are ∙ plans_at 0 callers caller caller said less (omega arith)) (worked.works caller within),
           (λ unbroken. worked.whole (whole unbroken) caller within),
         );
     fault = (λ is. worked.dead ∙ ap is_fault (fault.0 is), λ has. fault.1 (fault_of end (sym worked.dead ∙ has)));

@@ -11,7 +11,7 @@ use Rattle.core_face.specs.State.{State}
 use Rattle.core_face.specs.Room.{Limits}
 use Rattle.core_face.specs.Run.{Turn, AreOf, turns_of}
 use Rattle.caller_plans.specs.declared.fate.Fate.{Fate}
-use Rattle.caller_plans.specs.Plans.{AllSay, faults_from, plans_from}
+use Rattle.caller_plans.specs.Plans.{planned, calls_by, AllSay, faults_from}
 use Rattle.caller_work.specs.declared.tries.Tries.TheVariants.{Times}
 use Rattle.caller_work.specs.Tries.{IsWork}
 use Rattle.caller_work.specs.Worked.{of_caller}
@@ -54,7 +54,7 @@ pub record JointWork (callers tries : ℕ) (input : List ℕ) (ended : Ended) (c
   pub whose : AreOf callers turns
   pub fates : List (List Fate)
   pub each : length fates ≡ callers
-  pub works : (caller : ℕ) → caller < callers → (stopped : Option Reply) × IsWork (Times tries) (of_caller (plans_from 0 callers said) caller) (turns_of caller turns) (of_caller fates caller) stopped
+  pub works : (caller : ℕ) → caller < callers → (stopped : Option Reply) × IsWork (Times tries) (planned None (calls_by caller said)) (turns_of caller turns) (of_caller fates caller) stopped
       × ((IsBrokenOff ended → ⊥) → stopped ≡ None)
   pub fault : (ended ≡ MediaFault) ↔ IsTrue final.is_dead
   pub tells : TellsWork ended cut text (work_text (faults_from 1 (λ caller. false) said) final.history fates (entries (records final.base final.history)))

@@ -9,6 +9,7 @@ mod fault;
 mod formatting;
 mod forms;
 mod joint;
+mod laws;
 mod lines;
 mod media_room;
 mod number_line;
@@ -23,6 +24,7 @@ mod whole;
 
 pub use caller_work::{Gate, OpenGate, Place};
 pub use fault::fault_text;
+pub use laws::what_callers_are_told;
 pub use media_room::room;
 pub use status::Status;
 pub use whole::run;
