@@ -103,8 +103,14 @@ fn work_under<
         Ok(core) => core,
         Err((fault, store)) => return (Err(fault), store),
     };
+    // Behind a pointer the core goes from thread to thread without a copy.
+    let core = match Box::new(alloc, core) {
+        Ok(core) => core,
+        Err(full) => return (Err(CoreFault::NoMemory), full.value.into_store()),
+    };
     match work(rt, alloc, core, plans, u64::from(tries), gate) {
         Ok((core, fates, end)) => {
+            let core = Box::into_inner(core);
             let ended = tell_end(
                 alloc,
                 sink,
@@ -116,7 +122,7 @@ fn work_under<
             );
             (Ok(ended), core.into_store())
         }
-        Err((NoMemory, core)) => (Err(CoreFault::NoMemory), core.into_store()),
+        Err((NoMemory, core)) => (Err(CoreFault::NoMemory), Box::into_inner(core).into_store()),
     }
 }
 
