@@ -2,9 +2,9 @@
 use Rattle.std.proofs.Common.{◌≡◌, ℕ, inl, inr, ⊎_elim, Bool, List, [], Result, Ok, Err, refl, sym, ◌∙◌, ap, subst}
 use Rattle.std.proofs.lemmas.Bool.{false≢true}
 use Rattle.std.specs.Prelude.{IsTrue, IsOk, IsErr, OnOk, OnErr}
-use Rattle.counted.specs.Causes.{Rose, HasCause}
-use Rattle.counted.specs.Moments.{Elapses}
-use Rattle.counted.proofs.Going.{weaker, then}
+use Rattle.mars_base.specs.Causes.{Rose, HasCause}
+use Rattle.mars_base.specs.Moments.{Elapses}
+use Rattle.mars_base.proofs.Going.{weaker, then}
 use Rattle.pcm_media.specs.Images.{Content, IsOutside, settled}
 use Rattle.pcm_media.specs.View.{View, Writes}
 use Rattle.pcm_media.proofs.Left.{touched_within, left_partly_on}

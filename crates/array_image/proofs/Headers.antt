@@ -1,6 +1,6 @@
 -- The header stays: only `format` writes into the first 512 bytes.
 use Rattle.std.proofs.Common.{◌≡◌, ℕ, ◌<◌, List, [], ◌∷◌, ◌++◌, arith}
-use Rattle.counted.specs.Bytes.{range}
+use Rattle.mars_base.specs.Bytes.{range}
 use Rattle.pcm_media.specs.Images.{Content, MayLeave, SameOutside, IsOutside, partly}
 use Rattle.pcm_media.proofs.Left.{outside-both}
 use Rattle.pcm_media.proofs.Ranges.{range_away}

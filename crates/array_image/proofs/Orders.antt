@@ -3,8 +3,8 @@ use Rattle.std.proofs.Common.{◌≡◌, ℕ, zero, suc, ◌+◌, ◌/◌, ◌%�
 use Rattle.std.specs.Prelude.{slice_index, nat_eq}
 use Rattle.std.proofs.lemmas.Bool.{cases_Bool, cases_eq, cases_lt, eq-eqb, ne_eqb, false≢true}
 use Rattle.std.proofs.lemmas.List.{ext_get_or, append-nil}
-use Rattle.counted.specs.Bytes.{put}
-use Rattle.counted.proofs.Puts.{length-put, get_or-put_inside}
+use Rattle.mars_base.specs.Bytes.{put}
+use Rattle.mars_base.proofs.Puts.{length-put, get_or-put_inside}
 use Rattle.pcm_media.proofs.Left.{get_or-put_outside}
 use Rattle.array_shape.specs.declared.shape.Shape.{Shape}
 use Rattle.array_shape.specs.Places.{data_len, logger_of, media_len}

@@ -1,6 +1,6 @@
 -- What an image of an array says: its rows, its cells and the parts in them, its data.
 use Rattle.std.specs.Prelude.{ℕ, zero, suc, ◌+◌, List, [], ◌∷◌, take, drop, slice_index}
-use Rattle.counted.specs.Bytes.{range}
+use Rattle.mars_base.specs.Bytes.{range}
 use Rattle.array_shape.specs.declared.shape.Shape.{Shape}
 use Rattle.array_shape.specs.Places.{row_at, cell_at, place_of, data_len}
 use Rattle.row_bytes.specs.declared.row.Row.{Row}

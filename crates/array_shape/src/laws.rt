@@ -1,6 +1,6 @@
 // Laws of the places of an array: each follows from the definitions alone.
 ghost use Rattle.std.specs.Prelude.{◌≡◌, ◌≢◌, ◌+◌, ◌/◌, ◌%◌, ◌<◌, ◌≤◌, ℕ, List, [], ◌∷◌, length};
-ghost use Rattle.counted.specs.Bytes.{put};
+ghost use Rattle.mars_base.specs.Bytes.{put};
 ghost use Rattle.array_shape.specs.Places.{logger_of, place_of, data_len};
 ghost use Rattle.array_shape.specs.Areas.{Area, page, HasArea, area_at, IsInMedia, AreApart};
 ghost use Rattle.array_shape.specs.Parts.{parts_of_write};

@@ -5,8 +5,8 @@ use Rattle.history.specs.Writes.{Table}
 use Rattle.history.specs.Table.{Granted, left_by}
 use Rattle.history.specs.Legal.{records, with_doubt}
 use Rattle.history.specs.declared.transaction.Done.{Done}
-use Rattle.core_face.specs.Core.{CoreView}
-use Rattle.core_face.specs.State.{calls_of, records_of, done_by}
+use Rattle.caller_steps.specs.Core.{CoreView}
+use Rattle.caller_steps.specs.State.{calls_of, records_of, done_by}
 use Rattle.bank.specs.Accounts.{sum_of, KeepsSum}
 use Rattle.bank.specs.Moves.{IsBalanced, Holds, MayGrow}
 use Rattle.bank.proofs.Sums.{sum_transfers, keeps_more}

@@ -6,8 +6,8 @@ use Rattle.history.specs.declared.call.Call.{Call}
 use Rattle.history.specs.declared.call.Reply.{Reply}
 use Rattle.history.specs.declared.call.Reply.TheVariants.{Media}
 use Rattle.history.specs.declared.transaction.Done.{Done}
-use Rattle.core_face.specs.Core.{CoreView, Continues}
-use Rattle.core_face.specs.State.{State, calls_of, records_of, done_by}
+use Rattle.caller_steps.specs.Core.{CoreView, Continues}
+use Rattle.caller_steps.specs.State.{State, calls_of, records_of, done_by}
 use Rattle.std.specs.FinMap.{get}
 use Rattle.history.specs.Writes.{Table}
 use Rattle.bank.specs.Accounts.{worth, KeepsSum, Transfers}

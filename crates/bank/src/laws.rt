@@ -1,15 +1,15 @@
 // What the sum law says about images.
 ghost use Rattle.std.specs.Prelude.{◌≡◌, ℕ, List};
 ghost use Rattle.history.specs.Writes.{Table};
-ghost use Rattle.core_face.specs.Core.{IsSafe};
-ghost use Rattle.core_face.specs.State.{Index, opened};
+ghost use Rattle.caller_steps.specs.Core.{IsSafe};
+ghost use Rattle.caller_steps.specs.State.{Index, opened};
 ghost use Rattle.bank.specs.Accounts.{sum_of};
 ghost use Rattle.bank.specs.Moves.{IsBalanced};
 
-use core_face::Core;
+use caller_steps::Core;
 
 /// A core begins with no transaction. If its transactions keep the sum, each image that a loss of power may leave opens with records of
-/// that sum, as long as the prefix law holds, as it does along all steps (`core_face::prefix_law`).
+/// that sum, as long as the prefix law holds, as it does along all steps (`caller_steps::prefix_law`).
 pub fn every_image_keeps_the_sum<C: Core>()
     ensures begun { (base : Table) (index : Index) → IsBalanced (opened base index) }
     ensures images { (core : C) (since least : ℕ) (image : List ℕ) → IsBalanced (C.view core).state → IsSafe (C.view core) since least → (C.view core).left_since since image

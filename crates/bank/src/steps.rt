@@ -2,14 +2,14 @@
 ghost use Rattle.std.specs.Prelude.{◌≡◌, ◌<◌, ◌++◌, [], ◌∷◌, false, ℕ, List, Some, None, IsTrue, IfOk, IfErr, OnOk, OnErr, decimal};
 ghost use Rattle.history.specs.declared.call.Call.TheVariants.{Get, Put};
 ghost use Rattle.history.specs.declared.call.Reply.TheVariants.{Fine, Found};
-ghost use Rattle.core_face.specs.Core.{Continues};
-ghost use Rattle.core_face.specs.Sound.{IsSound};
-ghost use Rattle.core_face.specs.State.{calls_of, done_by};
+ghost use Rattle.caller_steps.specs.Core.{Continues};
+ghost use Rattle.caller_steps.specs.Sound.{IsSound};
+ghost use Rattle.caller_steps.specs.State.{calls_of, done_by};
 ghost use Rattle.bank.specs.Accounts.{worth};
 ghost use Rattle.bank.specs.Moves.{Stays, Adds, IsEnded, MayDoubtOwn, MayGrow, IsOfCore, IsOfRead};
 
 use crate::accounts::{Refusal, number_in, value_of};
-use core_face::{Core, prefix_law};
+use caller_steps::{Core, prefix_law};
 use history::{Call, Reply};
 
 // Begins a transaction.

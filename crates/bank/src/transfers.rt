@@ -1,15 +1,15 @@
 // A transfer from one account to another.
 ghost use Rattle.std.specs.Prelude.{◌≡◌, ◌≢◌, ◌<◌, [], List, ℕ, Some, None, IsTrue, IfOk, IfErr, OnOk, OnErr};
 ghost use Rattle.std.specs.FinMap.{get};
-ghost use Rattle.core_face.specs.Core.{Continues};
-ghost use Rattle.core_face.specs.Sound.{IsSound};
-ghost use Rattle.core_face.specs.State.{records_of};
+ghost use Rattle.caller_steps.specs.Core.{Continues};
+ghost use Rattle.caller_steps.specs.Sound.{IsSound};
+ghost use Rattle.caller_steps.specs.State.{records_of};
 ghost use Rattle.bank.specs.Accounts.{worth};
 ghost use Rattle.bank.specs.Moves.{IsBalanced, Stays, Holds, Commits, IsEnded, MayDoubt, IsRefused};
 
 use crate::accounts::Refusal;
 use crate::steps::{abort, begin, commit, read, write};
-use core_face::{Core, prefix_law};
+use caller_steps::{Core, prefix_law};
 
 /// Moves an amount from one account to another, as one transaction of the caller, which must have none live.
 pub fn transfer<C: Core>(

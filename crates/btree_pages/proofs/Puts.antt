@@ -1,7 +1,7 @@
 -- Writes to disjoint ranges.
 use Rattle.std.proofs.Common.{◌≡◌, ℕ, ◌+◌, ◌≤◌, List, [], ◌∷◌, length, refl, sym, ◌∙◌, subst}
-use Rattle.counted.specs.Bytes.{put, range}
-use Rattle.counted.proofs.Puts.{length-put}
+use Rattle.mars_base.specs.Bytes.{put, range}
+use Rattle.mars_base.proofs.Puts.{length-put}
 use Rattle.array_shape.specs.Logged.{Part, applied, AllFit}
 use Rattle.index_pages.proofs.Ranges.{Apart, range_away, range_here}
 

@@ -1,10 +1,10 @@
 ghost use Rattle.std.specs.Prelude.{◌≡◌, ◌<◌, IsTrue};
-ghost use Rattle.core_face.specs.Sound.{IsSound};
+ghost use Rattle.caller_steps.specs.Sound.{IsSound};
 
 use crate::arrays::{CHOICES, fresh, media_of};
 use crate::opening::open_bank;
 use bank::{Refusal, balance, transfer};
-use core_face::{Core as Steps, prefix_law};
+use caller_steps::{Core as Steps, prefix_law};
 use history::Call;
 use pcm_media::{FusedMedia, MemoryMedia};
 use record_slots::Value;

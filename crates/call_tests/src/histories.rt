@@ -1,5 +1,5 @@
-use counted::NoMemory;
 use history::{Call, Calls, Done, History, Reply, Rows, is_legal, play};
+use mars_base::NoMemory;
 use record_slots::Value;
 use std::alloc::Global;
 use std::test::Fail;

@@ -1,9 +1,9 @@
 // A bank over a media.
 ghost use Rattle.std.specs.Prelude.{◌<◌, IfSome, IsTrue};
-ghost use Rattle.core_face.specs.Sound.{IsSound};
+ghost use Rattle.caller_steps.specs.Sound.{IsSound};
 
 use btree_pages::BTreePages;
-use core_face::{Core as Steps, steps_keep_all_sound};
+use caller_steps::{Core as Steps, steps_keep_all_sound};
 use eaw_device::Eaw;
 use eaw_face::EawStore;
 use mars_core::Core;

@@ -5,8 +5,8 @@ ghost use Rattle.caller_plans.specs.Plans.{is_stray, within_after};
 ghost use Rattle.caller_plans.specs.Drafts.{empty_draft, drafted, is_within, plan_ended};
 
 use crate::plan::{Asked, Plan, PlanEnd, Plans};
-use counted::NoMemory;
 use history::Call;
+use mars_base::NoMemory;
 use std::alloc::Global;
 
 /// A caller's plans so far, and the calls of the transaction that it is within.

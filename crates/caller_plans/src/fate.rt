@@ -1,8 +1,8 @@
 // What becomes of the lines of a script.
 ghost use Rattle.std.specs.Prelude.{◌≡◌, [], ◌∷◌, ◌++◌, OnOk, OnErr};
 
-use counted::NoMemory;
 use history::Reply;
+use mars_base::NoMemory;
 use std::alloc::Global;
 use std::marker::Model;
 

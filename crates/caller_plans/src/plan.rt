@@ -4,8 +4,8 @@ ghost use Rattle.history.specs.declared.call.Call.{Call};
 ghost use Rattle.caller_plans.specs.declared.plan.Plan.{Plan};
 ghost use Rattle.caller_plans.specs.Plans.{is_of_table, IsPlain, ArePlain};
 
-use counted::NoMemory;
 use history::Call;
+use mars_base::NoMemory;
 use std::alloc::Global;
 use std::marker::Model;
 

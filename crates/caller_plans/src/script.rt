@@ -9,8 +9,8 @@ ghost use Rattle.caller_plans.specs.Drafts.{empty_draft, all_drafted, IsAmong, T
 use crate::draft::Draft;
 use crate::fate::{LineFault, LineFaults};
 use crate::plan::Plans;
-use counted::NoMemory;
 use history::Call;
+use mars_base::NoMemory;
 use script_io::next_line;
 use script_text::{Line, read_line};
 use std::alloc::Global;

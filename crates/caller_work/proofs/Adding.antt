@@ -4,7 +4,7 @@ use Rattle.std.proofs.lemmas.List.{append-nil}
 use Rattle.history.specs.Table.{Granted}
 use Rattle.history.specs.declared.call.Call.{Call}
 use Rattle.history.specs.declared.call.Reply.{Reply}
-use Rattle.core_face.specs.Core.{CoreView}
+use Rattle.caller_steps.specs.Core.{CoreView}
 use Rattle.mars_manager.specs.declared.view.Known.{Known}
 use Rattle.mars_manager.specs.Pass.{PassView, told_of}
 use Rattle.mars_manager.specs.Sharing.{Called}

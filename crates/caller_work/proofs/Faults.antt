@@ -8,8 +8,8 @@ use Rattle.history.specs.declared.call.Call.{Call}
 use Rattle.history.specs.declared.call.Call.TheVariants.{Begin, Abort}
 use Rattle.history.specs.declared.call.Reply.{Reply}
 use Rattle.history.specs.declared.call.Reply.TheVariants as says
-use Rattle.core_face.specs.Fate.{is_media, is_refusal}
-use Rattle.core_face.specs.Own.{has_media}
+use Rattle.caller_steps.specs.Fate.{is_media, is_refusal}
+use Rattle.caller_steps.specs.Own.{has_media}
 use Rattle.caller_plans.specs.declared.plan.Plan.{Plan}
 use Rattle.caller_plans.specs.declared.plan.PlanEnd.{PlanEnd}
 use Rattle.caller_plans.specs.declared.plan.PlanEnd.TheVariants as end

@@ -12,16 +12,16 @@ use Rattle.history.specs.declared.call.Call.TheVariants.{Begin, Commit, Abort}
 use Rattle.history.specs.declared.call.Reply.{Reply}
 use Rattle.history.specs.declared.call.Reply.TheVariants as says
 use Rattle.history.specs.declared.transaction.Done.{Done}
-use Rattle.core_face.specs.State.{State}
-use Rattle.core_face.specs.Room.{Limits}
-use Rattle.core_face.specs.Step.{Step, Runs}
-use Rattle.core_face.specs.Fate.{is_refusal, is_media, is_committed, live_with}
-use Rattle.core_face.specs.Run.{Turn, turns_of, commits_of}
-use Rattle.core_face.specs.Own.{is_commit, Own, nothing_own, own_after, live_after, number_of}
-use Rattle.core_face.proofs.Fates.{Fate as Moved, step_fate, refusal_none, answer_plain}
-use Rattle.core_face.proofs.Fates.Fate.{refused, failed, began, granted, committed, doubted, aborted}
-use Rattle.core_face.proofs.Running.{turns_of_runs}
-use Rattle.core_face.proofs.Owning.{turns_mine}
+use Rattle.caller_steps.specs.State.{State}
+use Rattle.caller_steps.specs.Room.{Limits}
+use Rattle.caller_steps.specs.Step.{Step, Runs}
+use Rattle.caller_steps.specs.Fate.{is_refusal, is_media, is_committed, live_with}
+use Rattle.caller_steps.specs.Run.{Turn, turns_of, commits_of}
+use Rattle.caller_steps.specs.Own.{is_commit, Own, nothing_own, own_after, live_after, number_of}
+use Rattle.caller_steps.proofs.Fates.{Fate as Moved, step_fate, refusal_none, answer_plain}
+use Rattle.caller_steps.proofs.Fates.Fate.{refused, failed, began, granted, committed, doubted, aborted}
+use Rattle.caller_steps.proofs.Running.{turns_of_runs}
+use Rattle.caller_steps.proofs.Owning.{turns_mine}
 use Rattle.caller_plans.specs.declared.plan.Plan.{Plan}
 use Rattle.caller_plans.specs.declared.plan.PlanEnd.{PlanEnd}
 use Rattle.caller_plans.specs.declared.plan.PlanEnd.TheVariants as end

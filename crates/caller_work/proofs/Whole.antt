@@ -5,13 +5,13 @@ use Rattle.std.proofs.lemmas.List.{append-nil, take_all, length-map}
 use Rattle.history.specs.Table.{Granted}
 use Rattle.history.specs.declared.call.Call.{Call}
 use Rattle.history.specs.declared.call.Reply.{Reply}
-use Rattle.core_face.specs.State.{State}
-use Rattle.core_face.specs.Room.{Limits}
-use Rattle.core_face.specs.Core.{CoreView}
-use Rattle.core_face.specs.Fate.{is_media}
-use Rattle.core_face.specs.Run.{Turn, AreOf, turns_of, has_fault}
-use Rattle.core_face.proofs.Running.{turns_dead}
-use Rattle.core_face.proofs.Telling.{told_by_some, some_line}
+use Rattle.caller_steps.specs.State.{State}
+use Rattle.caller_steps.specs.Room.{Limits}
+use Rattle.caller_steps.specs.Core.{CoreView}
+use Rattle.caller_steps.specs.Fate.{is_media}
+use Rattle.caller_steps.specs.Run.{Turn, AreOf, turns_of, has_fault}
+use Rattle.caller_steps.proofs.Running.{turns_dead}
+use Rattle.caller_steps.proofs.Telling.{told_by_some, some_line}
 use Rattle.mars_manager.specs.declared.setup.Setup.{Setup}
 use Rattle.mars_manager.specs.Pass.{PassView, Fits, AreSo, known_of, times, newcomer}
 use Rattle.mars_manager.specs.Sharing.{MarsView, Since, AreGathered}

@@ -1,8 +1,8 @@
 -- What comes of all callers' plans over one core.
 use Rattle.std.specs.Prelude.{ℕ, ◌≡◌, ◌<◌, Bool, true, false, List, [], ◌∷◌, length, map, slice_index_or, Option, Some, None, option_map}
 use Rattle.history.specs.declared.call.Reply.{Reply}
-use Rattle.core_face.specs.Core.{CoreView}
-use Rattle.core_face.specs.Run.{Turn, GoesAlong, AreOf, turns_of, has_fault}
+use Rattle.caller_steps.specs.Core.{CoreView}
+use Rattle.caller_steps.specs.Run.{Turn, GoesAlong, AreOf, turns_of, has_fault}
 use Rattle.mars_manager.specs.Sharing.{Since}
 use Rattle.caller_plans.specs.declared.plan.Plan.{Plan}
 use Rattle.caller_plans.specs.declared.fate.Fate.{Fate}

@@ -2,7 +2,7 @@
 use Rattle.std.proofs.Common.{◌≡◌, ℕ, ◌+◌, ◌<◌, ◌≤◌, Bool, true, false, cond, inl, inr, ⊎_elim, List, [], ◌∷◌, length, ◌∙◌, ap, subst, arith}
 use Rattle.std.specs.Prelude.{slice_index, nat_lt}
 use Rattle.std.proofs.lemmas.List.{}
-use Rattle.counted.proofs.Going.{weaker}
+use Rattle.mars_base.proofs.Going.{weaker}
 use Rattle.pcm_media.specs.Images.{Content, MayLeave, IsOutside, Touched, partly}
 use Rattle.pcm_media.specs.View.{View, LeavesOnly}
 use Rattle.pcm_media.proofs.Left.{outside-append}

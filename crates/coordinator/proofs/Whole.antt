@@ -1,7 +1,7 @@
 -- A commit from its phases: what it does, whatever phase it comes to.
 use Rattle.std.proofs.Common.{◌≡◌, ℕ, ◌<◌, Bool, true, false, List, [], length, Result, Ok, Err, sym, subst}
 use Rattle.std.specs.Prelude.{IsTrue, IsOk, IsErr}
-use Rattle.counted.proofs.Going.{then}
+use Rattle.mars_base.proofs.Going.{then}
 use Rattle.pcm_media.specs.Images.{IsOutside, Touched}
 use Rattle.pcm_media.specs.View.{View, LeavesOnly, Writes}
 use Rattle.pcm_media.proofs.Writing.{writes_none}

@@ -1,6 +1,6 @@
 // A commit: the rows, the votes, the parts into the data, the votes cleared, each followed by a barrier.
 ghost use Rattle.std.specs.Prelude.{◌≡◌, ◌+◌, ◌*◌, ◌≤◌, ◌<◌, ℕ, Ok, length, slice_index, sum, IsTrue, OnOk};
-ghost use Rattle.counted.specs.Costs.{Costs};
+ghost use Rattle.mars_base.specs.Costs.{Costs};
 ghost use Rattle.pcm_media.specs.View.{View, LeavesOnly, Writes};
 ghost use Rattle.array_shape.specs.Places.{media_len};
 ghost use Rattle.array_shape.specs.Logged.{applied};
@@ -13,7 +13,7 @@ ghost use Rattle.coordinator.specs.Costs.{voters, commit_calls};
 use crate::mask::mask_of;
 use crate::phases::{install, prepare, set_votes};
 use array_shape::Shape;
-use counted::Failed;
+use mars_base::Failed;
 use pcm_media::Media;
 
 /// Commits the parts in the cells that `firsts` and `counts` name: for each logger its first cell and how many cells. If power

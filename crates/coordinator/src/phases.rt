@@ -1,6 +1,6 @@
 // The four phases of a commit: calls at each logger with a count, then a barrier.
 ghost use Rattle.std.specs.Prelude.{◌≡◌, ◌+◌, ◌*◌, ◌≤◌, ◌<◌, [], ◌∷◌, ℕ, true, length, slice_index, sum, IsTrue, OnOk};
-ghost use Rattle.counted.specs.Costs.{Costs};
+ghost use Rattle.mars_base.specs.Costs.{Costs};
 ghost use Rattle.pcm_media.specs.View.{View, Writes};
 ghost use Rattle.array_shape.specs.Places.{media_len};
 ghost use Rattle.array_shape.specs.Logged.{applied, places_of};
@@ -10,8 +10,8 @@ ghost use Rattle.coordinator.specs.Between.{body_places, vote_places, HaveNames,
 ghost use Rattle.coordinator.specs.Costs.{voters};
 
 use array_shape::Shape;
-use counted::Failed;
 use logger::Logger;
+use mars_base::Failed;
 use pcm_media::Media;
 
 // Writes the rows without their votes.

@@ -1,7 +1,7 @@
 -- What the data of an array says as a counter.
 use Rattle.std.specs.Prelude.{ℕ, ◌≡◌, ◌+◌, ◌^◌, ◌⊎◌, Bool, true, false, IsTrue, List, take, drop, None}
-use Rattle.counted.specs.Bytes.{range, put}
-use Rattle.counted.specs.Causes.{Rose}
+use Rattle.mars_base.specs.Bytes.{range, put}
+use Rattle.mars_base.specs.Causes.{Rose}
 use Rattle.byteorder.specs.Endian.{little_number, little_bytes}
 use Rattle.eaw_face.specs.StoreView.{StoreView}
 use Rattle.eaw_face.specs.declared.fault.EawFault.{EawFault}

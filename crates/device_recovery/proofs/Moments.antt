@@ -1,7 +1,7 @@
 -- What recovery leaves while it applies parts and clears votes, and what holds after that.
 use Rattle.std.proofs.Common.{◌≡◌, ℕ, List, [], length, refl, sym, ◌∙◌, subst, arith}
 use Rattle.std.proofs.lemmas.List.{ext_get_or}
-use Rattle.counted.proofs.Going.{weaker}
+use Rattle.mars_base.proofs.Going.{weaker}
 use Rattle.pcm_media.specs.Images.{Content, MayLeave, SameOutside, IsOutside, Touched, partly}
 use Rattle.pcm_media.specs.View.{View, LeavesOnly}
 use Rattle.pcm_media.proofs.Left.{outside-append, outside-both, left_as_read}

@@ -14,7 +14,7 @@ ghost use Rattle.device_recovery.specs.declared.report.RecoverFault.TheVariants.
 use crate::report::RecoverFault;
 use crate::table::{MOST, is_decided, row_in};
 use array_shape::Shape;
-use counted::Failed;
+use mars_base::Failed;
 use pcm_media::Media;
 use row_bytes::{Head, Row, read_head};
 

@@ -1,6 +1,6 @@
 // Reads the rows of an array.
 ghost use Rattle.std.specs.Prelude.{◌≡◌, ◌≢◌, ◌+◌, ◌*◌, ◌<◌, ◌≤◌, [], ℕ, true, IsTrue, IfOk, OnOk};
-ghost use Rattle.counted.specs.Costs.{Costs};
+ghost use Rattle.mars_base.specs.Costs.{Costs};
 ghost use Rattle.pcm_media.specs.View.{Writes};
 ghost use Rattle.array_shape.specs.Places.{media_len};
 ghost use Rattle.array_image.specs.Image.{row_of};
@@ -8,7 +8,7 @@ ghost use Rattle.device_recovery.specs.Table.{row_in, RowsAre};
 
 use crate::table::{MOST, place};
 use array_shape::Shape;
-use counted::Failed;
+use mars_base::Failed;
 use pcm_media::Media;
 use row_bytes::{Row, read_row};
 

@@ -1,6 +1,6 @@
 // Recovery of an array.
 ghost use Rattle.std.specs.Prelude.{◌≡◌, ◌+◌, ◌<◌, ◌≤◌, ◌⊎◌, [], ℕ, List, true, IsTrue, IfOk, IfErr, OnOk, OnErr};
-ghost use Rattle.counted.specs.Costs.{Costs};
+ghost use Rattle.mars_base.specs.Costs.{Costs};
 ghost use Rattle.pcm_media.specs.Images.{MayLeave, IsOutside, Touched};
 ghost use Rattle.pcm_media.specs.View.{View, LeavesOnly, Writes};
 ghost use Rattle.array_shape.specs.Places.{media_len};
@@ -19,7 +19,7 @@ use crate::report::{RecoverFault, Report};
 use crate::settling::{settle_data, settle_votes};
 use crate::table::MOST;
 use array_shape::Shape;
-use counted::Failed;
+use mars_base::Failed;
 use pcm_media::Media;
 use row_bytes::Row;
 

@@ -1,5 +1,5 @@
 // What recovery answers.
-use counted::Failed;
+use mars_base::Failed;
 use thiserror::Error;
 
 /// The voted rows that recovery found.

@@ -11,8 +11,8 @@ ghost use Rattle.device_recovery.specs.Recovered.{AllGood, HasNoVote, number_vot
 
 use crate::table::{MOST, is_decided, row_in};
 use array_shape::Shape;
-use counted::Failed;
 use logger::Logger;
+use mars_base::Failed;
 use pcm_media::Media;
 use row_bytes::Row;
 

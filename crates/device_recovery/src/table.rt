@@ -7,7 +7,7 @@ ghost use Rattle.array_image.specs.Decided.{has_logger, all_below, agrees};
 ghost use Rattle.device_recovery.specs.Table.{row_in, RowsAre, decided_in};
 
 use array_shape::Shape;
-use counted::Failed;
+use mars_base::Failed;
 use pcm_media::Media;
 use row_bytes::Row;
 

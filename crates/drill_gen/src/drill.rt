@@ -5,7 +5,7 @@ ghost use Rattle.drill_gen.specs.Drill.{drill, one_by_one, in_pairs};
 use crate::draws::Draws;
 use crate::transaction::{draw_transaction, push_alone, push_pair};
 use crate::turns::Turns;
-use counted::NoMemory;
+use mars_base::NoMemory;
 use std::alloc::Global;
 
 /// The script of `transactions` transactions, drawn from a seed below 2^31. With at least two callers they come in pairs of callers 0 and

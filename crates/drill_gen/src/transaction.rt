@@ -7,9 +7,9 @@ ghost use Rattle.drill_gen.specs.Drill.{alone, paired, drawn_from, put_of, end_o
 
 use crate::draws::Draws;
 use crate::turns::Turns;
-use counted::NoMemory;
 use history::Call;
 use itoa::Buffer;
+use mars_base::NoMemory;
 use record_slots::Value;
 
 // Keys are below this.

@@ -1,7 +1,7 @@
 ghost use Rattle.std.specs.Prelude.{◌≡◌, [], ◌∷◌, ◌++◌, OnOk, OnErr};
 
-use counted::NoMemory;
 use history::Call;
+use mars_base::NoMemory;
 use std::alloc::Global;
 use std::marker::Model;
 

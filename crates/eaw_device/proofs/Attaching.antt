@@ -1,7 +1,7 @@
 -- Why an opening was refused, and the header of what it leaves.
 use Rattle.std.proofs.Common.{◌≡◌, ◌≢◌, ℕ, ◌≤◌, ◌⊎◌, inl, inr, ⊎_elim, Bool, List, [], Err, Result, refl, sym, ◌∙◌, subst, arith}
 use Rattle.std.specs.Prelude.{IsTrue, OnOk, OnErr}
-use Rattle.counted.specs.Causes.{Rose}
+use Rattle.mars_base.specs.Causes.{Rose}
 use Rattle.pcm_media.specs.Images.{Content, IsOutside, Touched}
 use Rattle.pcm_media.specs.View.{View, Writes}
 use Rattle.pcm_media.proofs.Left.{outside-both, same_bytes, touched_after_nothing}

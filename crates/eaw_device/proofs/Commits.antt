@@ -2,8 +2,8 @@
 use Rattle.std.proofs.Common.{◌≡◌, ℕ, Bool, true, false, List, length, take, drop, Result, Ok, Err, refl, sym, ◌∙◌, ap, subst, arith}
 use Rattle.std.specs.Prelude.{IsTrue, slice_set}
 use Rattle.std.specs.Option.{option_map}
-use Rattle.counted.specs.Causes.{Rose}
-use Rattle.counted.proofs.Going.{stays}
+use Rattle.mars_base.specs.Causes.{Rose}
+use Rattle.mars_base.proofs.Going.{stays}
 use Rattle.pcm_media.specs.View.{View, LeavesOnly}
 use Rattle.array_shape.specs.declared.shape.Shape.{Shape}
 use Rattle.array_shape.specs.Places.{media_len}

@@ -2,7 +2,7 @@
 use Rattle.std.proofs.Common.{◌≡◌, ℕ, ◌-◌, ◌<◌, Bool, false, Result, Ok, Err, List, length, take, drop, sym, ◌∙◌, ap, arith}
 use Rattle.std.specs.Prelude.{slice_index, is_err}
 use Rattle.std.proofs.lemmas.Bool.{false≢true}
-use Rattle.counted.specs.Costs.{Costs}
+use Rattle.mars_base.specs.Costs.{Costs}
 use Rattle.std.proofs.lemmas.List.{ext_get_or}
 use Rattle.std.proofs.lemmas.List.FromFn.{length-range_with_len, length-map-range_with_len, get_or-map-range_with_len}
 use Rattle.array_shape.specs.declared.shape.Shape.{Shape}

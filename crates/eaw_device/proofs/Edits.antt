@@ -6,10 +6,10 @@ use Rattle.std.specs.List.{range_with_len}
 use Rattle.std.proofs.lemmas.Bool.{cases_lt, cases_eq, eq-eqb, ne_eqb}
 use Rattle.std.proofs.lemmas.List.{ext_get_or, get_or-take, get_or-drop, length-take, length-take-le, length-drop, take_min}
 use Rattle.std.proofs.lemmas.Option.{slice_get_within}
-use Rattle.counted.specs.Causes.{Rose}
-use Rattle.counted.specs.Bytes.{put}
+use Rattle.mars_base.specs.Causes.{Rose}
+use Rattle.mars_base.specs.Bytes.{put}
 use Rattle.pcm_media.specs.View.{View, Writes, LeavesOnly}
-use Rattle.counted.proofs.Puts.{length-put, get_or-put_before, get_or-put_after, get_or-put_inside}
+use Rattle.mars_base.proofs.Puts.{length-put, get_or-put_before, get_or-put_after, get_or-put_inside}
 use Rattle.array_shape.specs.declared.shape.Shape.{Shape}
 use Rattle.array_shape.specs.Places.{media_len, cell_at, logger_of, IsShape}
 use Rattle.row_bytes.proofs.Saying.{head_said-same}

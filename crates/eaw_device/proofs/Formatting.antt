@@ -1,7 +1,7 @@
 -- What a fresh array opens as, and what formatting it may leave.
 use Rattle.std.proofs.Common.{◌≡◌, ℕ, false, inl, inr, List, [], ◌∷◌, length, replicate, refl, sym, ◌∙◌, ap, subst, arith}
 use Rattle.std.proofs.lemmas.List.{ext_get_or}
-use Rattle.counted.proofs.Going.{weaker, then}
+use Rattle.mars_base.proofs.Going.{weaker, then}
 use Rattle.pcm_media.specs.Images.{Content, MayLeave, IsOutside, partly}
 use Rattle.pcm_media.specs.View.{View, LeavesOnly}
 use Rattle.array_shape.specs.declared.shape.Shape.{Shape}

@@ -2,9 +2,9 @@
 use Rattle.std.proofs.Common.{◌≡◌, ℕ, zero, suc, ◌+◌, ◌-◌, ◌*◌, ◌<◌, ◌≤◌, inl, inr, List, [], ◌∷◌, length, get_or, refl, sym, ap, ◌∙◌, arith, replicate, below_more}
 use Rattle.std.proofs.lemmas.Bool.{cases_lt, cases_eq}
 use Rattle.std.proofs.lemmas.List.{ext_get_or, get_or-replicate, length-replicate}
-use Rattle.counted.specs.Bytes.{put, range}
+use Rattle.mars_base.specs.Bytes.{put, range}
 use Rattle.pcm_media.specs.Images.{SameOutside, IsOutside}
-use Rattle.counted.proofs.Puts.{length-put, get_or-put_inside}
+use Rattle.mars_base.proofs.Puts.{length-put, get_or-put_inside}
 use Rattle.pcm_media.proofs.Left.{same_outside-put}
 use Rattle.pcm_media.proofs.Ranges.{length-range, get_or-range, range_away, range-put}
 use Rattle.array_shape.specs.declared.shape.Shape.{Shape}

@@ -2,7 +2,7 @@
 use Rattle.std.proofs.Common.{◌≡◌, ℕ, zero, suc, ◌<◌, Bool, true, false, List, [], ◌∷◌, length, get_or, Result, Ok, Err, refl, sym, ◌∙◌, ap, subst, arith}
 use Rattle.std.specs.Prelude.{IsTrue, slice_get, slice_index, Some}
 use Rattle.std.specs.Option.{option_map}
-use Rattle.counted.specs.Causes.{Rose}
+use Rattle.mars_base.specs.Causes.{Rose}
 use Rattle.pcm_media.specs.View.{View, Writes, LeavesOnly}
 use Rattle.pcm_media.proofs.Left.{same_bytes}
 use Rattle.array_shape.specs.declared.shape.Shape.{Shape}

@@ -1,7 +1,7 @@
 -- What an opening keeps of what an array stands for, step by step.
 use Rattle.std.proofs.Common.{◌≡◌, ℕ, Bool, List, [], Result, sym, ◌∙◌, subst}
 use Rattle.std.specs.Prelude.{IsTrue}
-use Rattle.counted.proofs.Going.{weaker, then}
+use Rattle.mars_base.proofs.Going.{weaker, then}
 use Rattle.pcm_media.specs.Images.{Content, MayLeave, Touched}
 use Rattle.pcm_media.specs.View.{View, LeavesOnly, Writes}
 use Rattle.pcm_media.proofs.Left.{left_as_read, left_before}

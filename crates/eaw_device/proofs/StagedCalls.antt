@@ -2,7 +2,7 @@
 use Rattle.std.proofs.Common.{◌≡◌, ℕ, ◌+◌, ◌<◌, ◌≤◌, Bool, true, false, inl, inr, List, length, Result, Ok, Err, refl, sym, ap, subst, ◌∙◌, arith}
 use Rattle.std.specs.Prelude.{IsTrue, OnOk, IfErr, is_err, IsOk, slice_index}
 use Rattle.std.proofs.lemmas.Bool.{cases_eq, false≢true}
-use Rattle.counted.specs.declared.Failed.{Failed}
+use Rattle.mars_base.specs.declared.Failed.{Failed}
 use Rattle.pcm_media.specs.View.{View, Writes}
 use Rattle.array_shape.specs.declared.shape.Shape.{Shape}
 use Rattle.array_shape.specs.Parts.{write_parts_on}

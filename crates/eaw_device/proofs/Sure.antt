@@ -3,12 +3,12 @@ use Rattle.std.proofs.Common.{◌≡◌, ℕ, ◌+◌, ◌<◌, ◌≤◌, Bool,
 use Rattle.std.specs.Prelude.{IsTrue}
 use Rattle.std.proofs.lemmas.Bool.{cases_lt}
 use Rattle.std.proofs.lemmas.List.{ext_get_or, get_or-take, length-take-le}
-use Rattle.counted.proofs.Going.{weaker}
-use Rattle.counted.specs.Bytes.{range, put}
+use Rattle.mars_base.proofs.Going.{weaker}
+use Rattle.mars_base.specs.Bytes.{range, put}
 use Rattle.pcm_media.specs.Images.{Content, MayLeave, Touched, partly}
 use Rattle.pcm_media.specs.View.{View, Writes, LeavesOnly}
 use Rattle.pcm_media.proofs.Left.{left_partly, outside-both}
-use Rattle.counted.proofs.Puts.{length-put, get_or-put_inside, get_or-put_after}
+use Rattle.mars_base.proofs.Puts.{length-put, get_or-put_inside, get_or-put_after}
 use Rattle.pcm_media.proofs.Ranges.{length-range, get_or-range}
 use Rattle.array_shape.specs.declared.shape.Shape.{Shape}
 use Rattle.array_shape.specs.Places.{media_len}

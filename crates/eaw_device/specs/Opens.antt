@@ -1,8 +1,8 @@
 -- What an image of an array opens with, and what an opening finds.
 use Rattle.std.specs.Prelude.{ℕ, ◌≡◌, ◌+◌, ◌*◌, ◌≤◌, ◌⊎◌, Bool, false, IsTrue, List, [], None}
-use Rattle.counted.specs.Causes.{Rose}
-use Rattle.counted.specs.Moments.{Elapses}
-use Rattle.counted.specs.Bytes.{range}
+use Rattle.mars_base.specs.Causes.{Rose}
+use Rattle.mars_base.specs.Moments.{Elapses}
+use Rattle.mars_base.specs.Bytes.{range}
 use Rattle.pcm_media.specs.Images.{Content, MayLeave, Touched}
 use Rattle.pcm_media.specs.View.{View}
 use Rattle.array_shape.specs.declared.shape.Shape.{Shape}

@@ -1,6 +1,6 @@
 // The steps of an opening, on the medium alone.
 ghost use Rattle.std.specs.Prelude.{◌≡◌, ◌≢◌, ◌≤◌, [], true, IsTrue, IfOk, IfErr, OnOk};
-ghost use Rattle.counted.specs.Costs.{Costs};
+ghost use Rattle.mars_base.specs.Costs.{Costs};
 ghost use Rattle.pcm_media.specs.View.{Writes};
 ghost use Rattle.array_shape.specs.Places.{media_len};
 ghost use Rattle.row_bytes.specs.Header.{SaysShape};

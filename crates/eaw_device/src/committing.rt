@@ -1,6 +1,6 @@
 // A commit of what a log has from a position on.
 ghost use Rattle.std.specs.Prelude.{◌≡◌, ◌+◌, ◌-◌, ◌≤◌, ◌<◌, ℕ, Ok, drop, length, slice_index, IsTrue, OnOk, OnErr};
-ghost use Rattle.counted.specs.Costs.{Costs};
+ghost use Rattle.mars_base.specs.Costs.{Costs};
 ghost use Rattle.pcm_media.specs.View.{LeavesOnly};
 ghost use Rattle.array_shape.specs.Places.{media_len};
 ghost use Rattle.array_shape.specs.Logged.{applied};
@@ -14,7 +14,7 @@ ghost use Rattle.eaw_device.specs.Costs.{counts_of};
 use crate::log::Log;
 use array_shape::Shape;
 use coordinator::commit_from;
-use counted::Failed;
+use mars_base::Failed;
 use pcm_media::Media;
 
 /// Commits the parts that number `tid` has logged from position `offset` on. The log itself stays as it is.

@@ -1,6 +1,6 @@
 use array_shape::BadShape;
-use counted::Failed;
 use device_recovery::RecoverFault;
+use mars_base::Failed;
 use row_bytes::HeaderFault;
 use thiserror::Error;
 

@@ -1,7 +1,7 @@
 // What is written as a fresh array.
 ghost use Rattle.std.specs.Prelude.{◌≡◌, ◌≢◌, ◌≤◌, ◌<◌, ◌*◌, ◌↔◌, [], ◌∷◌, ℕ, Ok, IsTrue, IfErr, OnOk, IsErrOf, replicate};
-ghost use Rattle.counted.specs.Causes.{Rose};
-ghost use Rattle.counted.specs.Bytes.{range};
+ghost use Rattle.mars_base.specs.Causes.{Rose};
+ghost use Rattle.mars_base.specs.Bytes.{range};
 ghost use Rattle.pcm_media.specs.View.{Writes, LeavesOnly};
 ghost use Rattle.array_shape.specs.Places.{media_len, row_at, page_count};
 ghost use Rattle.array_image.specs.Image.{data_of};
@@ -10,7 +10,7 @@ ghost use Rattle.eaw_device.specs.Attaching.{AllOpenWith};
 ghost use Rattle.eaw_device.specs.Fresh.{IsFresh, LeavesAsRead, IsHalfFresh, HasParts, HasPages, HasRows, behind_header, fresh_page, IsWrongLength};
 
 use array_shape::{BadShape, Shape, ShapeNumber};
-use counted::Failed;
+use mars_base::Failed;
 use pcm_media::Media;
 use row_bytes::write_array_header;
 use thiserror::Error;

@@ -7,7 +7,7 @@ use crate::attach::{read_header, settle};
 use crate::fault::AttachFault;
 use crate::log::Log;
 use array_shape::Shape;
-use counted::NoMemory;
+use mars_base::NoMemory;
 use pcm_media::Media;
 use std::alloc::Global;
 

@@ -1,14 +1,14 @@
 // Committed data, read page by page.
 ghost use Rattle.std.specs.Prelude.{◌≡◌, ◌+◌, ◌≤◌, ◌<◌, [], length, true, IsTrue, OnOk};
-ghost use Rattle.counted.specs.Costs.{Costs};
-ghost use Rattle.counted.specs.Bytes.{range};
+ghost use Rattle.mars_base.specs.Costs.{Costs};
+ghost use Rattle.mars_base.specs.Bytes.{range};
 ghost use Rattle.pcm_media.specs.View.{Writes};
 ghost use Rattle.array_shape.specs.Places.{media_len, data_len};
 ghost use Rattle.array_shape.specs.Parts.{parts_of};
 ghost use Rattle.array_image.specs.Image.{data_of};
 
 use array_shape::Shape;
-use counted::Failed;
+use mars_base::Failed;
 use pcm_media::Media;
 
 /// Fills the buffer with the bytes of the data from `addr` on.

@@ -1,6 +1,6 @@
 // The parts of a write, put into cells at all loggers.
 ghost use Rattle.std.specs.Prelude.{◌≡◌, ◌+◌, ◌*◌, ◌≤◌, ◌<◌, ℕ, true, length, slice_index, IsTrue, IfErr, OnOk};
-ghost use Rattle.counted.specs.Costs.{Costs};
+ghost use Rattle.mars_base.specs.Costs.{Costs};
 ghost use Rattle.pcm_media.specs.View.{Writes};
 ghost use Rattle.array_shape.specs.Places.{media_len, data_len};
 ghost use Rattle.array_shape.specs.Parts.{parts_of_write, write_parts_on};
@@ -10,9 +10,9 @@ ghost use Rattle.eaw_device.specs.Steps.{HasCells, SaysFull, staged_places};
 
 use crate::log::Log;
 use array_shape::Shape;
-use counted::Failed;
 use eaw_face::EawFault;
 use logger::Logger;
+use mars_base::Failed;
 use pcm_media::Media;
 
 /// Refuses a write if a logger has too few cells left for it, and names the first such logger.

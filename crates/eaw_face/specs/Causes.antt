@@ -1,6 +1,6 @@
 -- When each answer of a command comes. The refusals are listed in their order: a later one comes only if no earlier one does.
 use Rattle.std.specs.Prelude.{ℕ, ◌≡◌, ◌+◌, ◌<◌, ◌≤◌, true, false, List, [], Result, Ok, Err}
-use Rattle.counted.specs.Causes.{Rose}
+use Rattle.mars_base.specs.Causes.{Rose}
 use Rattle.array_shape.specs.Parts.{parts_of_write}
 use Rattle.array_shape.specs.Logged.{ranges_of}
 use Rattle.eaw_face.specs.State.{listed, count_on}

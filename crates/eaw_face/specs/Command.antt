@@ -1,6 +1,6 @@
 -- The commands, and what each makes of the data and of the logs.
 use Rattle.std.specs.Prelude.{ℕ, List, ◌++◌, take, drop, Some, None}
-use Rattle.counted.specs.Bytes.{put}
+use Rattle.mars_base.specs.Bytes.{put}
 use Rattle.array_shape.specs.Parts.{parts_of_write}
 use Rattle.array_shape.specs.Logged.{applied, ranges_of}
 use Rattle.eaw_face.specs.State.{Logs, State, listed, with_log, edited}

@@ -1,6 +1,6 @@
 -- What a store shows.
 use Rattle.std.specs.Prelude.{ℕ, ◌<◌, Bool, List, [], ◌∷◌, length, IsSome}
-use Rattle.counted.specs.Moments.{Elapses}
+use Rattle.mars_base.specs.Moments.{Elapses}
 use Rattle.array_shape.specs.declared.shape.Shape.{Shape}
 use Rattle.array_shape.specs.Places.{IsPlaced}
 use Rattle.eaw_face.specs.State.{Logs, State, listed}

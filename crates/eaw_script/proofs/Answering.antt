@@ -2,8 +2,8 @@
 use Rattle.std.proofs.Common.{◌≡◌, ◌≤◌, ℕ, lit<, List, [], ◌∷◌, ◌++◌, Option, Some, None, Result, Ok, Err, inl, inr, ⊎_elim, refl, sym, subst, arith}
 use Rattle.std.specs.Prelude.{Bool, IsTrue, Contains}
 use Rattle.std.proofs.lemmas.List.Elements.{Contains-append_left, Contains-append_right}
-use Rattle.counted.proofs.Going as going
-use Rattle.counted.specs.declared.Failed.{Failed}
+use Rattle.mars_base.proofs.Going as going
+use Rattle.mars_base.specs.declared.Failed.{Failed}
 use Rattle.array_shape.specs.declared.shape.Shape.{Shape}
 use Rattle.eaw_face.specs.StoreView.{StoreView}
 use Rattle.script_text.specs.Eaw.{Raw}

@@ -1,7 +1,7 @@
 -- Lemmas about doing a command.
 use Rattle.std.proofs.Common.{◌≡◌, ℕ, zero, suc, ◌<◌, ◌≤◌, List, [], ◌∷◌, length, sym, subst, arith}
 use Rattle.std.specs.Prelude.{Bool, Result}
-use Rattle.counted.specs.declared.Failed.{Failed}
+use Rattle.mars_base.specs.declared.Failed.{Failed}
 use Rattle.array_shape.specs.declared.shape.Shape.{Shape}
 use Rattle.eaw_face.specs.State.{range_at}
 use Rattle.eaw_face.specs.StoreView.{StoreView, ArePlaced}

@@ -1,6 +1,6 @@
 -- What a number's raw command is answered and leaves.
 use Rattle.std.specs.Prelude.{ℕ, ◌≡◌, ◌++◌, List, length, Option}
-use Rattle.counted.specs.Bytes.{range}
+use Rattle.mars_base.specs.Bytes.{range}
 use Rattle.array_shape.specs.declared.shape.Shape.{Shape}
 use Rattle.eaw_face.specs.State.{State, listed, range_at, part_at, count_on}
 use Rattle.eaw_face.specs.Command.{log_write, read, after}

@@ -1,6 +1,6 @@
 -- Laws of what a loss of power leaves of a script: over no line, and over one line after another.
 use Rattle.std.proofs.Common.{ℕ, List, inl, refl, sym, subst, ◌∙◌, arith}
-use Rattle.counted.proofs.Going as going
+use Rattle.mars_base.proofs.Going as going
 use Rattle.array_shape.specs.declared.shape.Shape.{Shape}
 use Rattle.eaw_face.specs.StoreView.{StoreView, LeavesOnly}
 use Rattle.eaw_script.specs.Progress.{Progress, MayStand, IsMade, OpensWith, Shows, Comes}

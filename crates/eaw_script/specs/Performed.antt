@@ -1,7 +1,7 @@
 -- What comes of doing one command of a script.
 use Rattle.std.specs.Prelude.{ℕ, ◌≡◌, Bool, false, IsTrue, List, Result, Ok, Err, OnOk, OnErr, IfOk}
-use Rattle.counted.specs.Causes.{HasCause}
-use Rattle.counted.specs.declared.Failed.{Failed}
+use Rattle.mars_base.specs.Causes.{HasCause}
+use Rattle.mars_base.specs.declared.Failed.{Failed}
 use Rattle.eaw_face.specs.State.{State}
 use Rattle.eaw_face.specs.StoreView.{StoreView, LeavesOnly}
 use Rattle.eaw_face.specs.Does.{IsEither}

@@ -5,8 +5,8 @@ ghost use Rattle.script_text.specs.Eaw.{does};
 ghost use Rattle.eaw_script.specs.Performed.{Performed};
 
 use crate::refusal::refusal;
-use counted::Failed;
 use eaw_face::EawStore;
+use mars_base::Failed;
 use script_text::Answer;
 
 /// Commits a log.

@@ -8,8 +8,8 @@ use crate::buffers::Buffers;
 use crate::ends::{abort, commit, nested, partial};
 use crate::reads::{held, log_len, read, read_log};
 use crate::writes::{atomic, edit_log, log_write};
-use counted::Failed;
 use eaw_face::EawStore;
+use mars_base::Failed;
 use script_text::{Answer, EawCall, bytes_of};
 
 /// Does a number's command if it passes each test. The bytes that it writes or reads are in the buffers.

@@ -1,8 +1,8 @@
 ghost use Rattle.std.specs.Prelude.{◌≡◌};
 ghost use Rattle.eaw_script.specs.Performed.{refusal_of};
 
-use counted::Failed;
 use eaw_face::EawFault;
+use mars_base::Failed;
 use script_text::Answer;
 
 /// The answer for a refusal of the store. A store that is dead has met a fault of the medium before.

@@ -7,8 +7,8 @@ ghost use Rattle.eaw_script.specs.Performed.{Performed};
 
 use crate::in_data::is_in_data;
 use crate::refusal::refusal;
-use counted::Failed;
 use eaw_face::EawStore;
+use mars_base::Failed;
 use script_text::Answer;
 
 /// Logs a write.

@@ -10,7 +10,7 @@ ghost use Rattle.history.specs.Rows.{table_of};
 ghost use Rattle.history.specs.Replay.{table_in, work_in};
 
 use crate::{Call, Calls, Done, History, Reply, Rows};
-use counted::NoMemory;
+use mars_base::NoMemory;
 use record_slots::Value;
 use std::alloc::Global;
 use std::collections::BTreeMap;

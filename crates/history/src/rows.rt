@@ -1,7 +1,7 @@
 ghost use Rattle.std.specs.Prelude.{◌≡◌, [], ◌∷◌, ◌++◌, IfOk, OnOk, OnErr};
 ghost use Rattle.history.specs.Rows.{is_same_row, are_same_rows};
 
-use counted::NoMemory;
+use mars_base::NoMemory;
 use record_slots::Value;
 use std::alloc::Global;
 use std::marker::Model;

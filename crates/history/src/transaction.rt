@@ -4,7 +4,7 @@ ghost use Rattle.history.specs.declared.call.Call.{Call};
 ghost use Rattle.history.specs.declared.call.Reply.{Reply};
 
 use crate::{Call, Reply};
-use counted::NoMemory;
+use mars_base::NoMemory;
 use std::alloc::Global;
 use std::marker::Model;
 

@@ -5,8 +5,8 @@ ghost use Rattle.history_text.specs.Text.{fate_line, fate_lines};
 
 use crate::number::write_number;
 use caller_plans::Fate;
-use counted::NoMemory;
 use history::Reply;
+use mars_base::NoMemory;
 use script_text::put_reply_text;
 
 /// Appends a line for each of the caller's plans that was aborted or refused. At `Err` some of them may have been appended.

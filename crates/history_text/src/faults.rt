@@ -6,7 +6,7 @@ ghost use Rattle.history_text.specs.Text.{fault_line};
 
 use crate::number::write_number;
 use caller_plans::LineFault;
-use counted::NoMemory;
+use mars_base::NoMemory;
 use script_text::write_bad_line;
 
 /// Appends a line for each line that was passed over. At `Err` some of them may have been appended.

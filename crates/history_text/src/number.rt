@@ -1,7 +1,7 @@
 ghost use Rattle.std.specs.Prelude.{◌≡◌, ◌++◌, decimal, OnOk};
 
-use counted::NoMemory;
 use itoa::Buffer;
+use mars_base::NoMemory;
 
 /// Appends a number in decimal.
 pub fn write_number(text: &mut Vec<u8>, n: u64) -> Result<(), NoMemory>

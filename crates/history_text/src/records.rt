@@ -4,8 +4,8 @@ ghost use Rattle.std.specs.List.{flat_map};
 ghost use Rattle.history_text.specs.Text.{rec_line};
 
 use crate::number::write_number;
-use counted::NoMemory;
 use history::Rows;
+use mars_base::NoMemory;
 use record_slots::Value;
 
 /// Appends a line for each record. At `Err` some of them may have been appended.

@@ -5,8 +5,8 @@ use Rattle.std.specs.Option.{option_map}
 use Rattle.std.proofs.lemmas.Bool.{false≢true}
 use Rattle.std.proofs.lemmas.Bool.Decides.{eqb_tells}
 use Rattle.std.proofs.lemmas.List.{length-append, take-append-le, take_all}
-use Rattle.counted.specs.Causes.{Rose}
-use Rattle.counted.proofs.Going.{stays, then, weaker}
+use Rattle.mars_base.specs.Causes.{Rose}
+use Rattle.mars_base.proofs.Going.{stays, then, weaker}
 use Rattle.array_shape.specs.declared.shape.Shape.{Shape}
 use Rattle.array_shape.specs.Logged.{Part, applied, AllPlaced, ranges_of}
 use Rattle.eaw_face.specs.State.{listed, count_on, is_range_on}

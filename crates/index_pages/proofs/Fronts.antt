@@ -3,7 +3,7 @@ use Rattle.std.proofs.Common.{◌≡◌, ℕ, ◌^◌, ◌<◌, List, [], ◌∷
 use Rattle.std.proofs.lemmas.List.{get_or-take, length-append, drop_at, take-take}
 use Rattle.byteorder.specs.Endian.{little_from, little_bytes}
 use Rattle.byteorder.specs.Numbers.{little_from-take, little_number-reads_back, length-bytes_low_first}
-use Rattle.counted.specs.Bytes.{range}
+use Rattle.mars_base.specs.Bytes.{range}
 use Rattle.record_slots.specs.Super.{HasSuperMark, form_said, next_slot_said, next_page_said, count_bytes}
 use Rattle.record_slots.specs.Places.{page_bytes, next_slot, next_page}
 use Rattle.index_pages.proofs.Reading.{little_from-drop}

@@ -1,7 +1,7 @@
 -- Where pages and slots lie in the data of an array.
 use Rattle.std.proofs.Common.{◌≡◌, ℕ, ◌+◌, ◌*◌, ◌/◌, ◌%◌, List, Result, Ok, Err, length, ◌∙◌, ap, arith}
 use Rattle.std.specs.Prelude.{OnOk}
-use Rattle.counted.specs.Bytes.{range}
+use Rattle.mars_base.specs.Bytes.{range}
 use Rattle.array_shape.specs.declared.shape.Shape.{Shape}
 use Rattle.array_shape.specs.Places.{data_len}
 use Rattle.array_shape.specs.Places as array

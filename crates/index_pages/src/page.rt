@@ -1,6 +1,6 @@
 // The bytes of a page of an index.
 ghost use Rattle.std.specs.Prelude.{◌≡◌, ◌+◌, ◌*◌, ◌^◌, ◌≤◌, ◌<◌, IfSome, IfNone, length};
-ghost use Rattle.counted.specs.Bytes.{put};
+ghost use Rattle.mars_base.specs.Bytes.{put};
 ghost use Rattle.page_store.specs.Pairs.{next};
 ghost use Rattle.index_pages.specs.Page.{count_said, pair_said, pairs_said};
 ghost use Rattle.index_pages.specs.Written.{IsLeaf, SaysLeaf, AreSmall, front_bytes, leaf_bytes, pair_bytes};

@@ -1,10 +1,10 @@
 -- The parts in cells are written into the data, one cell after another.
 use Rattle.std.proofs.Common.{◌≡◌, ℕ, zero, suc, ◌+◌, ◌-◌, ◌<◌, ◌≤◌, Bool, List, [], ◌∷◌, ◌++◌, Result, length, refl, sym, ◌∙◌, ap, subst, arith}
 use Rattle.std.specs.Prelude.{IsTrue, IsOk}
-use Rattle.counted.specs.Bytes.{put}
+use Rattle.mars_base.specs.Bytes.{put}
 use Rattle.pcm_media.specs.Images.{IsOutside}
 use Rattle.pcm_media.specs.View.{View, Writes}
-use Rattle.counted.proofs.Puts.{length-put}
+use Rattle.mars_base.proofs.Puts.{length-put}
 use Rattle.pcm_media.proofs.Writing.{writes_none, writes_on}
 use Rattle.array_shape.specs.declared.shape.Shape.{Shape}
 use Rattle.array_shape.specs.Places.{media_len, place_of}

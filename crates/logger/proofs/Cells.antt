@@ -3,9 +3,9 @@ use Rattle.std.proofs.Common.{◌≡◌, ℕ, zero, suc, ◌+◌, ◌*◌, ◌^�
 use Rattle.std.proofs.lemmas.List.{get_or-drop, get_or-take, length-take-le, length-drop, ext_get_or}
 use Rattle.std.proofs.lemmas.Bool.{cases_lt, cases_eq}
 use Rattle.std.proofs.lemmas.Nat.{mul-le}
-use Rattle.counted.specs.Bytes.{put, range}
+use Rattle.mars_base.specs.Bytes.{put, range}
 use Rattle.pcm_media.specs.Images.{SameOutside, IsOutside}
-use Rattle.counted.proofs.Puts.{length-put, get_or-put_before, get_or-put_after, get_or-put_inside}
+use Rattle.mars_base.proofs.Puts.{length-put, get_or-put_before, get_or-put_after, get_or-put_inside}
 use Rattle.pcm_media.proofs.Left.{get_or-put_outside}
 use Rattle.pcm_media.proofs.Ranges.{get_or-range, length-range}
 use Rattle.array_shape.specs.declared.shape.Shape.{Shape}

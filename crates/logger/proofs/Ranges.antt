@@ -2,7 +2,7 @@
 use Rattle.std.proofs.Common.{◌≡◌, ℕ, Bool, List, Result, Ok, Err, subst}
 use Rattle.std.specs.Prelude.{IsTrue, IsErr, OnOk, OnErr}
 use Rattle.std.proofs.lemmas.Bool.{false≢true}
-use Rattle.counted.specs.Causes.{Rose}
+use Rattle.mars_base.specs.Causes.{Rose}
 use Rattle.pcm_media.specs.Images.{MayLeave, Touched, partly}
 use Rattle.pcm_media.specs.View.{View, LeavesOnly, Writes}
 

@@ -1,8 +1,8 @@
 -- What a row says once some of its bytes are written.
 use Rattle.std.proofs.Common.{◌≡◌, ℕ, ◌+◌, ◌-◌, ◌^◌, ◌<◌, List, [], ◌∷◌, length, get_or, sym, ◌∙◌, ap, arith}
 use Rattle.std.specs.Prelude.{nat_eq}
-use Rattle.counted.specs.Bytes.{put, range}
-use Rattle.counted.proofs.Puts.{get_or-put_before, get_or-put_after, get_or-put_inside}
+use Rattle.mars_base.specs.Bytes.{put, range}
+use Rattle.mars_base.proofs.Puts.{get_or-put_before, get_or-put_after, get_or-put_inside}
 use Rattle.pcm_media.proofs.Ranges.{get_or-range}
 use Rattle.array_shape.specs.declared.shape.Shape.{Shape}
 use Rattle.array_shape.specs.Places.{media_len, row_at}

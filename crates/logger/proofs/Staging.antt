@@ -4,8 +4,8 @@ use Rattle.std.specs.Prelude.{filter, All, IsTrue, IsOk}
 use Rattle.std.proofs.lemmas.Bool.{eq-eqb, ne_eqb, eqb-true, cases_eq, false≢true}
 use Rattle.std.proofs.lemmas.List.{length-map, length-drop, length-take-le}
 use Rattle.std.proofs.lemmas.List.Elements.{All-nil, All-cons, All-head, All-tail}
-use Rattle.counted.specs.Causes.{HasCause}
-use Rattle.counted.specs.declared.Failed.{Failed}
+use Rattle.mars_base.specs.Causes.{HasCause}
+use Rattle.mars_base.specs.declared.Failed.{Failed}
 use Rattle.pcm_media.specs.Images.{IsOutside}
 use Rattle.pcm_media.specs.View.{View, Writes}
 use Rattle.pcm_media.proofs.Writing.{writes_none, writes_on}

@@ -5,7 +5,7 @@ ghost use Rattle.array_image.specs.Image.{cell_head};
 
 use crate::stage_fault::StageFault;
 use array_shape::{HEAD_LEN, PAGE_LEN, Part, Shape};
-use counted::Failed;
+use mars_base::Failed;
 use pcm_media::Media;
 use row_bytes::{Head, Row, read_head, vote_byte, write_head, write_row};
 
@@ -20,8 +20,8 @@ pub struct Logger {
 impl Logger {
     ghost use Rattle.std.specs.Prelude.{◌≡◌, ◌↔◌, ◌+◌, ◌*◌, ◌≤◌, ◌<◌, ℕ, [], ◌∷◌, drop, length, true, false};
     ghost use Rattle.std.specs.Prelude.{IsTrue, IfOk, OnOk, IfErr, OnErr};
-    ghost use Rattle.counted.specs.Bytes.{put};
-    ghost use Rattle.counted.specs.Costs.{Costs};
+    ghost use Rattle.mars_base.specs.Bytes.{put};
+    ghost use Rattle.mars_base.specs.Costs.{Costs};
     ghost use Rattle.pcm_media.specs.Images.{written};
     ghost use Rattle.pcm_media.specs.View.{Writes};
     ghost use Rattle.array_shape.specs.Places.{media_len, data_len, row_at, cell_at, place_of};

@@ -2,7 +2,7 @@
 ghost use Rattle.std.specs.Prelude.{◌≡◌};
 ghost use Rattle.logger.specs.declared.stage_fault.StageFault.TheVariants.{Media};
 
-use counted::Failed;
+use mars_base::Failed;
 use thiserror::Error;
 
 /// Why a write is not in the cells of a logger.

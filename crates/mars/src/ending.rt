@@ -1,6 +1,6 @@
 // The report at the end.
 ghost use Rattle.std.specs.Prelude.{◌≡◌, ◌++◌, List, ℕ, Bool, IsTrue};
-ghost use Rattle.counted.specs.Causes.{Rose};
+ghost use Rattle.mars_base.specs.Causes.{Rose};
 ghost use Rattle.script_io.specs.Written.{IsWritten};
 ghost use Rattle.mars_shell.specs.Fault.{status_number};
 ghost use Rattle.mars.specs.Ending.{error_line};

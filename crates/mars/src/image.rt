@@ -5,8 +5,8 @@ ghost use Rattle.pcm_media.specs.Memory.{content_of, fresh_memory};
 ghost use Rattle.eaw_device.specs.Fresh.{IsFresh};
 
 use array_shape::Shape;
-use counted::NoMemory;
 use eaw_device::format;
+use mars_base::NoMemory;
 use pcm_media::MemoryMedia;
 use std::alloc::Global;
 

@@ -8,7 +8,7 @@ mod image;
 use crate::choice::{Image, choose};
 use crate::ending::tell;
 use crate::image::{fresh_image, no_image};
-use counted::NoMemory;
+use mars_base::NoMemory;
 use mars_shell::{OpenGate, Status, run};
 use media_file::FileMedia;
 use outside::{StdSink, StdSource};

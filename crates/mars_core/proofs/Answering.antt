@@ -24,15 +24,15 @@ use Rattle.record_table.specs.Shown.{state_of, keys_of}
 use Rattle.record_table.specs.Shown as shown
 use Rattle.record_table.specs.declared.fault.TableFault.{TableFault}
 use Rattle.record_table.specs.declared.fault.TableFault.TheVariants.{SlotsFull, PagesFull, SavesFull, LogFull, Media, Dead, Damaged, NoMemory}
-use Rattle.core_face.specs.State.{State, Index, calls_of, records_of}
-use Rattle.core_face.specs.Locked.{IsFree}
-use Rattle.core_face.specs.Room.{Limits, Indexes}
-use Rattle.core_face.specs.Step.{Asks, Step}
-use Rattle.core_face.specs.Fate.{is_refusal, is_media, is_committed}
-use Rattle.core_face.specs.Prefix.{HasPrefixOf}
-use Rattle.core_face.specs.Core.{IsSafe, Steps}
-use Rattle.core_face.proofs.Holding.{AreNamed}
-use Rattle.core_face.proofs.Sound.{step_sound}
+use Rattle.caller_steps.specs.State.{State, Index, calls_of, records_of}
+use Rattle.caller_steps.specs.Locked.{IsFree}
+use Rattle.caller_steps.specs.Room.{Limits, Indexes}
+use Rattle.caller_steps.specs.Step.{Asks, Step}
+use Rattle.caller_steps.specs.Fate.{is_refusal, is_media, is_committed}
+use Rattle.caller_steps.specs.Prefix.{HasPrefixOf}
+use Rattle.caller_steps.specs.Core.{IsSafe, Steps}
+use Rattle.caller_steps.proofs.Holding.{AreNamed}
+use Rattle.caller_steps.proofs.Sound.{step_sound}
 use Rattle.mars_core.specs.declared.asking.Answer.{Answer}
 use Rattle.mars_core.specs.Over.{limits_of, index_of}
 use Rattle.mars_core.specs.Held.{core_over}

@@ -13,9 +13,9 @@ use Rattle.history.specs.declared.call.Reply.TheVariants.{Fine}
 use Rattle.history.proofs.Counting.{length-filter-front}
 use Rattle.history.proofs.OneMore.{log_of-push}
 use Rattle.history.proofs.Saves.{save_is_front}
-use Rattle.core_face.specs.State.{State, Index, calls_of}
-use Rattle.core_face.specs.Room.{Limits, is_slot_on, is_write_on, held_on, HasEntry}
-use Rattle.core_face.proofs.Holding.{held_apart, AreNamed, unnamed}
+use Rattle.caller_steps.specs.State.{State, Index, calls_of}
+use Rattle.caller_steps.specs.Room.{Limits, is_slot_on, is_write_on, held_on, HasEntry}
+use Rattle.caller_steps.proofs.Holding.{held_apart, AreNamed, unnamed}
 use Rattle.mars_core.specs.Kept.{HasHeld}
 use Rattle.mars_core.proofs.Indexing.{Slots}
 use Rattle.mars_core.proofs.Mirroring.{calls_here, calls_there}

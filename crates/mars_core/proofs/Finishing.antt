@@ -4,7 +4,7 @@ use Rattle.std.specs.Option.{option_to_list}
 use Rattle.std.specs.Map.{update}
 use Rattle.std.proofs.lemmas.Map.{update_here, update_apart}
 use Rattle.std.proofs.lemmas.Bool.{false≢true}
-use Rattle.counted.proofs.Going.{weaker}
+use Rattle.mars_base.proofs.Going.{weaker}
 use Rattle.array_shape.specs.declared.shape.Shape.{Shape}
 use Rattle.eaw_face.specs.StoreView.{LeavesOnly}
 use Rattle.eaw_face.specs.Causes.{IsAlive}
@@ -27,11 +27,11 @@ use Rattle.record_table.specs.Does.{Does, OpensWith}
 use Rattle.record_table.specs.Shown.{state_of}
 use Rattle.record_table.specs.declared.fault.TableFault.{TableFault}
 use Rattle.record_table.specs.declared.fault.TableFault.TheVariants as fault
-use Rattle.core_face.specs.State.{State, calls_of, records_of, done_by}
-use Rattle.core_face.specs.Step.{Step}
-use Rattle.core_face.specs.Prefix.{HasPrefix, HasPrefixOf}
-use Rattle.core_face.specs.Core.{IsSafe, Steps}
-use Rattle.core_face.proofs.Sound.{step_sound}
+use Rattle.caller_steps.specs.State.{State, calls_of, records_of, done_by}
+use Rattle.caller_steps.specs.Step.{Step}
+use Rattle.caller_steps.specs.Prefix.{HasPrefix, HasPrefixOf}
+use Rattle.caller_steps.specs.Core.{IsSafe, Steps}
+use Rattle.caller_steps.proofs.Sound.{step_sound}
 use Rattle.mars_core.specs.Over.{limits_of, index_of}
 use Rattle.mars_core.specs.Held.{core_over}
 use Rattle.mars_core.specs.Kept.{Mirrors, HasHeld, IsTied, IsKept}

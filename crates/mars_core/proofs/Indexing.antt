@@ -18,8 +18,8 @@ use Rattle.record_table.specs.State as table
 use Rattle.record_table.specs.Does.{IndexedAt, Indexed, is_failed}
 use Rattle.record_table.specs.declared.fault.TableFault.{TableFault}
 use Rattle.record_table.specs.declared.fault.TableFault.TheVariants.{SlotsFull, PagesFull, SavesFull, LogFull, Media, Dead, Damaged, NoMemory}
-use Rattle.core_face.specs.State.{Index}
-use Rattle.core_face.specs.Room.{Limits, GainsKey, KeepsKeys, TakesPages, Inserts, IndexesAt, Indexes}
+use Rattle.caller_steps.specs.State.{Index}
+use Rattle.caller_steps.specs.Room.{Limits, GainsKey, KeepsKeys, TakesPages, Inserts, IndexesAt, Indexes}
 use Rattle.mars_core.specs.Over.{limits_of, index_of}
 use Rattle.mars_core.specs.Works.{command_of, IsOfTable, reply_to}
 

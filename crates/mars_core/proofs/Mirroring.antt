@@ -18,7 +18,7 @@ use Rattle.history.proofs.OneMore.{log_of-push}
 use Rattle.history.proofs.Pending.{left_is_written, as_many_saves, has_same_saves}
 use Rattle.record_table.specs.State.{TableState, seen_by}
 use Rattle.record_table.specs.Command.{after, written, is_seen}
-use Rattle.core_face.specs.State.{State, calls_of, records_of, view_of}
+use Rattle.caller_steps.specs.State.{State, calls_of, records_of, view_of}
 use Rattle.mars_core.specs.Works.{command_of, IsOfTable, Replies, HasSaves}
 use Rattle.mars_core.specs.Kept.{Mirrors}
 

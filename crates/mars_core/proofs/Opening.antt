@@ -23,9 +23,9 @@ use Rattle.record_table.specs.Shown as shown
 use Rattle.record_table.specs.Sought.{LooksAs}
 use Rattle.record_table.specs.declared.fault.TableFault.{TableFault}
 use Rattle.record_table.proofs.Tables.{tied, get-table_in, record_at}
-use Rattle.core_face.specs.State.{State, calls_of, opened}
-use Rattle.core_face.specs.Sound.{IsSound}
-use Rattle.core_face.proofs.Sound.{opened_sound}
+use Rattle.caller_steps.specs.State.{State, calls_of, opened}
+use Rattle.caller_steps.specs.Sound.{IsSound}
+use Rattle.caller_steps.proofs.Sound.{opened_sound}
 use Rattle.mars_core.specs.Attached.{GivesBack, scan_fault, is_media_fault}
 use Rattle.mars_core.specs.Over.{limits_of, index_of, Begins}
 use Rattle.mars_core.specs.Held.{core_over, state_at}

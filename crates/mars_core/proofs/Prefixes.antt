@@ -11,9 +11,9 @@ use Rattle.history.specs.Legal.{records, with_doubt}
 use Rattle.history.specs.declared.transaction.Done.{Done}
 use Rattle.record_table.specs.Does.{OpensWith}
 use Rattle.record_table.specs.Shown.{table_of}
-use Rattle.core_face.specs.State.{State, records_of}
-use Rattle.core_face.specs.Prefix.{HasPrefix, HasPrefixOf}
-use Rattle.core_face.specs.Core.{IsSafe}
+use Rattle.caller_steps.specs.State.{State, records_of}
+use Rattle.caller_steps.specs.Prefix.{HasPrefix, HasPrefixOf}
+use Rattle.caller_steps.specs.Core.{IsSafe}
 use Rattle.mars_core.specs.Held.{core_over}
 use Rattle.mars_core.specs.Kept.{IsTied}
 

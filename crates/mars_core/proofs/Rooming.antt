@@ -26,9 +26,9 @@ use Rattle.record_table.specs.Command.{is_seen}
 use Rattle.record_table.specs.Causes as table_causes
 use Rattle.record_table.specs.Shown.{state_of, keys_of, logger_of_slot, needed_on}
 use Rattle.record_table.specs.Shown as shown
-use Rattle.core_face.specs.State.{State, Index, calls_of, records_of, view_of}
-use Rattle.core_face.specs.Room.{Limits, is_slot_on, is_write_on, held_on, HasEntry, slot_for, Fits, IsFull, LacksAt, Lacks}
-use Rattle.core_face.proofs.Holding.{AreNamed}
+use Rattle.caller_steps.specs.State.{State, Index, calls_of, records_of, view_of}
+use Rattle.caller_steps.specs.Room.{Limits, is_slot_on, is_write_on, held_on, HasEntry, slot_for, Fits, IsFull, LacksAt, Lacks}
+use Rattle.caller_steps.proofs.Holding.{AreNamed}
 use Rattle.mars_core.specs.Over.{limits_of, index_of}
 use Rattle.mars_core.specs.Kept.{Mirrors, HasHeld}
 use Rattle.mars_core.specs.Works.{command_of, IsOfTable}

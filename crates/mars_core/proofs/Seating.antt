@@ -11,7 +11,7 @@ use Rattle.std.proofs.lemmas.Bool.{cases_eq, cases_lt}
 use Rattle.history.specs.Table.{Granted}
 use Rattle.history.specs.Locks.{touched}
 use Rattle.history.specs.declared.call.Call.{Call}
-use Rattle.core_face.specs.Locked.{Blocks}
+use Rattle.caller_steps.specs.Locked.{Blocks}
 use Rattle.mars_core.specs.Masks.{mask_of, IsMaskOf}
 use Rattle.mars_core.specs.Seats.{Seats, live_in, calls_at, bare, Seated}
 use Rattle.mars_core.proofs.Touching.{masks_apart}

@@ -4,7 +4,7 @@ use Rattle.std.specs.Prelude.{is_some}
 use Rattle.std.specs.Map.{update}
 use Rattle.std.proofs.lemmas.Map.{update_here, update_apart}
 use Rattle.std.proofs.lemmas.Bool.{cases_eq, false≢true, false_from_ne_true, ltb-true, leb-true}
-use Rattle.counted.proofs.Going.{stays}
+use Rattle.mars_base.proofs.Going.{stays}
 use Rattle.array_shape.specs.declared.shape.Shape.{Shape}
 use Rattle.eaw_face.specs.Causes.{IsAlive}
 use Rattle.page_store.specs.Index as below
@@ -17,12 +17,12 @@ use Rattle.history.specs.declared.call.Call.TheVariants.{Begin, Get, Put, Del, S
 use Rattle.history.specs.declared.call.Reply.{Reply}
 use Rattle.history.specs.declared.call.Reply.TheVariants.{Fine, Busy, NoMemory, SavesFull, NoSave}
 use Rattle.record_table.specs.Shown.{state_of}
-use Rattle.core_face.specs.State.{State, calls_of, records_of, view_of, with_live}
-use Rattle.core_face.specs.Locked.{Blocks, IsFree, IsBusyWith}
-use Rattle.core_face.specs.Step.{Step}
-use Rattle.core_face.specs.Fate.{is_refusal, is_media, is_committed}
-use Rattle.core_face.specs.Core.{IsSafe, Steps}
-use Rattle.core_face.proofs.Sound.{step_sound}
+use Rattle.caller_steps.specs.State.{State, calls_of, records_of, view_of, with_live}
+use Rattle.caller_steps.specs.Locked.{Blocks, IsFree, IsBusyWith}
+use Rattle.caller_steps.specs.Step.{Step}
+use Rattle.caller_steps.specs.Fate.{is_refusal, is_media, is_committed}
+use Rattle.caller_steps.specs.Core.{IsSafe, Steps}
+use Rattle.caller_steps.proofs.Sound.{step_sound}
 use Rattle.mars_core.specs.Over.{limits_of}
 use Rattle.mars_core.specs.Held.{core_over}
 use Rattle.mars_core.specs.Kept.{IsTied, IsKept}

@@ -6,8 +6,8 @@ use Rattle.std.specs.Map.{update}
 use Rattle.std.proofs.lemmas.Map.{update_here, update_apart}
 use Rattle.std.proofs.lemmas.Bool.{false≢true}
 use Rattle.std.proofs.lemmas.List.{length-map}
-use Rattle.counted.specs.Causes.{Rose}
-use Rattle.counted.proofs.Going.{stays, weaker}
+use Rattle.mars_base.specs.Causes.{Rose}
+use Rattle.mars_base.proofs.Going.{stays, weaker}
 use Rattle.array_shape.specs.declared.shape.Shape.{Shape}
 use Rattle.eaw_face.specs.StoreView.{LeavesOnly}
 use Rattle.page_store.specs.Index as below
@@ -26,12 +26,12 @@ use Rattle.record_table.specs.State.{seen_by}
 use Rattle.record_table.specs.Does.{OpensWith}
 use Rattle.record_table.specs.Shown.{state_of, keys_of, held_on, is_write_on}
 use Rattle.record_table.specs.Shown as shown
-use Rattle.core_face.specs.State.{State, Index, calls_of, records_of, view_of}
-use Rattle.core_face.specs.Room.{Limits, HasEntry, IndexesAt, Indexes}
-use Rattle.core_face.specs.Step.{Asks, StepAt, StepIf, Step, most_saves}
-use Rattle.core_face.specs.Fate.{Moves, is_refusal, is_media, is_committed, history_after, live_with}
-use Rattle.core_face.specs.Prefix.{HasPrefix, HasPrefixOf}
-use Rattle.core_face.specs.Core.{IsSafe, Steps}
+use Rattle.caller_steps.specs.State.{State, Index, calls_of, records_of, view_of}
+use Rattle.caller_steps.specs.Room.{Limits, HasEntry, IndexesAt, Indexes}
+use Rattle.caller_steps.specs.Step.{Asks, StepAt, StepIf, Step, most_saves}
+use Rattle.caller_steps.specs.Fate.{Moves, is_refusal, is_media, is_committed, history_after, live_with}
+use Rattle.caller_steps.specs.Prefix.{HasPrefix, HasPrefixOf}
+use Rattle.caller_steps.specs.Core.{IsSafe, Steps}
 use Rattle.mars_core.specs.Over.{limits_of, index_of}
 use Rattle.mars_core.specs.Held.{core_over}
 use Rattle.mars_core.specs.Kept.{Mirrors}

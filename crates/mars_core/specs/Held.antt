@@ -10,8 +10,8 @@ use Rattle.history.specs.Rows.{table_of}
 use Rattle.history.specs.Table.{Granted}
 use Rattle.history.specs.Writes.{Table}
 use Rattle.history.specs.declared.transaction.Done.{Done}
-use Rattle.core_face.specs.State.{State}
-use Rattle.core_face.specs.Core.{CoreView}
+use Rattle.caller_steps.specs.State.{State}
+use Rattle.caller_steps.specs.Core.{CoreView}
 use Rattle.mars_core.specs.Over.{limits_of, index_of}
 use Rattle.mars_core.specs.Seats.{Seats, live_in}
 

@@ -9,10 +9,10 @@ use Rattle.history.specs.Log.{log_of}
 use Rattle.history.specs.Rows.{table_of}
 use Rattle.record_table.specs.State.{TableState}
 use Rattle.record_table.specs.Shown.{state_of}
-use Rattle.core_face.specs.State.{State, calls_of, records_of}
-use Rattle.core_face.specs.Room.{Limits, held_on}
-use Rattle.core_face.specs.Sound.{IsSound}
-use Rattle.core_face.specs.Core.{IsSafe}
+use Rattle.caller_steps.specs.State.{State, calls_of, records_of}
+use Rattle.caller_steps.specs.Room.{Limits, held_on}
+use Rattle.caller_steps.specs.Sound.{IsSound}
+use Rattle.caller_steps.specs.Core.{IsSafe}
 use Rattle.mars_core.specs.Over.{limits_of}
 use Rattle.mars_core.specs.Held.{core_over}
 

@@ -8,10 +8,10 @@ use Rattle.page_store.specs.Pairs.{found}
 use Rattle.record_table.specs.Does.{OpensWith}
 use Rattle.record_table.specs.Shown.{table_of, keys_of, logger_of_slot}
 use Rattle.record_table.specs.State.{Keys}
-use Rattle.core_face.specs.State as face
-use Rattle.core_face.specs.State.{opened, records_of}
-use Rattle.core_face.specs.Room.{Limits}
-use Rattle.core_face.specs.Core.{CoreView}
+use Rattle.caller_steps.specs.State as face
+use Rattle.caller_steps.specs.State.{opened, records_of}
+use Rattle.caller_steps.specs.Room.{Limits}
+use Rattle.caller_steps.specs.Core.{CoreView}
 
 -- the limits of an array of this shape
 abbrev pub limits_of : Shape → Limits

@@ -4,7 +4,7 @@ use Rattle.std.specs.Option.{option_and_then}
 use Rattle.std.specs.Map.{update}
 use Rattle.std.specs.FinMap.{empty}
 use Rattle.history.specs.Table.{Granted}
-use Rattle.core_face.specs.State.{State}
+use Rattle.caller_steps.specs.State.{State}
 
 -- for each caller the granted calls of its live transaction, if it has one
 abbrev pub Seats : Type 0

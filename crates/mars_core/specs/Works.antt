@@ -1,7 +1,7 @@
 -- A call of a transaction, as the records make it.
 use Rattle.std.specs.Prelude.{ℕ, ◌≡◌, ◌≤◌, ◌<◌, ◌+◌, ◌⊎◌, Bool, true, IsTrue, IsFalse, List, length, filter, Result, OnOk, OnErr, IfOk, IsErrOf}
 use Rattle.std.specs.FinMap.{get}
-use Rattle.counted.specs.Causes.{Rose}
+use Rattle.mars_base.specs.Causes.{Rose}
 use Rattle.eaw_face.specs.StoreView.{LeavesOnly}
 use Rattle.eaw_face.specs.Causes.{IsAlive}
 use Rattle.history.specs.Table.{found, removed}
@@ -20,8 +20,8 @@ use Rattle.record_table.specs.Does.{OpensWith, Indexed, is_failed}
 use Rattle.record_table.specs.Shown.{state_of, keys_of, held_on, is_write_on, AreNamed}
 use Rattle.record_table.specs.declared.fault.TableFault.{TableFault}
 use Rattle.record_table.specs.declared.fault.TableFault.TheVariants.{SlotsFull, PagesFull, SavesFull, LogFull, Media, Dead, Damaged, NoMemory}
-use Rattle.core_face.specs.Fate.{is_refusal, is_committed}
-use Rattle.core_face.specs.Step.{uses_index}
+use Rattle.caller_steps.specs.Fate.{is_refusal, is_committed}
+use Rattle.caller_steps.specs.Step.{uses_index}
 use Rattle.mars_core.specs.declared.asking.Answer.{Answer}
 
 -- the call of records for a caller's call; a begin has none, so a look stands for it

@@ -6,8 +6,8 @@ ghost use Rattle.history.specs.declared.call.Reply.{Reply};
 ghost use Rattle.mars_core.specs.Masks.{IsMaskOf};
 
 use crate::masks::mask_of;
-use counted::NoMemory;
 use history::{Call, Calls, Reply};
+use mars_base::NoMemory;
 use std::alloc::Global;
 use std::marker::Model;
 

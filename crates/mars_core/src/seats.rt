@@ -4,14 +4,14 @@ ghost use Rattle.history.specs.Table.{Granted};
 ghost use Rattle.history.specs.declared.call.Call.{Call};
 ghost use Rattle.history.specs.declared.call.Reply.{Reply};
 ghost use Rattle.history.specs.declared.call.Reply.TheVariants.{Fine};
-ghost use Rattle.core_face.specs.Locked.{IsFree, IsBusyWith};
+ghost use Rattle.caller_steps.specs.Locked.{IsFree, IsBusyWith};
 ghost use Rattle.mars_core.specs.Masks.{IsMaskOf};
 ghost use Rattle.mars_core.specs.Seats.{live_in, calls_at, Seated, bare};
 
 use crate::live::Live;
 use crate::masks::mask_of;
-use counted::NoMemory;
 use history::{Call, Calls, Reply};
+use mars_base::NoMemory;
 use std::alloc::Global;
 use std::marker::Model;
 

@@ -7,16 +7,16 @@ use Rattle.history.specs.declared.call.Call.{Call}
 use Rattle.history.specs.declared.call.Reply.{Reply}
 use Rattle.history.specs.declared.call.Reply.TheVariants.{Committed, Dead}
 use Rattle.history.specs.Legal.{IsLegal}
-use Rattle.core_face.specs.State.{State, calls_of, done_by}
-use Rattle.core_face.specs.Fate.{is_committed}
-use Rattle.core_face.specs.Prefix.{Grows}
-use Rattle.core_face.specs.Step.{Step}
-use Rattle.core_face.specs.Core.{CoreView, Steps}
-use Rattle.core_face.specs.Run.{Turn, Goes, AreOf, turns_of, commits_of}
-use Rattle.core_face.specs.Own.{live_by}
-use Rattle.core_face.proofs.Continuing.{grows_on, after_grows}
-use Rattle.core_face.proofs.Running.{own_commits, last_here, turn_run, turn_told, turn_grows, turn_commits}
-use Rattle.core_face.proofs.Owning.{number_of_commit, turns_live}
+use Rattle.caller_steps.specs.State.{State, calls_of, done_by}
+use Rattle.caller_steps.specs.Fate.{is_committed}
+use Rattle.caller_steps.specs.Prefix.{Grows}
+use Rattle.caller_steps.specs.Step.{Step}
+use Rattle.caller_steps.specs.Core.{CoreView, Steps}
+use Rattle.caller_steps.specs.Run.{Turn, Goes, AreOf, turns_of, commits_of}
+use Rattle.caller_steps.specs.Own.{live_by}
+use Rattle.caller_steps.proofs.Continuing.{grows_on, after_grows}
+use Rattle.caller_steps.proofs.Running.{own_commits, last_here, turn_run, turn_told, turn_grows, turn_commits}
+use Rattle.caller_steps.proofs.Owning.{number_of_commit, turns_live}
 use Rattle.atomic_table.specs.Table.{Me, rest}
 use Rattle.mars_manager.specs.declared.view.Known.{Known}
 use Rattle.mars_manager.specs.declared.view.View.{View}

@@ -8,7 +8,7 @@ use mathlib.Core.Option.{some, none, some-injective, some-ne-none}
 use native.Mathlib.Decide.{dec_le, ℕ_discrete}
 use lib.ListN.{get_elem?}
 use Rattle.std.proofs.lemmas.Bool.Decides.{nat_tests}
-use Rattle.core_face.specs.State.{State as CoreState}
+use Rattle.caller_steps.specs.State.{State as CoreState}
 use Rattle.atomic_table.specs.Table.{State, Me, step, takes, gives, Allows, Splits, Joins, Final, Seen, opening, rest}
 use Rattle.atomic_table.specs.Seated.{TableId}
 use Rattle.atomic_table.proofs.Lists.{set_here, set_else, at_snoc, at_longer}
@@ -17,8 +17,8 @@ use Rattle.mars_manager.specs.declared.view.Stage.{Stage}
 use Rattle.mars_manager.specs.declared.view.Stage.TheVariants.{Vacant, Opening, Shared}
 use Rattle.mars_manager.specs.declared.view.View.{View}
 use Rattle.mars_manager.specs.declared.setup.Setup.{Setup}
-use Rattle.core_face.specs.Run.{Turn, GoesAlong, AreOf, LastTurn}
-use Rattle.core_face.proofs.Running.{turn_none}
+use Rattle.caller_steps.specs.Run.{Turn, GoesAlong, AreOf, LastTurn}
+use Rattle.caller_steps.proofs.Running.{turn_none}
 use Rattle.mars_manager.specs.Pass.{AllFit, AreSo, times, newcomer, PassView, PassesView, AllOf, dealt, known_of}
 use Rattle.mars_manager.specs.Sharing.{CanShare, Since}
 use Rattle.mars_manager.specs.Seat.{view, shared_view, opener, newcomers, behind, front, joined, spent}

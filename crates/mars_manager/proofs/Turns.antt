@@ -7,11 +7,11 @@ use lib.ListN.{get_elem?}
 use prog.Atomic.{either}
 use Rattle.history.specs.declared.call.Call.{Call}
 use Rattle.history.specs.declared.call.Reply.{Reply}
-use Rattle.core_face.specs.Room.{Limits}
-use Rattle.core_face.specs.Prefix.{Grows}
-use Rattle.core_face.specs.Run.{Turn, Goes}
-use Rattle.core_face.proofs.Continuing.{grows_longer}
-use Rattle.core_face.proofs.Running.{all_of_append, turns_one, turn_own, turn_other, turn_grows}
+use Rattle.caller_steps.specs.Room.{Limits}
+use Rattle.caller_steps.specs.Prefix.{Grows}
+use Rattle.caller_steps.specs.Run.{Turn, Goes}
+use Rattle.caller_steps.proofs.Continuing.{grows_longer}
+use Rattle.caller_steps.proofs.Running.{all_of_append, turns_one, turn_own, turn_other, turn_grows}
 use Rattle.atomic_table.specs.Table.{State, Me, step, Act, keeps, takes, gives, stepped, Valid, carried_after, Allows}
 use Rattle.atomic_table.proofs.Lists.{set_here, set_else, exchanged}
 use Rattle.mars_manager.specs.declared.view.Known.{Known}

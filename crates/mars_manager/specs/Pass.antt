@@ -4,9 +4,9 @@ use Rattle.atomic_table.specs.Seated.{TableId}
 use Rattle.history.specs.Table.{Granted}
 use Rattle.history.specs.declared.call.Call.{Call}
 use Rattle.history.specs.declared.call.Reply.{Reply}
-use Rattle.core_face.specs.State.{State}
-use Rattle.core_face.specs.Core.{CoreView}
-use Rattle.core_face.specs.Run.{Turn, turns_of, LastTurn}
+use Rattle.caller_steps.specs.State.{State}
+use Rattle.caller_steps.specs.Core.{CoreView}
+use Rattle.caller_steps.specs.Run.{Turn, turns_of, LastTurn}
 use Rattle.mars_manager.specs.declared.setup.Setup.{Setup}
 use Rattle.mars_manager.specs.declared.view.Known.{Known}
 

@@ -5,13 +5,13 @@ use mathlib.Core.Option.{some}
 use lib.ListN.{get_elem?}
 use Rattle.history.specs.declared.call.Call.{Call}
 use Rattle.history.specs.declared.call.Reply.{Reply}
-use Rattle.core_face.specs.Core.{CoreView}
+use Rattle.caller_steps.specs.Core.{CoreView}
 use Rattle.atomic_table.specs.Table.{State, Me, Step}
 use Rattle.mars_manager.specs.declared.view.Known.{Known}
 use Rattle.mars_manager.specs.declared.view.Stage.TheVariants.{Vacant, Opening, Shared}
 use Rattle.mars_manager.specs.declared.view.View.{View}
 use Rattle.mars_manager.specs.declared.setup.Setup.{Setup}
-use Rattle.core_face.specs.Run.{Turn, GoesAlong, AreOf}
+use Rattle.caller_steps.specs.Run.{Turn, GoesAlong, AreOf}
 use Rattle.mars_manager.specs.Pass.{AllFit, known_after, finds, hears, times}
 use Rattle.mars_manager.specs.Sharing.{CanShare, Since}
 use Rattle.mars_manager.specs.Seat.{view, shared_view, opener}

@@ -1,6 +1,6 @@
 -- What holds for a core while it is shared, and what a call does.
 use Rattle.std.specs.Prelude.{ℕ, ◌≡◌, ◌≤◌, Bool, false, IsTrue, MatchBool, List, [], ◌∷◌, ◌++◌, length, Option, Some, None, unwrap_or}
-use Rattle.counted.specs.Causes.{Rose}
+use Rattle.mars_base.specs.Causes.{Rose}
 use Rattle.atomic_table.specs.Seated.{TableId}
 use Rattle.history.specs.Writes.{Table}
 use Rattle.history.specs.Table.{Granted}
@@ -9,11 +9,11 @@ use Rattle.history.specs.declared.transaction.Done.{Done}
 use Rattle.history.specs.declared.call.Call.{Call}
 use Rattle.history.specs.declared.call.Reply.{Reply}
 use Rattle.history.specs.declared.call.Reply.TheVariants.{Committed, Dead}
-use Rattle.core_face.specs.Fate.{is_committed}
-use Rattle.core_face.specs.Sound.{IsSound}
-use Rattle.core_face.specs.Core.{CoreView, IsSafe, Steps, Continues}
-use Rattle.core_face.specs.Run.{Turn, GoesAlong, AreOf, commits_of, LastTurn}
-use Rattle.core_face.specs.Own.{live_by}
+use Rattle.caller_steps.specs.Fate.{is_committed}
+use Rattle.caller_steps.specs.Sound.{IsSound}
+use Rattle.caller_steps.specs.Core.{CoreView, IsSafe, Steps, Continues}
+use Rattle.caller_steps.specs.Run.{Turn, GoesAlong, AreOf, commits_of, LastTurn}
+use Rattle.caller_steps.specs.Own.{live_by}
 use Rattle.mars_manager.specs.declared.setup.Setup.{Setup}
 use Rattle.mars_manager.specs.declared.view.Known.{Known}
 use Rattle.mars_manager.specs.Pass.{PassView, AreSo, known_after, told_of}

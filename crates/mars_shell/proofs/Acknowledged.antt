@@ -13,14 +13,14 @@ use Rattle.history.specs.declared.call.Call.TheVariants.{Begin, Get, Put, Del, S
 use Rattle.history.specs.declared.call.Reply.{Reply}
 use Rattle.history.specs.declared.call.Reply.TheVariants.{Fine, Found, Absent, Listed, Saved, Committed, NoTransaction, Already, NoSave, SavesFull, Busy, LogFull, SlotsFull, PagesFull, Media, Dead, NoMemory, Damaged}
 use Rattle.history.specs.Table.{Work, found, removed, Answers}
-use Rattle.core_face.specs.State.{State, done_by}
-use Rattle.core_face.specs.Room.{Limits}
-use Rattle.core_face.specs.Run.{Turn}
-use Rattle.core_face.specs.Step.{Runs}
-use Rattle.core_face.proofs.Continuing.{grows_longer}
-use Rattle.core_face.proofs.Fates.{Fate, refused, failed, began, granted, committed, doubted, aborted, step_fate}
-use Rattle.core_face.proofs.Refusing.{line_is as turn_is}
-use Rattle.core_face.proofs.Running.{turns_grow}
+use Rattle.caller_steps.specs.State.{State, done_by}
+use Rattle.caller_steps.specs.Room.{Limits}
+use Rattle.caller_steps.specs.Run.{Turn}
+use Rattle.caller_steps.specs.Step.{Runs}
+use Rattle.caller_steps.proofs.Continuing.{grows_longer}
+use Rattle.caller_steps.proofs.Fates.{Fate, refused, failed, began, granted, committed, doubted, aborted, step_fate}
+use Rattle.caller_steps.proofs.Refusing.{line_is as turn_is}
+use Rattle.caller_steps.proofs.Running.{turns_grow}
 use Rattle.script_text.specs.Line.{Says}
 use Rattle.script_text.specs.Replies.{reply_text, row_lines, reply_line, bad_line}
 use Rattle.script_text.specs.declared.line.Line.{Line}

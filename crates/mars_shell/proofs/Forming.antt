@@ -1,7 +1,7 @@
 -- Which index the data has, and work under that index.
 use Rattle.std.proofs.Common.{◌≡◌, ℕ, zero, suc, Bool, true, inl, List, refl, sym, ap, subst, ◌∙◌, length, arith, Result, Ok, Err}
 use Rattle.std.specs.Prelude.{IsTrue, IfOk}
-use Rattle.counted.proofs.Going as going
+use Rattle.mars_base.proofs.Going as going
 use Rattle.array_shape.specs.declared.shape.Shape.{Shape}
 use Rattle.eaw_face.specs.State.{State}
 use Rattle.eaw_face.specs.StoreView.{StoreView, LeavesOnly}
@@ -11,10 +11,10 @@ use Rattle.page_store.specs.Index.{Index}
 use Rattle.index_pages.proofs.FailingFacts.{damaged_chain_is_not_sound}
 use Rattle.btree_pages.specs.FailingFacts.{damaged_tree_is_not_sound}
 use Rattle.record_table.specs.Shown.{table_of}
-use Rattle.core_face.specs.State as face
-use Rattle.core_face.specs.Room.{Limits}
-use Rattle.core_face.specs.Run.{Turn}
-use Rattle.core_face.specs.Step.{Runs}
+use Rattle.caller_steps.specs.State as face
+use Rattle.caller_steps.specs.Room.{Limits}
+use Rattle.caller_steps.specs.Run.{Turn}
+use Rattle.caller_steps.specs.Step.{Runs}
 use Rattle.mars_core.specs.Attached.{CoreCause}
 use Rattle.mars_core.specs.Over.{limits_of}
 use Rattle.mars_core.specs.declared.fault.CoreFault.{CoreFault}

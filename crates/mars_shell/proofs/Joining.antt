@@ -10,11 +10,11 @@ use Rattle.page_store.specs.Index.{Index}
 use Rattle.history.specs.Rows as rows
 use Rattle.history.specs.declared.transaction.Done.{Done}
 use Rattle.history.specs.Legal.{records}
-use Rattle.core_face.specs.Room.{Limits}
-use Rattle.core_face.specs.Core.{CoreView}
-use Rattle.core_face.specs.Run.{AreOf, turns_of}
-use Rattle.core_face.specs.Step.{Runs}
-use Rattle.core_face.proofs.Running.{turns_tell}
+use Rattle.caller_steps.specs.Room.{Limits}
+use Rattle.caller_steps.specs.Core.{CoreView}
+use Rattle.caller_steps.specs.Run.{AreOf, turns_of}
+use Rattle.caller_steps.specs.Step.{Runs}
+use Rattle.caller_steps.proofs.Running.{turns_tell}
 use Rattle.mars_core.specs.Over.{limits_of, Begins}
 use Rattle.mars_core.specs.declared.fault.CoreFault.{CoreFault}
 use Rattle.mars_core.specs.declared.fault.CoreFault.TheVariants as fault

@@ -10,13 +10,13 @@ use Rattle.std.proofs.lemmas.List.Sums.{sum_by-append}
 use Rattle.history.specs.declared.call.Call.{Call}
 use Rattle.history.specs.declared.call.Reply.{Reply}
 use Rattle.history.specs.declared.call.Reply.TheVariants as told
-use Rattle.core_face.specs.State.{State}
-use Rattle.core_face.specs.Room.{Limits}
-use Rattle.core_face.specs.Run.{Turn}
-use Rattle.core_face.specs.Step.{Step, Runs}
-use Rattle.core_face.specs.Fate.{is_committed, is_media}
-use Rattle.core_face.specs.Core.{CoreView, Steps}
-use Rattle.core_face.proofs.Continuing.{continues_none, continues_step, continues_on}
+use Rattle.caller_steps.specs.State.{State}
+use Rattle.caller_steps.specs.Room.{Limits}
+use Rattle.caller_steps.specs.Run.{Turn}
+use Rattle.caller_steps.specs.Step.{Step, Runs}
+use Rattle.caller_steps.specs.Fate.{is_committed, is_media}
+use Rattle.caller_steps.specs.Core.{CoreView, Steps}
+use Rattle.caller_steps.proofs.Continuing.{continues_none, continues_step, continues_on}
 use Rattle.drill_gen.specs.Drill.{alone, paired, one_by_one, in_pairs, drill, transaction}
 use Rattle.drill_gen.specs.declared.transaction.Transaction.{Transaction}
 use Rattle.script_run.specs.declared.responder.Stop.{Stop}

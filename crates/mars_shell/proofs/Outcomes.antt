@@ -6,9 +6,9 @@ use Rattle.pcm_media.specs.View.{View}
 use Rattle.command_words.specs.declared.words.Words.TheVariants.{Dump}
 use Rattle.eaw_face.specs.StoreView.{StoreView}
 use Rattle.eaw_device.specs.Opens.{Opens, KeepsData, Attached, HoldsArray, IsBehind}
-use Rattle.core_face.specs.State.{State}
-use Rattle.core_face.specs.Room.{Limits}
-use Rattle.core_face.specs.Run.{Turn}
+use Rattle.caller_steps.specs.State.{State}
+use Rattle.caller_steps.specs.Room.{Limits}
+use Rattle.caller_steps.specs.Run.{Turn}
 use Rattle.mars_core.specs.declared.fault.CoreFault.{CoreFault}
 use Rattle.script_run.specs.declared.ended.Ended.{Ended}
 use Rattle.mars_shell.specs.Asked.{OutcomeFor}

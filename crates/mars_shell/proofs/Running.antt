@@ -13,10 +13,10 @@ use Rattle.eaw_face.specs.StoreView.{StoreView, LeavesOnly}
 use Rattle.eaw_device.specs.Opens.{header_of, Opens, AllOpen, OpensLike, KeepsData, Attached, IsArray, HoldsArray, IsBehind}
 use Rattle.page_store.specs.Index.{Index}
 use Rattle.record_table.specs.Shown.{table_of}
-use Rattle.core_face.specs.State.{State}
-use Rattle.core_face.specs.Room.{Limits}
-use Rattle.core_face.specs.Run.{Turn}
-use Rattle.core_face.specs.Step.{Runs}
+use Rattle.caller_steps.specs.State.{State}
+use Rattle.caller_steps.specs.Room.{Limits}
+use Rattle.caller_steps.specs.Run.{Turn}
+use Rattle.caller_steps.specs.Step.{Runs}
 use Rattle.mars_core.specs.Over.{limits_of}
 use Rattle.mars_core.specs.declared.fault.CoreFault.{CoreFault}
 use Rattle.mars_core.specs.declared.fault.CoreFault.TheVariants as core

@@ -1,21 +1,21 @@
 -- The work over the records of a store, from what a core makes of it.
 use Rattle.std.proofs.Common.{◌≡◌, ℕ, ◌+◌, ◌≤◌, inl, inr, ⊎_elim, List, [], ◌∷◌, length, take, ◌^◌, Bool, false, refl, sym, ap, subst, ◌∙◌, arith}
 use Rattle.std.specs.Prelude.{IsTrue}
-use Rattle.counted.proofs.Going as going
+use Rattle.mars_base.proofs.Going as going
 use Rattle.array_shape.specs.declared.shape.Shape.{Shape}
 use Rattle.eaw_face.specs.StoreView.{StoreView, LeavesOnly}
 use Rattle.page_store.specs.Index.{Index}
 use Rattle.record_table.specs.Does.{OpensWith}
 use Rattle.record_table.specs.Shown.{table_of, keys_of}
 use Rattle.history.specs.Legal.{records, with_doubt}
-use Rattle.core_face.specs.State.{State}
-use Rattle.core_face.specs.Room.{Limits}
-use Rattle.core_face.specs.Run.{Turn}
-use Rattle.core_face.specs.Step.{Runs}
-use Rattle.core_face.specs.Sound.{IsSound}
-use Rattle.core_face.specs.Prefix.{HasPrefixOf}
-use Rattle.core_face.specs.Core.{CoreView, Continues}
-use Rattle.core_face.proofs.Sound.{opened_sound}
+use Rattle.caller_steps.specs.State.{State}
+use Rattle.caller_steps.specs.Room.{Limits}
+use Rattle.caller_steps.specs.Run.{Turn}
+use Rattle.caller_steps.specs.Step.{Runs}
+use Rattle.caller_steps.specs.Sound.{IsSound}
+use Rattle.caller_steps.specs.Prefix.{HasPrefixOf}
+use Rattle.caller_steps.specs.Core.{CoreView, Continues}
+use Rattle.caller_steps.proofs.Sound.{opened_sound}
 use Rattle.mars_core.specs.Attached.{CoreCause, GivesBack, is_media_fault}
 use Rattle.mars_core.specs.Over.{limits_of, index_of, IsOver, Begins}
 use Rattle.mars_core.specs.declared.fault.CoreFault.{CoreFault}

@@ -4,7 +4,7 @@ use Rattle.std.proofs.Props.{props}
 use Rattle.std.proofs.Math.Nat.{mul-div_cancel_left}
 use Rattle.array_shape.specs.declared.shape.Shape.{Shape}
 use Rattle.array_shape.specs.Numbers.{AreInRange}
-use Rattle.core_face.specs.Room.{Limits}
+use Rattle.caller_steps.specs.Room.{Limits}
 use Rattle.mars_core.specs.Over.{limits_of}
 
 in_range_prop : {loggers numbers entries pages : ℕ} → IsProp (AreInRange loggers numbers entries pages)

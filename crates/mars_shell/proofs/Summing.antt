@@ -3,9 +3,9 @@ use Rattle.std.proofs.Common.{◌≡◌, ℕ, List, [], ◌∷◌, ◌++◌, map
 use Rattle.std.specs.Prelude.{IsTrue, codes}
 use Rattle.std.specs.FinMap.{entries}
 use Rattle.history.specs.declared.call.Call.{Call}
-use Rattle.core_face.specs.State.{State, records_of}
-use Rattle.core_face.specs.Core.{CoreView}
-use Rattle.core_face.specs.Run.{Turn}
+use Rattle.caller_steps.specs.State.{State, records_of}
+use Rattle.caller_steps.specs.Core.{CoreView}
+use Rattle.caller_steps.specs.Run.{Turn}
 use Rattle.command_words.specs.declared.words.DrillNumbers.{DrillNumbers}
 use Rattle.drill_gen.specs.Drill.{drill}
 use Rattle.script_io.specs.Written.{IsWritten}

@@ -7,9 +7,9 @@ use Rattle.eaw_face.specs.StoreView.{StoreView}
 use Rattle.page_store.specs.Index.{Index}
 use Rattle.history.specs.Legal.{records}
 use Rattle.history.specs.declared.transaction.Done.{Done}
-use Rattle.core_face.specs.State.{records_of}
-use Rattle.core_face.specs.Core.{CoreView}
-use Rattle.core_face.proofs.Continuing.{continues_none}
+use Rattle.caller_steps.specs.State.{records_of}
+use Rattle.caller_steps.specs.Core.{CoreView}
+use Rattle.caller_steps.proofs.Continuing.{continues_none}
 use Rattle.mars_core.specs.Over.{IsOver, Begins}
 use Rattle.mars_core.specs.declared.fault.CoreFault.TheVariants.{NoMemory}
 use Rattle.script_io.specs.Written.{IsWritten}

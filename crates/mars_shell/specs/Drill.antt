@@ -5,9 +5,9 @@ use Rattle.std.specs.Fmt.{decimal}
 use Rattle.std.specs.List.{All, sum_by}
 use Rattle.history.specs.declared.call.Call.{Call}
 use Rattle.history.specs.declared.call.Reply.TheVariants as reply
-use Rattle.core_face.specs.State.{State, records_of}
-use Rattle.core_face.specs.Room.{Limits}
-use Rattle.core_face.specs.Run.{Turn}
+use Rattle.caller_steps.specs.State.{State, records_of}
+use Rattle.caller_steps.specs.Room.{Limits}
+use Rattle.caller_steps.specs.Run.{Turn}
 use Rattle.drill_gen.specs.Drill.{drill}
 use Rattle.command_words.specs.declared.words.DrillNumbers.{DrillNumbers}
 use Rattle.script_io.specs.Written.{IsWritten}

@@ -9,9 +9,9 @@ use Rattle.array_shape.specs.declared.shape.Shape.{Shape}
 use Rattle.array_image.specs.Decided.{settled_data}
 use Rattle.device_recovery.specs.Recovered.{HasNoVote}
 use Rattle.eaw_device.specs.Opens.{Opens, AllOpen, OpensLike}
-use Rattle.core_face.specs.State.{State, records_of}
-use Rattle.core_face.specs.Room.{Limits}
-use Rattle.core_face.specs.Run.{Turn}
+use Rattle.caller_steps.specs.State.{State, records_of}
+use Rattle.caller_steps.specs.Room.{Limits}
+use Rattle.caller_steps.specs.Run.{Turn}
 use Rattle.history_text.specs.Text.{rec_line}
 use Rattle.script_io.specs.Written.{IsWritten}
 use Rattle.script_run.specs.declared.ended.Ended.{Ended}

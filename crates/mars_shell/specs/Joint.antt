@@ -7,9 +7,9 @@ use Rattle.array_shape.specs.declared.shape.Shape.{Shape}
 use Rattle.eaw_device.specs.Opens.{IsArray, HoldsArray}
 use Rattle.history.specs.Legal.{records}
 use Rattle.history.specs.declared.call.Reply.{Reply}
-use Rattle.core_face.specs.State.{State}
-use Rattle.core_face.specs.Room.{Limits}
-use Rattle.core_face.specs.Run.{Turn, AreOf, turns_of}
+use Rattle.caller_steps.specs.State.{State}
+use Rattle.caller_steps.specs.Room.{Limits}
+use Rattle.caller_steps.specs.Run.{Turn, AreOf, turns_of}
 use Rattle.caller_plans.specs.declared.fate.Fate.{Fate}
 use Rattle.caller_plans.specs.Plans.{planned, calls_by, AllSay, faults_from}
 use Rattle.caller_work.specs.declared.tries.Tries.TheVariants.{Times}

@@ -3,11 +3,11 @@ use Rattle.std.specs.Prelude.{ℕ, ◌≡◌, List, length, map, take, Bool, IsT
 use Rattle.std.specs.FinMap.{entries}
 use Rattle.history.specs.declared.call.Call.{Call}
 use Rattle.command_words.specs.declared.words.DrillNumbers.{DrillNumbers}
-use Rattle.core_face.specs.State.{records_of}
-use Rattle.core_face.specs.Core.{CoreView, IsSafe, Continues}
-use Rattle.core_face.specs.Sound.{IsSound}
-use Rattle.core_face.specs.Run.{Turn}
-use Rattle.core_face.specs.Step.{Runs}
+use Rattle.caller_steps.specs.State.{records_of}
+use Rattle.caller_steps.specs.Core.{CoreView, IsSafe, Continues}
+use Rattle.caller_steps.specs.Sound.{IsSound}
+use Rattle.caller_steps.specs.Run.{Turn}
+use Rattle.caller_steps.specs.Step.{Runs}
 use Rattle.script_run.specs.declared.responder.Stop.{Stop}
 use Rattle.script_run.specs.declared.responder.Stop.TheVariants.{Media, NoMemory}
 use Rattle.mars_shell.specs.Drill.{without_reply, GoOn, FailsAtLast, summary_text}

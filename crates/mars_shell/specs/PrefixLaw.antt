@@ -6,8 +6,8 @@ use Rattle.array_shape.specs.declared.shape.Shape.{Shape}
 use Rattle.eaw_device.specs.Opens.{Opens, AllOpen, OpensLike}
 use Rattle.page_store.specs.Index.{Index}
 use Rattle.record_table.specs.Does.{OpensWith}
-use Rattle.core_face.specs.State.{State}
-use Rattle.core_face.specs.Prefix.{HasPrefixOf}
+use Rattle.caller_steps.specs.State.{State}
+use Rattle.caller_steps.specs.Prefix.{HasPrefixOf}
 use Rattle.mars_shell.specs.Forms.{index_in}
 
 -- the image opens with data that is sound under this index and has the records of the first transactions, at least so many

@@ -11,10 +11,10 @@ use Rattle.page_store.specs.Index.{Index}
 use Rattle.record_table.specs.Shown.{table_of, keys_of}
 use Rattle.history.specs.Legal.{IsLegal, records, with_doubt}
 use Rattle.history.specs.declared.call.Reply.TheVariants.{Committed}
-use Rattle.core_face.specs.State.{State, opened}
-use Rattle.core_face.specs.Room.{Limits}
-use Rattle.core_face.specs.Run.{Turn}
-use Rattle.core_face.specs.Step.{Runs}
+use Rattle.caller_steps.specs.State.{State, opened}
+use Rattle.caller_steps.specs.Room.{Limits}
+use Rattle.caller_steps.specs.Run.{Turn}
+use Rattle.caller_steps.specs.Step.{Runs}
 use Rattle.mars_core.specs.Over.{limits_of, index_of}
 use Rattle.script_io.specs.Lines.{lines_of}
 use Rattle.script_run.specs.Transcript.{Answered}

@@ -1,6 +1,6 @@
 -- What is done over a store whose records are read first.
 use Rattle.std.specs.Prelude.{ℕ, ◌≡◌, List, [], length, Bool, true, false, IsTrue, Result, Ok, Err}
-use Rattle.counted.specs.Causes.{Rose}
+use Rattle.mars_base.specs.Causes.{Rose}
 use Rattle.array_shape.specs.declared.shape.Shape.{Shape}
 use Rattle.eaw_face.specs.Causes.{IsAlive}
 use Rattle.eaw_face.specs.StoreView.{StoreView, LeavesOnly}
@@ -10,11 +10,11 @@ use Rattle.page_store.specs.Index.{Index}
 use Rattle.record_table.specs.Does.{OpensWith}
 use Rattle.record_table.specs.Shown.{table_of}
 use Rattle.history.specs.Legal.{IsLegal, with_doubt}
-use Rattle.core_face.specs.State.{State}
-use Rattle.core_face.specs.Room.{Limits}
-use Rattle.core_face.specs.Run.{Turn}
-use Rattle.core_face.specs.Step.{Runs}
-use Rattle.core_face.specs.Prefix.{HasPrefixOf}
+use Rattle.caller_steps.specs.State.{State}
+use Rattle.caller_steps.specs.Room.{Limits}
+use Rattle.caller_steps.specs.Run.{Turn}
+use Rattle.caller_steps.specs.Step.{Runs}
+use Rattle.caller_steps.specs.Prefix.{HasPrefixOf}
 use Rattle.mars_core.specs.Over.{limits_of}
 use Rattle.mars_core.specs.Attached.{CoreCause}
 use Rattle.mars_core.specs.declared.fault.CoreFault.{CoreFault}

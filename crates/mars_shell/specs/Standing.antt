@@ -1,9 +1,9 @@
 -- The state that callers' turns over a core stand in, and how it goes on.
 use Rattle.std.specs.Prelude.{ℕ, ◌≡◌, List, ◌++◌, false, length}
-use Rattle.core_face.specs.Core.{CoreView, IsSafe, Continues}
-use Rattle.core_face.specs.Run.{Turn}
-use Rattle.core_face.specs.Sound.{IsSound}
-use Rattle.core_face.specs.Step.{Runs}
+use Rattle.caller_steps.specs.Core.{CoreView, IsSafe, Continues}
+use Rattle.caller_steps.specs.Run.{Turn}
+use Rattle.caller_steps.specs.Sound.{IsSound}
+use Rattle.caller_steps.specs.Step.{Runs}
 use Rattle.history.specs.declared.call.Reply.TheVariants.{Media}
 use Rattle.script_run.specs.Script.{Script}
 use Rattle.mars_shell.specs.Lines.{LineGives, LineMeets, LineStops}

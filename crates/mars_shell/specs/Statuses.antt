@@ -1,6 +1,6 @@
 -- The statuses of a run by kind, and the counts of faults that go with each.
 use Rattle.std.specs.Prelude.{ℕ, ◌≡◌, Result, Ok, Err}
-use Rattle.counted.specs.Causes.{Rose}
+use Rattle.mars_base.specs.Causes.{Rose}
 use Rattle.eaw_device.specs.declared.fault.AttachFault.{AttachFault}
 use Rattle.eaw_device.specs.declared.fault.AttachFault.TheVariants as opening
 use Rattle.mars_core.specs.declared.fault.CoreFault.{CoreFault}

@@ -4,8 +4,8 @@ use Rattle.history.specs.declared.call.Call.{Call}
 use Rattle.history.specs.declared.call.Call.TheVariants.{Abort}
 use Rattle.history.specs.declared.call.Reply.{Reply}
 use Rattle.history.specs.declared.call.Reply.TheVariants.{Fine, Busy, LogFull, SlotsFull, PagesFull, Media, NoMemory}
-use Rattle.core_face.specs.Fate.{is_committed}
-use Rattle.core_face.specs.Run.{Turn}
+use Rattle.caller_steps.specs.Fate.{is_committed}
+use Rattle.caller_steps.specs.Run.{Turn}
 use Rattle.script_run.specs.declared.responder.Stop.{Stop}
 use Rattle.script_run.specs.declared.responder.Stop.TheVariants as stop
 use Rattle.mars_shell.specs.Lines.{goes_on}

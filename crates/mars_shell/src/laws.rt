@@ -1,10 +1,10 @@
 // Laws of whole runs, which follow from the definitions alone.
 ghost use Rattle.std.specs.Prelude.{ℕ, ◌<◌, List, Bool, None};
 ghost use Rattle.history.specs.Writes.{Table};
-ghost use Rattle.core_face.specs.State.{State, Index, opened};
-ghost use Rattle.core_face.specs.Room.{Limits};
-ghost use Rattle.core_face.specs.Run.{Turn, commits_of, HasNoOthers};
-ghost use Rattle.core_face.specs.Step.{Runs};
+ghost use Rattle.caller_steps.specs.State.{State, Index, opened};
+ghost use Rattle.caller_steps.specs.Room.{Limits};
+ghost use Rattle.caller_steps.specs.Run.{Turn, commits_of, HasNoOthers};
+ghost use Rattle.caller_steps.specs.Step.{Runs};
 ghost use Rattle.caller_plans.specs.Plans.{planned, calls_by};
 ghost use Rattle.caller_work.specs.Fated.{AreFated};
 ghost use Rattle.caller_work.specs.Worked.{of_caller};

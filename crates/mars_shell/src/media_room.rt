@@ -4,7 +4,7 @@ ghost use Rattle.mars_shell.specs.Room.{IsRoom};
 
 use crate::formatting::room_of;
 use command_words::{Words, WordsFault, read_words};
-use counted::NoMemory;
+use mars_base::NoMemory;
 use std::alloc::Global;
 
 /// The length in bytes of the medium that a `format` of these words needs, or 0 for other words and if a number is out of range.

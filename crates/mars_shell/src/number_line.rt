@@ -1,8 +1,8 @@
 ghost use Rattle.std.specs.Prelude.{◌≡◌, ◌++◌, OnOk};
 ghost use Rattle.mars_shell.specs.Dump.{number_line};
 
-use counted::NoMemory;
 use itoa::Buffer;
+use mars_base::NoMemory;
 
 /// Appends a line of a word and a number.
 pub fn append_number(text: &mut Vec<u8>, word: &[u8], n: u64) -> Result<(), NoMemory>

@@ -2,7 +2,7 @@
 ghost use Rattle.std.specs.Prelude.{◌≡◌};
 ghost use Rattle.mars_shell.specs.Lines.{Replied};
 
-use core_face::Core;
+use caller_steps::Core;
 use history::Reply;
 use script_run::{Responder, Stop};
 use script_text::{Line, read_line, write_bad_line, write_reply};
@@ -17,11 +17,11 @@ impl<C: Core> Responder for LineCore<C> {
     ghost use Rattle.std.specs.Prelude.{◌++◌, [], List, true};
     ghost use Rattle.std.proofs.Common.{refl, sym, ap, subst, ◌∙◌};
     ghost use Rattle.std.proofs.lemmas.List.{append-nil, append_assoc};
-    ghost use Rattle.core_face.proofs.Continuing.{continues_none, continues_on};
-    ghost use Rattle.core_face.proofs.Running.{turns_on, turns_tell, turns_of_runs};
-    ghost use Rattle.core_face.specs.Room.{Limits};
-    ghost use Rattle.core_face.specs.Run.{Turn};
-    ghost use Rattle.core_face.specs.Step.{Runs};
+    ghost use Rattle.caller_steps.proofs.Continuing.{continues_none, continues_on};
+    ghost use Rattle.caller_steps.proofs.Running.{turns_on, turns_tell, turns_of_runs};
+    ghost use Rattle.caller_steps.specs.Room.{Limits};
+    ghost use Rattle.caller_steps.specs.Run.{Turn};
+    ghost use Rattle.caller_steps.specs.Step.{Runs};
     ghost use Rattle.mars_shell.specs.Standing.{Progress, line_script, IsReady, Stands, Comes};
 
     ghost tells = { C.tells };

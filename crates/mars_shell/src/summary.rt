@@ -7,9 +7,9 @@ ghost use Rattle.mars_shell.specs.Dump.{number_line};
 use crate::number_line::append_number;
 use crate::tally::Tally;
 use command_words::DrillNumbers;
-use counted::NoMemory;
 use history::Rows;
 use itoa::Buffer;
+use mars_base::NoMemory;
 use record_slots::Value;
 use std::alloc::Global;
 

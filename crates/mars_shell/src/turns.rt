@@ -5,7 +5,7 @@ ghost use Rattle.script_run.specs.Answers.{HasStopCause};
 ghost use Rattle.mars_shell.specs.Made.{MadeAll, EndsEarly};
 
 use crate::tally::Tally;
-use core_face::Core;
+use caller_steps::Core;
 use history::Call;
 use script_run::Stop;
 

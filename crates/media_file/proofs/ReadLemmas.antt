@@ -3,7 +3,7 @@ use Rattle.std.proofs.Common.{◌≡◌, ℕ, ◌+◌, ◌-◌, ◌<◌, ◌≤�
 use Rattle.std.proofs.lemmas.Bool.{cases_lt}
 use Rattle.std.proofs.lemmas.List.{ext_get_or, get_or-take, get_or_append_left, get_or-append_right, length-take-le}
 use borrow.Rule.Slice.PartMut.{put_mid, post_of, same_len_mid}
-use Rattle.counted.specs.Bytes.{range}
+use Rattle.mars_base.specs.Bytes.{range}
 use Rattle.pcm_media.proofs.Ranges.{length-range, get_or-range}
 use Rattle.media_file.specs.Past.{Past, came, noted, held, AreBefore, Answers, IsHonest}
 use Rattle.media_file.specs.Transfer.{Serves}

@@ -1,6 +1,6 @@
 -- What a call of the medium does to what it shows.
 use Rattle.std.proofs.Common.{◌≡◌, ℕ, ◌≤◌, Bool, inl, List, Result, Err, refl, subst, sym}
-use Rattle.counted.specs.Causes.{Rose}
+use Rattle.mars_base.specs.Causes.{Rose}
 use Rattle.pcm_media.specs.View.{Writes}
 use Rattle.pcm_media.proofs.Left.{touched_by_nothing}
 use Rattle.media_file.specs.Past.{Past, held}

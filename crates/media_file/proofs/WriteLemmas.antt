@@ -3,8 +3,8 @@ use Rattle.std.proofs.Common.{◌≡◌, ℕ, ◌+◌, ◌-◌, ◌<◌, ◌≤�
 use Rattle.std.proofs.lemmas.Bool.{cases_lt}
 use Rattle.std.proofs.lemmas.List.{ext_get_or, get_or-take, get_or-drop, length-take-le, length-drop}
 use Rattle.std.proofs.lemmas.List.Elements.{All-head}
-use Rattle.counted.specs.Bytes.{put}
-use Rattle.counted.proofs.Puts.{length-put, get_or-put_before, get_or-put_after, get_or-put_inside}
+use Rattle.mars_base.specs.Bytes.{put}
+use Rattle.mars_base.proofs.Puts.{length-put, get_or-put_before, get_or-put_after, get_or-put_inside}
 use Rattle.pcm_media.specs.Images.{Touched, IsOutside, written}
 use Rattle.pcm_media.proofs.Left.{get_or-put_outside}
 use Rattle.media_file.specs.Past.{Made, Past, stands, noted, held, joined, goes_on, AreBefore}

@@ -3,7 +3,7 @@ use Rattle.std.specs.Prelude.{ℕ, ◌+◌, ◌-◌, ◌<◌, ◌≡◌, ◌==�
 use Rattle.std.specs.List.{All}
 use Rattle.std.proofs.Common.{⊎_elim, arith}
 use Rattle.std.proofs.lemmas.List.Elements.{All-head, All-tail}
-use Rattle.counted.specs.Bytes.{put, range}
+use Rattle.mars_base.specs.Bytes.{put, range}
 use Rattle.pcm_media.specs.Images.{Content, MayLeave, settled}
 
 -- A call that was made: the length was told; these bytes came from a place on; these bytes stand at a place after a write, which

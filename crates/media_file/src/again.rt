@@ -3,7 +3,7 @@ ghost use Rattle.std.specs.Prelude.{◌≡◌, ◌+◌, ℕ, IsTrue, MatchResult
 ghost use Rattle.media_file.specs.Past.{noted, measured, resized, synced};
 
 use crate::{CallFault, Calls};
-use counted::Failed;
+use mars_base::Failed;
 
 /// The length of the file in bytes.
 pub fn measure<C: Calls>(calls: &mut C, moment: u64) -> Result<u64, Failed>

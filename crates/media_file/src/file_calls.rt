@@ -2,7 +2,7 @@
 ghost use Rattle.std.specs.Prelude.{◌≡◌, true, IfOk, IsSome};
 
 use crate::{CallFault, Calls};
-use counted::Failed;
+use mars_base::Failed;
 use std::fs::{File, OpenOptions};
 use std::io;
 use std::io::ErrorKind;

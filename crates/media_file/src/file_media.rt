@@ -1,14 +1,14 @@
 // A medium over a file.
 ghost use Rattle.std.specs.Prelude.{◌≡◌, ◌+◌, ◌-◌, ◌^◌, ◌≤◌, ◌<◌, ℕ, [], ◌∷◌, length, IsOk, IfOk, OnOk, OnErr, IfSome, IsSome, IsTrue};
-ghost use Rattle.counted.specs.Causes.{Rose};
-ghost use Rattle.counted.specs.Moments.{Ticks};
+ghost use Rattle.mars_base.specs.Causes.{Rose};
+ghost use Rattle.mars_base.specs.Moments.{Ticks};
 ghost use Rattle.media_file.specs.Past.{held, AreBefore};
 
 use crate::again::{measure, resize, sync};
 use crate::reading::read_all;
 use crate::writing::write_all;
 use crate::{Calls, FileCalls};
-use counted::Failed;
+use mars_base::Failed;
 use pcm_media::Media;
 use std::fs::File;
 use std::rt::Files;

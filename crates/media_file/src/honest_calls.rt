@@ -4,7 +4,7 @@ ghost use Rattle.media_file.specs.Past.{held, noted, stands};
 ghost use Rattle.media_file.specs.Honest.{past_of, event_of, is_quiet};
 
 use crate::{Answer, CallFault, Calls, Done, HonestCall};
-use counted::NoMemory;
+use mars_base::NoMemory;
 use std::alloc::Global;
 
 /// A file in memory. It keeps its calls. It answers them one after another as a list says, and does those after the end of the

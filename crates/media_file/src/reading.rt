@@ -1,11 +1,11 @@
 // The reads of a file that serve one read of the medium: a part is followed by the rest, and an interrupted call is made again.
 ghost use Rattle.std.specs.Prelude.{◌≡◌, ◌+◌, ◌≤◌, ◌<◌, ◌^◌, [], ℕ, length, IsTrue, IsOk, OnOk};
-ghost use Rattle.counted.specs.Bytes.{range};
+ghost use Rattle.mars_base.specs.Bytes.{range};
 ghost use Rattle.media_file.specs.Past.{held, AreBefore};
 ghost use Rattle.media_file.specs.Transfer.{Serves};
 
 use crate::{CallFault, Calls};
-use counted::Failed;
+use mars_base::Failed;
 
 /// Fills the buffer with the bytes from `at` on. An end of the file before the last of them is a fault.
 pub fn read_all<C: Calls>(calls: &mut C, moment: u64, at: u64, buf: &mut [u8]) -> Result<(), Failed>

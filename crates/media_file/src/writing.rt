@@ -5,7 +5,7 @@ ghost use Rattle.media_file.specs.Past.{held, AreBefore};
 ghost use Rattle.media_file.specs.Transfer.{Serves};
 
 use crate::{CallFault, Calls};
-use counted::Failed;
+use mars_base::Failed;
 
 /// Writes all the bytes at `at`.
 pub fn write_all<C: Calls>(calls: &mut C, moment: u64, at: u64, bytes: &[u8]) -> Result<(), Failed>

@@ -2,7 +2,7 @@
 use Rattle.std.proofs.Common.{◌≡◌, ℕ, ◌+◌, ◌<◌, ◌≤◌, min, inr, Bool, true, false, List, [], ◌∷◌, ◌++◌, length, set, take, drop, refl, sym, ◌∙◌, ap, arith}
 use Rattle.std.specs.Prelude.{None}
 use Rattle.std.proofs.lemmas.List.{length-drop, get_or-set_same}
-use Rattle.counted.specs.Bytes.{put}
+use Rattle.mars_base.specs.Bytes.{put}
 use Rattle.array_shape.specs.Parts.{parts_of_write}
 use Rattle.array_shape.specs.Logged.{Part, applied, ranges_of}
 use Rattle.eaw_face.specs.State.{State, listed, with_log, edited, range_at}

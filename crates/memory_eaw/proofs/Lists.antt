@@ -1,7 +1,7 @@
 -- Lists after a write, and parts of them.
 use Rattle.std.proofs.Common.{◌≡◌, ℕ, ◌+◌, ◌≤◌, List, length, take, arith, rules}
 use Rattle.std.proofs.lemmas.List.{same_lists, places}
-use Rattle.counted.specs.Bytes.{put}
+use Rattle.mars_base.specs.Bytes.{put}
 
 -- a write within the front of a list
 pub take-put : (n at : ℕ) (more bytes : List ℕ) → at + length more ≤ n → n ≤ length bytes → take n (put bytes at more) ≡ put (take n bytes) at more

@@ -3,8 +3,8 @@ use Rattle.std.proofs.Common.{◌≡◌, ℕ, zero, suc, ◌+◌, ◌<◌, ◌�
 use Rattle.std.specs.Prelude.{All, filter}
 use Rattle.std.proofs.lemmas.List.{take_more, length-map}
 use Rattle.std.proofs.lemmas.List.Elements.{All-cons, All-head, All-tail}
-use Rattle.counted.specs.Bytes.{put}
-use Rattle.counted.proofs.Puts.{length-put}
+use Rattle.mars_base.specs.Bytes.{put}
+use Rattle.mars_base.proofs.Puts.{length-put}
 use Rattle.array_shape.specs.declared.shape.Shape.{Shape}
 use Rattle.array_shape.specs.Places.{data_len, logger_of, IsPlaced}
 use Rattle.array_shape.specs.Parts.{parts_of_write, part_of_write, parts_on, is_write_part_on}

@@ -1,6 +1,6 @@
 -- What a store in memory keeps of its calls.
 use Rattle.std.specs.Prelude.{ℕ, ◌≡◌, ◌+◌, ◌-◌, ◌*◌, ◌^◌, ◌≤◌, ◌⊎◌, List, [], ◌∷◌, ◌++◌, length, take, drop, Contains}
-use Rattle.counted.specs.Causes.{next_count}
+use Rattle.mars_base.specs.Causes.{next_count}
 
 -- the data as it was until a call raised the moment to `until`
 pub record Version : Type 0 where

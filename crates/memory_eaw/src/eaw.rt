@@ -1,7 +1,7 @@
 // An array in memory.
 ghost use Rattle.std.specs.Prelude.{ℕ, ◌≡◌, ◌≢◌, ◌+◌, ◌*◌, ◌^◌, ◌≤◌, ◌<◌, true, false, [], ◌∷◌, ◌++◌, length, take, drop, replicate, IfOk, IfErr, OnOk, OnErr, IsErrOf};
-ghost use Rattle.counted.specs.Bytes.{put, range};
-ghost use Rattle.counted.specs.Costs.{Costs};
+ghost use Rattle.mars_base.specs.Bytes.{put, range};
+ghost use Rattle.mars_base.specs.Costs.{Costs};
 ghost use Rattle.array_shape.specs.Places.{data_len};
 ghost use Rattle.array_shape.specs.Parts.{parts_of_write};
 ghost use Rattle.array_shape.specs.Logged.{applied, ranges_of};
@@ -21,8 +21,8 @@ use crate::journal::Journal;
 use crate::log::{PlainLog, count_range};
 use crate::part::overwrite;
 use array_shape::Shape;
-use counted::NoMemory;
 use eaw_face::{EawFault, EawStore};
+use mars_base::NoMemory;
 use std::alloc::Global;
 
 /// An array of editable atomic writes in plain memory, for tests.

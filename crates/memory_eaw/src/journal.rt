@@ -3,7 +3,7 @@ ghost use Rattle.std.specs.Prelude.{◌≡◌, ◌-◌, ◌^◌, ◌<◌, ◌↔
 ghost use Rattle.std.specs.Bool.{OnTrue, OnFalse};
 ghost use Rattle.memory_eaw.specs.Kept.{fresh_kept, MustFail, MustFailChange, failed, called, changed};
 
-use counted::NoMemory;
+use mars_base::NoMemory;
 use std::alloc::Global;
 use std::marker::Model;
 

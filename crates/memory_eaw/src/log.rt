@@ -9,7 +9,7 @@ ghost use Rattle.memory_eaw.specs.Log.{IsWritePart};
 
 use crate::part::PlainPart;
 use array_shape::{Part, Shape};
-use counted::NoMemory;
+use mars_base::NoMemory;
 use std::alloc::Global;
 use std::marker::Model;
 

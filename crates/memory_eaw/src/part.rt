@@ -1,6 +1,6 @@
 // A part of a write.
 ghost use Rattle.std.specs.Prelude.{◌≡◌, ◌+◌, ◌≤◌, length, take};
-ghost use Rattle.counted.specs.Bytes.{put};
+ghost use Rattle.mars_base.specs.Bytes.{put};
 
 use std::marker::Model;
 

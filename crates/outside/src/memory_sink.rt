@@ -1,12 +1,12 @@
 // A sink in memory, which fails at listed calls.
 ghost use Rattle.std.specs.Prelude.{◌≡◌, ◌+◌, ◌-◌, ◌≤◌, ◌↔◌, ℕ, true, [], ◌∷◌, ◌++◌, length, IfOk, OnOk, OnErr, IsErr, IsTrue, IsOkAnd, Contains};
-ghost use Rattle.counted.specs.Causes.{HasCause};
+ghost use Rattle.mars_base.specs.Causes.{HasCause};
 ghost use Rattle.outside.specs.Told.{Puts, TakesPart};
 ghost use Rattle.outside.specs.Memory.{has_room};
-ghost use Rattle.counted.specs.Causes.{next_count, faults_after};
+ghost use Rattle.mars_base.specs.Causes.{next_count, faults_after};
 
 use crate::Sink;
-use counted::{Failed, NoMemory};
+use mars_base::{Failed, NoMemory};
 use std::alloc::Global;
 use std::marker::Model;
 

@@ -1,11 +1,11 @@
 // A source in memory, which fails at listed calls.
 ghost use Rattle.std.specs.Prelude.{◌≡◌, ◌≤◌, ◌==◌, ◌↔◌, min, true, [], ◌∷◌, ◌++◌, length, drop, IfOk, OnOk, OnErr, IsErr, IsOk, MatchResult, Contains, IsTrue};
-ghost use Rattle.counted.specs.Causes.{HasCause};
+ghost use Rattle.mars_base.specs.Causes.{HasCause};
 ghost use Rattle.outside.specs.Told.{Takes};
-ghost use Rattle.counted.specs.Causes.{next_count, faults_after};
+ghost use Rattle.mars_base.specs.Causes.{next_count, faults_after};
 
 use crate::Source;
-use counted::{Failed, NoMemory};
+use mars_base::{Failed, NoMemory};
 use std::alloc::Global;
 use std::marker::Model;
 

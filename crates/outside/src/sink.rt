@@ -1,9 +1,9 @@
 // Where bytes go.
 ghost use Rattle.std.specs.Prelude.{◌-◌, ◌≤◌, List, ℕ, Bool, length, IsTrue, IsOkAnd};
-ghost use Rattle.counted.specs.Causes.{HasCause};
+ghost use Rattle.mars_base.specs.Causes.{HasCause};
 ghost use Rattle.outside.specs.Told.{Puts, TakesPart};
 
-use counted::Failed;
+use mars_base::Failed;
 
 /// Takes bytes one after another. It counts its failures.
 pub trait Sink {

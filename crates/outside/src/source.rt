@@ -1,9 +1,9 @@
 // Where bytes come from.
 ghost use Rattle.std.specs.Prelude.{◌≤◌, List, ℕ, Bool, length, IsTrue, IfOk, IsOk};
-ghost use Rattle.counted.specs.Causes.{HasCause};
+ghost use Rattle.mars_base.specs.Causes.{HasCause};
 ghost use Rattle.outside.specs.Told.{Takes};
 
-use counted::Failed;
+use mars_base::Failed;
 
 /// Bytes that are read one after another. It counts its failures.
 pub trait Source {

@@ -1,12 +1,12 @@
 // The source over std's reader and the sink over std's writer.
 ghost use Rattle.std.specs.Prelude.{◌≡◌, ◌≤◌, false, [], length, IfOk};
 ghost use Rattle.std.specs.Io.KnownBytes.{ReadConsumes, WriteAppends};
-ghost use Rattle.counted.specs.Causes.{HasCause};
+ghost use Rattle.mars_base.specs.Causes.{HasCause};
 ghost use Rattle.outside.specs.Told.{TakesPart};
-ghost use Rattle.counted.specs.Causes.{faults_after};
+ghost use Rattle.mars_base.specs.Causes.{faults_after};
 
 use crate::{Sink, Source};
-use counted::Failed;
+use mars_base::Failed;
 use std::io::{Read, Write};
 use std::marker::Model;
 

@@ -1,5 +1,5 @@
 use array_shape::BadShape;
-use counted::NoMemory;
+use mars_base::NoMemory;
 use std::alloc::{AllocError, AllocFailed};
 use thiserror::Error;
 

@@ -3,9 +3,9 @@ use Rattle.std.proofs.Common.{◌≡◌, ℕ, zero, suc, ◌+◌, ◌<◌, ◌�
 use Rattle.std.specs.Prelude.{nat_eq, nat_lt, Option, Some, None}
 use Rattle.std.specs.Option.{option_map}
 use Rattle.std.proofs.lemmas.Bool.{cases_Bool, cases_lt, and_parts, and_cases, not-true, ltb-false, eqb-true}
-use Rattle.counted.specs.Bytes.{put}
+use Rattle.mars_base.specs.Bytes.{put}
 use Rattle.pcm_media.specs.Images.{IsOutside}
-use Rattle.counted.proofs.Puts.{length-put}
+use Rattle.mars_base.proofs.Puts.{length-put}
 use Rattle.array_shape.specs.Logged.{Part, applied, AllFit, ranges_of}
 use Rattle.page_store.specs.Edit.{meet, meets_none, AreApart, is_same, edit_pos, written_at, with_write}
 use Rattle.page_store.proofs.Parts.{applied_either_order, put_again, put_whole}

@@ -8,7 +8,7 @@ use Rattle.eaw_face.specs.State.{edited, range_at}
 use Rattle.page_store.specs.Edit.{meet, meets_none, is_same, edit_pos, IsEdited, written_at, with_write, with_range}
 use Rattle.page_store.proofs.Writes.{length-edited}
 use Rattle.std.proofs.lemmas.List.{length-append}
-use Rattle.counted.proofs.Puts.{length-put}
+use Rattle.mars_base.proofs.Puts.{length-put}
 
 meets_none_at : (r : ℕ × ℕ) (qs : List (ℕ × ℕ)) (k : ℕ) → meets_none r qs ≡ true → k < length qs → meet r (range_at qs k) ≡ false
 meets_none_at r [] k none lt = absurd (omega arith)

@@ -4,8 +4,8 @@ use Rattle.std.specs.Prelude.{Option, Some, None, IsTrue, IsSome, IfSome, OnOk, 
 use Rattle.std.specs.Option.{option_map}
 use Rattle.std.proofs.lemmas.Bool.{false≢true}
 use Rattle.std.proofs.lemmas.Result.{IfErr-at_err}
-use Rattle.counted.specs.Causes.{Rose}
-use Rattle.counted.proofs.Going.{stays, weaker}
+use Rattle.mars_base.specs.Causes.{Rose}
+use Rattle.mars_base.proofs.Going.{stays, weaker}
 use Rattle.array_shape.specs.declared.shape.Shape.{Shape}
 use Rattle.array_shape.specs.Parts.{parts_of_write}
 use Rattle.array_shape.specs.Logged.{Part, ranges_of}

@@ -3,8 +3,8 @@ use Rattle.std.proofs.Common.{◌≡◌, ℕ, Bool, true, false, inl, inr, ⊎_e
 use Rattle.std.specs.Prelude.{Option, Some, None, IsTrue, IsOk, OnOk, OnErr, IsErrOf}
 use Rattle.std.proofs.lemmas.Bool.{false≢true}
 use Rattle.std.proofs.lemmas.Result.{IfErr-at_err}
-use Rattle.counted.specs.Causes.{Rose}
-use Rattle.counted.proofs.Going.{weaker, then}
+use Rattle.mars_base.specs.Causes.{Rose}
+use Rattle.mars_base.proofs.Going.{weaker, then}
 use Rattle.eaw_face.specs.State.{State, Logs}
 use Rattle.eaw_face.specs.StoreView.{StoreView, LeavesOnly}
 use Rattle.eaw_face.specs.Command.{Command}

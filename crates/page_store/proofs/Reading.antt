@@ -3,8 +3,8 @@ use Rattle.std.proofs.Common.{◌≡◌, ℕ, zero, suc, ◌+◌, ◌-◌, ◌<�
 use Rattle.std.specs.Prelude.{min, max}
 use Rattle.std.proofs.lemmas.List.{ext_get_or}
 use Rattle.std.proofs.lemmas.Bool.{cases_lt}
-use Rattle.counted.specs.Bytes.{put, range}
-use Rattle.counted.proofs.Puts.{length-put, get_or-put_before, get_or-put_after, get_or-put_inside}
+use Rattle.mars_base.specs.Bytes.{put, range}
+use Rattle.mars_base.proofs.Puts.{length-put, get_or-put_before, get_or-put_after, get_or-put_inside}
 use Rattle.pcm_media.proofs.Ranges.{length-range, get_or-range, range_same, range-put}
 use Rattle.pcm_media.proofs.Left.{get_or-put_outside}
 use Rattle.array_shape.specs.Logged.{Part, applied, AllFit, ranges_of}

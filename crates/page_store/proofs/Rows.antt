@@ -1,7 +1,7 @@
 -- Worked rows: each side computes to the other.
 use Rattle.std.proofs.Common.{◌≡◌, ℕ, false, List, [], ◌∷◌, length, refl}
 use Rattle.std.specs.Prelude.{Some, None}
-use Rattle.counted.specs.Bytes.{put}
+use Rattle.mars_base.specs.Bytes.{put}
 use Rattle.page_store.specs.Edit.{with_write}
 use Rattle.page_store.specs.State.{PagesState, log_of, view_of}
 use Rattle.page_store.specs.Command.{PageCommand, write_as, save, back, top_begin, top_end, end, after}

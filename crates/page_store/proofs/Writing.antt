@@ -1,6 +1,6 @@
 -- A write as a number: an edit of a part, or one more part.
 use Rattle.std.proofs.Common.{◌≡◌, ℕ, ◌+◌, ◌-◌, ◌*◌, ◌%◌, ◌<◌, ◌≤◌, max, List, [], ◌∷◌, Bool, false, length, get_or, refl, sym, ◌∙◌, ap, subst, arith}
-use Rattle.counted.specs.Bytes.{put}
+use Rattle.mars_base.specs.Bytes.{put}
 use Rattle.std.specs.Prelude.{Option, Some, None, IsTrue, Result, Ok, Err, OnOk}
 use Rattle.std.specs.Option.{unwrap_or}
 use Rattle.std.proofs.lemmas.Nat.{mod_below}

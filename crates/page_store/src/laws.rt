@@ -1,6 +1,6 @@
 // Laws of pages: each follows from the definitions alone.
 ghost use Rattle.std.specs.Prelude.{◌≡◌, false, IfSome, ◌+◌, ◌-◌, ◌<◌, ◌≤◌, ◌↔◌, ◌⊎◌, min, max, List, ◌∷◌, ℕ, length, take, drop, Some};
-ghost use Rattle.counted.specs.Bytes.{put, range};
+ghost use Rattle.mars_base.specs.Bytes.{put, range};
 ghost use Rattle.array_shape.specs.Places.{IsPlaced};
 ghost use Rattle.array_shape.specs.Logged.{Part, AllFit, AllPlaced, applied, ranges_of};
 ghost use Rattle.eaw_face.specs.State.{part_at};

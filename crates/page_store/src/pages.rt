@@ -1,6 +1,6 @@
 // Pages over a store of editable atomic writes.
 ghost use Rattle.std.specs.Prelude.{◌≡◌, ◌≢◌, ◌↔◌, ◌+◌, ◌^◌, ◌<◌, ◌≤◌, ℕ, List, None, Some, is_some, filter, if◌then◌else◌, IsTrue, IsOk, IfOk, IfErr, OnErr, OnOk, IsErrOf, length};
-ghost use Rattle.counted.specs.Bytes.{put, range};
+ghost use Rattle.mars_base.specs.Bytes.{put, range};
 ghost use Rattle.array_shape.specs.Places.{data_len};
 ghost use Rattle.array_shape.specs.Logged.{applied};
 ghost use Rattle.eaw_face.specs.Causes.{IsAlive};
@@ -21,8 +21,8 @@ use crate::fault::PageFault;
 use crate::marks::Marks;
 use crate::room::SaveRoom;
 use array_shape::Shape;
-use counted::NoMemory;
 use eaw_face::{EawFault, EawStore};
+use mars_base::NoMemory;
 use std::alloc::Global;
 use std::marker::Model;
 

@@ -3,7 +3,7 @@ ghost use Rattle.std.specs.Prelude.{◌≡◌, ◌≤◌, IfOk, length};
 ghost use Rattle.page_store.specs.Shown.{IsUnmarked};
 
 use crate::marks::Marks;
-use counted::NoMemory;
+use mars_base::NoMemory;
 use std::alloc::Global;
 use std::marker::Model;
 

@@ -3,11 +3,11 @@ use Rattle.std.proofs.Common.{◌≡◌, ℕ, ◌-◌, ◌^◌, ◌<◌, ◌≤�
 use Rattle.std.proofs.lemmas.Bool.{cases_lt}
 use Rattle.std.proofs.lemmas.Result.{on_err_weaker, on_ok_weaker}
 use Rattle.std.specs.Prelude.{IsTrue}
-use Rattle.counted.specs.Causes.{Rose}
-use Rattle.counted.specs.Moments.{Ticks}
+use Rattle.mars_base.specs.Causes.{Rose}
+use Rattle.mars_base.specs.Moments.{Ticks}
 use Rattle.pcm_media.specs.Images.{MayLeave, partly}
 use Rattle.pcm_media.specs.View.{View, Writes, LeavesOnly}
-use Rattle.counted.specs.Causes.{next_count}
+use Rattle.mars_base.specs.Causes.{next_count}
 use Rattle.pcm_media.specs.Fused.{fused_view}
 use Rattle.pcm_media.proofs.Left.{touched_by_nothing, left_partly}
 

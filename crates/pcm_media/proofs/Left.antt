@@ -2,11 +2,11 @@
 use Rattle.std.proofs.Common.{◌≡◌, ℕ, ◌+◌, ◌-◌, ◌<◌, ◌≤◌, inl, inr, List, [], ◌∷◌, ◌++◌, length, get_or, take, drop, refl, sym, ◌∙◌, ap, subst, arith}
 use Rattle.std.proofs.lemmas.List.{get_or-drop, get_or-take, length-take-le, length-drop, ext_get_or}
 use Rattle.std.proofs.lemmas.Bool.{cases_lt}
-use Rattle.counted.specs.Bytes.{put}
+use Rattle.mars_base.specs.Bytes.{put}
 use Rattle.pcm_media.specs.Images.{Content, SameOutside, IsOutside, MayLeave, Touched, written, settled, partly}
-use Rattle.counted.specs.Moments.{Elapses}
-use Rattle.counted.proofs.Going.{weaker, then}
-use Rattle.counted.proofs.Puts.{length-put, get_or-put_before, get_or-put_after, get_or-put_inside}
+use Rattle.mars_base.specs.Moments.{Elapses}
+use Rattle.mars_base.proofs.Going.{weaker, then}
+use Rattle.mars_base.proofs.Puts.{length-put, get_or-put_before, get_or-put_after, get_or-put_inside}
 
 pub get_or-put_outside : (old : List ℕ) (at : ℕ) (bytes : List ℕ) → at + length bytes ≤ length old → (i : ℕ) → (at ≤ i → i < at + length bytes → ⊥) → get_or (put old at bytes) i 0 ≡ get_or old i 0
 get_or-put_outside old at bytes fits i out = elim (cases_lt i at) [

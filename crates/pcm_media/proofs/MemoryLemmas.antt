@@ -2,19 +2,19 @@
 use Rattle.std.proofs.Common.{◌≡◌, ℕ, ◌+◌, ◌-◌, ◌^◌, ◌<◌, ◌≤◌, ◌⊎◌, Bool, true, false, inl, inr, ⊎_elim, List, [], ◌∷◌, ◌++◌, length, take, drop, Result, Ok, Err, refl, sym, ◌∙◌, ap, subst, arith}
 use Rattle.std.proofs.lemmas.List.{take_all, drop_all, append-nil, length-append}
 use Rattle.std.specs.Prelude.{OnOk, OnErr}
-use Rattle.counted.specs.Moments.{Elapses}
-use Rattle.counted.proofs.Going.{weaker}
+use Rattle.mars_base.specs.Moments.{Elapses}
+use Rattle.mars_base.proofs.Going.{weaker}
 use Rattle.pcm_media.specs.declared.call.Call.{Call}
 use Rattle.pcm_media.specs.declared.call.Call.TheVariants.{Read, Write, Barrier}
 use Rattle.pcm_media.specs.declared.call.Record.{Record}
-use Rattle.counted.specs.Bytes.{put}
+use Rattle.mars_base.specs.Bytes.{put}
 use Rattle.pcm_media.specs.Images.{Content, MayLeave, Touched, written}
 use Rattle.pcm_media.specs.View.{Writes}
 use Rattle.pcm_media.specs.Kept.{Kept, IsKept, IsPassed, Makes}
 use Rattle.pcm_media.specs.Replay.{at_rest, range_of, byte_count_of, next_content_by, total_bytes, content_after, LeftBefore, IsStamped}
 use Rattle.pcm_media.specs.Memory.{Memory, content_of, LeftSince, view_of, Tells}
 use Rattle.pcm_media.proofs.Left.{touched_by_nothing, touched_by_write, touched_by_loss, touched_by_barrier, left_partly}
-use Rattle.counted.proofs.Puts.{length-put}
+use Rattle.mars_base.proofs.Puts.{length-put}
 use Rattle.pcm_media.proofs.Replay.{content_push, before_push, before_last, before_only, before_past, total_bytes-push, stamped_push, stamped_later}
 
 -- A call and the bytes that it writes fit each other and the medium.

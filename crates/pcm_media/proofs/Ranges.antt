@@ -2,10 +2,10 @@
 use Rattle.std.proofs.Common.{◌≡◌, ℕ, ◌+◌, ◌-◌, ◌<◌, ◌≤◌, inl, inr, List, length, get_or, drop, sym, ◌∙◌, ap, arith}
 use Rattle.std.proofs.lemmas.List.{get_or-drop, get_or-take, length-take, length-take-le, length-drop, ext_get_or}
 use Rattle.std.proofs.lemmas.Bool.{cases_lt}
-use Rattle.counted.specs.Bytes.{put}
+use Rattle.mars_base.specs.Bytes.{put}
 use Rattle.pcm_media.specs.Images.{SameOutside, IsOutside}
-use Rattle.counted.proofs.Puts.{length-put, get_or-put_before, get_or-put_after, get_or-put_inside}
-use Rattle.counted.specs.Bytes.{range}
+use Rattle.mars_base.proofs.Puts.{length-put, get_or-put_before, get_or-put_after, get_or-put_inside}
+use Rattle.mars_base.specs.Bytes.{range}
 
 pub length-range : (bytes : List ℕ) (at n : ℕ) → at + n ≤ length bytes → length (range bytes at n) ≡ n
 length-range bytes at n fits = length-take-le n (drop at bytes) (omega (arith, length-drop at bytes))

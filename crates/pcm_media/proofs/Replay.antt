@@ -4,7 +4,7 @@ use Rattle.std.proofs.lemmas.List.{take-append-le, drop-append-le, length-drop, 
 use Rattle.pcm_media.specs.declared.call.Call.{Call}
 use Rattle.pcm_media.specs.declared.call.Call.TheVariants.{Read, Write, Barrier}
 use Rattle.pcm_media.specs.declared.call.Record.{Record}
-use Rattle.counted.specs.Bytes.{put}
+use Rattle.mars_base.specs.Bytes.{put}
 use Rattle.pcm_media.specs.Images.{Content, MayLeave}
 use Rattle.pcm_media.specs.Replay.{byte_count_of, next_content_by, byte_count, total_bytes, next_content, IsStamped, content_after, LeftBefore}
 

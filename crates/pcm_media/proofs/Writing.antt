@@ -2,8 +2,8 @@
 use Rattle.std.proofs.Common.{◌≡◌, ℕ, ◌≤◌, Bool, List, Result, Ok, Err, refl, ◌∙◌, arith}
 use Rattle.std.specs.Prelude.{IsOk, OnOk, OnErr}
 use Rattle.std.proofs.lemmas.Bool.{false≢true}
-use Rattle.counted.specs.Causes.{Rose, HasCause}
-use Rattle.counted.proofs.Going.{stays, weaker, then}
+use Rattle.mars_base.specs.Causes.{Rose, HasCause}
+use Rattle.mars_base.proofs.Going.{stays, weaker, then}
 use Rattle.pcm_media.specs.Images.{MayLeave, IsOutside, partly}
 use Rattle.pcm_media.specs.View.{View, Writes}
 use Rattle.pcm_media.proofs.Left.{touched_by_nothing, touched_within, left_partly_on}

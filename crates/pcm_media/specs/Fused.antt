@@ -3,7 +3,7 @@ use Rattle.std.specs.Prelude.{ℕ, ◌+◌, ◌-◌, ◌^◌, ◌<◌, ◌≡◌
 use Rattle.std.proofs.Common.{⊎_elim, arith}
 use Rattle.pcm_media.specs.Images.{MayLeave}
 use Rattle.pcm_media.specs.View.{View}
-use Rattle.counted.specs.Causes.{next_count}
+use Rattle.mars_base.specs.Causes.{next_count}
 
 -- the medium behind the fuse, how many calls it will still pass on, and how many it has failed by itself
 pub record Fused (M : Type 0) : Type 0 where

@@ -1,6 +1,6 @@
 -- What a medium holds, and what a loss of power may leave of it.
 use Rattle.std.specs.Prelude.{ℕ, ◌+◌, ◌<◌, ◌≤◌, ◌≡◌, List, [], ◌∷◌, ◌++◌, length, slice_index}
-use Rattle.counted.specs.Bytes.{put}
+use Rattle.mars_base.specs.Bytes.{put}
 
 -- the bytes that a read gives, and each range (place and length) that was written since the last barrier that succeeded
 pub record Content : Type 0 where

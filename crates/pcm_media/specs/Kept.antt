@@ -1,8 +1,8 @@
 -- What a medium in memory keeps of its calls.
 use Rattle.std.specs.Prelude.{ℕ, ◌≡◌, ◌+◌, ◌-◌, ◌^◌, ◌<◌, ◌≤◌, ◌⊎◌, ◌==◌, ◌&&◌, nat_le, Bool, true, false, List, [], ◌∷◌, ◌++◌, length, Contains, Result, Ok, Err, OnOk, OnErr, is_ok}
 use Rattle.std.specs.Bool.{OnTrue, OnFalse}
-use Rattle.counted.specs.Causes.{HasCause, next_count, faults_after}
-use Rattle.counted.specs.Moments.{Ticks}
+use Rattle.mars_base.specs.Causes.{HasCause, next_count, faults_after}
+use Rattle.mars_base.specs.Moments.{Ticks}
 use Rattle.pcm_media.specs.declared.call.Call.{Call}
 use Rattle.pcm_media.specs.declared.call.Record.{Record}
 

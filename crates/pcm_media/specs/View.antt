@@ -1,7 +1,7 @@
 -- What a medium shows, and what its calls do to that.
 use Rattle.std.specs.Prelude.{ℕ, ◌≡◌, Bool, IsTrue, List, Result}
-use Rattle.counted.specs.Causes.{HasCause}
-use Rattle.counted.specs.Moments.{Elapses}
+use Rattle.mars_base.specs.Causes.{HasCause}
+use Rattle.mars_base.specs.Moments.{Elapses}
 use Rattle.pcm_media.specs.Images.{Content, MayLeave, Touched, partly}
 
 -- Its length in bytes; its content; the moment; whether a loss of power at this moment or a later one might have left this

@@ -1,15 +1,15 @@
 // A medium that passes a number of calls on, and then fails each one.
 ghost use Rattle.std.specs.Prelude.{◌≡◌, ◌+◌, ◌-◌, ◌<◌, ◌≤◌, nat_le, ◌&&◌, [], ◌∷◌, length, ℕ, IsTrue, IsOk, OnOk};
 ghost use Rattle.std.specs.Bool.{OnTrue, OnFalse};
-ghost use Rattle.counted.specs.Moments.{Ticks};
-ghost use Rattle.counted.specs.Bytes.{range};
+ghost use Rattle.mars_base.specs.Moments.{Ticks};
+ghost use Rattle.mars_base.specs.Bytes.{range};
 ghost use Rattle.pcm_media.specs.Images.{written, settled};
 ghost use Rattle.pcm_media.specs.View.{Writes};
-ghost use Rattle.counted.specs.Causes.{next_count};
+ghost use Rattle.mars_base.specs.Causes.{next_count};
 ghost use Rattle.pcm_media.specs.Fused.{fused_view, Burns};
 
 use crate::Media;
-use counted::Failed;
+use mars_base::Failed;
 use std::marker::Model;
 
 /// A medium behind a fuse: it passes a number of calls of `read`, `write` and `barrier` on, and then fails each one itself.

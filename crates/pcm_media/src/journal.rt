@@ -1,10 +1,10 @@
 // The calls that a medium in memory keeps, and those that are to fail.
 ghost use Rattle.std.specs.Prelude.{◌≡◌, ◌↔◌, [], ◌∷◌, ◌++◌, length, IfOk, OnOk, OnErr, IsErr};
-ghost use Rattle.counted.specs.Causes.{next_count};
+ghost use Rattle.mars_base.specs.Causes.{next_count};
 ghost use Rattle.pcm_media.specs.Kept.{fresh_kept, MustFail, HasRoom, Makes, Takes};
 
 use crate::{Call, Record};
-use counted::{Failed, NoMemory};
+use mars_base::{Failed, NoMemory};
 use std::alloc::Global;
 use std::marker::Model;
 

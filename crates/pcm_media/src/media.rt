@@ -1,11 +1,11 @@
 // A medium as the layers above see it: what a read gives, and what a loss of power may leave.
 ghost use Rattle.std.specs.Prelude.{◌≡◌, ◌+◌, ◌≤◌, [], ◌∷◌, Bool, List, ℕ, length, IsTrue, IsOk, OnOk};
-ghost use Rattle.counted.specs.Moments.{Ticks};
-ghost use Rattle.counted.specs.Bytes.{range};
+ghost use Rattle.mars_base.specs.Moments.{Ticks};
+ghost use Rattle.mars_base.specs.Bytes.{range};
 ghost use Rattle.pcm_media.specs.Images.{MayLeave, written, settled};
 ghost use Rattle.pcm_media.specs.View.{View, Writes};
 
-use counted::Failed;
+use mars_base::Failed;
 
 /// A medium with torn writes. A loss of power may leave anything in the ranges written since the last barrier that succeeded,
 /// and leaves the bytes outside these ranges as they were. After a barrier that succeeds, it leaves what a read gives.

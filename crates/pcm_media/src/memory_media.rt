@@ -1,7 +1,7 @@
 // A medium in memory, which keeps its calls and fails at those that are listed.
 ghost use Rattle.std.specs.Prelude.{◌≡◌, ◌+◌, ◌-◌, ◌^◌, ◌≤◌, ◌<◌, ◌↔◌, [], ◌∷◌, ◌++◌, length, ℕ, true, IsTrue, IsOk, IfOk, OnOk, OnErr, IsErr};
-ghost use Rattle.counted.specs.Moments.{Ticks};
-ghost use Rattle.counted.specs.Bytes.{put, range};
+ghost use Rattle.mars_base.specs.Moments.{Ticks};
+ghost use Rattle.mars_base.specs.Bytes.{put, range};
 ghost use Rattle.pcm_media.specs.Images.{written, settled, partly};
 ghost use Rattle.pcm_media.specs.View.{Writes};
 ghost use Rattle.pcm_media.specs.declared.call.Call.TheVariants.{Read, Write, Barrier};
@@ -12,7 +12,7 @@ ghost use Rattle.pcm_media.specs.Choice.{IsLeftBy};
 use crate::choice::choose;
 use crate::journal::Journal;
 use crate::{Call, Media, Record};
-use counted::{Failed, NoMemory};
+use mars_base::{Failed, NoMemory};
 use std::alloc::Global;
 use std::marker::Model;
 

@@ -1,6 +1,6 @@
 -- Where super page, slots and pages lie in the data, and what makes super page and slots sound.
 use Rattle.std.specs.Prelude.{ℕ, ◌≡◌, ◌+◌, ◌*◌, ◌/◌, ◌<◌, ◌≤◌, List, [], ◌∷◌, length, Option, Some, None}
-use Rattle.counted.specs.Bytes.{range}
+use Rattle.mars_base.specs.Bytes.{range}
 use Rattle.record_slots.specs.Slots.{slot_said}
 use Rattle.record_slots.specs.Super.{HasSuperMark, form_said, next_slot_said, next_page_said}
 use Rattle.record_slots.specs.declared.slot.Slot.{Slot}

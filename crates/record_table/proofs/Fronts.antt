@@ -1,6 +1,6 @@
 -- What the bytes of page 0 say about the form of the data.
 use Rattle.std.proofs.Common.{◌≡◌, ℕ, ◌*◌, ◌≤◌, List, length, sym, ap, subst, ◌∙◌, arith}
-use Rattle.counted.specs.Bytes.{range}
+use Rattle.mars_base.specs.Bytes.{range}
 use Rattle.array_shape.specs.declared.shape.Shape.{Shape}
 use Rattle.array_shape.specs.Places.{data_len}
 use Rattle.array_shape.specs.Places as array

@@ -2,8 +2,8 @@
 use Rattle.std.proofs.Common.{◌≡◌, ◌≢◌, ℕ, Bool, false, inl, inr, List, Result, Ok, Err, refl, sym, ◌∙◌, ap, subst}
 use Rattle.std.specs.Prelude.{Some}
 use Rattle.std.proofs.lemmas.Bool.{false≢true}
-use Rattle.counted.specs.Causes.{Rose}
-use Rattle.counted.proofs.Going.{stays, then, weaker}
+use Rattle.mars_base.specs.Causes.{Rose}
+use Rattle.mars_base.proofs.Going.{stays, then, weaker}
 use Rattle.array_shape.specs.declared.shape.Shape.{Shape}
 use Rattle.eaw_face.specs.State.{State}
 use Rattle.page_store.specs.State.{PagesState}

@@ -5,8 +5,8 @@ use Rattle.std.specs.FinMap.{get}
 use Rattle.std.proofs.lemmas.Bool.{cases_eq, false≢true}
 use Rattle.std.proofs.lemmas.Bool.Decides.{eqb_tells}
 use Rattle.std.proofs.lemmas.Option.{same_Some}
-use Rattle.counted.specs.Bytes.{put, range}
-use Rattle.counted.proofs.Puts.{length-put}
+use Rattle.mars_base.specs.Bytes.{put, range}
+use Rattle.mars_base.proofs.Puts.{length-put}
 use Rattle.pcm_media.proofs.Ranges.{range-put}
 use Rattle.array_shape.specs.Logged.{Part, applied}
 use Rattle.record_slots.specs.Slots.{slot_said}

@@ -11,9 +11,9 @@ ghost use Rattle.record_table.specs.Sought.{LooksAs};
 use crate::fault::TableFault;
 use crate::slots::{page_of, read_as, value_in};
 use crate::told::table_fault;
-use counted::NoMemory;
 use eaw_face::EawStore;
 use history::Rows;
+use mars_base::NoMemory;
 use page_store::{KeyIndex, PageFault, Pages};
 use record_slots::Value;
 

@@ -1,6 +1,6 @@
 // Slots of keys, read and written as a number.
 ghost use Rattle.std.specs.Prelude.{◌≡◌, ◌≢◌, ◌+◌, ◌*◌, ◌%◌, ◌<◌, Some, IfOk, IfErr, IfSome, IsErrOf, IsTrue, length};
-ghost use Rattle.counted.specs.Bytes.{range};
+ghost use Rattle.mars_base.specs.Bytes.{range};
 ghost use Rattle.array_shape.specs.Places.{page_count};
 ghost use Rattle.eaw_face.specs.Causes.{IsAlive};
 ghost use Rattle.record_slots.specs.Slots.{slot_said, slot_bytes};

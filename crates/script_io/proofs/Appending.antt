@@ -4,7 +4,7 @@ use Rattle.std.specs.Prelude.{IsTrue, IsErr}
 use Rattle.std.specs.List.{flat_map}
 use Rattle.std.proofs.lemmas.List.{length-append, take-append-drop, drop_more}
 use Rattle.std.proofs.lemmas.List.Concat.{flat_map-append}
-use Rattle.counted.specs.Causes.{Rose}
+use Rattle.mars_base.specs.Causes.{Rose}
 use Rattle.script_io.specs.Written.{IsWritten, Wrote, TextSoFar, Appends}
 
 -- all of a piece was appended

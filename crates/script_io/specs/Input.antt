@@ -1,6 +1,6 @@
 -- How long an input may be, and when reading one fails.
 use Rattle.std.specs.Prelude.{ℕ, ◌≡◌, Result, Err}
-use Rattle.counted.specs.Causes.{Rose}
+use Rattle.mars_base.specs.Causes.{Rose}
 use Rattle.script_io.specs.declared.input.InputFault.{InputFault}
 use Rattle.script_io.specs.declared.input.InputFault.TheVariants.{Failed}
 

@@ -1,8 +1,8 @@
 ghost use Rattle.std.specs.Prelude.{◌≡◌, List, ℕ, ◌++◌, OnOk, OnErr, IsTrue, true};
-ghost use Rattle.counted.specs.Causes.{HasCause};
+ghost use Rattle.mars_base.specs.Causes.{HasCause};
 ghost use Rattle.script_io.specs.Written.{IsWritten, Wrote};
 
-use counted::Failed;
+use mars_base::Failed;
 use outside::Sink;
 
 /// Writes the whole piece.

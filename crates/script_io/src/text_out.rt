@@ -4,7 +4,7 @@ ghost use Rattle.std.specs.List.{flat_map};
 ghost use Rattle.script_io.specs.Written.{Appends, TextSoFar};
 
 use crate::output::write_whole;
-use counted::{Failed, NoMemory};
+use mars_base::{Failed, NoMemory};
 use outside::Sink;
 
 /// Takes a text piece by piece. An `E` says that it did not take all of a piece.

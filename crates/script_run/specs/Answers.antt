@@ -1,6 +1,6 @@
 -- What comes of one line.
 use Rattle.std.specs.Prelude.{ℕ, ◌≡◌, List, Bool, false, Result, Ok, Err}
-use Rattle.counted.specs.Causes.{Rose}
+use Rattle.mars_base.specs.Causes.{Rose}
 use Rattle.script_run.specs.Script.{Script}
 use Rattle.script_run.specs.Transcript.{Ends}
 use Rattle.script_run.specs.declared.ended.Ended.{Ended}

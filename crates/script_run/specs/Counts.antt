@@ -1,6 +1,6 @@
 -- The counts of faults, by how a script ended.
 use Rattle.std.specs.Prelude.{ℕ, ◌≡◌}
-use Rattle.counted.specs.Causes.{Rose}
+use Rattle.mars_base.specs.Causes.{Rose}
 use Rattle.script_run.specs.declared.ended.Ended.{Ended}
 use Rattle.script_run.specs.declared.ended.Ended.TheVariants.{WriteFault, MediaFault}
 

@@ -7,8 +7,8 @@ use crate::append::append;
 use crate::hex_text::append_hex;
 use crate::lent::Lent;
 use crate::reply::append_number;
-use counted::NoMemory;
 use itoa::Buffer;
+use mars_base::NoMemory;
 
 /// The answer to a raw command.
 #[derive(Drop)]

@@ -1,7 +1,7 @@
 ghost use Rattle.std.specs.Prelude.{◌≡◌, ◌++◌, OnOk, OnErr};
 ghost use Rattle.std.specs.List.{flat_map};
 
-use counted::NoMemory;
+use mars_base::NoMemory;
 use script_io::put_pieces;
 
 /// Appends the pieces one after another, or nothing.

@@ -3,7 +3,7 @@ ghost use Rattle.std.specs.Prelude.{◌≡◌, ◌*◌, ◌≤◌, ◌++◌, ◌
 ghost use Rattle.script_text.specs.HexText.{hex_of, IsBlock, IsHex, IsDigit};
 
 use crate::lent::BLOCK;
-use counted::NoMemory;
+use mars_base::NoMemory;
 
 /// The bytes of a hexadecimal text, written to the front of `buf`.
 pub fn bytes_of<'a>(hex: &[u8], buf: &'a mut [u8; BLOCK]) -> &'a [u8]

@@ -4,9 +4,9 @@ ghost use Rattle.script_io.specs.Written.{Appends};
 ghost use Rattle.script_text.specs.Replies.{reply_text, told_line, reply_line, row_line, bad_line};
 
 use crate::append::append;
-use counted::NoMemory;
 use history::Reply;
 use itoa::Buffer;
+use mars_base::NoMemory;
 use record_slots::Value;
 use script_io::{TextOut, put_pieces};
 

@@ -1,6 +1,6 @@
 use crate::holds::{Flag, Hold, Holds};
 use crate::places::{Watch, Way};
-use counted::NoMemory;
+use mars_base::NoMemory;
 use mars_shell::{Gate, OpenGate, Place, Status, room, run};
 use outside::{MemorySink, MemorySource};
 use pcm_media::MemoryMedia;

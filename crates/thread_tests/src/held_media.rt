@@ -2,7 +2,7 @@
 ghost use Rattle.std.specs.Prelude.{◌≡◌};
 
 use crate::flags::wait_for;
-use counted::{Failed, NoMemory};
+use mars_base::{Failed, NoMemory};
 use pcm_media::Media;
 use std::alloc::Global;
 use std::marker::Model;

@@ -6,7 +6,7 @@ ghost use Rattle.mars_manager.specs.Sharing.{CanShare};
 use crate::held_media::{HeldMedia, Hold};
 use array_shape::Shape;
 use btree_pages::BTreePages;
-use core_face::Core as Steps;
+use caller_steps::Core as Steps;
 use eaw_device::{Eaw, format};
 use eaw_face::EawStore;
 use mars_core::Core;

@@ -6,7 +6,7 @@ ghost use Rattle.mars_manager.specs.Sharing.{CanShare};
 use crate::beside_a_read::get_one;
 use crate::held_media::Hold;
 use crate::sharing::fresh;
-use core_face::Core;
+use caller_steps::Core;
 use history::{Call, Reply};
 use mars_manager::{Mars, Pass, Passes};
 use std::alloc::Global;

@@ -1,6 +1,6 @@
 use Rattle.std.proofs.Common.{Err, sym, ◌∙◌}
 use Rattle.history.specs.declared.call.Call.TheVariants.{Abort}
-use Rattle.core_face.specs.Fate.{is_refusal}
+use Rattle.caller_steps.specs.Fate.{is_refusal}
 use Rattle.caller_work.specs.Tries.{refusal_outcome}
 use Rattle.caller_work.proofs.Adding.{adds_none, adds_one}
 use Rattle.caller_work.proofs.TriesLemmas.{gives_last, gives_aborted, pick_true, pick_false}

@@ -1,6 +1,6 @@
 use Rattle.std.proofs.Common.{ℕ, sym, ap, subst, List, arith}
-use Rattle.counted.specs.Costs.{Costs}
-use Rattle.counted.proofs.Costing.{costs_all}
+use Rattle.mars_base.specs.Costs.{Costs}
+use Rattle.mars_base.proofs.Costing.{costs_all}
 use Rattle.array_shape.specs.Logged.{Part, applied}
 use Rattle.array_image.specs.Image.{data_of}
 use Rattle.array_image.specs.Marked.{IsMaskOf}

@@ -7,7 +7,7 @@ use Rattle.array_shape.specs.Logged.{applied, places_of}
 use Rattle.array_image.specs.Image.{data_of, cell_of, parts_from, IsGoodCell}
 use Rattle.array_image.proofs.Calls.{goes_on, hands_on}
 use Rattle.coordinator.proofs.Applying.{still_good, parts_within, logger_applied}
-use Rattle.counted.proofs.Costing.{costs_one, costs_more, costs_err, costs_then}
+use Rattle.mars_base.proofs.Costing.{costs_one, costs_more, costs_err, costs_then}
 use Rattle.coordinator.proofs.Costing.{sum_more, sum_take, sum_all}
 use Rattle.coordinator.proofs.phases.install.Goals as goal
 

@@ -1,6 +1,6 @@
 use Rattle.std.proofs.Common.{◌*◌, take, ◌≡◌, IsTrue}
 use Rattle.std.specs.Prelude.{sum}
-use Rattle.counted.proofs.Costing.{CostsSoFar}
+use Rattle.mars_base.proofs.Costing.{CostsSoFar}
 use Rattle.array_image.specs.Joined.{joined}
 use Rattle.array_shape.specs.Logged.{applied, places_of}
 use Rattle.array_image.specs.Image.{data_of}

@@ -7,7 +7,7 @@ use Rattle.coordinator.specs.Between.{Names, HaveNames}
 use Rattle.array_image.proofs.Calls.{goes_on, hands_on, then_barrier, barrier_keeps}
 use Rattle.coordinator.proofs.Calls.{body_within, names_more, names_from}
 use Rattle.std.proofs.lemmas.Result.{on_ok_weaker}
-use Rattle.counted.proofs.Costing.{costs_one, costs_err, costs_then, so_far}
+use Rattle.mars_base.proofs.Costing.{costs_one, costs_err, costs_then, so_far}
 use Rattle.coordinator.specs.Costs.{voters}
 use Rattle.coordinator.proofs.Costing.{voters_more, voters_take, voters_all}
 use Rattle.coordinator.proofs.phases.prepare.Goals as goal

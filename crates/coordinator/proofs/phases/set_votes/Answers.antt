@@ -8,7 +8,7 @@ use Rattle.array_image.specs.Image.{row_of}
 use Rattle.coordinator.specs.Between.{HaveVotes}
 use Rattle.array_image.proofs.Calls.{goes_on, hands_on, then_barrier, barrier_keeps}
 use Rattle.coordinator.proofs.Calls.{vote_within, votes_more}
-use Rattle.counted.proofs.Costing.{costs_one, costs_err, costs_then, so_far}
+use Rattle.mars_base.proofs.Costing.{costs_one, costs_err, costs_then, so_far}
 use Rattle.coordinator.specs.Costs.{voters}
 use Rattle.coordinator.proofs.Costing.{voters_more, voters_take, voters_all}
 use Rattle.coordinator.proofs.phases.set_votes.Goals as goal

@@ -2,7 +2,7 @@ use Rattle.std.proofs.Common.{true, refl, ℕ, [], ⊎_elim, sym, ◌∙◌, ap,
 use Rattle.std.proofs.lemmas.List.{length-set}
 use Rattle.std.proofs.lemmas.Bool.{cases_eq}
 use Rattle.std.proofs.lemmas.Result.{err_from_is_err_and}
-use Rattle.counted.proofs.Costing.{costs_all}
+use Rattle.mars_base.proofs.Costing.{costs_all}
 use Rattle.pcm_media.proofs.Left.{same_bytes}
 use Rattle.array_image.specs.Image.{row_of}
 use Rattle.array_image.proofs.Calls.{goes_on, hands_on}

@@ -1,6 +1,6 @@
 use Rattle.std.proofs.Common.{true, refl, [], arith}
 use Rattle.std.proofs.lemmas.Result.{err_from_is_err_and}
-use Rattle.counted.proofs.Costing.{costs_all}
+use Rattle.mars_base.proofs.Costing.{costs_all}
 use Rattle.array_image.proofs.Calls.{none_yet, goes_on, hands_on}
 use Rattle.device_recovery.proofs.Done.{all_done}
 use Rattle.device_recovery.proofs.reading.read_one.Goals as goal

@@ -1,6 +1,6 @@
 use Rattle.std.proofs.Common.{true, ◌≡◌, ◌*◌, ℕ, [], ⊎_elim, sym, ◌∙◌, ap, refl, ◌+◌, arith}
 use Rattle.std.proofs.lemmas.Result.{err_from_is_err_and}
-use Rattle.counted.proofs.Costing.{rounds_next, rounds_below, costs_all}
+use Rattle.mars_base.proofs.Costing.{rounds_next, rounds_below, costs_all}
 use Rattle.std.proofs.lemmas.Bool.{cases_eq}
 use Rattle.pcm_media.proofs.Left.{same_bytes}
 use Rattle.array_image.specs.Image.{row_of}

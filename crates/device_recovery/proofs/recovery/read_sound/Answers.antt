@@ -6,7 +6,7 @@ use Rattle.pcm_media.proofs.Left.{same_bytes}
 use Rattle.array_image.proofs.Calls.{none_yet, goes_on, ends_with, hands_on}
 use Rattle.device_recovery.specs.Table.{RowsAre}
 use Rattle.device_recovery.specs.Recovered.{AllGood, IsFirstBad}
-use Rattle.counted.proofs.Costing.{costs_all}
+use Rattle.mars_base.proofs.Costing.{costs_all}
 use Rattle.device_recovery.proofs.Lists.{none_decided}
 use Rattle.device_recovery.proofs.Moments.{none_unsettled}
 use Rattle.device_recovery.proofs.recovery.read_sound.Goals as goal

@@ -1,7 +1,7 @@
 use Rattle.std.proofs.Common.{refl, inl, inr, ◌≡◌, ℕ, ◌∙◌, [], List, length, sym, ap, subst, arith}
 use Rattle.std.specs.Prelude.{IsTrue}
 use Rattle.std.proofs.lemmas.Result.{err_from_is_err_and}
-use Rattle.counted.proofs.Going.{then}
+use Rattle.mars_base.proofs.Going.{then}
 use Rattle.pcm_media.specs.Images.{IsOutside}
 use Rattle.pcm_media.proofs.Left.{same_bytes, left_as_read}
 use Rattle.array_shape.specs.Places.{media_len}

@@ -1,6 +1,6 @@
 use Rattle.std.proofs.Common.{refl, ◌≡◌, ◌∙◌, length}
 use Rattle.std.proofs.lemmas.Result.{on_ok_weaker}
-use Rattle.counted.proofs.Going.{then}
+use Rattle.mars_base.proofs.Going.{then}
 use Rattle.array_shape.specs.Places.{media_len}
 use Rattle.array_image.proofs.Calls.{none_yet, goes_on, ends_with, hands_on}
 use Rattle.device_recovery.specs.Recovered.{recovered_places}

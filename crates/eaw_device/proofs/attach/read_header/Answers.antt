@@ -1,6 +1,6 @@
 use Rattle.std.proofs.Common.{true, refl, ◌∙◌, [], sym, subst, arith}
 use Rattle.std.proofs.lemmas.Result.{err_from_is_err_and}
-use Rattle.counted.proofs.Costing.{costs_all}
+use Rattle.mars_base.proofs.Costing.{costs_all}
 use Rattle.pcm_media.proofs.Writing.{writes_none}
 use Rattle.array_shape.specs.declared.shape.Shape.{Shape}
 use Rattle.array_image.proofs.Calls.{none_yet, goes_on, hands_on}

@@ -1,6 +1,6 @@
 use Rattle.std.proofs.lemmas.Result.{err_from_is_err_and}
 use Rattle.std.proofs.Common.{true, refl}
-use Rattle.counted.proofs.Costing.{costs_all}
+use Rattle.mars_base.proofs.Costing.{costs_all}
 use Rattle.device_recovery.specs.declared.report.Report.{Report}
 use Rattle.eaw_device.proofs.OpeningLemmas.{settling_keeps}
 use Rattle.eaw_device.proofs.Attaching.{recovered_says, refusal_cause, refusal_leaves, refusal_kept, of_recovery}

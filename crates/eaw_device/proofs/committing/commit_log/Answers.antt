@@ -1,9 +1,9 @@
 use Rattle.std.proofs.Common.{◌≡◌, ℕ, ◌-◌, ◌<◌, ◌≤◌, inl, inr, Result, Ok, Err, List, length, take, drop, sym, ◌∙◌, ap, subst, arith}
 use Rattle.std.specs.Prelude.{slice_index, OnOk, OnErr, IsTrue}
 use Rattle.std.proofs.lemmas.Bool.{cases_lt}
-use Rattle.counted.specs.declared.Failed.{Failed}
+use Rattle.mars_base.specs.declared.Failed.{Failed}
 use Rattle.std.proofs.lemmas.List.{get_or-take, take_all, length-take-le}
-use Rattle.counted.specs.Costs.{Costs}
+use Rattle.mars_base.specs.Costs.{Costs}
 use Rattle.coordinator.specs.Costs.{commit_calls}
 use Rattle.eaw_device.proofs.Costing.{counts_are as behind_counts}
 use Rattle.pcm_media.specs.View.{LeavesOnly}

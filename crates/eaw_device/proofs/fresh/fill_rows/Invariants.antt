@@ -1,6 +1,6 @@
 use Rattle.std.proofs.Common.{◌≡◌, Ok, Result}
 use Rattle.std.specs.Prelude.{IsTrue}
-use Rattle.counted.specs.declared.Failed.{Failed}
+use Rattle.mars_base.specs.declared.Failed.{Failed}
 use Rattle.pcm_media.specs.View.{Writes}
 use Rattle.array_image.specs.Image.{data_of}
 use Rattle.array_image.specs.Standing.{SameCells}

@@ -1,5 +1,5 @@
 use Rattle.std.proofs.Common.{refl, arith, ◌≡◌, ◌∙◌, sym, length}
-use Rattle.counted.proofs.Going.{stays}
+use Rattle.mars_base.proofs.Going.{stays}
 use Rattle.array_shape.specs.Places.{media_len}
 use Rattle.eaw_device.specs.Fresh.{IsHalfFresh}
 use Rattle.eaw_device.proofs.Formatting.{fresh_opens, settled_as_read}

@@ -1,7 +1,7 @@
 use Rattle.std.proofs.Common.{◌≡◌, ◌+◌, ◌≤◌, ℕ, List, [], ◌∷◌, length, refl, sym, ap, subst, ◌∙◌, arith}
 use Rattle.std.specs.Prelude.{is_ok}
 use Rattle.std.proofs.lemmas.Result.{on_ok_weaker}
-use Rattle.counted.specs.Bytes.{put}
+use Rattle.mars_base.specs.Bytes.{put}
 use Rattle.pcm_media.specs.Images.{Content, settled, written, IsOutside, SameOutside}
 use Rattle.pcm_media.proofs.Left.{same_outside-put}
 use Rattle.pcm_media.proofs.Ranges.{range-put}

@@ -1,6 +1,6 @@
 use Rattle.std.proofs.Common.{◌≡◌, ◌+◌, ◌*◌, ◌≤◌, ℕ, length, refl, sym, ap, subst, ◌∙◌, arith}
 use Rattle.std.proofs.lemmas.Result.{IfOk-from_err}
-use Rattle.counted.specs.Bytes.{put}
+use Rattle.mars_base.specs.Bytes.{put}
 use Rattle.pcm_media.proofs.Writing.{writes_on}
 use Rattle.array_shape.specs.Places.{media_len, place_of}
 use Rattle.eaw_device.specs.Fresh.{HasPages}

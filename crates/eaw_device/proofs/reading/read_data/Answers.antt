@@ -1,6 +1,6 @@
 use Rattle.std.proofs.Common.{true, refl, ◌+◌, [], List, ◌∙◌, sym, ap, subst, length, arith}
 use Rattle.std.proofs.lemmas.Result.{err_from_is_err_and}
-use Rattle.counted.proofs.Costing.{costs_err, costs_all}
+use Rattle.mars_base.proofs.Costing.{costs_err, costs_all}
 use Rattle.array_shape.specs.declared.part.Part.{Part}
 use Rattle.std.specs.Prelude.{All}
 use Rattle.array_shape.specs.Parts.{Tile, IsPartOf}

@@ -1,5 +1,5 @@
 use Rattle.std.proofs.Common.{◌≡◌, ℕ, ◌+◌, true, refl, List, length, ◌∙◌, sym, arith}
-use Rattle.counted.proofs.Costing.{costs_err, costs_all}
+use Rattle.mars_base.proofs.Costing.{costs_err, costs_all}
 use Rattle.array_shape.specs.declared.shape.Shape.{Shape}
 use Rattle.array_shape.specs.Places.{logger_of}
 use Rattle.array_shape.specs.Parts.{parts_of_write, write_parts_on}

@@ -1,6 +1,6 @@
 use Rattle.std.proofs.Common.{◌≡◌, ℕ, ◌+◌, ◌-◌, ◌*◌, List, ◌++◌, length, take, drop, replicate, slice_index_or, sym, ◌∙◌, ap, arith}
 use Rattle.std.proofs.lemmas.List.{drop-replicate, take_all}
-use Rattle.counted.specs.Bytes.{put}
+use Rattle.mars_base.specs.Bytes.{put}
 use Rattle.page_store.specs.Pairs.{Pair}
 use Rattle.index_pages.specs.Written.{front_bytes, pairs_bytes, pair_bytes, leaf_bytes}
 use Rattle.index_pages.proofs.Writing.{no_pairs_bytes, length-front, pair_written}

@@ -1,6 +1,6 @@
 use Rattle.std.proofs.Common.{true, None, refl}
-use Rattle.core_face.specs.State.{opened}
-use Rattle.core_face.proofs.Running.{turns_of_runs, turns_no_others}
+use Rattle.caller_steps.specs.State.{opened}
+use Rattle.caller_steps.proofs.Running.{turns_of_runs, turns_no_others}
 use Rattle.caller_plans.specs.Plans.{planned, calls_by}
 use Rattle.caller_work.specs.Worked.{of_caller}
 use Rattle.caller_work.specs.declared.tries.Tries.TheVariants.{Times}

@@ -1,5 +1,5 @@
 use Rattle.std.proofs.Common.{◌≡◌, ◌≤◌, List, length, false}
-use Rattle.core_face.specs.Run.{Turn}
+use Rattle.caller_steps.specs.Run.{Turn}
 use Rattle.mars_shell.specs.Drill.{GoOn}
 use Rattle.mars_shell.specs.Made.{Made}
 use Rattle.mars_shell.specs.Tally.{tally_of, total}

@@ -1,7 +1,7 @@
 use Rattle.std.proofs.Common.{◌≡◌, ℕ, suc, ◌+◌, ◌<◌, ◌≤◌, List, Ok, Result, length, take, refl, sym, ◌∙◌, ap, subst, add-one, arith}
 use Rattle.std.specs.Prelude.{Option, IsTrue}
 use Rattle.std.proofs.Math.Seq.{take-length}
-use Rattle.counted.specs.Bytes.{put, range}
+use Rattle.mars_base.specs.Bytes.{put, range}
 use Rattle.array_shape.specs.declared.shape.Shape.{Shape}
 use Rattle.array_shape.specs.Places.{data_len}
 use Rattle.array_shape.specs.Logged.{Part, applied, ranges_of}

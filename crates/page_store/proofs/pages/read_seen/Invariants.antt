@@ -1,6 +1,6 @@
 use Rattle.std.proofs.Common.{◌≡◌, Ok, Result, length, take}
 use Rattle.std.specs.Prelude.{IsTrue}
-use Rattle.counted.specs.Bytes.{range}
+use Rattle.mars_base.specs.Bytes.{range}
 use Rattle.array_shape.specs.Logged.{applied}
 use Rattle.eaw_face.specs.State.{listed}
 use Rattle.eaw_face.specs.declared.fault.EawFault.{EawFault}

@@ -1,7 +1,7 @@
 use Rattle.std.proofs.Common.{false, ◌≡◌, ℕ, [], ◌∷◌, ◌++◌, List, Err, refl, ap, sym, subst, ◌∙◌, arith}
 use Rattle.std.specs.Prelude.{MatchBool}
 use Rattle.std.specs.List.{concat}
-use Rattle.counted.specs.Causes.{Rose}
+use Rattle.mars_base.specs.Causes.{Rose}
 use Rattle.std.proofs.lemmas.List.{append_assoc, append-nil}
 use Rattle.script_io.specs.Lines.{lines_of}
 use Rattle.script_run.specs.Counts.{Counts}

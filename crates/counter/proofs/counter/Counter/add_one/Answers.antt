@@ -1,5 +1,5 @@
 use Rattle.std.proofs.Common.{◌≡◌, ◌≤◌, ◌^◌, ◌<◌, ◌+◌, length, inl, arith}
-use Rattle.counted.proofs.Going.{weaker}
+use Rattle.mars_base.proofs.Going.{weaker}
 use Rattle.counter.specs.Counts.{number_in}
 use Rattle.counter.proofs.Counting.{roomy, counts_now, raised, left_now, broken_on}
 use Rattle.counter.proofs.counter.Counter.add_one.Goals as goal

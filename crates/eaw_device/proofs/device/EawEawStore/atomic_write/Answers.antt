@@ -1,7 +1,7 @@
 use Rattle.std.proofs.Common.{ℕ, ◌*◌, List, length, refl, subst, arith}
 use Rattle.std.proofs.lemmas.Result.{err_from_is_err_and}
-use Rattle.counted.specs.Costs.{Costs}
-use Rattle.counted.proofs.Costing.{none_yet, costs_more, costs_then}
+use Rattle.mars_base.specs.Costs.{Costs}
+use Rattle.mars_base.proofs.Costing.{none_yet, costs_more, costs_then}
 use Rattle.array_shape.specs.declared.shape.Shape.{Shape}
 use Rattle.array_shape.specs.Parts.{parts_of_write}
 use Rattle.array_shape.specs.Logged.{ranges_of}

@@ -4,7 +4,7 @@ use Rattle.array_shape.specs.Places.{media_len}
 use Rattle.array_shape.specs.Logged.{places_of}
 use Rattle.array_image.specs.Image.{parts_from}
 use Rattle.logger.proofs.Applying.{applied_more, writes_more, cell_good, data_after}
-use Rattle.counted.proofs.Costing.{costs_more, costs_err, costs_ok}
+use Rattle.mars_base.proofs.Costing.{costs_more, costs_err, costs_ok}
 use Rattle.logger.proofs.Ranges.{writes_failed}
 use Rattle.logger.proofs.logger.Logger.apply.Goals as goal
 

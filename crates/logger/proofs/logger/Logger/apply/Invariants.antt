@@ -1,5 +1,5 @@
 use Rattle.std.proofs.Common.{◌-◌, ◌*◌}
-use Rattle.counted.proofs.Costing.{CostsSoFar}
+use Rattle.mars_base.proofs.Costing.{CostsSoFar}
 use Rattle.logger.proofs.Applying.{AppliedTo}
 use Rattle.logger.proofs.logger.Logger.apply.Given as goal
 

@@ -2,7 +2,7 @@ use Rattle.std.proofs.Common.{◌≡◌, ℕ, ◌+◌, ◌-◌, List, [], ◌∷
 use Rattle.std.specs.Prelude.{is_ok}
 use Rattle.std.proofs.lemmas.List.{length-take}
 use Rattle.std.proofs.lemmas.Result.{on_ok_weaker}
-use Rattle.counted.specs.Bytes.{put}
+use Rattle.mars_base.specs.Bytes.{put}
 use Rattle.pcm_media.proofs.Left.{same_bytes}
 use Rattle.pcm_media.proofs.Writing.{writes_on, writes_within}
 use Rattle.array_shape.specs.Places.{place_of}
@@ -10,7 +10,7 @@ use Rattle.array_shape.proofs.Apart.{placed_fits}
 use Rattle.array_shape.specs.Logged.{places_of}
 use Rattle.array_image.specs.Image.{cell_of, cell_head, cell_part}
 use Rattle.logger.proofs.Ranges.{writes_told}
-use Rattle.counted.proofs.Costing.{costs_one, costs_then, so_far}
+use Rattle.mars_base.proofs.Costing.{costs_one, costs_then, so_far}
 use Rattle.logger.proofs.logger.Logger.apply_cell.Goals as goal
 
 pub write-requires : goal.write-requires

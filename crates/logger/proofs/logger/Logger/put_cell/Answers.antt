@@ -3,7 +3,7 @@ use Rattle.std.specs.Prelude.{is_ok}
 use Rattle.pcm_media.proofs.Writing.{writes_on, writes_within}
 use Rattle.array_shape.specs.Places.{cell_at}
 use Rattle.array_image.proofs.Places.{cell_fits_in}
-use Rattle.counted.proofs.Costing.{costs_one, costs_err, costs_then, once}
+use Rattle.mars_base.proofs.Costing.{costs_one, costs_err, costs_then, once}
 use Rattle.logger.proofs.logger.Logger.put_cell.Goals as goal
 
 pub write-requires : goal.write-requires

@@ -4,7 +4,7 @@ use Rattle.array_shape.specs.declared.part.Part.{Part}
 use Rattle.std.proofs.lemmas.List.{length-take}
 use Rattle.array_shape.specs.Parts.{is_part_on, write_parts_on}
 use Rattle.logger.specs.Cells.{cell_ranges}
-use Rattle.counted.proofs.Costing.{costs_all, costs_err}
+use Rattle.mars_base.proofs.Costing.{costs_all, costs_err}
 use Rattle.logger.proofs.Staging.{StandsAt, stands_first, stands_past, stands_next, within_here, cell_left, writes_more}
 use Rattle.logger.proofs.Ranges.{writes_failed}
 use Rattle.logger.proofs.logger.Logger.put_parts.Goals as goal

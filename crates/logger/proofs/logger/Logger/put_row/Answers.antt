@@ -1,12 +1,12 @@
 use Rattle.std.proofs.Common.{true, ◌≡◌, ◌+◌, take, drop, ◌∙◌, ap, length, arith}
 use Rattle.std.proofs.lemmas.Result.{on_ok_weaker}
-use Rattle.counted.specs.Bytes.{put}
+use Rattle.mars_base.specs.Bytes.{put}
 use Rattle.pcm_media.specs.Images.{Content}
 use Rattle.array_shape.specs.Places.{media_len}
 use Rattle.array_image.specs.Image.{row_of}
 use Rattle.array_image.proofs.Places.{row_fits_in}
 use Rattle.logger.proofs.Rows.{row_of-put_rest}
-use Rattle.counted.proofs.Costing.{costs_one}
+use Rattle.mars_base.proofs.Costing.{costs_one}
 use Rattle.logger.proofs.logger.Logger.put_row.Goals as goal
 
 pub write-requires : goal.write-requires

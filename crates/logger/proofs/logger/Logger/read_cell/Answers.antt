@@ -1,6 +1,6 @@
 use Rattle.std.proofs.Common.{true, arith}
 use Rattle.array_image.proofs.Places.{cell_fits_in}
-use Rattle.counted.proofs.Costing.{costs_all, costs_err}
+use Rattle.mars_base.proofs.Costing.{costs_all, costs_err}
 use Rattle.logger.proofs.logger.Logger.read_cell.Goals as goal
 
 pub read-requires : goal.read-requires

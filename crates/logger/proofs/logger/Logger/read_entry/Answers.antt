@@ -3,7 +3,7 @@ use Rattle.std.proofs.lemmas.List.{length-drop, take_all}
 use Rattle.array_shape.specs.Places.{media_len}
 use Rattle.array_image.specs.Image.{cell_of}
 use Rattle.array_image.proofs.Rows.{length-cell}
-use Rattle.counted.proofs.Costing.{costs_all}
+use Rattle.mars_base.proofs.Costing.{costs_all}
 use Rattle.logger.proofs.logger.Logger.read_entry.Goals as goal
 
 pub returns-clause-bytes : goal.returns-clause-bytes

@@ -1,6 +1,6 @@
 use Rattle.std.proofs.Common.{◌≡◌, ℕ, Bool, true, false, nat_eq, [], ◌∷◌, refl, ◌∙◌, ap, length, arith}
 use Rattle.std.proofs.lemmas.Result.{on_ok_weaker}
-use Rattle.counted.specs.Bytes.{put}
+use Rattle.mars_base.specs.Bytes.{put}
 use Rattle.pcm_media.specs.Images.{Content}
 use Rattle.array_shape.specs.Places.{media_len}
 use Rattle.row_bytes.specs.Written.{vote_byte}
@@ -8,7 +8,7 @@ use Rattle.row_bytes.proofs.Saying.{row}
 use Rattle.array_image.specs.Image.{row_of}
 use Rattle.array_image.proofs.Places.{row_fits_in}
 use Rattle.logger.proofs.Rows.{row_of-put_vote}
-use Rattle.counted.proofs.Costing.{costs_one}
+use Rattle.mars_base.proofs.Costing.{costs_one}
 use Rattle.logger.proofs.logger.Logger.set_vote.Goals as goal
 
 vote_reads : (voted : Bool) → nat_eq (vote_byte voted) 0xC3 ≡ voted

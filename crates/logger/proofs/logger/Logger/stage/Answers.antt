@@ -5,7 +5,7 @@ use Rattle.array_shape.specs.declared.shape.Shape.{Shape}
 use Rattle.array_shape.specs.Places.{media_len}
 use Rattle.array_shape.specs.Parts.{parts_on, part_of_write, write_parts_on}
 use Rattle.array_shape.proofs.Cutting.{write_parts_on-parts}
-use Rattle.counted.proofs.Costing.{costs_all, costs_err}
+use Rattle.mars_base.proofs.Costing.{costs_all, costs_err}
 use Rattle.logger.proofs.Staging.{staged_holds}
 use Rattle.logger.proofs.logger.Logger.stage.Goals as goal
 

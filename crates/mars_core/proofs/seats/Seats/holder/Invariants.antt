@@ -1,5 +1,5 @@
 use Rattle.std.proofs.Common.{ℕ, ◌<◌}
-use Rattle.core_face.specs.Locked.{Blocks}
+use Rattle.caller_steps.specs.Locked.{Blocks}
 use Rattle.mars_core.specs.Seats.{bare}
 use Rattle.mars_core.proofs.seats.Seats.holder.Given as goal
 

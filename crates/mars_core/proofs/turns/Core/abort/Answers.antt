@@ -8,7 +8,7 @@ use Rattle.history.specs.declared.call.Call.TheVariants.{Abort}
 use Rattle.history.specs.declared.call.Reply.TheVariants.{Fine}
 use Rattle.record_table.specs.Command.{abort}
 use Rattle.record_table.specs.declared.fault.TableFault.{TableFault}
-use Rattle.core_face.specs.Core.{Steps}
+use Rattle.caller_steps.specs.Core.{Steps}
 use Rattle.mars_core.specs.Held.{Held, core_of, state_at}
 use Rattle.mars_core.specs.Seats.{Seats, live_in, calls_at}
 use Rattle.mars_core.proofs.Prefixes.{StoreLaws}

@@ -8,7 +8,7 @@ use Rattle.history.specs.Rows.{table_of}
 use Rattle.history.specs.Table.{Granted}
 use Rattle.history.specs.declared.call.Reply.{Reply}
 use Rattle.history.specs.declared.call.Reply.TheVariants.{Fine, Busy, NoMemory}
-use Rattle.core_face.specs.Core.{Steps}
+use Rattle.caller_steps.specs.Core.{Steps}
 use Rattle.mars_core.specs.Held.{Held, core_of, state_at}
 use Rattle.mars_core.specs.Kept.{IsKept}
 use Rattle.mars_core.specs.Seats.{Seats, live_in, calls_at, bare}

@@ -6,7 +6,7 @@ use Rattle.history.specs.Rows.{table_of}
 use Rattle.history.specs.Table.{Granted}
 use Rattle.history.specs.declared.call.Call.TheVariants.{Begin}
 use Rattle.history.specs.declared.call.Reply.TheVariants.{Fine}
-use Rattle.core_face.specs.Core.{Steps}
+use Rattle.caller_steps.specs.Core.{Steps}
 use Rattle.mars_core.specs.Held.{Held, core_of, state_at}
 use Rattle.mars_core.specs.Seats.{live_in}
 use Rattle.mars_core.proofs.Staying.{none_of, begun_keeps, begun_steps}

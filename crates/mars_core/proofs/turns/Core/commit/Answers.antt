@@ -13,7 +13,7 @@ use Rattle.history.specs.declared.transaction.Done.{Done}
 use Rattle.record_table.specs.Command.{commit}
 use Rattle.record_table.specs.Does.{Does}
 use Rattle.record_table.specs.declared.fault.TableFault.{TableFault}
-use Rattle.core_face.specs.Core.{Steps}
+use Rattle.caller_steps.specs.Core.{Steps}
 use Rattle.mars_core.specs.Held.{Held, core_of, state_at}
 use Rattle.mars_core.specs.Seats.{live_in}
 use Rattle.mars_core.specs.Works.{reply_to}

@@ -2,7 +2,7 @@ use Rattle.std.proofs.Common.{◌≡◌, ◌∙◌, false, sym, subst}
 use Rattle.std.proofs.lemmas.Bool.{false≢true}
 use Rattle.page_store.specs.Shown.{pages_of}
 use Rattle.history.specs.declared.call.Call.{Call}
-use Rattle.core_face.specs.Core.{Steps}
+use Rattle.caller_steps.specs.Core.{Steps}
 use Rattle.mars_core.specs.Held.{Held, core_of}
 use Rattle.mars_core.specs.Works.{IsOfTable, IsShown}
 use Rattle.mars_core.proofs.turns.CoreSteps.step.Goals as goal

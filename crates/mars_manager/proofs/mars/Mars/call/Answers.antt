@@ -1,6 +1,6 @@
 use Rattle.std.proofs.Common.{◌≡◌, ℕ, ◌+◌, ◌-◌, ◌%◌, ◌<◌, List, [], ◌∷◌, ◌++◌, Option, Some, refl, sym, ap, ◌∙◌, subst, arith, map}
-use Rattle.core_face.specs.Prefix.{Grows}
-use Rattle.core_face.proofs.Continuing.{grows_none}
+use Rattle.caller_steps.specs.Prefix.{Grows}
+use Rattle.caller_steps.proofs.Continuing.{grows_none}
 use mathlib.Core.Option.{none}
 use Rattle.atomic_table.specs.Table.{Me, rest, Allows, step}
 use Rattle.mars_manager.specs.declared.view.Known.{Known}

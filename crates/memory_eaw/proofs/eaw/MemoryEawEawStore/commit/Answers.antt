@@ -6,7 +6,7 @@ use Rattle.memory_eaw.specs.Steps.{log_at}
 use Rattle.memory_eaw.specs.Shown.{plain_of}
 use Rattle.memory_eaw.proofs.Stopping.{counts_failed}
 use Rattle.memory_eaw.proofs.Doing.{log_len_is}
-use Rattle.counted.proofs.Costing.{costs_err, costs_all}
+use Rattle.mars_base.proofs.Costing.{costs_err, costs_all}
 use Rattle.memory_eaw.proofs.Commands.{calls-committed, does_committed, moment_stays, counts_committed}
 use Rattle.memory_eaw.proofs.eaw.MemoryEawEawStore.commit.Goals as goal
 

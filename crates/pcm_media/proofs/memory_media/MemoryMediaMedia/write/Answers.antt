@@ -1,7 +1,7 @@
 use Rattle.std.proofs.Common.{◌≡◌, ◌+◌, ◌≤◌, List, ℕ, refl, sym, ◌∙◌, ap, length, arith}
 use Rattle.std.proofs.lemmas.Result.{err_from_is_err_and}
 use Rattle.pcm_media.specs.declared.call.Call.TheVariants.{Write}
-use Rattle.counted.specs.Bytes.{put}
+use Rattle.mars_base.specs.Bytes.{put}
 use Rattle.pcm_media.specs.Images.{Content}
 use Rattle.pcm_media.specs.Memory.{content_of, Memory}
 use Rattle.pcm_media.proofs.MemoryLemmas.{Suits, does, tells_done, tells_failed, content_done, content_lost, bytes_failed, step_written, written_back}

@@ -1,0 +1,91 @@
+-- Each call has one reply, unless the array is full or fails or memory runs out.
+use Rattle.std.proofs.Common.{◌≡◌, ℕ, inl, inr, Bool, true, false, Option, Some, None, sym, ap, ◌∙◌, arith}
+use Rattle.std.proofs.lemmas.Bool.{true≢false, both_ways, cases_order}
+use Rattle.history.specs.Table.{Granted, Work, has_save, Answers}
+use Rattle.history.specs.declared.call.Call.{Call}
+use Rattle.history.specs.declared.call.Call.TheVariants.{Begin, Get, Put, Del, Scan, Save, Back, Commit, Abort}
+use Rattle.history.specs.declared.call.Reply.{Reply}
+use Rattle.history.specs.declared.call.Reply.TheVariants.{Busy}
+use Rattle.caller_steps.specs.State.{State, view_of}
+use Rattle.caller_steps.specs.Locked.{IsFree, IsBusyWith}
+use Rattle.caller_steps.specs.Room.{Limits}
+use Rattle.caller_steps.specs.Step.{Asks, StepAt, StepIf, Step}
+use Rattle.caller_steps.specs.Fate.{is_of_array}
+use Rattle.caller_steps.proofs.Fates.{lacks_of_array}
+
+-- the one-thread table has one reply to each call
+answers_one : (work : Work) (call : Call) (one other : Reply) → Answers work call one → Answers work call other → one ≡ other
+answers_one work (Get key) one other a b = a ∙ sym b
+answers_one work (Put key value) one other a b = a ∙ sym b
+answers_one work (Del key) one other a b = a ∙ sym b
+answers_one work (Scan low high) one other a b = a ∙ sym b
+answers_one work Save one other a b = a ∙ sym b
+answers_one work (Back n) one other a b = a.1 ∙ sym b.1
+answers_one work _ one other a b = absurd a
+
+-- and only one holder is the lowest
+pub busy_one : (old : State) (caller : ℕ) (call : Call) (one other : ℕ) → IsBusyWith old caller call one → IsBusyWith old caller call other → one ≡ other
+busy_one old caller call one other a b = elim (cases_order one other) [
+  | inl is ↦ is
+  | inr apart ↦ elim apart [
+    | inl less ↦ absurd (b.1 one less a.0)
+    | inr more ↦ absurd (a.1 other more b.0)
+  ]
+]
+
+-- the locks or the table give the reply
+data Ours (limits : Limits) (old : State) (caller : ℕ) (call : Call) (reply : Reply) : Type 0 where
+  held : (holder : ℕ) → IsBusyWith old caller call holder → reply ≡ Busy holder → Ours limits old caller call reply
+  free : IsFree old caller call → Answers (view_of old caller) call reply → Ours limits old caller call reply
+
+module _ (limits : Limits) (old : State) (caller : ℕ) where
+  not_of_array : (reply answer : Reply) (P : Type 0) → is_of_array reply ≡ false → is_of_array answer ≡ true → reply ≡ answer → P
+  not_of_array reply answer P ours theirs e = absurd (true≢false (sym theirs ∙ sym (ap is_of_array e) ∙ ours))
+
+  ours : (calls : Granted) (call : Call) (reply : Reply) (new : State) → is_of_array reply ≡ false → Asks limits calls old caller call reply new → Ours limits old caller call reply
+  ours calls call reply new ok (inl short) = absurd (true≢false (sym (ap is_of_array short.0) ∙ ok))
+  ours calls call reply new ok (inr (inl is)) = held is.0 is.1 is.2.0
+  ours calls call reply new ok (inr (inr (is, inl grants))) = free is grants.0
+  ours calls call reply new ok (inr (inr (is, inr (inl refuses)))) = absurd (true≢false (sym (lacks_of_array limits old caller call reply refuses.0) ∙ ok))
+  ours calls call reply new ok (inr (inr (is, inr (inr fails)))) = absurd (true≢false (sym (ap is_of_array fails.1.0) ∙ ok))
+
+  ours_one : (call : Call) (one other : Reply) → Ours limits old caller call one → Ours limits old caller call other → one ≡ other
+  ours_one call one other (held h busy is) (held k busy' is') = is ∙ ap Busy (busy_one old caller call h k busy busy') ∙ sym is'
+  ours_one call one other (held h busy is) (free is' answers) = absurd (is' h busy.0)
+  ours_one call one other (free is answers) (held h busy is') = absurd (is h busy.0)
+  ours_one call one other (free is answers) (free is' answers') = answers_one (view_of old caller) call one other answers answers'
+
+  asks_one : (calls : Granted) (call : Call) (one other : Reply) (new next : State) → is_of_array one ≡ false → is_of_array other ≡ false
+      → Asks limits calls old caller call one new → Asks limits calls old caller call other next → one ≡ other
+  asks_one calls call one other new next ok ok' a b = ours_one call one other (ours calls call one new ok a) (ours calls call other next ok' b)
+
+  one_at : (live : Option Granted) (call : Call) (one other : Reply) (new next : State) → is_of_array one ≡ false → is_of_array other ≡ false
+      → StepAt limits live old caller call one new → StepAt limits live old caller call other next → one ≡ other
+  one_at None Begin one other new next ok ok' a b = a.0 ∙ sym b.0
+  one_at None _ one other new next ok ok' a b = a.0 ∙ sym b.0
+  one_at (Some calls) Begin one other new next ok ok' a b = a.0 ∙ sym b.0
+  one_at (Some calls) Commit one other new next ok ok' (inr (inl a)) (inr (inl b)) = a.0 ∙ sym b.0
+  one_at (Some calls) Commit one other new next ok ok' (inl a) b = absurd (true≢false (sym (ap is_of_array a.0) ∙ ok))
+  one_at (Some calls) Commit one other new next ok ok' (inr (inr a)) b = absurd (true≢false (sym (ap is_of_array a.1) ∙ ok))
+  one_at (Some calls) Commit one other new next ok ok' (inr (inl a)) (inl b) = absurd (true≢false (sym (ap is_of_array b.0) ∙ ok'))
+  one_at (Some calls) Commit one other new next ok ok' (inr (inl a)) (inr (inr b)) = absurd (true≢false (sym (ap is_of_array b.1) ∙ ok'))
+  one_at (Some calls) Abort one other new next ok ok' a b = a.0 ∙ sym b.0
+  one_at (Some calls) Save one other new next ok ok' (inl (full, a)) (inl (full', b)) = a.0 ∙ sym b.0
+  one_at (Some calls) Save one other new next ok ok' (inl (full, a)) (inr (room, b)) = absurd (omega (arith, full, room))
+  one_at (Some calls) Save one other new next ok ok' (inr (room, a)) (inl (full, b)) = absurd (omega (arith, full, room))
+  one_at (Some calls) Save one other new next ok ok' (inr (room, a)) (inr (room', b)) = asks_one calls Save one other new next ok ok' a b
+  one_at (Some calls) (Back n) one other new next ok ok' (inl (none, a)) (inl (none', b)) = a.0 ∙ sym b.0
+  one_at (Some calls) (Back n) one other new next ok ok' (inl (none, a)) (inr (some, b)) = absurd (both_ways (has_save (view_of old caller).saves n) none some)
+  one_at (Some calls) (Back n) one other new next ok ok' (inr (some, a)) (inl (none, b)) = absurd (both_ways (has_save (view_of old caller).saves n) none some)
+  one_at (Some calls) (Back n) one other new next ok ok' (inr (some, a)) (inr (some', b)) = asks_one calls (Back n) one other new next ok ok' a b
+  one_at (Some calls) call one other new next ok ok' a b = asks_one calls call one other new next ok ok' a b
+
+  one_if : (dead : Bool) (call : Call) (one other : Reply) (new next : State) → is_of_array one ≡ false → is_of_array other ≡ false
+      → StepIf limits dead old caller call one new → StepIf limits dead old caller call other next → one ≡ other
+  one_if true call one other new next ok ok' a b = a.0 ∙ sym b.0
+  one_if false call one other new next ok ok' a b = one_at (old.live caller) call one other new next ok ok' a b
+
+  -- Two replies to a call in one state are equal, except for those of an array that is full or fails, and for `NoMemory`.
+  pub one_reply : (call : Call) (one other : Reply) (new next : State) → is_of_array one ≡ false → is_of_array other ≡ false
+      → Step limits old caller call one new → Step limits old caller call other next → one ≡ other
+  one_reply call one other new next ok ok' a b = one_if old.is_dead call one other new next ok ok' a b

@@ -1,0 +1,283 @@
+-- Why the refusals within a run stand, and which keys its index gains.
+use Rattle.std.proofs.Common.{◌≡◌, ◌⊎◌, ◌||◌, ℕ, ◌-◌, ◌≤◌, inl, inr, ⊎_elim, List, [], ◌∷◌, ◌++◌, Bool, true, false, Option, Some, None, refl, sym, ap, ◌∙◌, subst, arith, eq-eqb}
+use Rattle.std.specs.Prelude.{IsTrue, IsFalse, unwrap_or}
+use Rattle.std.specs.List.{list_any}
+use Rattle.std.specs.FinMap.{get}
+use Rattle.std.proofs.lemmas.Bool.{true≢false}
+use Rattle.std.proofs.lemmas.List.Folds.{list_any-append}
+use Rattle.history.specs.Table.{Granted, Work, Answers, found, removed}
+use Rattle.history.specs.Locks.{touched}
+use Rattle.history.specs.declared.call.Call.{Call}
+use Rattle.history.specs.declared.call.Call.TheVariants.{Begin, Get, Put, Del, Scan, Save, Back, Commit, Abort}
+use Rattle.history.specs.declared.call.Reply.{Reply}
+use Rattle.history.specs.declared.call.Reply.TheVariants.{Fine, NoTransaction, Already, NoSave, SavesFull, Busy, LogFull, SlotsFull, PagesFull, Media, Dead, NoMemory}
+use Rattle.caller_steps.specs.State.{State, Index, view_of}
+use Rattle.caller_steps.specs.Locked.{Blocks}
+use Rattle.caller_steps.specs.Room.{Limits, LacksAt, Lacks, GainsKey, KeepsKeys, TakesPages, Inserts, IndexesAt, Indexes}
+use Rattle.caller_steps.specs.Step.{Says, Asks, StepAt, StepIf, Step, Runs}
+use Rattle.caller_steps.specs.Fate.{is_media}
+use Rattle.caller_steps.specs.Run.{Turn, Goes, GoesAlong, has_fault, IsTurn}
+use Rattle.caller_steps.specs.Own.{nothing_own}
+use Rattle.caller_steps.specs.Shown.{is_put, AreAsked, Gained, LacksPages, Shows}
+use Rattle.caller_steps.proofs.Running.{turns_cut, turns_dead, turns_keep, turns_of_runs}
+use Rattle.caller_steps.proofs.Owning.{turns_live}
+use Rattle.caller_steps.proofs.Fates.{step_moves}
+
+-- an index after a call: it has no fewer pages and levels, and the same keys or one more, which the call puts
+pub record IndexMoves (limits : Limits) (call : Call) (old new : Index) : Type 0 where
+  pub pages : old.next_page ≤ new.next_page
+  pub levels : old.level ≤ new.level
+  pub keys : KeepsKeys old new ⊎ ((key : ℕ) × IsTrue (is_put key call) × (old.slot_of key ≡ None) × GainsKey limits key old new)
+
+same_index : (limits : Limits) (call : Call) (old new : Index) → new ≡ old → IndexMoves limits call old new
+same_index limits call old new e = record {
+  pages = (let p = ap (λ (i : Index). i.next_page) e in omega arith);
+  levels = (let l = ap (λ (i : Index). i.level) e in omega arith);
+  keys = inl (record { slot_of = ap (λ (i : Index). i.slot_of) e; slots = ap (λ (i : Index). i.next_slot) e });
+}
+
+inserts : (limits : Limits) (key : ℕ) (reply : Reply) (old new : Index) → Inserts limits key reply old new → TakesPages limits old new × (KeepsKeys old new ⊎ GainsKey limits key old new)
+inserts limits key Fine old new i = (i.0, inr i.1)
+inserts limits key (LogFull g h n) old new i = (i.0, i.1)
+inserts limits key (PagesFull n) old new i = (i.0, inl i.1)
+inserts limits key _ old new i = (i.0, inl i.1)
+
+index_at : (limits : Limits) (key : ℕ) (value : List ℕ) (slot : Option ℕ) (reply : Reply) (old new : Index) → old.slot_of key ≡ slot → IndexesAt limits key slot reply old new → IndexMoves limits (Put key value) old new
+index_at limits key value (Some slot) reply old new is e = same_index limits (Put key value) old new e
+index_at limits key value None reply old new is i =
+    let both = inserts limits key reply old new i in record {
+      pages = both.0.later;
+      levels = both.0.levels;
+      keys = ⊎_elim (λ keeps. inl keeps) (λ gains. inr (key, eq-eqb key key refl, is, gains)) both.1;
+    }
+
+index_moves : (limits : Limits) (call : Call) (reply : Reply) (old new : Index) → Indexes limits call reply old new → IndexMoves limits call old new
+index_moves limits (Put key value) reply old new i = index_at limits key value (old.slot_of key) reply old new refl i
+index_moves limits Begin reply old new i = same_index limits Begin old new i
+index_moves limits (Get key) reply old new i = same_index limits (Get key) old new i
+index_moves limits (Del key) reply old new i = same_index limits (Del key) old new i
+index_moves limits (Scan low high) reply old new i = same_index limits (Scan low high) old new i
+index_moves limits Save reply old new i = same_index limits Save old new i
+index_moves limits (Back n) reply old new i = same_index limits (Back n) old new i
+index_moves limits Commit reply old new i = same_index limits Commit old new i
+index_moves limits Abort reply old new i = same_index limits Abort old new i
+
+-- if all slots are given out, no key is gained
+slots_stay : (limits : Limits) (call : Call) (old new : Index) → IndexMoves limits call old new → old.next_slot ≡ limits.slots → new.next_slot ≡ limits.slots
+slots_stay limits call old new moves full = ⊎_elim (λ keeps. keeps.slots ∙ full) (λ gains. let l = gains.3.left in absurd (omega arith)) moves.keys
+
+pages_stay : (limits : Limits) (made call : Call) (n : ℕ) (old new : Index) → IndexMoves limits call old new → LacksPages made n old → LacksPages made n new
+pages_stay limits (Put key value) call n old new moves lacks = ⊎_elim (λ few. inl (let p = moves.pages in omega arith)) (λ high. inr (let l = moves.levels in omega arith)) lacks
+pages_stay limits Begin call n old new moves lacks = tt
+pages_stay limits (Get key) call n old new moves lacks = tt
+pages_stay limits (Del key) call n old new moves lacks = tt
+pages_stay limits (Scan low high) call n old new moves lacks = tt
+pages_stay limits Save call n old new moves lacks = tt
+pages_stay limits (Back m) call n old new moves lacks = tt
+pages_stay limits Commit call n old new moves lacks = tt
+pages_stay limits Abort call n old new moves lacks = tt
+
+gained_same : (first : Index) (keys : List ℕ) (old new : Index) → KeepsKeys old new → Gained first keys old → Gained first keys new
+gained_same first [] old new keeps g = (keeps.slot_of ∙ g.0, keeps.slots ∙ g.1)
+gained_same first (key ∷ keys) old new keeps g = (g.0, g.1, g.2, keeps.slot_of ∙ g.3, keeps.slots ∙ g.4)
+
+-- what a reply says of the state before a step and of the index after it
+abbrev pub Told : Limits → State → ℕ → State → Call → Reply → Type 0
+Told limits old caller new call (Busy holder) = Blocks old caller call holder
+Told limits old caller new call (SlotsFull n) = (n ≡ limits.slots) × (new.index.next_slot ≡ limits.slots)
+Told limits old caller new call (PagesFull n) = (n ≡ limits.index_pages - 1) × LacksPages call n new.index
+Told limits old caller new call Dead = IsTrue old.is_dead
+Told limits old caller new call _ = Unit {0}
+
+pub record Left (limits : Limits) (old : State) (caller : ℕ) (new : State) (call : Call) (reply : Reply) : Type 0 where
+  pub told : Told limits old caller new call reply
+  pub index : IsFalse new.is_dead → IndexMoves limits call old.index new.index
+
+module _ (limits : Limits) (old : State) (caller : ℕ) (new : State) where
+  T : Call → Reply → Type 0
+  T call reply = Told limits old caller new call reply
+
+  same : (call : Call) (reply : Reply) → T call reply → new.index ≡ old.index → Left limits old caller new call reply
+  unfolding T
+  same call reply t e = record { told = t; index = λ alive. same_index limits call old.index new.index e }
+
+  says : (call : Call) (reply answer : Reply) → T call answer → Says answer old reply new → Left limits old caller new call reply
+  says call reply answer t s = same call reply (subst (T call) (sym s.0) t) (ap (λ (s : State). s.index) s.1)
+
+  plain_found : (call : Call) (o : Option (List ℕ)) (reply : Reply) → reply ≡ found o → T call reply
+  unfolding T
+  plain_found call None reply e = subst (λ r. Told limits old caller new call r) (sym e) tt
+  plain_found call (Some v) reply e = subst (λ r. Told limits old caller new call r) (sym e) tt
+
+  plain_removed : (call : Call) (o : Option (List ℕ)) (reply : Reply) → reply ≡ removed o → T call reply
+  unfolding T
+  plain_removed call None reply e = subst (λ r. Told limits old caller new call r) (sym e) tt
+  plain_removed call (Some v) reply e = subst (λ r. Told limits old caller new call r) (sym e) tt
+
+  plain : (work : Work) (call : Call) (reply : Reply) → Answers work call reply → T call reply
+  unfolding T
+  plain work (Get key) reply answers = plain_found (Get key) (get work.table key) reply answers
+  plain work (Put key value) reply answers = subst (λ r. Told limits old caller new (Put key value) r) (sym answers) tt
+  plain work (Del key) reply answers = plain_removed (Del key) (get work.table key) reply answers
+  plain work (Scan low high) reply answers = subst (λ r. Told limits old caller new (Scan low high) r) (sym answers) tt
+  plain work Save reply answers = subst (λ r. Told limits old caller new Save r) (sym answers) tt
+  plain work (Back n) reply answers = subst (λ r. Told limits old caller new (Back n) r) (sym answers.1) tt
+  plain work _ reply answers = absurd answers
+
+  put_lacks : (key : ℕ) (value : List ℕ) (slot : Option ℕ) (reply : Reply) → LacksAt limits old caller key slot reply → IndexesAt limits key slot reply old.index new.index → T (Put key value) reply
+  unfolding T
+  put_lacks key value (Some slot) (LogFull g h n) lacks index = tt
+  put_lacks key value None (SlotsFull n) lacks index = (lacks.1, index.1.slots ∙ lacks.0)
+  put_lacks key value None (PagesFull n) lacks index = (lacks, index.2)
+  put_lacks key value None (LogFull g h n) lacks index = tt
+  put_lacks key value _ _ lacks index = absurd lacks
+
+  del_lacks : (key slot : ℕ) (reply : Reply) → LacksAt limits old caller key (Some slot) reply → T (Del key) reply
+  unfolding T
+  del_lacks key slot (LogFull g h n) lacks = tt
+  del_lacks key slot _ lacks = absurd lacks
+
+  lacks_told : (call : Call) (reply : Reply) → Lacks limits old caller call reply → Indexes limits call reply old.index new.index → T call reply
+  lacks_told (Put key value) reply lacks indexes = put_lacks key value (old.index.slot_of key) reply lacks indexes
+  lacks_told (Del key) reply lacks indexes = del_lacks key lacks.1 reply lacks.3
+  lacks_told _ reply lacks indexes = absurd lacks
+
+  fails : (call : Call) (reply : Reply) → reply ≡ Media → new.is_dead ≡ true → Left limits old caller new call reply
+  unfolding T
+  fails call reply re dead = record { told = subst (λ r. Told limits old caller new call r) (sym re) tt; index = λ alive. absurd (true≢false (sym dead ∙ alive)) }
+
+  asks : (calls : Granted) (call : Call) (reply : Reply) → Asks limits calls old caller call reply new → Left limits old caller new call reply
+  unfolding T
+  asks calls call reply (inl short) = says call reply NoMemory tt short
+  asks calls call reply (inr (inl held)) = says call reply (Busy held.0) held.1.0 held.2
+  asks calls call reply (inr (inr (free, inl (answers, fits, index, indexes, e)))) =
+      record { told = plain (view_of old caller) call reply answers; index = λ alive. index_moves limits call reply old.index new.index (subst (λ i. Indexes limits call reply old.index i) (sym (ap (λ (s : State). s.index) e)) indexes) }
+  asks calls call reply (inr (inr (free, inr (inl (lacks, index, indexes, e))))) =
+      let now = subst (λ i. Indexes limits call reply old.index i) (sym (ap (λ (s : State). s.index) e)) indexes in
+      record { told = lacks_told call reply lacks now; index = λ alive. index_moves limits call reply old.index new.index now }
+  asks calls call reply (inr (inr (free, inr (inr (uses, (re, index, e)))))) = fails call reply re (ap (λ (s : State). s.is_dead) e)
+
+  left_at : (live : Option Granted) (call : Call) (reply : Reply) → StepAt limits live old caller call reply new → Left limits old caller new call reply
+  unfolding T
+  left_at None Begin reply (re, e) = same Begin reply (subst (λ r. Told limits old caller new Begin r) (sym re) tt) (ap (λ (s : State). s.index) e)
+  left_at None (Get key) reply s = says (Get key) reply NoTransaction tt s
+  left_at None (Put key value) reply s = says (Put key value) reply NoTransaction tt s
+  left_at None (Del key) reply s = says (Del key) reply NoTransaction tt s
+  left_at None (Scan low high) reply s = says (Scan low high) reply NoTransaction tt s
+  left_at None Save reply s = says Save reply NoTransaction tt s
+  left_at None (Back n) reply s = says (Back n) reply NoTransaction tt s
+  left_at None Commit reply s = says Commit reply NoTransaction tt s
+  left_at None Abort reply s = says Abort reply NoTransaction tt s
+  left_at (Some calls) Begin reply s = says Begin reply Already tt s
+  left_at (Some calls) (Get key) reply a = asks calls (Get key) reply a
+  left_at (Some calls) (Put key value) reply a = asks calls (Put key value) reply a
+  left_at (Some calls) (Del key) reply a = asks calls (Del key) reply a
+  left_at (Some calls) (Scan low high) reply a = asks calls (Scan low high) reply a
+  left_at (Some calls) Save reply (inl (full, s)) = says Save reply SavesFull tt s
+  left_at (Some calls) Save reply (inr (room, a)) = asks calls Save reply a
+  left_at (Some calls) (Back n) reply (inl (none, s)) = says (Back n) reply (NoSave n) tt s
+  left_at (Some calls) (Back n) reply (inr (some, a)) = asks calls (Back n) reply a
+  left_at (Some calls) Commit reply (inl short) = says Commit reply NoMemory tt short
+  left_at (Some calls) Commit reply (inr (inl (re, e))) = same Commit reply (subst (λ r. Told limits old caller new Commit r) (sym re) tt) (ap (λ (s : State). s.index) e)
+  left_at (Some calls) Commit reply (inr (inr (wrote, re, index, e))) = fails Commit reply re (ap (λ (s : State). s.is_dead) e)
+  left_at (Some calls) Abort reply (re, e) = same Abort reply (subst (λ r. Told limits old caller new Abort r) (sym re) tt) (ap (λ (s : State). s.index) e)
+
+  left_if : (dead : Bool) (call : Call) (reply : Reply) → old.is_dead ≡ dead → StepIf limits dead old caller call reply new → Left limits old caller new call reply
+  unfolding T
+  left_if true call reply is s = says call reply Dead is s
+  left_if false call reply is s = left_at (old.live caller) call reply s
+
+  pub step_left : (call : Call) (reply : Reply) → Step limits old caller call reply new → Left limits old caller new call reply
+  step_left call reply step = left_if old.is_dead call reply refl step
+
+or_left : (a b : Bool) → a ≡ true → (a || b) ≡ true
+or_left true b e = refl
+or_left false b e = absurd (true≢false (sym e))
+
+or_right : (a b : Bool) → b ≡ true → (a || b) ≡ true
+or_right true b e = refl
+or_right false b e = e
+
+or_none : (a b : Bool) → (a || b) ≡ false → a ≡ false
+or_none true b e = absurd (true≢false e)
+or_none false b e = refl
+
+any_left : {X : Type 0} (p : X → Bool) (xs ys : List X) → list_any p xs ≡ true → list_any p (xs ++ ys) ≡ true
+any_left p xs ys e = list_any-append p xs ys ∙ or_left (list_any p xs) (list_any p ys) e
+
+any_last : {X : Type 0} (p : X → Bool) (xs : List X) (x : X) → p x ≡ true → list_any p (xs ++ x ∷ []) ≡ true
+any_last p xs x e = list_any-append p xs (x ∷ []) ∙ or_right (list_any p xs) (p x || false) (or_left (p x) false e)
+
+module _ (limits : Limits) where
+  alive_before : (old new : State) (turn : Turn) → Goes true limits old turn.0 turn.1 turn.2 new → new.is_dead ≡ false → old.is_dead ≡ false
+  alive_before old new turn goes alive = or_none old.is_dead (is_media turn.2) (sym goes.moves.dead ∙ alive)
+
+  index_goes : (old new : State) (turn : Turn) → Goes true limits old turn.0 turn.1 turn.2 new → new.is_dead ≡ false → IndexMoves limits turn.1 old.index new.index
+  index_goes old new turn goes alive = (step_left limits old turn.0 new turn.1 turn.2 (goes.step refl)).index alive
+
+  alive_first : (first now : State) (turns : List Turn) → GoesAlong true limits first turns now → now.is_dead ≡ false → first.is_dead ≡ false
+  alive_first first now turns a alive = or_none first.is_dead (has_fault turns) (sym (turns_dead true limits first now turns a) ∙ alive)
+
+  -- What was lacking stays so.
+  slots_on : (first now : State) (turns : List Turn) → GoesAlong true limits first turns now → now.is_dead ≡ false → first.index.next_slot ≡ limits.slots → now.index.next_slot ≡ limits.slots
+  slots_on first now [] a alive full = ap (λ (s : State). s.index.next_slot) a ∙ full
+  slots_on first now (turn ∷ turns) a alive full =
+      slots_on a.0 now turns a.2 alive (slots_stay limits turn.1 first.index a.0.index (index_goes first a.0 turn a.1 (alive_first a.0 now turns a.2 alive)) full)
+
+  pages_on : (made : Call) (n : ℕ) (first now : State) (turns : List Turn) → GoesAlong true limits first turns now → now.is_dead ≡ false → LacksPages made n first.index → LacksPages made n now.index
+  pages_on made n first now [] a alive lacks = subst (λ (s : State). LacksPages made n s.index) (sym a) lacks
+  pages_on made n first now (turn ∷ turns) a alive lacks =
+      pages_on made n a.0 now turns a.2 alive (pages_stay limits made turn.1 n first.index a.0.index (index_goes first a.0 turn a.1 (alive_first a.0 now turns a.2 alive)) lacks)
+
+  -- the keys that are asked for
+  more_keys : (turns : List Turn) (turn : Turn) (keys : List ℕ) → AreAsked turns keys → AreAsked (turns ++ turn ∷ []) keys
+  more_keys turns turn [] a = tt
+  more_keys turns turn (key ∷ keys) a = (any_left (λ (l : Turn). is_put key l.1) turns (turn ∷ []) a.0, more_keys turns turn keys a.1)
+
+  module _ (first : State) where
+    abbrev Keys : List Turn → State → Type 0
+    Keys turns now = IsFalse now.is_dead → (keys : List ℕ) × Gained first.index keys now.index × AreAsked turns keys
+
+    keys_goes : (turns : List Turn) (turn : Turn) (old new : State) → Keys turns old → Goes true limits old turn.0 turn.1 turn.2 new → Keys (turns ++ turn ∷ []) new
+    keys_goes turns turn old new was goes alive =
+        let before = was (alive_before old new turn goes alive) in
+        ⊎_elim
+        (λ keeps. (before.0, gained_same first.index before.0 old.index new.index keeps before.1, more_keys turns turn before.0 before.2))
+        (λ gains. (gains.0 ∷ before.0, (old.index, before.1, gains.2, gains.3.slot_of, gains.3.slots), (any_last (λ (l : Turn). is_put gains.0 l.1) turns turn gains.1, more_keys turns turn before.0 before.2)))
+        (index_goes old new turn goes alive).keys
+
+    -- Unless the medium fails, the index gains only keys that are asked for.
+    pub keys_gained : (now : State) (turns : List Turn) → Runs limits first turns now → IsFalse now.is_dead → (keys : List ℕ) × Gained first.index keys now.index × AreAsked turns keys
+    keys_gained now turns runs = turns_keep true limits Keys keys_goes [] turns first now (λ alive. ([], (refl, refl), tt)) (turns_of_runs limits first now turns runs)
+
+  -- Each turn of a run is a step.
+  pub line_is : (first now : State) (before after : List Turn) (turn : Turn) → Runs limits first (before ++ turn ∷ after) now → IsTurn limits first before turn after now
+  line_is first now before after turn runs =
+      let c = turns_cut true limits first now before (turn ∷ after) (turns_of_runs limits first now (before ++ turn ∷ after) runs) in
+      record { old = c.0; new = c.2.0; until = c.1; step = c.2.1.step refl; since = c.2.2 }
+
+  module _ (first now : State) (before after : List Turn) (caller : ℕ) (call : Call) (reply : Reply) (runs : Runs limits first (before ++ (caller, call, reply) ∷ after) now) (none : (other : ℕ) → first.live other ≡ None) where
+    module _ (at : IsTurn limits first before (caller, call, reply) after now) (fresh : first.is_dead ≡ false) where
+      left_there : Left limits at.old caller at.new call reply
+      left_there = step_left limits at.old caller at.new call reply at.step
+
+      dead_after : at.new.is_dead ≡ true → now.is_dead ≡ true
+      dead_after e = turns_dead true limits at.new now after at.since ∙ or_left at.new.is_dead (has_fault after) e
+
+      new_alive : now.is_dead ≡ false → at.new.is_dead ≡ false
+      new_alive alive = alive_first at.new now after at.since alive
+
+      shows_at : (told : Reply) → reply ≡ told → Told limits at.old caller at.new call told → Shows limits before now caller call told
+      shows_at (Busy h) is t = (t.0, t.1, t.2, ap (λ (o : Option Granted). touched (unwrap_or o []) t.1) (sym (turns_live true limits h first at.old before nothing_own at.until (inl refl) (none h))) ∙ t.3)
+      shows_at (SlotsFull n) is t = (t.0, λ alive. slots_on at.new now after at.since alive t.1)
+      shows_at (PagesFull n) is t = (t.0, λ alive. pages_on call n at.new now after at.since alive t.1)
+      shows_at Media is t = dead_after (faults is)
+        where
+          faults : reply ≡ Media → at.new.is_dead ≡ true
+          faults r = (step_moves limits at.old caller call reply at.new at.step).dead ∙ or_right at.old.is_dead (is_media reply) (ap is_media r)
+      shows_at Dead is t = sym (ap (λ b. b || has_fault before) fresh) ∙ sym (turns_dead true limits first at.old before at.until) ∙ t
+      shows_at _ is t = tt
+
+    -- What a refusal shows.
+    pub refusal_shows : first.is_dead ≡ false → Shows limits before now caller call reply
+    refusal_shows fresh = let at = line_is first now before after (caller, call, reply) runs in shows_at at fresh reply refl (left_there at fresh).told

@@ -1,0 +1,22 @@
+-- What a loss of power leaves of a history.
+use Rattle.std.specs.Prelude.{ℕ, ◌≡◌, ◌≤◌, List, ◌++◌, length, take}
+use Rattle.history.specs.Writes.{Table}
+use Rattle.history.specs.Legal.{records, with_doubt}
+use Rattle.history.specs.declared.transaction.Done.{Done}
+use Rattle.caller_steps.specs.State.{State}
+
+-- the image opens with the records of the first transactions of a history, at least so many
+pub record HasPrefix (Opens : List ℕ → Table → Type 0) (base : Table) (history : List Done) (least : ℕ) (image : List ℕ) : Type 0 where
+  pub count : ℕ
+  pub at_least : least ≤ count
+  pub at_most : count ≤ length history
+  pub opens : Opens image (records base (take count history))
+
+-- the same for a state, whose transaction in doubt may be there or not
+abbrev pub HasPrefixOf : (List ℕ → Table → Type 0) → State → ℕ → List ℕ → Type 0
+HasPrefixOf Opens state least image = HasPrefix Opens state.base (with_doubt state.history state.doubt) least image
+
+-- the new history extends the old one
+pub record Grows (old new : List Done) : Type 0 where
+  pub more : List Done
+  pub is : new ≡ old ++ more

@@ -1,0 +1,109 @@
+-- How much room an array has for writes, and what calls make of its index.
+use Rattle.std.specs.Prelude.{ℕ, suc, ◌≡◌, ◌+◌, ◌-◌, ◌<◌, ◌≤◌, ◌⊎◌, Bool, false, nat_eq, length, filter, Option, Some, None, IsSome, unwrap_or}
+use Rattle.std.specs.FinMap.{get}
+use Rattle.std.specs.Map.{update}
+use Rattle.history.specs.Log.{log_of, is_rewritten}
+use Rattle.history.specs.Writes.{Write}
+use Rattle.history.specs.declared.call.Call.{Call}
+use Rattle.history.specs.declared.call.Call.TheVariants.{Put, Del}
+use Rattle.history.specs.declared.call.Reply.{Reply}
+use Rattle.history.specs.declared.call.Reply.TheVariants.{Fine, LogFull, SlotsFull, PagesFull}
+use Rattle.caller_steps.specs.State.{State, Index, calls_of, view_of}
+
+-- how many callers there may be, the slots of an array, its pages for the index, its loggers, the entries that each of them has for a
+-- caller, and the logger of each slot
+pub record Limits : Type 0 where
+  pub callers : ℕ
+  pub slots : ℕ
+  pub index_pages : ℕ
+  pub loggers : ℕ
+  pub entries : ℕ
+  pub logger_of : ℕ → ℕ
+
+-- the key of a write has its slot on this logger
+abbrev pub is_slot_on : Limits → ℕ → Option ℕ → Bool
+is_slot_on limits g None = false
+is_slot_on limits g (Some slot) = nat_eq (limits.logger_of slot) g
+
+abbrev pub is_write_on : Limits → Index → ℕ → Write → Bool
+is_write_on limits index g write = is_slot_on limits g (index.slot_of write.0)
+
+-- how many entries of a logger a caller's writes take
+abbrev pub held_on : Limits → State → ℕ → ℕ → ℕ
+held_on limits state caller g = length (filter (is_write_on limits state.index g) (log_of (calls_of state caller)).writes)
+
+-- a write of a key with this slot reuses the entry of a write since the last save, or finds a free entry
+abbrev pub HasEntry : Limits → State → ℕ → ℕ → ℕ → Type 0
+HasEntry limits old caller key slot =
+    is_rewritten (log_of (calls_of old caller)) key ≡ false → held_on limits old caller (limits.logger_of slot) < limits.entries
+
+-- the slot of a key, or the next free one if the index lacks the key
+abbrev pub slot_for : Index → ℕ → ℕ
+slot_for index key = unwrap_or (index.slot_of key) index.next_slot
+
+-- the caller sees a record of the key
+abbrev pub IsSeen : State → ℕ → ℕ → Type 0
+IsSeen old caller key = IsSome (get (view_of old caller).table key)
+
+-- if the call writes, there is an entry for it
+abbrev pub Fits : Limits → State → ℕ → Call → Type 0
+Fits limits old caller (Put key value) = HasEntry limits old caller key (slot_for old.index key)
+Fits limits old caller (Del key) = IsSeen old caller key → HasEntry limits old caller key (slot_for old.index key)
+Fits limits old caller _ = Unit {0}
+
+-- logger g holds h entries of the caller and has no room for n more
+pub record IsFull (limits : Limits) (old : State) (caller g h n : ℕ) : Type 0 where
+  pub logger : g < limits.loggers
+  pub held : h ≡ held_on limits old caller g
+  pub some : 1 ≤ n
+  pub few : n ≤ 4
+  pub full : limits.entries < h + n
+
+-- Why a write of a key that has this slot, or none, is refused with this reply. A new key needs a slot, pages for the splits of the index
+-- that are due, and entries for each part of its insertion.
+abbrev pub LacksAt : Limits → State → ℕ → ℕ → Option ℕ → Reply → Type 0
+LacksAt limits old caller key (Some slot) (LogFull g h n) = (HasEntry limits old caller key slot → ⊥) × (g ≡ limits.logger_of slot) × (n ≡ 1) × IsFull limits old caller g h n
+LacksAt limits old caller key None (SlotsFull n) = (old.index.next_slot ≡ limits.slots) × (n ≡ limits.slots)
+LacksAt limits old caller key None (PagesFull n) = n ≡ limits.index_pages - 1
+LacksAt limits old caller key None (LogFull g h n) = IsFull limits old caller g h n
+LacksAt limits old caller key _ _ = ⊥
+
+-- Why a write is refused with this reply. A key that its caller sees has a slot, so a removal is refused only by that slot's logger.
+abbrev pub Lacks : Limits → State → ℕ → Call → Reply → Type 0
+Lacks limits old caller (Put key value) reply = LacksAt limits old caller key (old.index.slot_of key) reply
+Lacks limits old caller (Del key) reply = IsSeen old caller key × (slot : ℕ) × (old.index.slot_of key ≡ Some slot) × LacksAt limits old caller key (Some slot) reply
+Lacks limits old caller _ reply = ⊥
+
+-- the index gains the key with the next slot, if there is one
+pub record GainsKey (limits : Limits) (key : ℕ) (old new : Index) : Type 0 where
+  pub left : old.next_slot < limits.slots
+  pub slot_of : new.slot_of ≡ update nat_eq old.slot_of key (Some old.next_slot)
+  pub slots : new.next_slot ≡ suc old.next_slot
+
+pub record KeepsKeys (old new : Index) : Type 0 where
+  pub slot_of : new.slot_of ≡ old.slot_of
+  pub slots : new.next_slot ≡ old.next_slot
+
+-- at most nine more pages are given out, within those of the index, and no level is lost
+pub record TakesPages (limits : Limits) (old new : Index) : Type 0 where
+  pub later : old.next_page ≤ new.next_page
+  pub few : new.next_page ≤ old.next_page + 9
+  pub most : new.next_page ≤ limits.index_pages
+  pub levels : old.level ≤ new.level
+
+-- What a put makes of an index that lacks the key. If the log is full after the insertion, the key stays. If pages ran out, at most one is
+-- left, or the index has as many levels as it may.
+abbrev pub Inserts : Limits → ℕ → Reply → Index → Index → Type 0
+Inserts limits key Fine old new = TakesPages limits old new × GainsKey limits key old new
+Inserts limits key (LogFull g h n) old new = TakesPages limits old new × (KeepsKeys old new ⊎ GainsKey limits key old new)
+Inserts limits key (PagesFull n) old new = TakesPages limits old new × KeepsKeys old new × ((n ≤ new.next_page) ⊎ (7 ≤ new.level))
+Inserts limits key _ old new = TakesPages limits old new × KeepsKeys old new
+
+abbrev pub IndexesAt : Limits → ℕ → Option ℕ → Reply → Index → Index → Type 0
+IndexesAt limits key None reply old new = Inserts limits key reply old new
+IndexesAt limits key (Some slot) reply old new = new ≡ old
+
+-- what a call makes of the index
+abbrev pub Indexes : Limits → Call → Reply → Index → Index → Type 0
+Indexes limits (Put key value) reply old new = IndexesAt limits key (old.slot_of key) reply old new
+Indexes limits _ reply old new = new ≡ old

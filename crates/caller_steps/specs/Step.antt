@@ -1,0 +1,83 @@
+-- How a call of a caller is answered, and what it leaves.
+use Rattle.std.specs.Prelude.{ℕ, ◌≡◌, ◌+◌, ◌<◌, ◌≤◌, ◌⊎◌, Bool, true, false, IsTrue, IsFalse, List, [], ◌∷◌, ◌++◌, length, Option, Some, None}
+use Rattle.history.specs.Log.{log_of}
+use Rattle.history.specs.Table.{Granted, Answers, has_save}
+use Rattle.history.specs.declared.call.Call.{Call}
+use Rattle.history.specs.declared.call.Call.TheVariants.{Begin, Save, Back, Commit, Abort}
+use Rattle.history.specs.declared.call.Reply.{Reply}
+use Rattle.history.specs.declared.call.Reply.TheVariants.{Fine, Committed, NoTransaction, Already, NoSave, SavesFull, Busy, Media, Dead, NoMemory}
+use Rattle.caller_steps.specs.State.{State, Index, view_of, with_live, done_by}
+use Rattle.caller_steps.specs.Locked.{IsFree, IsBusyWith}
+use Rattle.caller_steps.specs.Room.{Limits, Fits, Lacks, Indexes}
+
+-- the most saves that a transaction may have
+abbrev pub most_saves : ℕ
+most_saves = 32
+
+-- the reply is this one, and nothing changes
+abbrev pub Says : Reply → State → Reply → State → Type 0
+Says answer old reply new = (reply ≡ answer) × (new ≡ old)
+
+-- another caller holds a stripe of the call
+abbrev pub IsHeld : State → ℕ → Call → Reply → State → Type 0
+IsHeld old caller call reply new = (holder : ℕ) × IsBusyWith old caller call holder × Says (Busy holder) old reply new
+
+-- the call is granted, with the one-thread table's reply on what the caller sees
+abbrev pub Grants : Limits → Granted → State → ℕ → Call → Reply → State → Type 0
+Grants limits calls old caller call reply new = Answers (view_of old caller) call reply × Fits limits old caller call
+    × (index : Index) × Indexes limits call reply old.index index × (new ≡ record (with_live old caller (Some (calls ++ (call, reply) ∷ []))) { index = index })
+
+-- the array is full; the index may have changed
+abbrev pub Refuses : Limits → State → ℕ → Call → Reply → State → Type 0
+Refuses limits old caller call reply new = Lacks limits old caller call reply
+    × (index : Index) × Indexes limits call reply old.index index × (new ≡ record old { index = index })
+
+-- the medium failed, and the index may then be anything
+abbrev pub Fails : State → Reply → State → Type 0
+Fails old reply new = (reply ≡ Media) × (index : Index) × (new ≡ record old { index = index; is_dead = true })
+
+-- a call that looks a key up in the index, or scans it, and so uses the medium
+abbrev pub uses_index : Call → Bool
+uses_index Save = false
+uses_index (Back n) = false
+uses_index call = true
+
+-- the locks come before all that the array answers; memory may run out at any point
+abbrev pub Asks : Limits → Granted → State → ℕ → Call → Reply → State → Type 0
+Asks limits calls old caller call reply new = Says NoMemory old reply new ⊎ (IsHeld old caller call reply new
+    ⊎ (IsFree old caller call × (Grants limits calls old caller call reply new ⊎ (Refuses limits old caller call reply new ⊎ (IsTrue (uses_index call) × Fails old reply new)))))
+
+abbrev pub Commits : Granted → State → ℕ → Reply → State → Type 0
+Commits calls old caller reply new =
+    (reply ≡ Committed (length old.history + 1)) × (new ≡ record (with_live old caller None) { history = old.history ++ done_by old caller calls ∷ [] })
+
+-- the medium failed in a commit of a transaction that has written something, so it is in doubt
+abbrev pub Doubts : Granted → State → ℕ → Reply → State → Type 0
+Doubts calls old caller reply new =
+    (0 < length (log_of calls).writes) × (reply ≡ Media) × (index : Index) × (new ≡ record (with_live old caller None) { doubt = Some (done_by old caller calls); index = index; is_dead = true })
+
+-- A step with this as the caller's live transaction, if the medium has not failed before.
+abbrev pub StepAt : Limits → Option Granted → State → ℕ → Call → Reply → State → Type 0
+StepAt limits None old caller Begin reply new = (reply ≡ Fine) × (new ≡ with_live old caller (Some []))
+StepAt limits None old caller _ reply new = Says NoTransaction old reply new
+StepAt limits (Some calls) old caller Begin reply new = Says Already old reply new
+StepAt limits (Some calls) old caller Commit reply new = Says NoMemory old reply new ⊎ (Commits calls old caller reply new ⊎ Doubts calls old caller reply new)
+StepAt limits (Some calls) old caller Abort reply new = (reply ≡ Fine) × (new ≡ with_live old caller None)
+StepAt limits (Some calls) old caller Save reply new = ((most_saves ≤ length (view_of old caller).saves) × Says SavesFull old reply new)
+    ⊎ ((length (view_of old caller).saves < most_saves) × Asks limits calls old caller Save reply new)
+StepAt limits (Some calls) old caller (Back n) reply new = (IsFalse (has_save (view_of old caller).saves n) × Says (NoSave n) old reply new)
+    ⊎ (IsTrue (has_save (view_of old caller).saves n) × Asks limits calls old caller (Back n) reply new)
+StepAt limits (Some calls) old caller call reply new = Asks limits calls old caller call reply new
+
+-- If the medium has failed in an earlier call, the reply is `Dead`.
+abbrev pub StepIf : Limits → Bool → State → ℕ → Call → Reply → State → Type 0
+StepIf limits true old caller call reply new = Says Dead old reply new
+StepIf limits false old caller call reply new = StepAt limits (old.live caller) old caller call reply new
+
+abbrev pub Step : Limits → State → ℕ → Call → Reply → State → Type 0
+Step limits old caller call reply new = StepIf limits old.is_dead old caller call reply new
+
+-- calls of callers and their replies, one after another
+abbrev pub Runs : Limits → State → List (ℕ × Call × Reply) → State → Type 0
+Runs limits old [] new = new ≡ old
+Runs limits old (turn ∷ turns) new = (mid : State) × Step limits old turn.0 turn.1 turn.2 mid × Runs limits mid turns new

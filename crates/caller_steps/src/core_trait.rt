@@ -1,0 +1,45 @@
+// The trait of callers by turns.
+ghost use Rattle.std.specs.Prelude.{◌≡◌, ◌<◌, ℕ, Bool, IsTrue, length};
+ghost use Rattle.history.specs.declared.call.Reply.TheVariants.{Dead};
+ghost use Rattle.caller_steps.specs.Core.{CoreView, Steps};
+
+use history::{Call, Reply};
+
+/// Makes one step at a time: a caller's call on a table of records, with locks on keys that are held until the transaction ends.
+pub trait Core {
+    /// Whether it tells its records. The clauses on replies and images hold if it does.
+    ghost tells: { Bool };
+
+    ghost view: { Self → CoreView };
+
+    /// Answers a caller's call.
+    fn step(&mut self, caller: u8, call: &Call) -> Reply
+        requires { caller < (view self.old).limits.callers }
+        ensures steps { Steps tells caller call.now (view self.old) (view self.new) result }
+        ensures dead { IsTrue (view self.old).state.is_dead → (result ≡ Dead) × (self.new ≡ self.old) };
+
+    /// How many transactions have committed since the opening.
+    fn told(&self) -> u64
+        ensures { result ≡ length (view self.now).state.history };
+}
+
+/// A core behind a pointer, which is quick to hand on.
+impl<C: Core> Core for Box<C> {
+    ghost tells = { C.tells };
+
+    ghost view = { λ core. C.view core.value };
+
+    fn step(&mut self, caller: u8, call: &Call) -> Reply
+        requires { caller < (C.view self.old.value).limits.callers }
+        ensures steps { Steps C.tells caller call.now (C.view self.old.value) (C.view self.new.value) result }
+        ensures dead { IsTrue (C.view self.old.value).state.is_dead → (result ≡ Dead) × (self.new ≡ self.old) }
+    {
+        self.as_mut().step(caller, call)
+    }
+
+    fn told(&self) -> u64
+        ensures { result ≡ length (C.view self.now.value).state.history }
+    {
+        self.as_ref().told()
+    }
+}

@@ -1,0 +1,60 @@
+// Laws of callers by turns, each of which follows from the definitions alone.
+ghost use Rattle.std.specs.Prelude.{◌≡◌, ◌≢◌, ◌≤◌, List, ℕ, Some, IsTrue, IsFalse, length};
+ghost use Rattle.history.specs.Writes.{Table};
+ghost use Rattle.history.specs.Table.{Granted};
+ghost use Rattle.history.specs.Legal.{IsLegal};
+ghost use Rattle.history.specs.declared.call.Call.{Call};
+ghost use Rattle.history.specs.declared.call.Reply.{Reply};
+ghost use Rattle.caller_steps.specs.State.{State, Index, opened};
+ghost use Rattle.caller_steps.specs.Locked.{Blocks};
+ghost use Rattle.caller_steps.specs.Room.{Limits};
+ghost use Rattle.caller_steps.specs.Step.{Step, Runs};
+ghost use Rattle.caller_steps.specs.Sound.{IsSound};
+ghost use Rattle.caller_steps.specs.Fate.{Moves, is_of_array, may_come_held};
+ghost use Rattle.caller_steps.specs.Core.{IsSafe, Steps, Continues};
+
+use crate::Core;
+
+/// Over the calls of all callers, in any order, the history is legal, each live transaction is right on the records, and no two touch one
+/// stripe.
+pub fn steps_keep_all_sound()
+    ensures opened { (base : Table) (index : Index) → IsSound (opened base index) }
+    ensures step { (limits : Limits) (old new : State) (caller : ℕ) (call : Call) (reply : Reply) → IsSound old → Step limits old caller call reply new → IsSound new }
+    ensures runs { (limits : Limits) (old new : State) (turns : List (ℕ × Call × Reply)) → IsSound old → Runs limits old turns new → IsSound new }
+{}
+
+/// Whatever callers ask, one after another, the committed transactions are a legal history of a one-thread table on the records at the
+/// opening.
+pub fn every_run_is_legal()
+    ensures { (limits : Limits) (base : Table) (index : Index) (turns : List (ℕ × Call × Reply)) (new : State) → Runs limits (opened base index) turns new → IsLegal base new.history }
+{}
+
+/// A step changes no live transaction but its caller's, and the history only at a commit. It is refused or done as its reply says.
+pub fn what_a_step_does()
+    ensures { (limits : Limits) (old new : State) (caller : ℕ) (call : Call) (reply : Reply) → Step limits old caller call reply new → Moves old caller call reply new }
+{}
+
+/// While another caller's live transaction holds a stripe of a live caller's call, the reply is `Busy`, `Dead` or `NoMemory`, and nothing
+/// changes.
+pub fn locks_come_first()
+    ensures reply { (limits : Limits) (old new : State) (caller holder : ℕ) (calls : Granted) (call : Call) (reply : Reply) → old.live caller ≡ Some calls → Blocks old caller call holder
+        → Step limits old caller call reply new → IsTrue (may_come_held reply) }
+    ensures unchanged { (limits : Limits) (old new : State) (caller holder : ℕ) (calls : Granted) (call : Call) (reply : Reply) → old.live caller ≡ Some calls → Blocks old caller call holder
+        → Step limits old caller call reply new → new ≡ old }
+{}
+
+/// Two replies to one call in one state are equal, except for those of an array that is full or fails, and for `NoMemory`.
+pub fn each_call_has_one_reply()
+    ensures { (limits : Limits) (old : State) (caller : ℕ) (call : Call) (one other : Reply) (new next : State) → IsFalse (is_of_array one) → IsFalse (is_of_array other)
+        → Step limits old caller call one new → Step limits old caller call other next → one ≡ other }
+{}
+
+/// The prefix law along steps of a core that tells its records. What was safe since some moment stays safe: whenever power is lost from
+/// that moment on, what was committed by then is kept.
+pub fn prefix_law<C: Core>()
+    ensures none { (core : C) → IsSound (C.view core).state → IsSafe (C.view core) (C.view core).moment (length (C.view core).state.history) → Continues (C.view core) (C.view core) }
+    ensures step { (old new : C) (caller : ℕ) (call : Call) (reply : Reply) → IsTrue C.tells → IsSound (C.view old).state → Steps C.tells caller call (C.view old) (C.view new) reply → Continues (C.view old) (C.view new) }
+    ensures on { (old mid new : C) → Continues (C.view old) (C.view mid) → Continues (C.view mid) (C.view new) → Continues (C.view old) (C.view new) }
+    ensures safe { (old new : C) (since least : ℕ) → Continues (C.view old) (C.view new) → since ≤ (C.view old).moment → least ≤ length (C.view old).state.history
+        → IsSafe (C.view old) since least → IsSafe (C.view new) since least }
+{}

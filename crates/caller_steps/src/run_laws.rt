@@ -1,0 +1,83 @@
+// Laws of runs, each of which follows from the definitions alone.
+ghost use Rattle.std.specs.Prelude.{◌≡◌, ◌≢◌, ◌≤◌, ◌<◌, ◌+◌, ◌⊎◌, ◌||◌, ◌++◌, ◌∷◌, [], List, Bool, ℕ, Some, None, false, true, All, IsTrue, IsFalse, length};
+ghost use Rattle.std.specs.List.{AllPairs, list_any};
+ghost use Rattle.history.specs.Table.{Granted};
+ghost use Rattle.history.specs.declared.call.Call.{Call};
+ghost use Rattle.history.specs.declared.call.Reply.{Reply};
+ghost use Rattle.history.specs.declared.transaction.Done.{Done};
+ghost use Rattle.caller_steps.specs.State.{State, Index};
+ghost use Rattle.caller_steps.specs.Room.{Limits};
+ghost use Rattle.caller_steps.specs.Step.{Runs};
+ghost use Rattle.caller_steps.specs.Prefix.{Grows};
+ghost use Rattle.caller_steps.specs.Run.{Turn, GoesAlong, AreOf, turns_of, commits_of, has_fault, HasNoOthers, LastTurn, IsTurn, IsTold};
+ghost use Rattle.caller_steps.specs.Own.{own_of, live_by, doubt_of, doubtful};
+ghost use Rattle.caller_steps.specs.Shown.{AreAsked, Gained, Shows};
+
+/// One run after another is a run, and a run can be cut at any turn. A run of a core that tells its records is one of steps.
+pub fn runs_join_and_cut()
+    ensures join { (tells : Bool) (limits : Limits) (first mid now : State) (xs ys : List Turn) → GoesAlong tells limits first xs mid → GoesAlong tells limits mid ys now → GoesAlong tells limits first (xs ++ ys) now }
+    ensures cut { (tells : Bool) (limits : Limits) (first now : State) (xs ys : List Turn) → GoesAlong tells limits first (xs ++ ys) now → (mid : State) × GoesAlong tells limits first xs mid × GoesAlong tells limits mid ys now }
+    ensures told { (tells : Bool) (limits : Limits) (first now : State) (turns : List Turn) → IsTrue tells → GoesAlong tells limits first turns now → Runs limits first turns now }
+    ensures steps { (limits : Limits) (first now : State) (turns : List Turn) → Runs limits first turns now → GoesAlong true limits first turns now }
+    ensures turn { (limits : Limits) (first now : State) (before after : List Turn) (turn : Turn) → Runs limits first (before ++ turn ∷ after) now → IsTurn limits first before turn after now }
+{}
+
+/// What a run leaves, of any core: the history only grows, the core is dead exactly if a turn reports a fault of the medium, a dead core
+/// stays as it is, and the transactions of a caller that no turn names stay the same.
+pub fn what_a_run_leaves()
+    ensures base { (tells : Bool) (limits : Limits) (first now : State) (turns : List Turn) → GoesAlong tells limits first turns now → now.base ≡ first.base }
+    ensures grows { (tells : Bool) (limits : Limits) (first now : State) (turns : List Turn) → GoesAlong tells limits first turns now → Grows first.history now.history }
+    ensures dead { (tells : Bool) (limits : Limits) (first now : State) (turns : List Turn) → GoesAlong tells limits first turns now → now.is_dead ≡ (first.is_dead || has_fault turns) }
+    ensures still { (tells : Bool) (limits : Limits) (first now : State) (turns : List Turn) → GoesAlong tells limits first turns now → IsTrue first.is_dead → now ≡ first }
+    ensures others { (tells : Bool) (limits : Limits) (caller : ℕ) (first now : State) (turns : List Turn) → GoesAlong tells limits first turns now → turns_of caller turns ≡ []
+        → (commits_of caller now.history ≡ commits_of caller first.history) × (now.live caller ≡ first.live caller) }
+    ensures nobody_else { (tells : Bool) (limits : Limits) (callers : ℕ) (first now : State) (turns : List Turn) → GoesAlong tells limits first turns now → AreOf callers turns
+        → HasNoOthers callers first → HasNoOthers callers now }
+{}
+
+/// What a caller was told says what its own transactions are, whatever the others do: the live one, also on a core that does not tell its
+/// records as long as the medium has not failed, the committed ones with their numbers, and the one in doubt.
+pub fn a_caller_knows_its_own()
+    ensures live { (tells : Bool) (limits : Limits) (caller : ℕ) (first now : State) (turns : List Turn) → GoesAlong tells limits first turns now → first.live caller ≡ None
+        → IsTrue tells ⊎ IsFalse now.is_dead → now.live caller ≡ live_by caller (turns_of caller turns) }
+    ensures mine { (limits : Limits) (caller : ℕ) (first now : State) (turns : List Turn) → Runs limits first turns now → first.live caller ≡ None → commits_of caller first.history ≡ []
+        → commits_of caller now.history ≡ (own_of caller (turns_of caller turns)).mine }
+    ensures doubt { (limits : Limits) (caller : ℕ) (first now : State) (turns : List Turn) → Runs limits first turns now → first.live caller ≡ None → first.doubt ≡ None
+        → doubt_of caller now.doubt ≡ doubtful caller (length now.history) (own_of caller (turns_of caller turns)).doubt }
+    ensures owner { (limits : Limits) (callers : ℕ) (first now : State) (turns : List Turn) → Runs limits first turns now → AreOf callers turns → ((caller : ℕ) → first.live caller ≡ None)
+        → first.doubt ≡ None → (done : Done) → now.doubt ≡ Some done → done.caller < callers }
+{}
+
+/// What a caller knows of its last turn: the turns up to it begin the run and have all of its own, and the history then has all of its
+/// transactions up to now.
+pub fn what_was_seen_at_the_last_turn()
+    ensures run { (tells : Bool) (limits : Limits) (caller : ℕ) (past : List Turn) (seen : List Done) (first now : State) (turns : List Turn) → LastTurn tells limits caller past seen first turns now → GoesAlong tells limits first turns now }
+    ensures told { (tells : Bool) (limits : Limits) (caller : ℕ) (past : List Turn) (seen : List Done) (first now : State) (turns : List Turn) → LastTurn tells limits caller past seen first turns now
+        → turns_of caller past ≡ turns_of caller turns }
+    ensures grows { (tells : Bool) (limits : Limits) (caller : ℕ) (past : List Turn) (seen : List Done) (first now : State) (turns : List Turn) → LastTurn tells limits caller past seen first turns now → Grows seen now.history }
+    ensures mine { (tells : Bool) (limits : Limits) (caller : ℕ) (past : List Turn) (seen : List Done) (first now : State) (turns : List Turn) → LastTurn tells limits caller past seen first turns now
+        → commits_of caller seen ≡ commits_of caller now.history }
+{}
+
+/// Where in a run a caller was told something.
+pub fn where_a_caller_was_told()
+    ensures place { (caller : ℕ) (turns : List Turn) (front back : Granted) (entry : Call × Reply) → turns_of caller turns ≡ front ++ entry ∷ back → IsTold caller front entry back turns }
+    ensures some { (p : Call × Reply → Bool) (callers : ℕ) (turns : List Turn) → AreOf callers turns → IsTrue (list_any (λ (turn : Turn). p (turn.1, turn.2)) turns)
+        → (caller : ℕ) × (caller < callers) × IsTrue (list_any p (turns_of caller turns)) }
+    ensures each { (p : Call × Reply → Bool) (caller : ℕ) (turns : List Turn) → IsTrue (list_any p (turns_of caller turns)) → IsTrue (list_any (λ (turn : Turn). p (turn.1, turn.2)) turns) }
+{}
+
+/// What each refusal within a run shows, up to any later state.
+pub fn what_a_refusal_shows()
+    ensures { (limits : Limits) (first now : State) (before after : List Turn) (caller : ℕ) (call : Call) (reply : Reply) → Runs limits first (before ++ (caller, call, reply) ∷ after) now
+        → ((other : ℕ) → first.live other ≡ None) → IsFalse first.is_dead → Shows limits before now caller call reply }
+{}
+
+/// Unless the medium fails, the index gains only keys that a turn asks to put. The keys that an index has gained were all missing before and
+/// are distinct, so it has given out as many slots.
+pub fn what_an_index_gains()
+    ensures run { (limits : Limits) (first now : State) (turns : List Turn) → Runs limits first turns now → IsFalse now.is_dead → (keys : List ℕ) × Gained first.index keys now.index × AreAsked turns keys }
+    ensures slots { (first now : Index) (keys : List ℕ) → Gained first keys now → now.next_slot ≡ first.next_slot + length keys }
+    ensures missing { (first now : Index) (keys : List ℕ) → Gained first keys now → All (λ key. first.slot_of key ≡ None) keys }
+    ensures apart { (first now : Index) (keys : List ℕ) → Gained first keys now → AllPairs (λ one other. one ≢ other) keys }
+{}

@@ -1,8 +1,0 @@
-use Rattle.std.proofs.Common.{◌∙◌, ap, subst, sym, IsTrue}
-use Rattle.std.specs.Box.{with_value}
-use Rattle.core_face.proofs.core_trait.BoxCore.step.Goals as goal
-
-pub returns-clause-dead : goal.returns-clause-dead
-returns-clause-dead g c dead =
-    let stays = c.step.ensures.dead (subst (λ core. IsTrue (g.C.Core.view core).state.is_dead) (sym c.as_mut.ensures.value) dead) in
-    (stays.0, ap (with_value c.args.self.now) (stays.1 ∙ c.as_mut.ensures.value))

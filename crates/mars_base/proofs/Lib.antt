@@ -1,0 +1,4 @@
+pub mod Going
+pub mod Costing
+pub mod Puts
+pub mod Checks

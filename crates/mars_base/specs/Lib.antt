@@ -1,0 +1,5 @@
+pub mod Causes
+pub mod Moments
+pub mod Costs
+pub mod Bytes
+pub mod Check
