@@ -3,3 +3,4 @@ pub mod Moments
 pub mod Costs
 pub mod Bytes
 pub mod Check
+pub mod Room
