@@ -41,6 +41,10 @@ module _ (shape : Shape) (image : List ℕ) (rows : List Row) (are : RowsAre sha
       let count = ap (λ (r : Row). r.count) same in
       bad (good.cells e (omega (arith, first)) (omega (arith, first, count)))
 
+-- the logger that was asked is this one
+pub owned_same : (shape shape' : Shape) (g g' addr len : ℕ) → shape ≡ shape' → g ≡ g' → IsOwned shape g addr len → IsOwned shape' g' addr len
+owned_same shape shape' g g' addr len is is' owned = subst (λ (k : ℕ). IsOwned shape' k addr len) is' (subst (λ (s : Shape). IsOwned s g addr len) is owned)
+
 pub owned_is : (shape : Shape) (g : ℕ) (cell : List ℕ) (head : Head) → head ≡ cell_head cell → IsOwned shape g head.addr head.len → IsGoodCell shape g cell
 owned_is shape g cell head is owned = subst (λ (h : Head). IsOwned shape g h.addr h.len) is owned
 

@@ -2,7 +2,6 @@
 ghost use Rattle.std.specs.Prelude.{◌≡◌, ◌↔◌, ◌+◌, ◌*◌, ◌<◌, ◌≤◌, [], ℕ, true, false, IsTrue, IfOk, IfErr, OnOk};
 ghost use Rattle.pcm_media.specs.View.{Writes};
 ghost use Rattle.array_shape.specs.Places.{media_len};
-ghost use Rattle.array_shape.specs.Logged.{IsOwned};
 ghost use Rattle.array_image.specs.Image.{row_of, cell_of, cell_head, IsGoodCell};
 ghost use Rattle.array_image.specs.Decided.{decided};
 ghost use Rattle.array_image.specs.Standing.{IsGoodRow};
@@ -12,25 +11,12 @@ ghost use Rattle.device_recovery.specs.Recovered.{AllGood, IsFirstBadAt, IsFirst
 ghost use Rattle.device_recovery.specs.declared.report.RecoverFault.TheVariants.{BadRow};
 
 use crate::report::RecoverFault;
-use crate::table::{MOST, is_decided, row_in};
+use crate::table::{ROWS_MAX, is_decided, row_in};
 use array_shape::Shape;
+use logger::Logger;
 use mars_base::Failed;
 use pcm_media::Media;
 use row_bytes::{Head, Row, read_head};
-
-// Whether the range that this head says lies in one page of this logger.
-fn is_owned(shape: &Shape, logger: u8, head: Head) -> bool
-    ensures { IsTrue result ↔ IsOwned shape.now logger head.addr head.len }
-{
-    let data_len = shape.data_len();
-    let len = u64::from(head.len);
-    if head.addr >= data_len || len == 0 {
-        return false;
-    }
-    head.addr % 512 + len <= 512
-        && head.addr + len <= data_len
-        && shape.place(head.addr).logger == logger
-}
 
 // Reads the head of a cell.
 fn read_cell_head<M: Media>(
@@ -71,7 +57,7 @@ fn has_bad_cell<M: Media>(
 {
     for entry in first..first + count {
         let head = read_cell_head(media, shape, logger, tid, entry)?;
-        if !is_owned(shape, logger, head) {
+        if !Logger::new(*shape, logger).has_part(head) {
             return Ok(true);
         }
     }
@@ -82,7 +68,7 @@ fn has_bad_cell<M: Media>(
 fn is_bad<M: Media>(
     media: &mut M,
     shape: &Shape,
-    rows: &[Row; MOST],
+    rows: &[Row; ROWS_MAX],
     logger: u8,
     tid: u8,
 ) -> Result<bool, Failed>
@@ -110,7 +96,7 @@ fn is_bad<M: Media>(
 fn check_number<M: Media>(
     media: &mut M,
     shape: &Shape,
-    rows: &[Row; MOST],
+    rows: &[Row; ROWS_MAX],
     tid: u8,
 ) -> Result<(), RecoverFault>
     requires tid { tid < shape.now.numbers }
@@ -134,7 +120,7 @@ fn check_number<M: Media>(
 pub(crate) fn check_rows<M: Media>(
     media: &mut M,
     shape: &Shape,
-    rows: &[Row; MOST],
+    rows: &[Row; ROWS_MAX],
 ) -> Result<(), RecoverFault>
     requires size { (M.view media.old).size ≡ media_len shape.now }
     requires rows { IsTrue M.tells → RowsAre shape.now (M.view media.old).content.bytes shape.now.numbers rows.now }

@@ -4,12 +4,12 @@ ghost use Rattle.device_recovery.specs.Table.{row_in, decided_in};
 ghost use Rattle.device_recovery.specs.Recovered.{row_name, at_rows, at_number};
 
 use crate::report::Report;
-use crate::table::{MOST, is_decided, row_in};
+use crate::table::{ROWS_MAX, is_decided, row_in};
 use array_shape::Shape;
 use row_bytes::Row;
 
 // The counts with those of one more number.
-fn count_number(rows: &[Row; MOST], shape: &Shape, tid: u8, before: Report) -> Report
+fn count_number(rows: &[Row; ROWS_MAX], shape: &Shape, tid: u8, before: Report) -> Report
     requires tid { tid < shape.now.numbers }
     requires decided { before.decided ≤ 512 }
     requires dropped { before.dropped ≤ 512 }
@@ -33,7 +33,7 @@ fn count_number(rows: &[Row; MOST], shape: &Shape, tid: u8, before: Report) -> R
 }
 
 /// Counts the voted rows that are decided, and the others.
-pub(crate) fn count_rows(rows: &[Row; MOST], shape: &Shape) -> Report
+pub(crate) fn count_rows(rows: &[Row; ROWS_MAX], shape: &Shape) -> Report
     ensures decided { result.decided ≡ length (at_rows shape.now (λ g t. decided_in shape.now rows.now g t) row_name) }
     ensures dropped { result.dropped ≡ length (at_rows shape.now (λ g t. (row_in rows.now g t).voted && not (decided_in shape.now rows.now g t)) row_name) }
     ensures few_decided { result.decided ≤ 512 }

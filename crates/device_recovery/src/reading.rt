@@ -6,7 +6,7 @@ ghost use Rattle.array_shape.specs.Places.{media_len};
 ghost use Rattle.array_image.specs.Image.{row_of};
 ghost use Rattle.device_recovery.specs.Table.{row_in, RowsAre};
 
-use crate::table::{MOST, place};
+use crate::table::{ROWS_MAX, place};
 use array_shape::Shape;
 use mars_base::Failed;
 use pcm_media::Media;
@@ -37,7 +37,7 @@ fn read_number<M: Media>(
     media: &mut M,
     shape: &Shape,
     tid: u8,
-    rows: &mut [Row; MOST],
+    rows: &mut [Row; ROWS_MAX],
 ) -> Result<(), Failed>
     requires tid { tid < shape.now.numbers }
     requires size { (M.view media.old).size ≡ media_len shape.now }
@@ -53,13 +53,13 @@ fn read_number<M: Media>(
 }
 
 /// Reads all rows, each once.
-pub(crate) fn read_rows<M: Media>(media: &mut M, shape: &Shape) -> Result<[Row; MOST], Failed>
+pub(crate) fn read_rows<M: Media>(media: &mut M, shape: &Shape) -> Result<[Row; ROWS_MAX], Failed>
     requires size { (M.view media.old).size ≡ media_len shape.now }
     ensures rows { IsTrue M.tells → IfOk result (RowsAre shape.now (M.view media.old).content.bytes shape.now.numbers) }
     ensures costs { Costs true (shape.now.loggers * shape.now.numbers) (M.view media.old).moment (M.view media.new).moment result }
     ensures does { Writes M.tells [] (M.view media.old) (M.view media.new) result }
 {
-    let mut rows = [NO_ROW; MOST];
+    let mut rows = [NO_ROW; ROWS_MAX];
     for tid in 0..shape.numbers {
         read_number(media, shape, tid, &mut rows)?;
     }

@@ -9,7 +9,7 @@ ghost use Rattle.array_image.specs.Standing.{IsGoodRow};
 ghost use Rattle.device_recovery.specs.Table.{row_in, RowsAre, decided_in};
 ghost use Rattle.device_recovery.specs.Recovered.{AllGood, HasNoVote, number_votes, voted_places};
 
-use crate::table::{MOST, is_decided, row_in};
+use crate::table::{ROWS_MAX, is_decided, row_in};
 use array_shape::Shape;
 use logger::Logger;
 use mars_base::Failed;
@@ -20,7 +20,7 @@ use row_bytes::Row;
 fn apply_number<M: Media>(
     media: &mut M,
     shape: &Shape,
-    rows: &[Row; MOST],
+    rows: &[Row; ROWS_MAX],
     tid: u8,
 ) -> Result<(), Failed>
     requires tid { tid < shape.now.numbers }
@@ -47,7 +47,7 @@ fn apply_number<M: Media>(
 pub(crate) fn settle_data<M: Media>(
     media: &mut M,
     shape: &Shape,
-    rows: &[Row; MOST],
+    rows: &[Row; ROWS_MAX],
 ) -> Result<(), Failed>
     requires size { (M.view media.old).size ≡ media_len shape.now }
     requires fits { (g t : ℕ) → g < shape.now.loggers → t < shape.now.numbers → decided_in shape.now rows.now g t ≡ true → (row_in rows.now g t).first + (row_in rows.now g t).count ≤ shape.now.entries }
@@ -66,7 +66,7 @@ pub(crate) fn settle_data<M: Media>(
 fn clear_number<M: Media>(
     media: &mut M,
     shape: &Shape,
-    rows: &[Row; MOST],
+    rows: &[Row; ROWS_MAX],
     tid: u8,
 ) -> Result<(), Failed>
     requires tid { tid < shape.now.numbers }
@@ -79,8 +79,7 @@ fn clear_number<M: Media>(
         if !row_in(rows, number, tid).voted {
             continue;
         }
-        let logger = Logger::new(*shape, number);
-        logger.set_vote(media, tid, false)?;
+        Logger::new(*shape, number).unvote(media, tid)?;
     }
     Ok(())
 }
@@ -89,7 +88,7 @@ fn clear_number<M: Media>(
 pub(crate) fn settle_votes<M: Media>(
     media: &mut M,
     shape: &Shape,
-    rows: &[Row; MOST],
+    rows: &[Row; ROWS_MAX],
 ) -> Result<(), Failed>
     requires size { (M.view media.old).size ≡ media_len shape.now }
     requires rows { IsTrue M.tells → RowsAre shape.now (M.view media.old).content.bytes shape.now.numbers rows.now }
