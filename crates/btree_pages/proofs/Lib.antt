@@ -27,3 +27,4 @@ pub mod Rooted
 pub mod Parting
 pub mod Telling
 pub mod Nexting
+pub mod Same

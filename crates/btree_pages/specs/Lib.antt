@@ -4,6 +4,7 @@ pub mod Changes
 pub mod Node
 pub mod Leaf
 pub mod Failing
+pub mod Checking
 pub mod OnWay
 pub mod Writes
 pub mod Checked

@@ -12,3 +12,4 @@ pub mod Acts
 pub mod Faults
 pub mod Parts
 pub mod Checked
+pub mod Slotted

@@ -4,3 +4,4 @@ pub mod Data
 pub mod Counting
 pub mod Whole
 pub mod Testing
+pub mod Same

@@ -1,4 +1,5 @@
 pub mod Linked
+pub mod Chained
 pub mod Index
 pub mod Located
 pub mod Checked
