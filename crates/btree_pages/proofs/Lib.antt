@@ -27,4 +27,3 @@ pub mod Rooted
 pub mod Parting
 pub mod Telling
 pub mod Nexting
-pub mod Same
