@@ -14,7 +14,7 @@ use Rattle.record_slots.specs.Places.{page_bytes, page_count, first_slot_page, s
 use Rattle.page_store.specs.Index.{slots_of, index_pages_of, Grows}
 use Rattle.page_store.specs.Pairs.{Pair, inserted}
 use Rattle.page_store.specs.Shown.{address}
-use Rattle.index_pages.specs.Chain.{key_end}
+use Rattle.index_pages.specs.Keys.{key_end}
 use Rattle.index_pages.specs.Fetched.{IsFront}
 use Rattle.index_pages.specs.Page.{pairs_said, kind_said, level_said, link_said, level_of}
 use Rattle.index_pages.specs.Ways.{above, Keeps, IsOwn}
@@ -27,7 +27,8 @@ use Rattle.btree_pages.specs.Checked.{IsFrontOf}
 use Rattle.btree_pages.specs.Descent.{page_for}
 use Rattle.btree_pages.specs.Node.{node_bytes}
 use Rattle.btree_pages.specs.OnWay.{IsOnWay}
-use Rattle.btree_pages.specs.Tree.{IsTree, IsUnder, IsSoundTree, pairs_of_tree}
+use Rattle.btree_pages.specs.Tree.{IsUnder, IsSoundTree, pairs_of_tree}
+use Rattle.btree_pages.specs.Seen.{tree_of_sound, IsTree}
 use Rattle.btree_pages.specs.Writes.{IsRead}
 use Rattle.btree_pages.specs.Index.{tree}
 use Rattle.btree_pages.proofs.NodeBytes.{node_kind, node_level, node_link, node_pairs, length-node_bytes}
@@ -98,10 +99,10 @@ module _ (shape : Shape) (old : List ℕ) (half : ℕ) (long : length old ≡ da
   len3 = length-count_bytes (front.next_slot + 1) front.next_page
 
   own_root : IsOwn old 1
-  own_root = (omega arith, omega (arith, sound.front.some_pages))
+  own_root = (omega arith, omega (arith, sound.0.some_pages))
 
   root_tree : IsTree (above d 0) old 1 0 key_end
-  root_tree = subst (λ (n : ℕ). IsTree n old 1 0 key_end) way.level_is sound.pages
+  root_tree = subst (λ (n : ℕ). IsTree n old 1 0 key_end) way.level_is (tree_of_sound old sound)
 
   own_leaf : IsOwn old leaf
   own_leaf = subst (λ (x : ℕ). IsOwn old x) (sym way.page_is) (way_own d 0 old key 1 0 key_end own_root root_tree (omega arith) (omega arith))
@@ -113,7 +114,7 @@ module _ (shape : Shape) (old : List ℕ) (half : ℕ) (long : length old ≡ da
   bottom = leaf_way.tree.level
 
   leaf_below : leaf < half
-  leaf_below = omega (arith, own_leaf, sound.front.pages, first)
+  leaf_below = omega (arith, own_leaf, sound.0.pages, first)
 
   parts : List Part
   parts = adding_parts half front leaf pairs key
@@ -164,7 +165,7 @@ module _ (shape : Shape) (old : List ℕ) (half : ℕ) (long : length old ≡ da
   page_old : (x : ℕ) → 1 ≤ x → x < next_page old → x ≢ leaf → page_bytes added x ≡ page_bytes old x
   unfolding page_bytes
   page_old x some lt other =
-      let below : x < half = omega (arith, sound.front.pages, first) in
+      let below : x < half = omega (arith, sound.0.pages, first) in
       let apart_leaf : Apart (512 * x) 512 (address leaf 0) (length leaf_new) = elim (cases_lt x leaf) [ inl a ↦ inl (omega arith) | inr a ↦ (let ne : x ≡ leaf → ⊥ = other in inr (omega (arith, len2))) ] in
       away (512 * x) 512 (inl (omega (arith, place_is))) apart_leaf (inr (omega (arith, len3)))
 
@@ -187,8 +188,8 @@ module _ (shape : Shape) (old : List ℕ) (half : ℕ) (long : length old ≡ da
 
   front_now : IsSuper 1 added
   front_now = record {
-    has_mark = mark_kept old added zero_new sound.front.has_mark;
-    form_is = form_kept old added zero_new ∙ sound.front.form_is;
+    has_mark = mark_kept old added zero_new sound.0.has_mark;
+    form_is = form_kept old added zero_new ∙ sound.0.form_is;
     slots = omega (arith, slot_now, added_count, eight);
     some_pages = omega (arith, page_now, front_is.some);
     pages = omega (arith, page_now, added_count, front_is.pages, half_is);
@@ -239,7 +240,7 @@ module _ (shape : Shape) (old : List ℕ) (half : ℕ) (long : length old ≡ da
       later = omega (arith, page_now, says.pages);
       few = omega (arith, page_now, says.pages);
       named = λ x from to. absurd (omega (arith, page_now, says.pages));
-      kept = λ x u. subst (λ (n : ℕ). IsUnder n added x 1) (sym added_level) (inner_stays old added leaf x bottom (λ q own other. page_old q own.0 own.1 other) (level_of old 1) 1 0 key_end own_root sound.pages u);
+      kept = λ x u. subst (λ (n : ℕ). IsUnder n added x 1) (sym added_level) (inner_stays old added leaf x bottom (λ q own other. page_old q own.0 own.1 other) (level_of old 1) 1 0 key_end own_root (tree_of_sound old sound) u);
       levels = omega (arith, added_level);
     },
     record {

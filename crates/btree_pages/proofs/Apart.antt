@@ -1,7 +1,8 @@
 -- No page occurs twice in a sound tree.
 use Rattle.std.proofs.Common.{◌≡◌, ◌≢◌, ℕ, zero, suc, ◌<◌, ◌≤◌, inl, inr, List, [], ◌∷◌, length, length-append, sym, ◌∙◌, subst, arith}
 use Rattle.btree_pages.specs.TreeFacts.{children_tile, tree_rises, tree_wide, tree_level}
-use Rattle.btree_pages.specs.Tree.{IsTreeLeaf, AreChildren, next_low, AreSound, IsTree, pieces_with, pairs_under, IsUnder, IsUnderSome}
+use Rattle.btree_pages.specs.Tree.{AreChildren, next_low, pieces_with, pairs_under, IsUnder, IsUnderSome}
+use Rattle.btree_pages.specs.Seen.{IsTreeLeaf, AreSound, IsTree}
 use Rattle.index_pages.proofs.PageFacts.{length-page_pairs}
 use Rattle.index_pages.proofs.Rising.{key_at-bounds}
 use Rattle.index_pages.proofs.Tiling.{tile_bounds}

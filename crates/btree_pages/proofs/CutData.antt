@@ -16,9 +16,8 @@ use Rattle.record_slots.specs.Places.{page_bytes, page_count, first_slot_page, s
 use Rattle.page_store.specs.Index.{index_pages_of, Grows, Rests}
 use Rattle.page_store.specs.Pairs.{Pair, inserted}
 use Rattle.page_store.specs.Shown.{address}
-use Rattle.index_pages.specs.Chain.{key_end}
 use Rattle.index_pages.specs.Fetched.{IsFront}
-use Rattle.index_pages.specs.Keys.{key_at}
+use Rattle.index_pages.specs.Keys.{key_at, key_end}
 use Rattle.index_pages.specs.Page.{page_pairs, pairs_said, kind_said, level_said, link_said, kind_of, level_of, count_of}
 use Rattle.index_pages.specs.Ways.{above, Keeps, IsOwn}
 use Rattle.index_pages.specs.Written.{AreSmall}
@@ -32,7 +31,8 @@ use Rattle.btree_pages.specs.Checked.{IsFrontOf}
 use Rattle.btree_pages.specs.Descent.{child_for, page_for}
 use Rattle.btree_pages.specs.Node.{kind_for, node_bytes}
 use Rattle.btree_pages.specs.OnWay.{IsOnWay}
-use Rattle.btree_pages.specs.Tree.{IsTree, IsUnder, IsSoundTree, pairs_of_tree, next_low}
+use Rattle.btree_pages.specs.Tree.{IsUnder, IsSoundTree, pairs_of_tree, next_low}
+use Rattle.btree_pages.specs.Seen.{tree_of_sound, IsTree}
 use Rattle.btree_pages.specs.Writes.{IsRead, cutting_parts}
 use Rattle.btree_pages.specs.Index.{tree, half_for, half_pairs, actions_below}
 use Rattle.btree_pages.proofs.Actions.{under_self, way_same, half_actions}
@@ -112,10 +112,10 @@ module _ (shape : Shape) (old : List ℕ) (half : ℕ) (long : length old ≡ da
   len4 = length-count_bytes front.next_slot (front.next_page + 1)
 
   own_root : IsOwn old 1
-  own_root = (omega arith, omega (arith, sound.front.some_pages))
+  own_root = (omega arith, omega (arith, sound.0.some_pages))
 
   root_tree : IsTree (above d (suc level)) old 1 0 key_end
-  root_tree = subst (λ (n : ℕ). IsTree n old 1 0 key_end) way.level_is sound.pages
+  root_tree = subst (λ (n : ℕ). IsTree n old 1 0 key_end) way.level_is (tree_of_sound old sound)
 
   parent_way : Way old (suc level) parent key 0 key_end
   parent_way = subst (λ (x : ℕ). Way old (suc level) x key 0 key_end) (sym way.page_is) (way_of d (suc level) old key 1 0 key_end root_tree (omega arith) (omega arith))
@@ -249,8 +249,8 @@ module _ (shape : Shape) (old : List ℕ) (half : ℕ) (long : length old ≡ da
 
   front_now : IsSuper 1 cut
   front_now = record {
-    has_mark = mark_kept old cut zero_new sound.front.has_mark;
-    form_is = form_kept old cut zero_new ∙ sound.front.form_is;
+    has_mark = mark_kept old cut zero_new sound.0.has_mark;
+    form_is = form_kept old cut zero_new ∙ sound.0.form_is;
     slots = omega (arith, slot_now, cut_count, front_is.slots, all);
     some_pages = omega (arith, page_now);
     pages = omega (arith, page_now, cut_count, next_below);
@@ -362,7 +362,7 @@ module _ (shape : Shape) (old : List ℕ) (half : ℕ) (long : length old ≡ da
 
   cut_tree : IsTree (above d (suc level)) cut 1 0 key_end
   unfolding cut
-  cut_tree = subst (λ (n : ℕ). IsTree n cut 1 0 key_end) (cut_level ∙ way.level_is) cut_sound.0.pages
+  cut_tree = subst (λ (n : ℕ). IsTree n cut 1 0 key_end) (cut_level ∙ way.level_is) (tree_of_sound cut cut_sound.0)
 
   below_half : (x : ℕ) → IsUnder level cut x front.next_page → IsUnder (level_of cut 1) cut x 1
   unfolding cut
@@ -376,7 +376,7 @@ module _ (shape : Shape) (old : List ℕ) (half : ℕ) (long : length old ≡ da
   unfolding cut
   cut_stays x u =
       let level_child : level_of old (child_for (page_pairs old parent) key) ≡ level = ap (λ (q : ℕ). level_of old q) (sym page_there) ∙ level_page in
-      elim (split_stays old cut level parent key front.next_page cut_splits level_parent level_child (λ q own no_parent no_child. others_there q own.0 own.1 no_parent no_child) (level_of old 1) 1 0 key_end x own_root sound.pages u) [
+      elim (split_stays old cut level parent key front.next_page cut_splits level_parent level_child (λ q own no_parent no_child. others_there q own.0 own.1 no_parent no_child) (level_of old 1) 1 0 key_end x own_root (tree_of_sound old sound) u) [
         | inl a ↦ subst (λ (n : ℕ). IsUnder n cut x 1) (sym cut_level) a
         | inr a ↦ below_half x a
       ]

@@ -13,9 +13,8 @@ use Rattle.record_slots.specs.Places.{page_bytes, page_count, slot_at, slot_of, 
 use Rattle.page_store.specs.Index.{index_pages_of, Grows, Rests}
 use Rattle.page_store.specs.Pairs.{Pair}
 use Rattle.page_store.specs.Shown.{address}
-use Rattle.index_pages.specs.Chain.{key_end}
 use Rattle.index_pages.specs.Fetched.{IsFront}
-use Rattle.index_pages.specs.Keys.{key_at}
+use Rattle.index_pages.specs.Keys.{key_at, key_end}
 use Rattle.index_pages.specs.Page.{page_pairs, pairs_said, kind_said, level_said, link_said, level_of, count_of}
 use Rattle.index_pages.specs.Ways.{Keeps, IsOwn}
 use Rattle.index_pages.specs.Written.{AreSmall}
@@ -28,7 +27,8 @@ use Rattle.btree_pages.specs.Checked.{IsFrontOf}
 use Rattle.btree_pages.specs.Descent.{child_for, page_for}
 use Rattle.btree_pages.specs.Index.{tree, half_for, half_pairs, actions_below}
 use Rattle.btree_pages.specs.Node.{kind_for, node_bytes}
-use Rattle.btree_pages.specs.Tree.{IsTree, IsUnder, IsSoundTree, pairs_of_tree}
+use Rattle.btree_pages.specs.Tree.{IsUnder, IsSoundTree, pairs_of_tree}
+use Rattle.btree_pages.specs.Seen.{tree_of_sound, IsTree}
 use Rattle.btree_pages.specs.Writes.{IsRead, growing_parts}
 use Rattle.btree_pages.proofs.Actions.{half_actions}
 use Rattle.btree_pages.proofs.Belonging.{grown_stays, left_named, right_named}
@@ -85,10 +85,10 @@ module _ (shape : Shape) (old : List ℕ) (half : ℕ) (long : length old ≡ da
   len4 = length-count_bytes front.next_slot (front.next_page + 2)
 
   own_root : IsOwn old 1
-  own_root = (omega arith, omega (arith, sound.front.some_pages))
+  own_root = (omega arith, omega (arith, sound.0.some_pages))
 
   root_tree : IsTree level old 1 0 key_end
-  root_tree = subst (λ (n : ℕ). IsTree n old 1 0 key_end) level_is sound.pages
+  root_tree = subst (λ (n : ℕ). IsTree n old 1 0 key_end) level_is (tree_of_sound old sound)
 
   next_is : front.next_page ≡ next_page old
   next_is = says.pages
@@ -177,8 +177,8 @@ module _ (shape : Shape) (old : List ℕ) (half : ℕ) (long : length old ≡ da
 
   front_now : IsSuper 1 grown
   front_now = record {
-    has_mark = mark_kept old grown zero_new sound.front.has_mark;
-    form_is = form_kept old grown zero_new ∙ sound.front.form_is;
+    has_mark = mark_kept old grown zero_new sound.0.has_mark;
+    form_is = form_kept old grown zero_new ∙ sound.0.form_is;
     slots = omega (arith, slot_now, grown_count, front_is.slots, all);
     some_pages = omega (arith, page_now);
     pages = omega (arith, page_now, grown_count, next_below);

@@ -8,13 +8,13 @@ use Rattle.btree_pages.specs.TreeFacts.{length-pieces, tile_wide, tree_level, un
 use Rattle.btree_pages.proofs.Ways.{graft, way_own, way_of}
 use Rattle.btree_pages.specs.Changes.{IsHalf, IsCut, middle, with_entry, SplitsChild, SplitsRoot}
 use Rattle.btree_pages.specs.Descent.{page_for, child_for}
-use Rattle.btree_pages.specs.Tree.{IsTreeLeaf, IsInner, AreChildren, AreSound, next_low, IsTree, pieces_with, pairs_under, IsUnder, IsUnderSome, IsSoundTree, pairs_of_tree}
+use Rattle.btree_pages.specs.Tree.{IsInner, AreChildren, next_low, pieces_with, pairs_under, IsUnder, IsUnderSome, IsSoundTree, pairs_of_tree}
+use Rattle.btree_pages.specs.Seen.{tree_of_sound, sound_by_tree, IsTreeLeaf, AreSound, IsTree}
 use Rattle.index_pages.proofs.Given.{same_local}
 use Rattle.index_pages.proofs.Kept.{given_kept}
 use Rattle.index_pages.proofs.PageFacts.{length-page_pairs}
 use Rattle.index_pages.proofs.Rising.{rise_to_more, take_rises, drop_rises, key_at-bounds}
-use Rattle.index_pages.specs.Chain.{key_end}
-use Rattle.index_pages.specs.Keys.{key_at}
+use Rattle.index_pages.specs.Keys.{key_at, key_end}
 use Rattle.index_pages.specs.Page.{page_pairs, level_of, count_of}
 use Rattle.index_pages.specs.Pieces.{joined}
 use Rattle.index_pages.specs.Ways.{above, Keeps, IsOwn}
@@ -300,8 +300,8 @@ pub sound_tree_splits : (old new : List ℕ) (d l key right : ℕ) → IsSoundTr
     → IsSoundTree new × (pairs_of_tree new ≡ pairs_of_tree old)
 unfolding pairs_of_tree
 sound_tree_splits old new d l key right sound keeps front lt e splits kept =
-    let own : IsOwn old 1 = (omega arith, omega (arith, sound.front.some_pages)) in
-    let t : IsTree (above d (suc l)) old 1 0 key_end = subst (λ (n : ℕ). IsTree n old 1 0 key_end) e sound.pages in
+    let own : IsOwn old 1 = (omega arith, omega (arith, sound.0.some_pages)) in
+    let t : IsTree (above d (suc l)) old 1 0 key_end = subst (λ (n : ℕ). IsTree n old 1 0 key_end) e (tree_of_sound old sound) in
     let q : ℕ = page_for d old 1 key in
     let own_q = way_own d (suc l) old key 1 0 key_end own t (omega arith) lt in
     let r = graft old new keeps (λ ps. ps) key (same_local key) (suc l) (page_for d old 1 key) key_end
@@ -316,7 +316,7 @@ sound_tree_splits old new d l key right sound keeps front lt e splits kept =
     (λ same. out (inr (subst (λ (y : ℕ). IsUnderSome (IsUnder l old y) (page_pairs old (page_for d old 1 key))) (sym same)
     (child_under l old (page_pairs old (page_for d old 1 key)) key (omega (arith, w.tree.0.some, length-page_pairs old (page_for d old 1 key)))))))) in
     let same : level_of new 1 ≡ level_of old 1 = tree_level (above d (suc l)) new 1 0 key_end r.0 ∙ sym e in (
-      record { front = front; level = omega (arith, sound.level); pages = subst (λ (n : ℕ). IsTree n new 1 0 key_end) (sym (same ∙ e)) r.0 },
+      sound_by_tree new front (omega (arith, sound.1.0)) (subst (λ (n : ℕ). IsTree n new 1 0 key_end) (sym (same ∙ e)) r.0),
       ap (λ (n : ℕ). pairs_under n new 1) (same ∙ e) ∙ r.1 ∙ ap (λ (n : ℕ). pairs_under n old 1) (sym e),
     )
 
@@ -327,10 +327,10 @@ pub sound_tree_grows : (old new : List ℕ) (left right : ℕ) → IsSoundTree o
     → IsSoundTree new × (pairs_of_tree new ≡ pairs_of_tree old)
 unfolding pairs_of_tree
 sound_tree_grows old new left right sound keeps front less splits kept =
-    let own : IsOwn old 1 = (omega arith, omega (arith, sound.front.some_pages)) in
+    let own : IsOwn old 1 = (omega arith, omega (arith, sound.0.some_pages)) in
     let l : ℕ = level_of old 1 in
-    let h = halves old new keeps (level_of old 1) 1 left right 0 key_end sound.pages splits.cut
-    (λ x u other. let o = under_own (level_of old 1) old x 1 0 key_end own sound.pages u in kept x (omega (arith, o.0, other)) o.1) in
+    let h = halves old new keeps (level_of old 1) 1 left right 0 key_end (tree_of_sound old sound) splits.cut
+    (λ x u other. let o = under_own (level_of old 1) old x 1 0 key_end own (tree_of_sound old sound) u in kept x (omega (arith, o.0, other)) o.1) in
     let count : count_of new 1 ≡ 2 = sym (length-page_pairs new 1) ∙ ap (λ (ps : List Pair). length ps) splits.pairs in
     let small = h.below in
     let wide = h.above in
@@ -347,7 +347,7 @@ sound_tree_grows old new left right sound keeps front less splits kept =
       },
       subst (λ (ps : List Pair). AreSound (IsTree (level_of old 1) new) ps key_end) (sym splits.pairs) (h.left_tree, (h.right_tree, tt)),
     ) in (
-      record { front = front; level = omega (arith, splits.level); pages = subst (λ (n : ℕ). IsTree n new 1 0 key_end) (sym splits.level) tree },
+      sound_by_tree new front (omega (arith, splits.level)) (subst (λ (n : ℕ). IsTree n new 1 0 key_end) (sym splits.level) tree),
       ap (λ (n : ℕ). pairs_under n new 1) splits.level
           ∙ ap (λ (ps : List Pair). joined (pieces_with (pairs_under (level_of old 1) new) ps)) splits.pairs
           ∙ joined_two (pairs_under (level_of old 1) new left) (pairs_under (level_of old 1) new right) [] (pairs_under (level_of old 1) old 1) h.pairs_are

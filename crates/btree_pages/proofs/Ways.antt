@@ -5,12 +5,13 @@ use Rattle.std.proofs.lemmas.List.{append-nil}
 use Rattle.btree_pages.proofs.Apart.{child_facts, entries_tile, sub_below, sub_of, subs_apart, start_of}
 use Rattle.btree_pages.specs.Frames.{inner_kept, tree_kept, below_kept}
 use Rattle.btree_pages.specs.Descent.{child_for, page_for, leaf_for}
-use Rattle.btree_pages.specs.Tree.{AreChildren, next_low, AreSound, IsTree, pieces_with, pairs_under, IsUnder, IsUnderSome, IsSoundTree, pairs_of_tree}
+use Rattle.btree_pages.specs.Tree.{AreChildren, next_low, pieces_with, pairs_under, IsUnder, IsUnderSome, IsSoundTree, pairs_of_tree}
+use Rattle.btree_pages.specs.Seen.{tree_of_sound, AreSound, IsTree}
 use Rattle.index_pages.proofs.Given.{above_zero}
 use Rattle.index_pages.proofs.PageFacts.{length-page_pairs}
 use Rattle.index_pages.proofs.Rising.{found-left, found-right}
 use Rattle.index_pages.proofs.Tiling.{tile_bounds, joined_rises}
-use Rattle.index_pages.specs.Chain.{key_end}
+use Rattle.index_pages.specs.Keys.{key_end}
 use Rattle.index_pages.specs.Page.{page_pairs, pairs_said, level_of}
 use Rattle.index_pages.specs.Pieces.{joined, Tile}
 use Rattle.index_pages.specs.Ways.{above, Keeps, IsLocal, IsOwn}
@@ -198,4 +199,4 @@ unfolding pairs_of_tree
 sound_tree_finds bytes key sound lt =
     let e = above_zero (level_of bytes 1) in
     ap (λ (n : ℕ). found (pairs_under n bytes 1) key) (sym e)
-    ∙ found_on_way (level_of bytes 1) 0 bytes key 1 0 key_end (subst (λ (n : ℕ). IsTree n bytes 1 0 key_end) (sym e) sound.pages) (omega arith) lt
+    ∙ found_on_way (level_of bytes 1) 0 bytes key 1 0 key_end (subst (λ (n : ℕ). IsTree n bytes 1 0 key_end) (sym e) (tree_of_sound bytes sound)) (omega arith) lt

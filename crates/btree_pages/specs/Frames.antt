@@ -1,7 +1,8 @@
 -- Trees on data of which some pages have changed.
 use Rattle.std.proofs.Common.{◌≡◌, ℕ, zero, suc, ◌≤◌, inl, inr, List, [], ◌∷◌, refl, sym, ◌∙◌, ap, subst, arith}
-use Rattle.btree_pages.specs.Tree.{IsTreeLeaf, AreChildren, next_low, IsInner, AreSound, IsTree, pieces_with, pairs_under, IsUnder, IsUnderSome}
-use Rattle.index_pages.specs.Chain.{key_end}
+use Rattle.btree_pages.specs.Tree.{AreChildren, next_low, IsInner, pieces_with, pairs_under, IsUnder, IsUnderSome}
+use Rattle.btree_pages.specs.Seen.{IsTreeLeaf, AreSound, IsTree}
+use Rattle.index_pages.specs.Keys.{key_end}
 use Rattle.index_pages.specs.Page.{page_pairs, pairs_said, kind_said, level_said, link_said, count_said}
 use Rattle.index_pages.specs.Pieces.{joined}
 use Rattle.index_pages.proofs.Kept.{given_kept}

@@ -6,8 +6,7 @@ use Rattle.page_store.specs.Pairs.{Pair}
 use Rattle.index_pages.specs.Keys.{key_at}
 use Rattle.index_pages.specs.Page.{level_of, count_of, page_pairs}
 use Rattle.btree_pages.specs.Descent.{child_for}
-use Rattle.btree_pages.specs.Failing.{IsFirstDamagedOfTree}
-use Rattle.btree_pages.specs.Tree.{IsUnder, IsSoundTree, pairs_of_tree}
+use Rattle.btree_pages.specs.Tree.{IsUnder, IsSoundTree, IsFirstDamagedOfTree, pairs_of_tree}
 
 -- adding a pair: the next slot, the leaf, the super page
 abbrev pub adding : List ℕ → ℕ → Action

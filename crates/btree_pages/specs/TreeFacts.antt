@@ -1,8 +1,9 @@
 -- What the pairs of a sound tree are like.
 use Rattle.std.proofs.Common.{◌≡◌, ◌≢◌, ℕ, zero, suc, ◌<◌, ◌≤◌, inl, inr, List, [], ◌∷◌, length, refl, ap, subst, arith}
-use Rattle.btree_pages.specs.Tree.{AreChildren, next_low, AreSound, IsTree, pieces_with, pairs_under, pieces_under, IsSoundTree, pairs_of_tree, IsUnder, IsUnderSome}
+use Rattle.btree_pages.specs.Tree.{AreChildren, next_low, pieces_with, pairs_under, pieces_under, IsSoundTree, pairs_of_tree, IsUnder, IsUnderSome}
+use Rattle.btree_pages.specs.Seen.{tree_of_sound, AreSound, IsTree}
 use Rattle.index_pages.proofs.Tiling.{tile_bounds, joined_rises}
-use Rattle.index_pages.specs.Chain.{key_end}
+use Rattle.index_pages.specs.Keys.{key_end}
 use Rattle.index_pages.specs.Page.{page_pairs, level_of}
 use Rattle.index_pages.specs.Pieces.{Piece, low_of, Tile}
 use Rattle.index_pages.specs.Ways.{IsOwn}
@@ -71,7 +72,7 @@ tree_wide l bytes page low high t = (tree_facts l bytes page low high t).1
 
 pub sound_tree_rises : (bytes : List ℕ) → IsSoundTree bytes → Rise 0 key_end (pairs_of_tree bytes)
 unfolding pairs_of_tree
-sound_tree_rises bytes sound = tree_rises _ bytes 1 0 key_end sound.pages
+sound_tree_rises bytes sound = tree_rises _ bytes 1 0 key_end (tree_of_sound bytes sound)
 
 -- the root of a tree has the tree's level
 pub tree_level : (m : ℕ) (bytes : List ℕ) (q low high : ℕ) → IsTree m bytes q low high → level_of bytes q ≡ m

@@ -1,5 +1,6 @@
 // Tests the whole tree.
 ghost use Rattle.std.specs.Prelude.{◌≡◌, ◌≢◌, ◌<◌, ◌≤◌, ◌-◌, ◌^◌, ◌↔◌, suc, IsErrOf, IsTrue};
+ghost use Rattle.mars_base.specs.Check.{each};
 ghost use Rattle.eaw_face.specs.Causes.{IsAlive};
 ghost use Rattle.record_slots.specs.Places.{next_slot, page_bytes};
 ghost use Rattle.page_store.specs.Index.{slots_of, index_pages_of};
@@ -8,11 +9,11 @@ ghost use Rattle.page_store.specs.Shown.{pages_of};
 ghost use Rattle.page_store.specs.Pairs.{Rise};
 ghost use Rattle.index_pages.specs.Fetched.{IsFront};
 ghost use Rattle.index_pages.specs.Page.{count_said, level_said, pairs_said, pairs_from};
-ghost use Rattle.btree_pages.specs.Checked.{high_of, least_of, AreNamed, IsFrontOf, SlotsCause, ChildrenCause, TreeCause};
-ghost use Rattle.index_pages.specs.Chain.{key_end};
-ghost use Rattle.index_pages.specs.Checked.{is_media};
+ghost use Rattle.btree_pages.specs.Checked.{high_of, least_of, IsFrontOf};
+ghost use Rattle.index_pages.specs.Keys.{key_end};
+ghost use Rattle.index_pages.specs.Slots.{slot_check, Tells};
 ghost use Rattle.btree_pages.specs.Index.{tree};
-ghost use Rattle.btree_pages.specs.Tree.{next_low};
+ghost use Rattle.btree_pages.specs.Tree.{AreNamed, next_low, children_check, tree_from};
 
 use crate::look::ROOT;
 use crate::page::{LEVEL_MAX, read_head};
@@ -83,10 +84,10 @@ fn check_under<S: EawStore>(
     requires front { IsFront (S.view pages.old.store).shape front.now }
     requires page { spot.page < index_pages_of (S.view pages.old.store).shape }
     requires level { level ≤ 7 }
-    ensures looks { Looks S.tells (S.opens (S.view pages.old.store).shape) (is_media result)
+    ensures looks { Looks S.tells (S.opens (S.view pages.old.store).shape) (is_check_failed result)
         (pages_of (S.view pages.old.store) pages.old) (pages_of (S.view pages.new.store) pages.new) }
     ensures cause { IsTrue S.tells → IsFrontOf (S.view pages.old.store).state.bytes front.now
-        → TreeCause level (S.view pages.old.store).state.bytes spot.page spot.low (high_of spot.high) result }
+        → Tells (tree_from level (S.view pages.old.store).state.bytes spot.page spot.low (high_of spot.high)) result }
     ensures dead { IsErrOf result CheckFault.Dead → ⊥ }
 {
     let mut bytes = [0; PAGE_LEN];
@@ -109,10 +110,10 @@ fn check_page<S: EawStore>(
     requires alive { IsAlive (S.view pages.old.store) }
     requires front { IsFront (S.view pages.old.store).shape front.now }
     requires level { level ≤ 7 }
-    ensures looks { Looks S.tells (S.opens (S.view pages.old.store).shape) (is_media result)
+    ensures looks { Looks S.tells (S.opens (S.view pages.old.store).shape) (is_check_failed result)
         (pages_of (S.view pages.old.store) pages.old) (pages_of (S.view pages.new.store) pages.new) }
     ensures cause { IsTrue S.tells → IsFrontOf (S.view pages.old.store).state.bytes front.now → bytes.now ≡ page_bytes (S.view pages.old.store).state.bytes spot.page
-        → TreeCause level (S.view pages.old.store).state.bytes spot.page spot.low (high_of spot.high) result }
+        → Tells (tree_from level (S.view pages.old.store).state.bytes spot.page spot.low (high_of spot.high)) result }
     ensures dead { IsErrOf result CheckFault.Dead → ⊥ }
 {
     let page = spot.page;
@@ -151,10 +152,10 @@ fn check_children<S: EawStore>(
     requires count { count ≡ count_said bytes.now }
     requires most { count ≤ 30 }
     requires named { AreNamed front.now.next_page (pairs_said bytes.now) }
-    ensures looks { Looks S.tells (S.opens (S.view pages.old.store).shape) (is_media result)
+    ensures looks { Looks S.tells (S.opens (S.view pages.old.store).shape) (is_check_failed result)
         (pages_of (S.view pages.old.store) pages.old) (pages_of (S.view pages.new.store) pages.new) }
     ensures cause { IsTrue S.tells → IsFrontOf (S.view pages.old.store).state.bytes front.now
-        → ChildrenCause (level - 1) (S.view pages.old.store).state.bytes (pairs_said bytes.now) (high_of high) result }
+        → Tells (children_check (tree_from (level - 1) (S.view pages.old.store).state.bytes) (pairs_said bytes.now) (high_of high)) result }
     ensures dead { IsErrOf result CheckFault.Dead → ⊥ }
 {
     let _most = index_page_count(pages);
@@ -284,10 +285,10 @@ fn check_slots<S: EawStore>(
     requires count { count ≡ count_said bytes.now }
     requires most { count ≤ 30 }
     requires slots { slots ≤ slots_of (S.view pages.old.store).shape }
-    ensures looks { Looks S.tells (S.opens (S.view pages.old.store).shape) (is_media result)
+    ensures looks { Looks S.tells (S.opens (S.view pages.old.store).shape) (is_check_failed result)
         (pages_of (S.view pages.old.store) pages.old) (pages_of (S.view pages.new.store) pages.new) }
     ensures cause { IsTrue S.tells → slots ≡ next_slot (S.view pages.old.store).state.bytes
-        → SlotsCause (S.view pages.old.store).state.bytes page (pairs_said bytes.now) result }
+        → Tells (each (slot_check (S.view pages.old.store).state.bytes page) (pairs_said bytes.now)) result }
     ensures dead { IsErrOf result CheckFault.Dead → ⊥ }
 {
     for i in 0..count {

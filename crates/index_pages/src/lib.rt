@@ -1,4 +1,4 @@
-//! What the pages of an index say: pairs of keys and slots, and a chain of such pages. Their laws, and the codec of a page.
+//! What the pages of an index say: pairs of keys and slots. Their laws, the codec of a page, and the nested top actions that change pages.
 #![tactic(auto)]
 
 mod action;
@@ -13,10 +13,7 @@ pub use action::{PagePart, act, act_all};
 pub use checking::check_slot;
 pub use fault::{check_fault, index_fault};
 pub use fetch::{fetch_page, fetch_slot, fetch_super, index_page_count};
-pub use laws::{
-    chain_changes_keep, chain_rises, damage_is_first, fresh_is_sound, insertion_adds,
-    pieces_answer, slots_leave_the_chain,
-};
+pub use laws::{insertion_adds, pieces_answer};
 pub use page::{
     LeafHead, PAGE_LEN, PAIRS_MAX, Pairs, next_pair, read_leaf_head, read_pair, read_pairs,
     write_leaf,

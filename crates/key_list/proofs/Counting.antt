@@ -14,7 +14,7 @@ use Rattle.page_store.specs.Index.{Action, slots_of, index_pages_of}
 use Rattle.page_store.specs.Inserts.{ComesTo, ActionFits, AllFit, LackPages, LackRoom}
 use Rattle.page_store.specs.Pairs.{Pair}
 use Rattle.index_pages.specs.Page.{count_of, page_pairs}
-use Rattle.index_pages.specs.Ways.{page_of_key}
+use Rattle.key_list.specs.Chain.{page_of_key}
 use Rattle.index_pages.proofs.PageFacts.{length-page_pairs}
 use Rattle.index_pages.proofs.Sizes.{slot_page_is}
 use Rattle.key_list.specs.Index.{chain, chain_actions, adding, cutting, half_for}

@@ -18,18 +18,18 @@ use Rattle.record_slots.proofs.SlotLemmas.{length-slot_bytes, slot_said-slot_byt
 use Rattle.page_store.specs.Index.{slots_of, index_pages_of, Grows, Rests, Gains}
 use Rattle.page_store.specs.Pairs.{Pair, found, inserted}
 use Rattle.page_store.specs.Shown.{address}
-use Rattle.index_pages.specs.Chain.{IsSoundChain, pairs_of_chain}
-use Rattle.index_pages.specs.Changes.{TakesPairInChain, SplitsPage}
+use Rattle.key_list.specs.Chain.{IsSoundChain, pairs_of_chain, page_of_key}
+use Rattle.key_list.specs.Changes.{TakesPairInChain, SplitsPage}
 use Rattle.index_pages.specs.Keys.{key_at}
 use Rattle.index_pages.specs.Page.{page_pairs, pairs_said, kind_said, level_said, link_said, link_of}
-use Rattle.index_pages.specs.Ways.{Keeps, page_of_key}
+use Rattle.index_pages.specs.Ways.{Keeps}
 use Rattle.index_pages.specs.Written.{leaf_bytes, AreSmall}
 use Rattle.index_pages.proofs.Ranges.{Apart, three_long, three_away, three_first, three_second, three_third}
 use Rattle.index_pages.proofs.Fronts.{length-count_bytes, slot_written, page_written, mark_kept, form_kept}
 use Rattle.index_pages.proofs.Writing.{leaf_kind, leaf_level, leaf_link, leaf_pairs, length-leaf_bytes, small_take, small_inserted}
 use Rattle.index_pages.proofs.Rising.{length-inserted}
 use Rattle.index_pages.proofs.PageFacts.{length-page_pairs}
-use Rattle.index_pages.proofs.ChainActions.{sound_chain_takes, sound_chain_splits}
+use Rattle.key_list.proofs.ChainActions.{sound_chain_takes, sound_chain_splits}
 use Rattle.key_list.specs.Index.{chain, IsPageOfChain, half_for}
 use Rattle.key_list.specs.Located.{IsLocated, Locates, adding_parts, cutting_parts}
 use Rattle.key_list.proofs.Chains.{key_page_own, pages_same, cut_keeps, cut_names, half_after}
@@ -185,8 +185,8 @@ module _ (shape : Shape) (old : List ℕ) (half : ℕ) (long : length old ≡ da
 
     front_now : IsSuper 0 added
     front_now = record {
-      has_mark = mark_kept old added zero_new sound.front.has_mark;
-      form_is = form_kept old added zero_new ∙ sound.front.form_is;
+      has_mark = mark_kept old added zero_new sound.0.has_mark;
+      form_is = form_kept old added zero_new ∙ sound.0.form_is;
       slots = omega (arith, slot_now, added_count, eight);
       some_pages = omega (arith, page_now, loc.front_is.some);
       pages = omega (arith, page_now, added_count, loc.front_is.pages, half_is);
@@ -217,7 +217,7 @@ module _ (shape : Shape) (old : List ℕ) (half : ℕ) (long : length old ≡ da
     }
 
     pages_stay : (x : ℕ) → 1 ≤ x → x < next_page old → x ≢ page → page_bytes added x ≡ page_bytes old x
-    pages_stay x some lt other = page_old x some (omega (arith, sound.front.pages, first)) other
+    pages_stay x some lt other = page_old x some (omega (arith, sound.0.pages, first)) other
 
     adds : IsSoundChain added × (pairs_of_chain added ≡ inserted (pairs_of_chain old) key front.next_slot)
     adds = sound_chain_takes old added key front.next_slot sound keeps front_now (page_now ∙ says.next_is) fits none
@@ -371,8 +371,8 @@ module _ (shape : Shape) (old : List ℕ) (half : ℕ) (long : length old ≡ da
 
     front_cut : IsSuper 0 cut
     front_cut = record {
-      has_mark = mark_kept old cut zero_cut sound.front.has_mark;
-      form_is = form_kept old cut zero_cut ∙ sound.front.form_is;
+      has_mark = mark_kept old cut zero_cut sound.0.has_mark;
+      form_is = form_kept old cut zero_cut ∙ sound.0.form_is;
       slots = omega (arith, slot_cut, cut_count, loc.front_is.slots, all);
       some_pages = omega (arith, page_cut);
       pages = omega (arith, page_cut, cut_count, next_below);
@@ -421,13 +421,13 @@ module _ (shape : Shape) (old : List ℕ) (half : ℕ) (long : length old ≡ da
             later = omega (arith, page_cut, says.next_is);
             few = omega (arith, page_cut, says.next_is);
             named = λ x from to. subst (λ (y : ℕ). IsPageOfChain cut y) (let e : next_page old ≡ x = omega (arith, page_cut, says.next_is) in e)
-                (cut_names old cut page splits sound.front.some_pages others_cut sound on);
-            kept = cut_keeps old cut page splits sound.front.some_pages others_cut sound;
+                (cut_names old cut page splits sound.0.some_pages others_cut sound on);
+            kept = cut_keeps old cut page splits sound.0.some_pages others_cut sound;
             levels = omega arith;
           },
           record { pairs = cuts.1; slots = slot_cut ∙ says.slot_is },
           splits.one_more,
-          half_after old cut page splits sound.front.some_pages others_cut key sound says.page_is,
+          half_after old cut page splits sound.0.some_pages others_cut key sound says.page_is,
         )
 
     -- the half of the key has room

@@ -2,11 +2,9 @@
 use Rattle.std.specs.Prelude.{ℕ, zero, suc, ◌≡◌, ◌≢◌, ◌⊎◌, nat_lt, if◌then◌else◌, List, [], ◌∷◌}
 use Rattle.record_slots.specs.Places.{next_slot, next_page, slot_page}
 use Rattle.page_store.specs.Index.{Action, Index}
-use Rattle.index_pages.specs.Chain.{IsSoundChain, pairs_of_chain}
-use Rattle.index_pages.specs.Failing.{IsFirstDamagedOfChain}
+use Rattle.key_list.specs.Chain.{IsSoundChain, IsFirstDamagedOfChain, pairs_of_chain, page_of_key}
 use Rattle.index_pages.specs.Keys.{key_at}
 use Rattle.index_pages.specs.Page.{count_of, link_of, page_pairs}
-use Rattle.index_pages.specs.Ways.{page_of_key}
 
 -- among the first n pages of the chain from this one on
 abbrev pub IsOnChain : ℕ → List ℕ → ℕ → ℕ → Type 0

@@ -12,7 +12,7 @@ use Rattle.page_store.specs.Pairs.{Pair, inserted}
 use Rattle.page_store.specs.Shown.{address}
 use Rattle.index_pages.specs.Fetched.{IsFront}
 use Rattle.index_pages.specs.Page.{link_of, page_pairs}
-use Rattle.index_pages.specs.Ways.{page_of_key}
+use Rattle.key_list.specs.Chain.{page_of_key}
 use Rattle.index_pages.specs.Written.{AreSmall, leaf_bytes}
 
 -- what is known of it over any store

@@ -4,7 +4,7 @@ ghost use Rattle.eaw_face.specs.Causes.{IsAlive};
 ghost use Rattle.page_store.specs.Inserts.{Inserts};
 ghost use Rattle.page_store.specs.Pairs.{found};
 ghost use Rattle.page_store.specs.Shown.{pages_of, top_in};
-ghost use Rattle.index_pages.specs.Chain.{IsSoundChain, pairs_of_chain};
+ghost use Rattle.key_list.specs.Chain.{IsSoundChain, pairs_of_chain};
 ghost use Rattle.key_list.specs.Index.{chain};
 
 use crate::place::locate;

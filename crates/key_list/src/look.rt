@@ -6,9 +6,8 @@ ghost use Rattle.page_store.specs.Index.{slots_of, index_pages_of};
 ghost use Rattle.page_store.specs.Looks.{Looks, LookCause, is_failed};
 ghost use Rattle.page_store.specs.Pairs.{found, next};
 ghost use Rattle.page_store.specs.Shown.{pages_of};
-ghost use Rattle.index_pages.specs.Chain.{IsSoundChain, pairs_of_chain};
+ghost use Rattle.key_list.specs.Chain.{IsSoundChain, pairs_of_chain, page_of_key};
 ghost use Rattle.index_pages.specs.Fetched.{TestCause};
-ghost use Rattle.index_pages.specs.Ways.{page_of_key};
 ghost use Rattle.index_pages.specs.Written.{SaysLeaf};
 ghost use Rattle.key_list.specs.Linked.{IsLinked};
 

@@ -3,7 +3,8 @@ use Rattle.eaw_face.specs.Causes.{IsAlive}
 use Rattle.page_store.specs.Looks.{Looks}
 use Rattle.page_store.specs.Shown.{pages_of}
 use Rattle.index_pages.specs.Page.{pairs_from, pairs_said}
-use Rattle.btree_pages.specs.Checked.{high_of, AreNamed, IsFrontOf}
+use Rattle.btree_pages.specs.Checked.{high_of, IsFrontOf}
+use Rattle.btree_pages.specs.Tree.{AreNamed}
 use Rattle.btree_pages.proofs.Checks.{ChildrenLeft}
 use Rattle.btree_pages.proofs.checking.+under.Given as goal
 

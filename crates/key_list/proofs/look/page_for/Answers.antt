@@ -6,7 +6,7 @@ use Rattle.page_store.specs.Index.{index_pages_of}
 use Rattle.page_store.specs.Shown.{pages_of}
 use Rattle.record_slots.specs.Places.{page_bytes}
 use Rattle.index_pages.specs.Page.{count_said, link_said, pairs_said, pair_said, page_pairs}
-use Rattle.index_pages.specs.Chain.{first_key}
+use Rattle.key_list.specs.Chain.{first_key}
 use Rattle.index_pages.specs.declared.page.LeafHead.{LeafHead}
 use Rattle.index_pages.proofs.Looking.{looks_next}
 use Rattle.index_pages.proofs.Sizes.{index_pages_are}

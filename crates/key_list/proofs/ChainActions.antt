@@ -7,15 +7,17 @@ use Rattle.index_pages.proofs.Rising.{rise_from_less, rise_to_more, take_rises, 
 use Rattle.index_pages.proofs.Tiling.{joined_rises}
 use Rattle.index_pages.proofs.Kept.{given_kept}
 use Rattle.index_pages.proofs.PageFacts.{length-page_pairs, rise_wide}
-use Rattle.index_pages.proofs.ChainFacts.{chain_tiles, rise_behind, first_from, some_of, chain_head, wide_behind}
+use Rattle.key_list.specs.ChainFacts.{chain_tiles, rise_behind, first_from, some_of, chain_head, wide_behind}
 use Rattle.index_pages.proofs.Given.{given_inserted, inserted_local, same_local, above_zero}
 use Rattle.index_pages.proofs.Halves.{given_take, joined_two}
-use Rattle.index_pages.specs.Chain.{key_end, behind, IsChainPage, IsChain, first_key, chain_pieces, IsSoundChain, pairs_of_chain}
-use Rattle.index_pages.specs.Changes.{TakesPairInChain, SplitsPage}
-use Rattle.index_pages.specs.Keys.{key_at}
+use Rattle.key_list.specs.Chain.{behind, first_key, chain_pieces, IsSoundChain, pairs_of_chain, chain_page_for, page_of_key}
+use Rattle.key_list.specs.Seen.{IsChainPage, IsChain, pages_of_sound, sound_by_pages}
+use Rattle.key_list.specs.Resting.{page_kept, joined_from}
+use Rattle.key_list.specs.Changes.{TakesPairInChain, SplitsPage}
+use Rattle.index_pages.specs.Keys.{key_at, key_end}
 use Rattle.index_pages.specs.Page.{kind_said, level_said, count_said, link_said, pairs_said, count_of, link_of, page_pairs}
 use Rattle.index_pages.specs.Pieces.{joined}
-use Rattle.index_pages.specs.Ways.{Keeps, IsLocal, IsOwn, chain_page_for, page_of_key, above}
+use Rattle.index_pages.specs.Ways.{Keeps, IsLocal, IsOwn, above}
 use Rattle.page_store.specs.Pairs.{Pair, Rise, found, inserted}
 use Rattle.record_slots.specs.Places.{page_bytes, next_page, IsSuper, AreGiven}
 
@@ -42,23 +44,7 @@ later_some bytes page low two t = omega (arith, length-page_pairs bytes page, so
 pub linked_some : (bytes : List ℕ) (page low : ℕ) → link_of bytes page ≢ 0 → IsChainPage bytes page low → 1 ≤ length (page_pairs bytes page)
 linked_some bytes page low linked t = omega (arith, length-page_pairs bytes page, some_of (count_of bytes page) ((page ≡ 1) × (link_of bytes page ≡ 0)) t.some (λ h. linked h.1))
 
-pub joined_from : (n : ℕ) (bytes : List ℕ) (page a b : ℕ) → joined (chain_pieces n bytes page a) ≡ joined (chain_pieces n bytes page b)
-joined_from zero bytes page a b = refl
-joined_from (suc n) bytes page a b = refl
-
 module _ (old new : List ℕ) (keeps : Keeps old new) where
-  -- a page that is as it was, after other keys
-  pub page_kept : (page low low' : ℕ) → page_bytes new page ≡ page_bytes old page → IsChainPage old page low → Rise low' key_end (page_pairs old page) → IsChainPage new page low'
-  page_kept page low low' e t r = record {
-    kind = ap kind_said e ∙ t.kind;
-    level = ap level_said e ∙ t.level;
-    most = subst (λ (b : List ℕ). count_said b ≤ 30) (sym e) t.most;
-    some = subst (λ (b : List ℕ). count_said b ≡ 0 → (page ≡ 1) × (link_said b ≡ 0)) (sym e) t.some;
-    rises = subst (λ (b : List ℕ). Rise low' key_end (pairs_said b)) (sym e) r;
-    given = subst (λ (b : List ℕ). AreGiven new (pairs_said b)) (sym e) (given_kept old new keeps (page_pairs old page) t.given);
-    link = subst (λ (b : List ℕ). link_said b ≢ 0 → (2 ≤ link_said b) × (link_said b < next_page new)) (sym e) (λ h. let l = t.link h in (l.0, omega (arith, l.1, keeps.pages)));
-  }
-
   -- a chain whose pages are as they were, except that those with a first key below some key may have changed
   pub chain_kept : (n page low low' q : ℕ) → IsOwn old page → 2 ≤ page → IsChain n old page low → low' ≤ first_key (page_pairs old page) → first_key (page_pairs old q) < low
       → ((x : ℕ) → 1 ≤ x → x < next_page old → x ≢ q → page_bytes new x ≡ page_bytes old x)
@@ -71,7 +57,7 @@ module _ (old new : List ℕ) (keeps : Keeps old new) where
       let link : link_of new page ≡ link_of old page = ap link_said e in
       let pairs : page_pairs new page ≡ page_pairs old page = ap pairs_said e in
       let r : Rise low' key_end (page_pairs old page) = rise_from_less (first_key (page_pairs old page)) low' key_end (page_pairs old page) le first.1 in
-      let here = page_kept page low low' e c.0 r in
+      let here = page_kept old new keeps page low low' e c.0 r in
       elim (eqb_tells (link_of old page) 0) [
         | inl last ↦
             let b : nat_eq (link_of old page) 0 ≡ true = last.0 in
@@ -283,12 +269,12 @@ pub sound_chain_takes : (old new : List ℕ) (key to : ℕ) → IsSoundChain old
     → IsSoundChain new × (pairs_of_chain new ≡ inserted (pairs_of_chain old) key to)
 unfolding pairs_of_chain
 sound_chain_takes old new key to sound keeps front same lt none takes kept =
-    let none' = sym (chain_finds (next_page old) old 1 0 0 key sound.pages (omega arith)) ∙ none in
+    let none' = sym (chain_finds (next_page old) old 1 0 0 key (pages_of_sound old sound) (omega arith)) ∙ none in
     let r = chain_graft old new keeps (λ ps. inserted ps key to) key (inserted_local key to) (page_of_key old key) 0
     (page_takes old new keeps (page_of_key old key) key to lt takes none' kept) kept
-    (next_page old) 1 0 (omega arith, omega (arith, sound.front.some_pages)) sound.pages (omega arith) refl in
+    (next_page old) 1 0 (omega arith, omega (arith, sound.0.some_pages)) (pages_of_sound old sound) (omega arith) refl in
     let e : above (next_page old) 0 ≡ next_page new = above_zero (next_page old) ∙ sym same in (
-      record { front = front; pages = subst (λ (n : ℕ). IsChain n new 1 0) e r.0 },
+      sound_by_pages new front (subst (λ (n : ℕ). IsChain n new 1 0) e r.0),
       ap (λ (n : ℕ). joined (chain_pieces n new 1 0)) (sym e) ∙ r.1 0,
     )
 
@@ -373,13 +359,13 @@ pub sound_chain_splits : (old new : List ℕ) (key : ℕ) → IsSoundChain old �
 unfolding pairs_of_chain
 sound_chain_splits old new key sound keeps front lt splits kept =
     let r = chain_graft old new keeps (λ ps. ps) key (same_local key) (page_of_key old key) 1
-    (page_splits old new keeps (page_of_key old key) key lt sound.front.some_pages splits kept) kept
-    (next_page old) 1 0 (omega arith, omega (arith, sound.front.some_pages)) sound.pages (omega arith) refl in
+    (page_splits old new keeps (page_of_key old key) key lt sound.0.some_pages splits kept) kept
+    (next_page old) 1 0 (omega arith, omega (arith, sound.0.some_pages)) (pages_of_sound old sound) (omega arith) refl in
     let e : above (next_page old) 1 ≡ next_page new = above_one (next_page old) ∙ sym splits.one_more in (
-      record { front = front; pages = subst (λ (n : ℕ). IsChain n new 1 0) e r.0 },
+      sound_by_pages new front (subst (λ (n : ℕ). IsChain n new 1 0) e r.0),
       ap (λ (n : ℕ). joined (chain_pieces n new 1 0)) (sym e) ∙ r.1 0,
     )
 
 pub sound_chain_finds : (bytes : List ℕ) (key : ℕ) → IsSoundChain bytes → found (pairs_of_chain bytes) key ≡ found (page_pairs bytes (page_of_key bytes key)) key
 unfolding pairs_of_chain
-sound_chain_finds bytes key sound = chain_finds (next_page bytes) bytes 1 0 0 key sound.pages (omega arith)
+sound_chain_finds bytes key sound = chain_finds (next_page bytes) bytes 1 0 0 key (pages_of_sound bytes sound) (omega arith)

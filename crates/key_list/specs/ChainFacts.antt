@@ -3,7 +3,9 @@ use Rattle.std.proofs.Common.{◌≡◌, ℕ, zero, suc, ◌<◌, ◌≤◌, tru
 use Rattle.std.proofs.lemmas.Bool.Decides.{eqb_tells}
 use Rattle.index_pages.proofs.Tiling.{joined_rises}
 use Rattle.index_pages.proofs.PageFacts.{length-page_pairs, rise_wide}
-use Rattle.index_pages.specs.Chain.{key_end, behind, IsChainPage, IsChain, first_key, chain_pieces, IsSoundChain, pieces_of_chain, pairs_of_chain}
+use Rattle.index_pages.specs.Keys.{key_end}
+use Rattle.key_list.specs.Chain.{behind, first_key, chain_pieces, IsSoundChain, pieces_of_chain, pairs_of_chain}
+use Rattle.key_list.specs.Seen.{IsChainPage, IsChain, pages_of_sound}
 use Rattle.index_pages.specs.Page.{count_of, link_of, page_pairs}
 use Rattle.index_pages.specs.Pieces.{low_of, Tile}
 use Rattle.page_store.specs.Pairs.{Pair, Rise}
@@ -69,8 +71,8 @@ chain_tiles (suc n) bytes page low from c r wide =
 
 pub sound_chain_tiles : (bytes : List ℕ) → IsSoundChain bytes → Tile 0 key_end (pieces_of_chain bytes)
 sound_chain_tiles bytes sound =
-    let head = chain_head (next_page bytes) bytes 1 0 sound.pages in
-    chain_tiles (next_page bytes) bytes 1 0 0 sound.pages head.rises (omega arith)
+    let head = chain_head (next_page bytes) bytes 1 0 (pages_of_sound bytes sound) in
+    chain_tiles (next_page bytes) bytes 1 0 0 (pages_of_sound bytes sound) head.rises (omega arith)
 
 pub sound_chain_rises : (bytes : List ℕ) → IsSoundChain bytes → Rise 0 key_end (pairs_of_chain bytes)
 unfolding pairs_of_chain

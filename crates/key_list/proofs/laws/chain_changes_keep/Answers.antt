@@ -1,5 +1,5 @@
-use Rattle.index_pages.proofs.ChainActions.{sound_chain_finds, sound_chain_takes, sound_chain_splits}
-use Rattle.index_pages.proofs.laws.chain_changes_keep.Goals as goal
+use Rattle.key_list.proofs.ChainActions.{sound_chain_finds, sound_chain_takes, sound_chain_splits}
+use Rattle.key_list.proofs.laws.chain_changes_keep.Goals as goal
 
 pub returns-clause-finds : goal.returns-clause-finds
 returns-clause-finds c = sound_chain_finds

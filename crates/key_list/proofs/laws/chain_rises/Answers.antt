@@ -1,6 +1,6 @@
-use Rattle.index_pages.proofs.ChainFacts.{sound_chain_tiles, sound_chain_rises}
-use Rattle.index_pages.proofs.Resting.{sound_chain_given}
-use Rattle.index_pages.proofs.laws.chain_rises.Goals as goal
+use Rattle.key_list.specs.ChainFacts.{sound_chain_tiles, sound_chain_rises}
+use Rattle.key_list.specs.Resting.{sound_chain_given}
+use Rattle.key_list.proofs.laws.chain_rises.Goals as goal
 
 pub returns-clause-tiles : goal.returns-clause-tiles
 returns-clause-tiles c = sound_chain_tiles

@@ -1,15 +1,14 @@
 -- An index of no pairs.
 use Rattle.std.proofs.Common.{◌≡◌, ℕ, zero, suc, ◌≤◌, true, nat_eq, List, [], ◌++◌, refl, sym, ap, subst, arith}
 use Rattle.std.proofs.lemmas.Bool.Decides.{nat_tests}
-use Rattle.index_pages.specs.Chain.{key_end, IsChainPage, IsChain, chain_pieces, IsSoundChain, pairs_of_chain}
+use Rattle.index_pages.proofs.PageFacts.{no_pairs}
+use Rattle.index_pages.specs.Keys.{key_end}
+use Rattle.key_list.specs.Seen.{IsChainPage, IsChain, sound_by_pages}
+use Rattle.key_list.specs.Chain.{chain_pieces, IsSoundChain, pairs_of_chain}
 use Rattle.index_pages.specs.Page.{pairs_from, pairs_said, kind_of, level_of, count_of, link_of, page_pairs}
 use Rattle.index_pages.specs.Pieces.{joined}
 use Rattle.page_store.specs.Pairs.{Pair, Rise}
 use Rattle.record_slots.specs.Places.{page_bytes, next_page, IsSuper, AreGiven}
-
-pub no_pairs : (bytes : List ℕ) (page : ℕ) → count_of bytes page ≡ 0 → page_pairs bytes page ≡ []
-unfolding pairs_said
-no_pairs bytes page none = ap (λ (n : ℕ). pairs_from (page_bytes bytes page) 0 n) none
 
 chain_of_one : (n : ℕ) (bytes : List ℕ) → 1 ≤ n → IsChainPage bytes 1 0 → link_of bytes 1 ≡ 0 → page_pairs bytes 1 ≡ [] → IsChain n bytes 1 0 × (joined (chain_pieces n bytes 1 0) ≡ [])
 chain_of_one zero bytes some page link no_ones = absurd (omega arith)
@@ -32,4 +31,4 @@ fresh_chain bytes front kind level link none =
       link = λ other. absurd (other link);
     } in
     let c = chain_of_one (next_page bytes) bytes (omega (arith, front.some_pages)) page link none_there in
-    (record { front = front; pages = c.0 }, c.1)
+    (sound_by_pages bytes front c.0, c.1)
