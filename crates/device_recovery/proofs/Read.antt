@@ -13,13 +13,6 @@ use Rattle.array_image.specs.Standing.{IsGoodRow}
 use Rattle.array_image.proofs.Deciding.{decides_same}
 use Rattle.device_recovery.specs.Table.{row_in, RowsAre, decided_in}
 
-pub head_of_range : (bytes : List ℕ) (at : ℕ) → cell_head (range bytes at 528) ≡ head_said (range bytes at 16)
-head_of_range bytes at = ap head_said (take-take 16 528 (drop at bytes) (omega arith))
-
--- from the rows of one number
-pub number_decided : (shape : Shape) (image : List ℕ) (rows : List Row) (t : ℕ) → ((h : ℕ) → h < shape.loggers → row_in rows h t ≡ row_of shape image h t) → (g : ℕ) → g < shape.loggers → decided_in shape rows g t ≡ decided shape image g t
-number_decided shape image rows t are g lt = decides_same shape.loggers (λ h. row_in rows h t) (λ h. row_of shape image h t) are g lt
-
 module _ (shape : Shape) (image : List ℕ) (rows : List Row) (are : RowsAre shape image shape.numbers rows) (g t : ℕ) (lt : g < shape.loggers) (lt' : t < shape.numbers) where
   pub table_decided : decided_in shape rows g t ≡ decided shape image g t
   table_decided = decides_same shape.loggers (λ h. row_in rows h t) (λ h. row_of shape image h t) (λ h below. are h t below lt') g lt

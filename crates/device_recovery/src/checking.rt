@@ -7,10 +7,11 @@ ghost use Rattle.array_image.specs.Decided.{decided};
 ghost use Rattle.array_image.specs.Standing.{IsGoodRow};
 ghost use Rattle.device_recovery.specs.Table.{row_in, RowsAre, decided_in};
 ghost use Rattle.pcm_media.specs.Answer.{media_answer};
-ghost use Rattle.device_recovery.specs.Recovered.{AllGood, IsFirstBadAt, IsFirstBad, is_of_media};
+ghost use Rattle.device_recovery.specs.Recovered.{AllGood, IsFirstBad, is_of_media};
 ghost use Rattle.device_recovery.specs.declared.report.RecoverFault.TheVariants.{BadRow};
 
 use crate::report::RecoverFault;
+use crate::rows::{nth_row, row_count};
 use crate::table::{ROWS_MAX, is_decided, row_in};
 use array_shape::Shape;
 use logger::Logger;
@@ -92,30 +93,6 @@ fn is_bad<M: Media>(
     has_bad_cell(media, shape, logger, tid, row.first, row.count)
 }
 
-// Checks the rows of one number.
-fn check_number<M: Media>(
-    media: &mut M,
-    shape: &Shape,
-    rows: &[Row; ROWS_MAX],
-    tid: u8,
-) -> Result<(), RecoverFault>
-    requires tid { tid < shape.now.numbers }
-    requires size { (M.view media.old).size ≡ media_len shape.now }
-    requires rows { IsTrue M.tells → RowsAre shape.now (M.view media.old).content.bytes shape.now.numbers rows.now }
-    ensures good { IsTrue M.tells → OnOk result ((g : ℕ) → g < shape.now.loggers → decided shape.now (M.view media.old).content.bytes g tid ≡ true → IsGoodRow shape.now (M.view media.old).content.bytes g tid) }
-    ensures bad { IsTrue M.tells → IfErr result (λ fault. (g t : ℕ) → fault ≡ BadRow g t → (t ≡ tid) × IsFirstBadAt shape.now (M.view media.old).content.bytes g tid) }
-    ensures idle { ((g : ℕ) → g < shape.now.loggers → decided_in shape.now rows.now g tid ≡ false) → (M.view media.new).moment ≡ (M.view media.old).moment }
-    ensures fits { OnOk result ((g : ℕ) → g < shape.now.loggers → decided_in shape.now rows.now g tid ≡ true → (row_in rows.now g tid).first + (row_in rows.now g tid).count ≤ shape.now.entries) }
-    ensures does { Writes M.tells [] (M.view media.old) (M.view media.new) (media_answer is_of_media result) }
-{
-    for logger in 0..shape.loggers {
-        if is_bad(media, shape, rows, logger, tid)? {
-            return Err(RecoverFault::BadRow { logger, tid });
-        }
-    }
-    Ok(())
-}
-
 /// Refuses the first decided row that is not good.
 pub(crate) fn check_rows<M: Media>(
     media: &mut M,
@@ -130,8 +107,14 @@ pub(crate) fn check_rows<M: Media>(
     ensures fits { OnOk result ((g t : ℕ) → g < shape.now.loggers → t < shape.now.numbers → decided_in shape.now rows.now g t ≡ true → (row_in rows.now g t).first + (row_in rows.now g t).count ≤ shape.now.entries) }
     ensures does { Writes M.tells [] (M.view media.old) (M.view media.new) (media_answer is_of_media result) }
 {
-    for tid in 0..shape.numbers {
-        check_number(media, shape, rows, tid)?;
+    for nth in 0..row_count(shape) {
+        let at = nth_row(shape, nth);
+        if is_bad(media, shape, rows, at.logger, at.tid)? {
+            return Err(RecoverFault::BadRow {
+                logger: at.logger,
+                tid: at.tid,
+            });
+        }
     }
     Ok(())
 }
