@@ -8,7 +8,7 @@ use std::alloc::Global;
 use std::marker::Model;
 
 // The most numbers that an array may have.
-const MOST_NUMBERS: u8 = 64;
+const NUMBERS_MAX: u8 = 64;
 
 /// Room for what the numbers of any array save. Whoever has it can attach pages without taking memory.
 #[derive(Drop)]
@@ -31,7 +31,7 @@ impl Model for SaveRoom {
 impl SaveRoom {
     pub fn new(alloc: Global) -> Result<SaveRoom, NoMemory> {
         Ok(SaveRoom {
-            marks: fresh_marks(alloc, MOST_NUMBERS)?,
+            marks: fresh_marks(alloc, NUMBERS_MAX)?,
         })
     }
 
