@@ -22,16 +22,15 @@ use Rattle.index_pages.proofs.Fronts.{length-count_bytes, slot_written, page_wri
 use Rattle.index_pages.proofs.PageFacts.{length-page_pairs}
 use Rattle.index_pages.proofs.Ranges.{Apart}
 use Rattle.index_pages.proofs.Rising.{length-inserted}
-use Rattle.index_pages.proofs.Writing.{small_inserted}
+use Rattle.index_pages.proofs.Writing.{small_inserted, written_kind, written_level, written_link, written_pairs, length-written_page}
 use Rattle.btree_pages.specs.Checked.{IsFrontOf}
 use Rattle.btree_pages.specs.Descent.{page_for}
-use Rattle.btree_pages.specs.Node.{node_bytes}
+use Rattle.index_pages.specs.Written.{written_page}
 use Rattle.btree_pages.specs.OnWay.{IsOnWay}
 use Rattle.btree_pages.specs.Tree.{IsUnder, IsSoundTree, pairs_of_tree}
 use Rattle.btree_pages.specs.Seen.{tree_of_sound, IsTree}
 use Rattle.btree_pages.specs.Writes.{IsRead}
 use Rattle.btree_pages.specs.Index.{tree}
-use Rattle.btree_pages.proofs.NodeBytes.{node_kind, node_level, node_link, node_pairs, length-node_bytes}
 use Rattle.btree_pages.proofs.Puts.{AllApart, Stand, applied_long, applied_away, applied_stand}
 use Rattle.btree_pages.proofs.Ways.{Way, way_of, way_own}
 use Rattle.std.specs.Prelude.{None}
@@ -43,7 +42,7 @@ use Rattle.page_store.specs.Index.{Gains}
 use Rattle.page_store.specs.Pairs.{found}
 use Rattle.index_pages.proofs.Given.{above_zero}
 use Rattle.btree_pages.specs.Changes.{TakesPair}
-use Rattle.btree_pages.specs.Writes.{adding_parts}
+use Rattle.index_pages.specs.Adding.{adding_parts}
 use Rattle.btree_pages.proofs.Belonging.{inner_stays}
 use Rattle.btree_pages.proofs.CutData.{carries_on}
 use Rattle.btree_pages.proofs.Taking.{sound_tree_takes}
@@ -78,7 +77,7 @@ module _ (shape : Shape) (old : List ℕ) (half : ℕ) (long : length old ≡ da
   record_bytes = slot_bytes (Absent key)
 
   leaf_new : List ℕ
-  leaf_new = node_bytes 0 (inserted pairs key front.next_slot)
+  leaf_new = written_page 0 0 (inserted pairs key front.next_slot)
 
   counts : List ℕ
   counts = count_bytes (front.next_slot + 1) front.next_page
@@ -92,7 +91,7 @@ module _ (shape : Shape) (old : List ℕ) (half : ℕ) (long : length old ≡ da
 
   len2 : length leaf_new ≡ 512
   unfolding leaf_new
-  len2 = length-node_bytes 0 (inserted pairs key front.next_slot) leaf_few
+  len2 = length-written_page 0 0 (inserted pairs key front.next_slot) leaf_few (omega arith)
 
   len3 : length counts ≡ 8
   unfolding counts
@@ -117,10 +116,10 @@ module _ (shape : Shape) (old : List ℕ) (half : ℕ) (long : length old ≡ da
   leaf_below = omega (arith, own_leaf, sound.0.pages, first)
 
   parts : List Part
-  parts = adding_parts half front leaf pairs key
+  parts = adding_parts half front leaf 0 pairs key
 
   added : List ℕ
-  added = applied (adding_parts half front leaf pairs key) old
+  added = applied (adding_parts half front leaf 0 pairs key) old
 
   fit : AllFit (length old) parts
   unfolding parts place record_bytes leaf_new counts
@@ -206,10 +205,10 @@ module _ (shape : Shape) (old : List ℕ) (half : ℕ) (long : length old ≡ da
   unfolding leaf_new
   takes = record {
     room = omega (arith, room, ap (λ (ps : List Pair). length ps) way.pairs_are, length-page_pairs old leaf);
-    kind = ap kind_said page_new ∙ node_kind 0 (inserted pairs key front.next_slot) leaf_few;
-    level = ap level_said page_new ∙ node_level 0 (inserted pairs key front.next_slot) leaf_few;
-    link = ap link_said page_new ∙ node_link 0 (inserted pairs key front.next_slot) leaf_few;
-    pairs = ap pairs_said page_new ∙ node_pairs 0 (inserted pairs key front.next_slot) leaf_few (small_inserted key front.next_slot pairs read.small fits (omega (arith, eight)))
+    kind = ap kind_said page_new ∙ written_kind 0 0 (inserted pairs key front.next_slot) leaf_few (omega arith);
+    level = ap level_said page_new ∙ written_level 0 0 (inserted pairs key front.next_slot) leaf_few (omega arith);
+    link = ap link_said page_new ∙ written_link 0 0 (inserted pairs key front.next_slot) leaf_few (omega arith);
+    pairs = ap pairs_said page_new ∙ written_pairs 0 0 (inserted pairs key front.next_slot) leaf_few (omega arith) (small_inserted key front.next_slot pairs read.small fits (omega (arith, eight)))
         ∙ ap (λ (ps : List Pair). inserted ps key front.next_slot) way.pairs_are;
     given = omega (arith, slot_now);
     carries = carries_absent added key front.next_slot fits slot_new;
@@ -230,7 +229,7 @@ module _ (shape : Shape) (old : List ℕ) (half : ℕ) (long : length old ≡ da
   ]
 
   -- what adding a pair does to the data
-  pub adding_grows : Grows tree old (applied (adding_parts half front leaf pairs key) old) × Gains tree key old (applied (adding_parts half front leaf pairs key) old)
+  pub adding_grows : Grows tree old (applied (adding_parts half front leaf 0 pairs key) old) × Gains tree key old (applied (adding_parts half front leaf 0 pairs key) old)
   unfolding added
   adding_grows = (
     record {
@@ -250,6 +249,6 @@ module _ (shape : Shape) (old : List ℕ) (half : ℕ) (long : length old ≡ da
     },
   )
 
-  pub adding_takes_none : next_page (applied (adding_parts half front leaf pairs key) old) ≡ next_page old
+  pub adding_takes_none : next_page (applied (adding_parts half front leaf 0 pairs key) old) ≡ next_page old
   unfolding added
   adding_takes_none = page_now ∙ says.pages

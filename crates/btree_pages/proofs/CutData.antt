@@ -20,16 +20,15 @@ use Rattle.index_pages.specs.Fetched.{IsFront}
 use Rattle.index_pages.specs.Keys.{key_at, key_end}
 use Rattle.index_pages.specs.Page.{page_pairs, pairs_said, kind_said, level_said, link_said, kind_of, level_of, count_of}
 use Rattle.index_pages.specs.Ways.{above, Keeps, IsOwn}
-use Rattle.index_pages.specs.Written.{AreSmall}
+use Rattle.index_pages.specs.Written.{AreSmall, kind_for, written_page}
 use Rattle.index_pages.proofs.Fronts.{length-count_bytes, slot_written, page_written, mark_kept, form_kept}
 use Rattle.index_pages.proofs.PageFacts.{length-page_pairs}
 use Rattle.index_pages.proofs.Ranges.{Apart}
 use Rattle.index_pages.proofs.Rising.{length-inserted}
-use Rattle.index_pages.proofs.Writing.{small_take, small_inserted}
+use Rattle.index_pages.proofs.Writing.{small_take, small_inserted, written_kind, written_level, written_link, written_pairs, length-written_page}
 use Rattle.btree_pages.specs.Changes.{IsHalf, IsCut, middle, with_entry, SplitsChild}
 use Rattle.btree_pages.specs.Checked.{IsFrontOf}
 use Rattle.btree_pages.specs.Descent.{child_for, page_for}
-use Rattle.btree_pages.specs.Node.{kind_for, node_bytes}
 use Rattle.btree_pages.specs.OnWay.{IsOnWay}
 use Rattle.btree_pages.specs.Tree.{IsUnder, IsSoundTree, pairs_of_tree, next_low}
 use Rattle.btree_pages.specs.Seen.{tree_of_sound, IsTree}
@@ -40,7 +39,6 @@ use Rattle.btree_pages.proofs.Belonging.{split_stays, half_named, under_way}
 use Rattle.btree_pages.proofs.Apart.{start_of, sub_of}
 use Rattle.btree_pages.proofs.Descending.{Child, child_step}
 use Rattle.btree_pages.proofs.Entries.{with_inserted, entry_child, page_for_last}
-use Rattle.btree_pages.proofs.NodeBytes.{node_kind, node_level, node_link, node_pairs, length-node_bytes}
 use Rattle.btree_pages.proofs.Puts.{AllApart, Stand, applied_long, applied_away, applied_stand}
 use Rattle.btree_pages.proofs.Splitting.{halves, sound_tree_splits}
 use Rattle.btree_pages.proofs.Ways.{Way, way_of, way_own, child_given}
@@ -75,13 +73,13 @@ module _ (shape : Shape) (old : List ℕ) (half : ℕ) (long : length old ≡ da
   first = omega (arith, count)
 
   lower : List ℕ
-  lower = node_bytes level (take 15 pairs)
+  lower = written_page level 0 (take 15 pairs)
 
   upper : List ℕ
-  upper = node_bytes level (drop 15 pairs)
+  upper = written_page level 0 (drop 15 pairs)
 
   named : List ℕ
-  named = node_bytes (level + 1) (inserted entries (key_at pairs 15) front.next_page)
+  named = written_page (level + 1) 0 (inserted entries (key_at pairs 15) front.next_page)
 
   counts : List ℕ
   counts = count_bytes front.next_slot (front.next_page + 1)
@@ -97,15 +95,15 @@ module _ (shape : Shape) (old : List ℕ) (half : ℕ) (long : length old ≡ da
 
   len1 : length lower ≡ 512
   unfolding lower
-  len1 = length-node_bytes level (take 15 pairs) lower_few
+  len1 = length-written_page level 0 (take 15 pairs) lower_few (omega arith)
 
   len2 : length upper ≡ 512
   unfolding upper
-  len2 = length-node_bytes level (drop 15 pairs) upper_few
+  len2 = length-written_page level 0 (drop 15 pairs) upper_few (omega arith)
 
   len3 : length named ≡ 512
   unfolding named
-  len3 = length-node_bytes (level + 1) (inserted entries (key_at pairs 15) front.next_page) named_few
+  len3 = length-written_page (level + 1) 0 (inserted entries (key_at pairs 15) front.next_page) named_few (omega arith)
 
   len4 : length counts ≡ 8
   unfolding counts
@@ -270,19 +268,19 @@ module _ (shape : Shape) (old : List ℕ) (half : ℕ) (long : length old ≡ da
   lower_half : IsHalf old cut page page (take 15 (page_pairs old page))
   unfolding lower
   lower_half = record {
-    kind = ap kind_said lower_new ∙ node_kind level (take 15 pairs) lower_few ∙ sym (tree_kind level old page child.from child.to page_tree);
-    level = ap level_said lower_new ∙ node_level level (take 15 pairs) lower_few ∙ sym level_page;
-    link = ap link_said lower_new ∙ node_link level (take 15 pairs) lower_few;
-    pairs_are = ap pairs_said lower_new ∙ node_pairs level (take 15 pairs) lower_few (small_take 15 pairs read.small).0 ∙ ap (take 15) pairs_are;
+    kind = ap kind_said lower_new ∙ written_kind level 0 (take 15 pairs) lower_few (omega arith) ∙ sym (tree_kind level old page child.from child.to page_tree);
+    level = ap level_said lower_new ∙ written_level level 0 (take 15 pairs) lower_few (omega arith) ∙ sym level_page;
+    link = ap link_said lower_new ∙ written_link level 0 (take 15 pairs) lower_few (omega arith);
+    pairs_are = ap pairs_said lower_new ∙ written_pairs level 0 (take 15 pairs) lower_few (omega arith) (small_take 15 pairs read.small).0 ∙ ap (take 15) pairs_are;
   }
 
   upper_half : IsHalf old cut page front.next_page (drop 15 (page_pairs old page))
   unfolding upper
   upper_half = record {
-    kind = ap kind_said upper_new ∙ node_kind level (drop 15 pairs) upper_few ∙ sym (tree_kind level old page child.from child.to page_tree);
-    level = ap level_said upper_new ∙ node_level level (drop 15 pairs) upper_few ∙ sym level_page;
-    link = ap link_said upper_new ∙ node_link level (drop 15 pairs) upper_few;
-    pairs_are = ap pairs_said upper_new ∙ node_pairs level (drop 15 pairs) upper_few (small_take 15 pairs read.small).1 ∙ ap (drop 15) pairs_are;
+    kind = ap kind_said upper_new ∙ written_kind level 0 (drop 15 pairs) upper_few (omega arith) ∙ sym (tree_kind level old page child.from child.to page_tree);
+    level = ap level_said upper_new ∙ written_level level 0 (drop 15 pairs) upper_few (omega arith) ∙ sym level_page;
+    link = ap link_said upper_new ∙ written_link level 0 (drop 15 pairs) upper_few (omega arith);
+    pairs_are = ap pairs_said upper_new ∙ written_pairs level 0 (drop 15 pairs) upper_few (omega arith) (small_take 15 pairs read.small).1 ∙ ap (drop 15) pairs_are;
   }
 
   is_cut : IsCut old cut page page front.next_page
@@ -307,7 +305,7 @@ module _ (shape : Shape) (old : List ℕ) (half : ℕ) (long : length old ≡ da
   named_pairs : page_pairs cut parent ≡ with_entry (page_pairs old parent) key (middle old page, front.next_page)
   unfolding named
   named_pairs =
-      ap pairs_said named_new ∙ node_pairs (level + 1) (inserted entries (key_at pairs 15) front.next_page) named_few named_small
+      ap pairs_said named_new ∙ written_pairs (level + 1) 0 (inserted entries (key_at pairs 15) front.next_page) named_few (omega arith) named_small
       ∙ ap (λ (ps : List Pair). inserted entries (key_at ps 15) front.next_page) pairs_are ∙ ap (λ (ps : List Pair). inserted ps (key_at (page_pairs old page) 15) front.next_page) way.pairs_are
       ∙ with_inserted level old (page_pairs old parent) parent_way.to key (key_at (page_pairs old page) 15) front.next_page entries_some parent_way.tree.0.children parent_way.tree.1 (omega (arith, start, parent_way.from_key)) parent_way.key_to
       (λ a b t. within a b (subst (λ (x : ℕ). IsTree level old x a b) (sym page_there) t))
@@ -316,9 +314,9 @@ module _ (shape : Shape) (old : List ℕ) (half : ℕ) (long : length old ≡ da
   unfolding cut named
   cut_splits = record {
     room = omega (arith, room, ap (λ (ps : List Pair). length ps) way.pairs_are, length-page_pairs old parent);
-    kind = ap kind_said named_new ∙ node_kind (level + 1) (inserted entries (key_at pairs 15) front.next_page) named_few ∙ ap kind_for one_more;
-    level = ap level_said named_new ∙ node_level (level + 1) (inserted entries (key_at pairs 15) front.next_page) named_few ∙ one_more ∙ sym level_parent;
-    link = ap link_said named_new ∙ node_link (level + 1) (inserted entries (key_at pairs 15) front.next_page) named_few;
+    kind = ap kind_said named_new ∙ written_kind (level + 1) 0 (inserted entries (key_at pairs 15) front.next_page) named_few (omega arith) ∙ ap kind_for one_more;
+    level = ap level_said named_new ∙ written_level (level + 1) 0 (inserted entries (key_at pairs 15) front.next_page) named_few (omega arith) ∙ one_more ∙ sym level_parent;
+    link = ap link_said named_new ∙ written_link (level + 1) 0 (inserted entries (key_at pairs 15) front.next_page) named_few (omega arith);
     pairs = named_pairs ∙ ap (λ (x : ℕ). with_entry (page_pairs old parent) key (middle old x, front.next_page)) page_there;
     cut = subst (λ (x : ℕ). IsCut old cut x x front.next_page) page_there is_cut;
     two = front_is.some;

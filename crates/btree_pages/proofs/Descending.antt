@@ -55,7 +55,7 @@ first_child : (e : Pair) (es : List Pair) (high : ℕ) → e.0 < next_low es hig
 first_child e [] high lt = refl
 first_child e (f ∷ es) high lt = let b : nat_lt e.0 f.0 ≡ true = grind (arith, nat_tests) in rw b refl
 
-pub child_step : (l : ℕ) (bytes : List ℕ) (es : List Pair) (high key : ℕ) → 1 ≤ length es → AreChildren bytes es → AreSound (IsTree l bytes) es high → next_low es high ≤ key → key < high → Child l bytes es high key
+pub child_step : (l : ℕ) (bytes : List ℕ) (es : List Pair) (high key : ℕ) → 1 ≤ length es → AreChildren (next_page bytes) es → AreSound (IsTree l bytes) es high → next_low es high ≤ key → key < high → Child l bytes es high key
 child_step l bytes [] high key some are sound le lt = absurd (omega arith)
 child_step l bytes (e ∷ []) high key some are sound le lt = record {
   from = e.0;
@@ -152,7 +152,7 @@ child_step l bytes (e ∷ f ∷ es) high key some are sound le lt =
 
 -- the way to the lower bound of a page ends at a leaf that begins there
 first_begins : (m : ℕ) (bytes : List ℕ) → ((q low high : ℕ) → 2 ≤ q → IsTree m bytes q low high → next (page_pairs bytes (page_for m bytes q low)) low ≢ None)
-    → (es : List Pair) (low high : ℕ) → 1 ≤ length es → next_low es high ≡ low → AreChildren bytes es → AreSound (IsTree m bytes) es high → next (page_pairs bytes (page_for m bytes (child_for es low) low)) low ≢ None
+    → (es : List Pair) (low high : ℕ) → 1 ≤ length es → next_low es high ≡ low → AreChildren (next_page bytes) es → AreSound (IsTree m bytes) es high → next (page_pairs bytes (page_for m bytes (child_for es low) low)) low ≢ None
 first_begins m bytes ih [] low high some start are sound none = absurd (omega arith)
 first_begins m bytes ih (e ∷ es) low high some start are sound none =
     let wide = child_facts m bytes e.1 e.0 (next_low es high) are.0 sound.0 in

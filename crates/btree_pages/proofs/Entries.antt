@@ -1,5 +1,6 @@
 -- One more entry of an inner page.
 use Rattle.std.proofs.Common.{◌≡◌, ℕ, zero, suc, ◌<◌, ◌≤◌, true, false, nat_lt, inl, inr, List, [], ◌∷◌, length, refl, sym, ◌∙◌, ap, subst, arith}
+use Rattle.record_slots.specs.Places.{next_page}
 use Rattle.std.specs.Prelude.{if◌then◌else◌}
 use Rattle.std.proofs.lemmas.Bool.Decides.{nat_tests, leb_tells}
 use Rattle.page_store.specs.Pairs.{Pair, inserted}
@@ -13,7 +14,7 @@ use Rattle.btree_pages.proofs.Descending.{child_step}
 use Rattle.btree_pages.proofs.Splitting.{length-with, next_low-with}
 
 -- the place of a key in the range of key's child is right after that child's entry
-pub with_inserted : (l : ℕ) (bytes : List ℕ) (es : List Pair) (high key mid to : ℕ) → 1 ≤ length es → AreChildren bytes es → AreSound (IsTree l bytes) es high → next_low es high ≤ key → key < high
+pub with_inserted : (l : ℕ) (bytes : List ℕ) (es : List Pair) (high key mid to : ℕ) → 1 ≤ length es → AreChildren (next_page bytes) es → AreSound (IsTree l bytes) es high → next_low es high ≤ key → key < high
     → ((a b : ℕ) → IsTree l bytes (child_for es key) a b → (a ≤ mid) × (mid < b)) → inserted es mid to ≡ with_entry es key (mid, to)
 with_inserted l bytes [] high key mid to some are sound le lt within = absurd (omega arith)
 with_inserted l bytes (e ∷ []) high key mid to some are sound le lt within =

@@ -22,7 +22,7 @@ use Rattle.page_store.specs.Pairs.{Pair, Rise}
 use Rattle.record_slots.specs.Places.{page_bytes, AreGiven, next_page, IsSuper}
 use Rattle.index_pages.proofs.Halves.{given_take, joined_two}
 
-children_take : (bytes : List ℕ) (n : ℕ) (es : List Pair) → AreChildren bytes es → AreChildren bytes (take n es) × AreChildren bytes (drop n es)
+children_take : (bytes : List ℕ) (n : ℕ) (es : List Pair) → AreChildren (next_page bytes) es → AreChildren (next_page bytes) (take n es) × AreChildren (next_page bytes) (drop n es)
 children_take bytes zero es g = (tt, g)
 children_take bytes (suc n) [] g = (tt, tt)
 children_take bytes (suc n) (p ∷ ps) g = let h = children_take bytes n ps g.2 in ((g.0, g.1, h.0), h.1)
@@ -76,7 +76,7 @@ leaf_half old new whole half ps is low high low' high' t long r g =
     }
 
 pub inner_half : (old new : List ℕ) (whole half : ℕ) (ps : List Pair) → IsHalf old new whole half ps → (level low low' : ℕ) → IsInner old level whole low'
-    → length ps ≡ 15 → next_low ps low ≡ low → Rise low key_end ps → AreChildren new ps → IsInner new level half low
+    → length ps ≡ 15 → next_low ps low ≡ low → Rise low key_end ps → AreChildren (next_page new) ps → IsInner new level half low
 inner_half old new whole half ps is level low low' t long first r are =
     let count : count_of new half ≡ 15 = sym (length-page_pairs new half) ∙ ap (λ (l : List Pair). length l) is.pairs_are ∙ long in
     record {
@@ -87,7 +87,7 @@ inner_half old new whole half ps is level low low' t long first r are =
       most = omega arith;
       first = subst (λ (l : List Pair). next_low l low ≡ low) (sym is.pairs_are) first;
       rises = subst (λ (l : List Pair). Rise low key_end l) (sym is.pairs_are) r;
-      children = subst (λ (l : List Pair). AreChildren new l) (sym is.pairs_are) are;
+      children = subst (λ (l : List Pair). AreChildren (next_page new) l) (sym is.pairs_are) are;
     }
 
 -- a page that was split, with the pages below it as they were
@@ -173,7 +173,7 @@ length-with (e ∷ f ∷ es) key p some =
       | inr h ↦ let b : nat_lt key f.0 ≡ false = h.0 in rw b (ap suc (length-with (f ∷ es) key p (omega arith)))
     ]
 
-children_with : (bytes : List ℕ) (es : List Pair) (key : ℕ) (p : Pair) → 2 ≤ p.1 → p.1 < next_page bytes → AreChildren bytes es → AreChildren bytes (with_entry es key p)
+children_with : (bytes : List ℕ) (es : List Pair) (key : ℕ) (p : Pair) → 2 ≤ p.1 → p.1 < next_page bytes → AreChildren (next_page bytes) es → AreChildren (next_page bytes) (with_entry es key p)
 children_with bytes [] key p two given are = tt
 children_with bytes (e ∷ []) key p two given are = (are.0, are.1, (two, given, tt))
 children_with bytes (e ∷ f ∷ es) key p two given are =
@@ -199,7 +199,7 @@ child_under l bytes (e ∷ f ∷ es) key some =
           subst (λ (y : ℕ). IsUnderSome (IsUnder l bytes y) (e ∷ f ∷ es)) (sym is) (inr (child_under l bytes (f ∷ es) key (omega arith)))
     ]
 
-child_two : (bytes : List ℕ) (es : List Pair) (key : ℕ) → 1 ≤ length es → AreChildren bytes es → 2 ≤ child_for es key
+child_two : (bytes : List ℕ) (es : List Pair) (key : ℕ) → 1 ≤ length es → AreChildren (next_page bytes) es → 2 ≤ child_for es key
 child_two bytes [] key some are = absurd (omega arith)
 child_two bytes (e ∷ []) key some are = are.0
 child_two bytes (e ∷ f ∷ es) key some are =
@@ -209,7 +209,7 @@ child_two bytes (e ∷ f ∷ es) key some are =
     ]
 
 module _ (old new : List ℕ) (keeps : Keeps old new) (l c right key : ℕ) (cut : IsCut old new c c right) where
-  pub split_below : (es : List Pair) (high : ℕ) → 1 ≤ length es → high ≤ key_end → c ≡ child_for es key → AreChildren old es → AreSound (IsTree l old) es high
+  pub split_below : (es : List Pair) (high : ℕ) → 1 ≤ length es → high ≤ key_end → c ≡ child_for es key → AreChildren (next_page old) es → AreSound (IsTree l old) es high
       → ((x : ℕ) → IsUnderSome (IsUnder l old x) es → x ≢ c → page_bytes new x ≡ page_bytes old x)
       → Splits old new l key (middle old c, right) es high
   split_below [] high some small is are sound kept = absurd (omega arith)
@@ -285,7 +285,7 @@ parent_splits old new keeps l parent key right low high t small splits kept =
           most = omega (arith, splits.room);
           first = subst (λ (ps : List Pair). next_low ps low ≡ low) (sym splits.pairs) (next_low-with (page_pairs old parent) key low p ∙ t.0.first);
           rises = subst (λ (ps : List Pair). Rise low key_end ps) (sym splits.pairs) (s.rises low t.0.rises);
-          children = subst (λ (ps : List Pair). AreChildren new ps) (sym splits.pairs)
+          children = subst (λ (ps : List Pair). AreChildren (next_page new) ps) (sym splits.pairs)
               (children_with new (page_pairs old parent) key p splits.two splits.given (children_kept old new keeps (page_pairs old parent) t.0.children));
         },
         subst (λ (ps : List Pair). AreSound (IsTree l new) ps high) (sym splits.pairs) s.sound,
@@ -343,7 +343,7 @@ sound_tree_grows old new left right sound keeps front less splits kept =
         most = omega arith;
         first = subst (λ (ps : List Pair). next_low ps 0 ≡ 0) (sym splits.pairs) refl;
         rises = subst (λ (ps : List Pair). Rise 0 key_end ps) (sym splits.pairs) (omega arith, (omega arith, omega arith));
-        children = subst (λ (ps : List Pair). AreChildren new ps) (sym splits.pairs) (splits.two, splits.left_given, (splits.two', splits.right_given, tt));
+        children = subst (λ (ps : List Pair). AreChildren (next_page new) ps) (sym splits.pairs) (splits.two, splits.left_given, (splits.two', splits.right_given, tt));
       },
       subst (λ (ps : List Pair). AreSound (IsTree (level_of old 1) new) ps key_end) (sym splits.pairs) (h.left_tree, (h.right_tree, tt)),
     ) in (

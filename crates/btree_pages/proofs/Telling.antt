@@ -11,7 +11,7 @@ use Rattle.page_store.specs.declared.index_fault.CheckFault.{CheckFault}
 use Rattle.page_store.specs.declared.index_fault.CheckFault.TheVariants as check
 use Rattle.index_pages.specs.Faults.{as_check}
 use Rattle.index_pages.specs.Fetched.{ReadCause, TestCause}
-use Rattle.index_pages.specs.Slots.{Tells}
+use Rattle.index_pages.specs.Slots.{IsVerdict}
 use Rattle.btree_pages.specs.Tree.{tree_from}
 
 -- the medium failed in what is told exactly if it did in the read
@@ -61,8 +61,8 @@ module _ (tells : Bool) (Opens : List ℕ → List ℕ → Type 0) (old new : Pa
   told_looks told is looks = subst (λ (f : CheckFault). (let r : Result (Unit {0}) CheckFault = Err f in Looks tells Opens (is_check_failed r) old new)) (sym (told_media told is))
       (subst (λ (f : PageFault). (let r : Result (Unit {0}) PageFault = Err f in Looks tells Opens (is_failed r) old new)) only_media looks)
 
-  pub told_cause : (told : CheckFault) → told ≡ as_check fault → (l : ℕ) (bytes : List ℕ) (at low high : ℕ) → (let r : Result (Unit {0}) CheckFault = Err told in Tells (tree_from l bytes at low high) r)
-  told_cause told is l bytes at low high = subst (λ (f : CheckFault). (let r : Result (Unit {0}) CheckFault = Err f in Tells (tree_from l bytes at low high) r)) (sym (told_media told is)) tt
+  pub told_cause : (told : CheckFault) → told ≡ as_check fault → (l : ℕ) (bytes : List ℕ) (at low high : ℕ) → (let r : Result (Unit {0}) CheckFault = Err told in IsVerdict (tree_from l bytes at low high) r)
+  told_cause told is l bytes at low high = subst (λ (f : CheckFault). (let r : Result (Unit {0}) CheckFault = Err f in IsVerdict (tree_from l bytes at low high) r)) (sym (told_media told is)) tt
 
   pub told_dead : {P : Type 0} (told : CheckFault) → told ≡ as_check fault → (let r : Result (Unit {0}) CheckFault = Err told in r ≡ Err check.Dead) → P
   told_dead told is e = (let media = told_media told is in absurd (cc))

@@ -8,10 +8,10 @@ use Rattle.index_pages.specs.Pieces.{joined}
 use Rattle.index_pages.proofs.Kept.{given_kept}
 use Rattle.index_pages.specs.Ways.{Keeps}
 use Rattle.page_store.specs.Pairs.{Pair, Rise}
-use Rattle.record_slots.specs.Places.{page_bytes, AreGiven}
+use Rattle.record_slots.specs.Places.{page_bytes, AreGiven, next_page}
 
 module _ (old new : List ℕ) (keeps : Keeps old new) where
-  pub children_kept : (es : List Pair) → AreChildren old es → AreChildren new es
+  pub children_kept : (es : List Pair) → AreChildren (next_page old) es → AreChildren (next_page new) es
   children_kept [] are = tt
   children_kept (e ∷ es) are = (are.0, omega (arith, are.1, keeps.pages), children_kept es are.2)
 
@@ -35,7 +35,7 @@ module _ (old new : List ℕ) (keeps : Keeps old new) where
     most = subst (λ (b : List ℕ). count_said b ≤ 30) (sym e) t.most;
     first = ap (λ (b : List ℕ). next_low (pairs_said b) low) e ∙ t.first;
     rises = subst (λ (b : List ℕ). Rise low key_end (pairs_said b)) (sym e) t.rises;
-    children = subst (λ (b : List ℕ). AreChildren new (pairs_said b)) (sym e) (children_kept (page_pairs old page) t.children);
+    children = subst (λ (b : List ℕ). AreChildren (next_page new) (pairs_said b)) (sym e) (children_kept (page_pairs old page) t.children);
   }
 
   IsSame : ℕ → Type 0

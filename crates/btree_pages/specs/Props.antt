@@ -1,5 +1,6 @@
 -- That a tree is sound is a proposition, so a struct can keep it.
 use Rattle.std.specs.Prelude.{ℕ, zero, suc, List, [], ◌∷◌, None}
+use Rattle.record_slots.specs.Places.{next_page}
 use Rattle.std.specs.Coded.{×_prop, Unit-prop, le_prop}
 use Rattle.std.proofs.Props.{props}
 use Rattle.mars_base.specs.Check.{Check, each}
@@ -8,14 +9,11 @@ use Rattle.index_pages.specs.Keys.{key_end}
 use Rattle.index_pages.specs.Page.{page_pairs, level_of}
 use Rattle.index_pages.specs.Props.{Rise-prop, IsSuper-prop, slot-prop}
 use Rattle.index_pages.specs.Slots.{slot_check}
-use Rattle.btree_pages.specs.Tree.{IsLeafPage, IsInner, AreNamed, AreChildren, next_low, children_check, tree_from, IsSoundTree}
+use Rattle.btree_pages.specs.Tree.{IsLeafPage, IsInner, AreChildren, next_low, children_check, tree_from, IsSoundTree}
 
-AreNamed-prop : (pages : ℕ) (es : List Pair) → IsProp (AreNamed pages es)
-AreNamed-prop pages [] = Unit-prop
-AreNamed-prop pages (e ∷ es) = Prim.hlevel (props, AreNamed-prop pages es)
-
-children-named-prop : (bytes : List ℕ) (es : List Pair) → IsProp (AreChildren bytes es)
-children-named-prop bytes es = AreNamed-prop _ es
+AreChildren-prop : (pages : ℕ) (es : List Pair) → IsProp (AreChildren pages es)
+AreChildren-prop pages [] = Unit-prop
+AreChildren-prop pages (e ∷ es) = Prim.hlevel (props, AreChildren-prop pages es)
 
 slots-prop : (bytes : List ℕ) (page : ℕ) (ps : List Pair) → IsProp (each (slot_check bytes page) ps None)
 slots-prop bytes page [] = Unit-prop
@@ -25,7 +23,7 @@ IsLeafPage-prop : (bytes : List ℕ) (page low high : ℕ) → IsProp (IsLeafPag
 IsLeafPage-prop bytes page low high = Prim.hlevel (props, Rise-prop low high (page_pairs bytes page))
 
 IsInner-prop : (bytes : List ℕ) (level page low : ℕ) → IsProp (IsInner bytes level page low)
-IsInner-prop bytes level page low = Prim.hlevel (props, Rise-prop low key_end (page_pairs bytes page), children-named-prop bytes (page_pairs bytes page))
+IsInner-prop bytes level page low = Prim.hlevel (props, Rise-prop low key_end (page_pairs bytes page), AreChildren-prop (next_page bytes) (page_pairs bytes page))
 
 children-prop : (check : ℕ → ℕ → ℕ → Check ℕ) → ((page low high : ℕ) → IsProp (check page low high None)) → (es : List Pair) (high : ℕ) → IsProp (children_check check es high None)
 children-prop check prop [] high = Unit-prop

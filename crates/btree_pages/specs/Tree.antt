@@ -18,12 +18,9 @@ pub record IsLeafPage (bytes : List ℕ) (page low high : ℕ) : Type 0 where
   pub rises : Rise low high (page_pairs bytes page)
 
 -- the children of these entries are among so many given pages
-abbrev pub AreNamed : ℕ → List Pair → Type 0
-AreNamed pages [] = Unit {0}
-AreNamed pages (e ∷ es) = (2 ≤ e.1) × (e.1 < pages) × AreNamed pages es
-
-abbrev pub AreChildren : List ℕ → List Pair → Type 0
-AreChildren bytes es = AreNamed (next_page bytes) es
+abbrev pub AreChildren : ℕ → List Pair → Type 0
+AreChildren pages [] = Unit {0}
+AreChildren pages (e ∷ es) = (2 ≤ e.1) × (e.1 < pages) × AreChildren pages es
 
 -- the low key of the next entry, or the upper bound if there is none
 abbrev pub next_low : List Pair → ℕ → ℕ
@@ -39,7 +36,7 @@ pub record IsInner (bytes : List ℕ) (level page low : ℕ) : Type 0 where
   pub most : count_of bytes page ≤ 30
   pub first : next_low (page_pairs bytes page) low ≡ low
   pub rises : Rise low key_end (page_pairs bytes page)
-  pub children : AreChildren bytes (page_pairs bytes page)
+  pub children : AreChildren (next_page bytes) (page_pairs bytes page)
 
 -- the children of a page from left to right, each from its own low key up to the next one
 abbrev pub children_check : (ℕ → ℕ → ℕ → Check ℕ) → List Pair → ℕ → Check ℕ

@@ -17,3 +17,4 @@ pub mod Causing
 pub mod Going
 pub mod Carrying
 pub mod Slotted
+pub mod Parting

@@ -8,4 +8,5 @@ pub mod Fetched
 pub mod Acts
 pub mod Faults
 pub mod Parts
+pub mod Adding
 pub mod Slots

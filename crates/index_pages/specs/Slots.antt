@@ -10,8 +10,8 @@ use Rattle.page_store.specs.declared.index_fault.CheckFault.TheVariants.{Damaged
 abbrev pub slot_check : List ℕ → ℕ → Pair → Check ℕ
 slot_check bytes page pair = both (test (pair.1 < next_slot bytes) page) (test (Carries bytes pair) (slot_page bytes pair.1))
 
--- An answer tells the verdict of a check: no page is bad, or this one is the first that is. A fault of the medium tells nothing.
-abbrev pub Tells : {T : Type 0} → Check ℕ → Result T CheckFault → Type 0
-Tells check (Ok answer) = check None
-Tells check (Err (Damaged bad)) = check (Some bad)
-Tells check (Err fault) = Unit {0}
+-- The answer is the verdict of a check: no page is bad, or this one is the first that is. A fault of the medium says nothing of the data.
+abbrev pub IsVerdict : {T : Type 0} → Check ℕ → Result T CheckFault → Type 0
+IsVerdict check (Ok answer) = check None
+IsVerdict check (Err (Damaged bad)) = check (Some bad)
+IsVerdict check (Err fault) = Unit {0}

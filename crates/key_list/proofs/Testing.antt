@@ -13,14 +13,14 @@ use Rattle.page_store.specs.declared.index_fault.CheckFault.{CheckFault}
 use Rattle.page_store.specs.declared.index_fault.CheckFault.TheVariants.{Damaged, Media, Dead}
 use Rattle.index_pages.specs.Keys.{key_end}
 use Rattle.index_pages.specs.Page.{page_pairs, pairs_said, link_of, link_said}
-use Rattle.index_pages.specs.Slots.{slot_check, Tells}
+use Rattle.index_pages.specs.Slots.{slot_check, IsVerdict}
 use Rattle.key_list.specs.Chain.{behind, IsChainHead, pair_check, pairs_check, chain_from, chain_check, IsSoundChain, IsFirstDamagedOfChain}
 use Rattle.key_list.specs.Checked.{low_of}
 use Rattle.key_list.specs.Index.{chain}
 use Rattle.key_list.specs.Seen.{linked}
 
 -- the check of a pair's slot as that of the pair, whose key may follow
-pub pair_told : (bytes : List ℕ) (page low : ℕ) (pair : Pair) → low ≤ pair.0 → (r : Result (Unit {0}) CheckFault) → Tells (slot_check bytes page pair) r → Tells (pair_check bytes page low pair) r
+pub pair_told : (bytes : List ℕ) (page low : ℕ) (pair : Pair) → low ≤ pair.0 → (r : Result (Unit {0}) CheckFault) → IsVerdict (slot_check bytes page pair) r → IsVerdict (pair_check bytes page low pair) r
 pair_told bytes page low pair le (Ok tt) cause = (le, cause)
 pair_told bytes page low pair le (Err (Damaged bad)) cause = inr (le, cause)
 pair_told bytes page low pair le (Err Media) cause = tt
@@ -31,10 +31,10 @@ abbrev pub PairsLeft : List ℕ → ℕ → ℕ → List Pair → ℕ → List P
 PairsLeft bytes page low pairs low' left = (verdict : Option ℕ) → pairs_check bytes page low' left verdict → pairs_check bytes page low pairs verdict
 
 module _ (bytes : List ℕ) (page low : ℕ) (pairs : List Pair) (low' : ℕ) (p : Pair) (rest : List Pair) (left : PairsLeft bytes page low pairs low' (p ∷ rest)) where
-  pub left_step : (let r : Result (Unit {0}) CheckFault = Ok tt in Tells (pair_check bytes page low' p) r) → PairsLeft bytes page low pairs (suc p.0) rest
+  pub left_step : (let r : Result (Unit {0}) CheckFault = Ok tt in IsVerdict (pair_check bytes page low' p) r) → PairsLeft bytes page low pairs (suc p.0) rest
   left_step well = λ verdict told. left verdict (both_on (pair_check bytes page low' p) (pairs_check bytes page (suc p.0) rest) well verdict told)
 
-  pub left_fails : (fault : CheckFault) → (let r : Result (Unit {0}) CheckFault = Err fault in Tells (pair_check bytes page low' p) r) → (let s : Result (Option ℕ) CheckFault = Err fault in Tells (pairs_check bytes page low pairs) s)
+  pub left_fails : (fault : CheckFault) → (let r : Result (Unit {0}) CheckFault = Err fault in IsVerdict (pair_check bytes page low' p) r) → (let s : Result (Option ℕ) CheckFault = Err fault in IsVerdict (pairs_check bytes page low pairs) s)
   left_fails (Damaged bad) f = left (Some bad) (inl f)
   left_fails Media f = tt
   left_fails Dead f = tt
@@ -58,7 +58,7 @@ module _ (bytes buf : List ℕ) (page low n : ℕ) (is : buf ≡ page_bytes byte
     head_there : IsChainHead page (page_bytes bytes page)
     head_there = subst (λ (b : List ℕ). IsChainHead page b) is head
 
-    pub pairs_fail : (fault : CheckFault) (bad : ℕ) → fault ≡ Damaged bad → (let s : Result (Option ℕ) CheckFault = Err fault in Tells (pairs_check bytes page low (pairs_said buf)) s) → IsFirstDamagedOfChain bytes bad
+    pub pairs_fail : (fault : CheckFault) (bad : ℕ) → fault ≡ Damaged bad → (let s : Result (Option ℕ) CheckFault = Err fault in IsVerdict (pairs_check bytes page low (pairs_said buf)) s) → IsFirstDamagedOfChain bytes bad
     pairs_fail (Damaged bad') bad e f =
         let same : bad' ≡ bad = cc in
         let there = subst (λ (b : List ℕ). pairs_check bytes page low (pairs_said b) (Some bad')) is f in

@@ -6,6 +6,7 @@ mod checking;
 mod insertion;
 mod laws;
 mod look;
+mod page;
 mod place;
 mod write;
 

@@ -8,7 +8,7 @@ use Rattle.index_pages.specs.Page.{pairs_from, pair_said, pairs_said}
 use Rattle.index_pages.proofs.Looking.{looks_none, looks_next}
 use Rattle.index_pages.proofs.Reading.{from_step, from_end}
 use Rattle.mars_base.specs.Check.{each}
-use Rattle.index_pages.specs.Slots.{slot_check, Tells}
+use Rattle.index_pages.specs.Slots.{slot_check, IsVerdict}
 use Rattle.btree_pages.proofs.Checks.{whole_left, SlotsLeft, slots_step, slots_fail}
 use Rattle.btree_pages.proofs.checking.check_slots.Goals as goal
 
@@ -31,8 +31,8 @@ returns-in-Err-clause-cause g c = λ told slots.
     let left = subst (λ (ps : List Pair). SlotsLeft view.state.bytes c.args.page (pairs_said c.args.bytes.now) ps) (from_step c.args.bytes.now c.loop-i.i c.args.count c.loop-i-test.true)
     (c.loop-i.invariant.left told slots) in
     let cause = c.in-Err.ensures.cause told (slots ∙ ap (λ (s : State). next_slot s.bytes) (sym same)) in
-    let cause' : Tells (slot_check view.state.bytes c.args.page (pair_said c.args.bytes.now c.loop-i.i)) e =
-    subst (λ (p : Pair). Tells (slot_check view.state.bytes c.args.page p) e) c.read_pair-pair.ensures.pair (subst (λ (s : State). Tells (slot_check s.bytes c.args.page c.read_pair-pair.result) e) same cause) in
+    let cause' : IsVerdict (slot_check view.state.bytes c.args.page (pair_said c.args.bytes.now c.loop-i.i)) e =
+    subst (λ (p : Pair). IsVerdict (slot_check view.state.bytes c.args.page p) e) c.read_pair-pair.ensures.pair (subst (λ (s : State). IsVerdict (slot_check s.bytes c.args.page c.read_pair-pair.result) e) same cause) in
     slots_fail view.state.bytes c.args.page (pairs_said c.args.bytes.now) (pair_said c.args.bytes.now c.loop-i.i) rest left c.in-Err.fault cause'
 
 pub loop-i-preserved : goal.loop-i-preserved
@@ -50,8 +50,8 @@ loop-i-preserved g c =
           let left = subst (λ (ps : List Pair). SlotsLeft view.state.bytes c.args.page (pairs_said c.args.bytes.now) ps) (from_step c.args.bytes.now c.loop-i.i c.args.count c.loop-i-test.true)
           (c.loop-i.invariant.left told slots) in
           let cause = c.in-Ok.ensures.cause told (slots ∙ ap (λ (s : State). next_slot s.bytes) (sym same)) in
-          let cause' : Tells (slot_check view.state.bytes c.args.page (pair_said c.args.bytes.now c.loop-i.i)) r =
-          subst (λ (p : Pair). Tells (slot_check view.state.bytes c.args.page p) r) c.read_pair-pair.ensures.pair (subst (λ (s : State). Tells (slot_check s.bytes c.args.page c.read_pair-pair.result) r) same cause) in
+          let cause' : IsVerdict (slot_check view.state.bytes c.args.page (pair_said c.args.bytes.now c.loop-i.i)) r =
+          subst (λ (p : Pair). IsVerdict (slot_check view.state.bytes c.args.page p) r) c.read_pair-pair.ensures.pair (subst (λ (s : State). IsVerdict (slot_check s.bytes c.args.page c.read_pair-pair.result) r) same cause) in
           let on : suc c.loop-i.i ≡ c.loop-i.i + 1 = omega arith in
           subst (λ (n : ℕ). SlotsLeft view.state.bytes c.args.page (pairs_said c.args.bytes.now) (pairs_from c.args.bytes.now n (c.args.count - n))) on
           (slots_step view.state.bytes c.args.page (pairs_said c.args.bytes.now) (pair_said c.args.bytes.now c.loop-i.i) rest left cause');

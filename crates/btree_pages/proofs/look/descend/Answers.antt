@@ -13,7 +13,7 @@ use Rattle.index_pages.proofs.Sizes.{index_pages_are}
 use Rattle.btree_pages.specs.Descent.{child_for}
 use Rattle.btree_pages.specs.Leaf.{bound_in, AtLeaf}
 use Rattle.btree_pages.specs.Node.{IsNode}
-use Rattle.btree_pages.specs.declared.page.Head.{Head}
+use Rattle.index_pages.specs.declared.page.Head.{Head}
 use Rattle.btree_pages.specs.declared.look.Leaf.{Leaf}
 use Rattle.index_pages.proofs.Causing.{look_cause}
 use Rattle.btree_pages.proofs.Descending.{Down, down_first, down_step, down_node, down_last}

@@ -7,7 +7,7 @@ use Rattle.page_store.specs.declared.index_fault.CheckFault.{CheckFault}
 use Rattle.index_pages.specs.Page.{pairs_from, pair_said, pairs_said, count_said}
 use Rattle.index_pages.proofs.Looking.{looks_none, looks_next}
 use Rattle.index_pages.proofs.Reading.{from_first, from_step, from_end}
-use Rattle.index_pages.specs.Slots.{Tells}
+use Rattle.index_pages.specs.Slots.{IsVerdict}
 use Rattle.key_list.specs.Chain.{behind, pair_check, pairs_check}
 use Rattle.key_list.specs.Checked.{low_of}
 use Rattle.key_list.proofs.Testing.{PairsLeft, left_step, left_fails}
@@ -36,10 +36,10 @@ returns-in-Err-clause-cause g c = λ told slots.
     let e : Result (Unit {0}) CheckFault = Err c.in-Err.fault in
     let left = subst (λ (ps : List Pair). PairsLeft view.state.bytes c.args.page (low_of c.args.last) (pairs_said c.args.bytes.now) (low_of c.loop-i.last) ps)
     (from_step c.args.bytes.now c.loop-i.i c.args.count c.loop-i-test.true) (c.loop-i.invariant.left told slots) in
-    let cause : Tells (pair_check mid.state.bytes c.args.page (low_of c.loop-i.last) c.read_pair-key.result) e = c.in-Err.ensures.cause told (slots ∙ ap (λ (s : State). next_slot s.bytes) (sym same)) in
-    let cause' : Tells (pair_check view.state.bytes c.args.page (low_of c.loop-i.last) (pair_said c.args.bytes.now c.loop-i.i)) e =
-    subst (λ (p : Pair). Tells (pair_check view.state.bytes c.args.page (low_of c.loop-i.last) p) e) c.read_pair-key.ensures.pair
-    (subst (λ (s : State). Tells (pair_check s.bytes c.args.page (low_of c.loop-i.last) c.read_pair-key.result) e) same cause) in
+    let cause : IsVerdict (pair_check mid.state.bytes c.args.page (low_of c.loop-i.last) c.read_pair-key.result) e = c.in-Err.ensures.cause told (slots ∙ ap (λ (s : State). next_slot s.bytes) (sym same)) in
+    let cause' : IsVerdict (pair_check view.state.bytes c.args.page (low_of c.loop-i.last) (pair_said c.args.bytes.now c.loop-i.i)) e =
+    subst (λ (p : Pair). IsVerdict (pair_check view.state.bytes c.args.page (low_of c.loop-i.last) p) e) c.read_pair-key.ensures.pair
+    (subst (λ (s : State). IsVerdict (pair_check s.bytes c.args.page (low_of c.loop-i.last) c.read_pair-key.result) e) same cause) in
     left_fails view.state.bytes c.args.page (low_of c.args.last) (pairs_said c.args.bytes.now) (low_of c.loop-i.last) (pair_said c.args.bytes.now c.loop-i.i) rest left c.in-Err.fault cause'
 
 pub loop-i-preserved : goal.loop-i-preserved
@@ -62,10 +62,10 @@ loop-i-preserved g c =
           let r : Result (Unit {0}) CheckFault = Ok tt in
           let left = subst (λ (ps : List Pair). PairsLeft view.state.bytes c.args.page (low_of c.args.last) (pairs_said c.args.bytes.now) (low_of c.loop-i.last) ps)
           (from_step c.args.bytes.now c.loop-i.i c.args.count c.loop-i-test.true) (c.loop-i.invariant.left told slots) in
-          let cause : Tells (pair_check mid.state.bytes c.args.page (low_of c.loop-i.last) c.read_pair-key.result) r = c.in-Ok.ensures.cause told (slots ∙ ap (λ (s : State). next_slot s.bytes) (sym same)) in
-          let cause' : Tells (pair_check view.state.bytes c.args.page (low_of c.loop-i.last) (pair_said c.args.bytes.now c.loop-i.i)) r =
-          subst (λ (p : Pair). Tells (pair_check view.state.bytes c.args.page (low_of c.loop-i.last) p) r) c.read_pair-key.ensures.pair
-          (subst (λ (s : State). Tells (pair_check s.bytes c.args.page (low_of c.loop-i.last) c.read_pair-key.result) r) same cause) in
+          let cause : IsVerdict (pair_check mid.state.bytes c.args.page (low_of c.loop-i.last) c.read_pair-key.result) r = c.in-Ok.ensures.cause told (slots ∙ ap (λ (s : State). next_slot s.bytes) (sym same)) in
+          let cause' : IsVerdict (pair_check view.state.bytes c.args.page (low_of c.loop-i.last) (pair_said c.args.bytes.now c.loop-i.i)) r =
+          subst (λ (p : Pair). IsVerdict (pair_check view.state.bytes c.args.page (low_of c.loop-i.last) p) r) c.read_pair-key.ensures.pair
+          (subst (λ (s : State). IsVerdict (pair_check s.bytes c.args.page (low_of c.loop-i.last) c.read_pair-key.result) r) same cause) in
           let next = left_step view.state.bytes c.args.page (low_of c.args.last) (pairs_said c.args.bytes.now) (low_of c.loop-i.last) (pair_said c.args.bytes.now c.loop-i.i) rest left cause' in
           let on : suc c.loop-i.i ≡ c.loop-i.i + 1 = omega arith in
           subst (λ (p : Pair). PairsLeft view.state.bytes c.args.page (low_of c.args.last) (pairs_said c.args.bytes.now) (suc p.0) (pairs_from c.args.bytes.now (c.loop-i.i + 1) (c.args.count - (c.loop-i.i + 1)))) (sym c.read_pair-key.ensures.pair)
