@@ -8,7 +8,7 @@ use Rattle.array_shape.specs.declared.bad_shape.ShapeNumber.{ShapeNumber}
 use Rattle.array_shape.specs.declared.bad_shape.ShapeNumber.TheVariants.{Loggers, Numbers, Entries, Pages, MediaLength}
 use Rattle.array_shape.specs.Places.{media_len}
 use Rattle.row_bytes.specs.Header.{SaysShape, IsBadIn}
-use Rattle.eaw_device.specs.Opens.{header_of, IsArray, HasBadRow}
+use Rattle.eaw_device.specs.Opens.{header_of, IsArray, HoldsArray, HasBadRow}
 use Rattle.command_words.specs.Asked.{AsksFor}
 use Rattle.command_words.specs.declared.words.CallersNumbers.{CallersNumbers}
 use Rattle.command_words.specs.declared.words.Words.{Words}
@@ -18,9 +18,8 @@ use Rattle.script_io.specs.Input.{input_limit}
 use Rattle.mars_shell.specs.Asked.{WordsSay}
 use Rattle.mars_shell.specs.Forms.{index_in}
 use Rattle.mars_shell.specs.Input.{InputSays}
-use Rattle.mars_shell.specs.Joint.{Exceeds}
 use Rattle.mars_shell.specs.Outcome.{OutcomeOf}
-use Rattle.mars_shell.specs.Run.{HoldsRecords, IsDamaged}
+use Rattle.mars_shell.specs.Run.{HoldsRecords, IsDamaged, Exceeds, OverRecords}
 use Rattle.mars_shell.specs.Statuses.{Counts, IsEarly}
 use Rattle.mars_shell.specs.declared.status.Status.{Status}
 use Rattle.mars_shell.specs.declared.status.Status.TheVariants.{Good, Usage, TooLong, ReadFault, WriteFault, MediaFault, NoMemory, Damaged, BadRow, NotMars, BadShape}
@@ -82,14 +81,10 @@ no_damage media shape page holds is =
     let own = subst (λ (s : Shape). (index_in s media).sound (settled_data s media.content.bytes)) same holds.sound in
     damage_is_no_soundness (settled_data is.0 media.content.bytes) page is.2 own
 
--- a count that is as it was has not risen
-pub no_rise : Rose 0 0 → ⊥
-no_rise rose = omega (arith, rose)
-
 -- a command that reads no input
 pub nothing_read : (status : Status) → (IsEarly status → ⊥) → InputSays status [] []
 nothing_read Good late = (omega arith, refl)
-nothing_read Usage late = absurd (late tt)
+nothing_read Usage late = (omega arith, refl)
 nothing_read TooLong late = absurd (late tt)
 nothing_read ReadFault late = tt
 nothing_read WriteFault late = (omega arith, refl)
@@ -100,17 +95,25 @@ nothing_read (BadRow logger tid) late = (omega arith, refl)
 nothing_read NotMars late = (omega arith, refl)
 nothing_read (BadShape which given) late = (omega arith, refl)
 
-module _ (Works : Ended → Type 0) (Broken : ℕ → Type 0) (Looks : Type 0) (old new : View) (cut : Bool) (text : List ℕ) (given left : List ℕ) (s s' k k' m m' : ℕ)
-    (short : length given ≤ input_limit) (shape : Shape) (array : IsArray shape old) (whole : (page : ℕ) → Broken page → ⊥) (no_source : Rose s s' → ⊥) (no_sink : Rose k k' → ⊥) (no_media : Rose m m' → ⊥) where
-  pub complete_of : (status : Status) → (status ≡ Usage → ⊥) → Counts status s s' k k' m m' → InputSays status given left → OutcomeOf Works Broken Looks old status new cut text → (status ≡ Good) ⊎ (status ≡ NoMemory)
-  complete_of Good other counts input outcome = inl refl
-  complete_of NoMemory other counts input outcome = inr refl
-  complete_of Usage other counts input outcome = absurd (other refl)
-  complete_of TooLong other counts input outcome = absurd (omega (arith, short, input))
-  complete_of ReadFault other counts input outcome = absurd (no_source counts.0)
-  complete_of WriteFault other counts input outcome = absurd (no_sink counts.1)
-  complete_of MediaFault other counts input outcome = absurd (no_media counts.1)
-  complete_of (Damaged page) other counts input outcome = absurd (whole page outcome.cause)
-  complete_of (BadRow logger tid) other counts input outcome = absurd (no_bad_row old shape logger tid array outcome.cause)
-  complete_of NotMars other counts input outcome = absurd (outcome.cause (omega (arith, array.sized)) array.header.has_mark)
-  complete_of (BadShape which bad) other counts input outcome = absurd (not_bad_in (header_of old.content.bytes) old.size shape which bad array.header array.sized outcome.cause.2)
+module _ (Works : Ended → Type 0) (Broken : ℕ → Type 0) (Looks Lacks : Type 0) (old new : View) (cut : Bool) (text : List ℕ) (given left : List ℕ) (s s' k k' m m' : ℕ)
+    (short : length given ≤ input_limit) (shape : Shape) (array : IsArray shape old) (whole : (page : ℕ) → Broken page → ⊥) (has_all : Lacks → ⊥) (no_source : Rose s s' → ⊥) (no_sink : Rose k k' → ⊥) (no_media : Rose m m' → ⊥) where
+  pub complete_of : (status : Status) → Counts status s s' k k' m m' → InputSays status given left → OutcomeOf Works Broken Looks Lacks old status new cut text → (status ≡ Good) ⊎ (status ≡ NoMemory)
+  complete_of Good counts input outcome = inl refl
+  complete_of NoMemory counts input outcome = inr refl
+  complete_of Usage counts input outcome = absurd (has_all outcome.cause)
+  complete_of TooLong counts input outcome = absurd (omega (arith, short, input))
+  complete_of ReadFault counts input outcome = absurd (no_source counts.0)
+  complete_of WriteFault counts input outcome = absurd (no_sink counts.1)
+  complete_of MediaFault counts input outcome = absurd (no_media counts.1)
+  complete_of (Damaged page) counts input outcome = absurd (whole page outcome.cause)
+  complete_of (BadRow logger tid) counts input outcome = absurd (no_bad_row old shape logger tid array outcome.cause)
+  complete_of NotMars counts input outcome = absurd (outcome.cause (omega (arith, array.sized)) array.header.has_mark)
+  complete_of (BadShape which bad) counts input outcome = absurd (not_bad_in (header_of old.content.bytes) old.size shape which bad array.header array.sized outcome.cause.2)
+
+-- the same for work over records that are sound, for which there are numbers enough
+pub complete_records : (callers : ℕ) (Works : Ended → Type 0) (old : View) (status : Status) (new : View) (cut : Bool) (text : List ℕ) (given left : List ℕ) (s s' k k' m m' : ℕ) → length given ≤ input_limit
+    → (shape : Shape) → HoldsRecords shape old → callers ≤ shape.numbers → (Rose s s' → ⊥) → (Rose k k' → ⊥) → (Rose m m' → ⊥) → Counts status s s' k k' m m' → InputSays status given left
+    → OverRecords callers Works old status new cut text → (status ≡ Good) ⊎ (status ≡ NoMemory)
+complete_records callers Works old status new cut text given left s s' k k' m m' short shape holds enough no_source no_sink no_media counts input outcome =
+    complete_of Works (λ page. IsDamaged old page × (Exceeds callers old → ⊥)) (HoldsArray old × (Exceeds callers old → ⊥)) (Exceeds callers old) old new cut text given left s s' k k' m m'
+    short shape holds.array (λ page is. no_damage old shape page holds is.0) (no_excess old shape callers holds.array enough) no_source no_sink no_media status counts input outcome

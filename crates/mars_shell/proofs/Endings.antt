@@ -1,6 +1,6 @@
 -- What the kinds of a status give.
-use Rattle.std.proofs.Common.{◌≡◌, ◌≢◌, ◌⊎◌, ℕ, inl, inr, refl, subst, sym, Result, Ok, Err, List, [], length, ◌≤◌}
-use Rattle.std.specs.Result.{IfErr}
+use Rattle.std.proofs.Common.{◌≡◌, ◌≢◌, ◌⊎◌, ℕ, inl, inr, refl, ap, subst, sym, Result, Ok, Err, List, [], length, ◌≤◌}
+use Rattle.std.specs.Result.{IfErr, IfOk}
 use Rattle.command_words.specs.declared.words.Words.{Words}
 use Rattle.command_words.specs.declared.words.Words.TheVariants.{Dump}
 use Rattle.command_words.specs.declared.words.FormatNumbers.{FormatNumbers}
@@ -12,7 +12,7 @@ use Rattle.script_run.specs.declared.ended.Ended.{Ended}
 use Rattle.script_run.specs.declared.ended.Ended.TheVariants as script
 use Rattle.script_io.specs.Input.{input_limit}
 use Rattle.mars_shell.specs.Input.{InputSays}
-use Rattle.mars_shell.specs.Opening.{IsUnopened}
+use Rattle.mars_shell.specs.Opening.{IsUnread, IsUnopened}
 use Rattle.mars_shell.specs.Served.{ServedCounts}
 use Rattle.mars_shell.specs.Statuses.{Counts, IsEarly, IsRefusal, script_status, served_status}
 use Rattle.mars_shell.specs.declared.status.Status.{Status}
@@ -26,18 +26,18 @@ is_early status (inl is) = subst IsEarly (sym is) tt
 is_early status (inr is) = read_fault_early status is
 
 -- a status of a run that was not ended by a fault or by a lack of memory is early or a refusal
-pub silent_of : (Silent : Type 0) (status : Status) → (IsEarly status → Silent) → (IsRefusal status → Silent) → status ≢ Good → status ≢ WriteFault → status ≢ MediaFault → status ≢ NoMemory → Silent
-silent_of Silent Good early refused good write media memory = absurd (good refl)
-silent_of Silent WriteFault early refused good write media memory = absurd (write refl)
-silent_of Silent MediaFault early refused good write media memory = absurd (media refl)
-silent_of Silent NoMemory early refused good write media memory = absurd (memory refl)
-silent_of Silent Usage early refused good write media memory = early tt
-silent_of Silent TooLong early refused good write media memory = early tt
-silent_of Silent ReadFault early refused good write media memory = early tt
-silent_of Silent (Damaged page) early refused good write media memory = refused tt
-silent_of Silent (BadRow logger tid) early refused good write media memory = refused tt
-silent_of Silent NotMars early refused good write media memory = refused tt
-silent_of Silent (BadShape which given) early refused good write media memory = refused tt
+pub silent_of : (Silent : Type 0) (status : Status) → (IsEarly status ⊎ IsRefusal status → Silent) → status ≢ Good → status ≢ WriteFault → status ≢ MediaFault → status ≢ NoMemory → Silent
+silent_of Silent Good silent good write media memory = absurd (good refl)
+silent_of Silent WriteFault silent good write media memory = absurd (write refl)
+silent_of Silent MediaFault silent good write media memory = absurd (media refl)
+silent_of Silent NoMemory silent good write media memory = absurd (memory refl)
+silent_of Silent Usage silent good write media memory = silent (inr tt)
+silent_of Silent TooLong silent good write media memory = silent (inl tt)
+silent_of Silent ReadFault silent good write media memory = silent (inl tt)
+silent_of Silent (Damaged page) silent good write media memory = silent (inr tt)
+silent_of Silent (BadRow logger tid) silent good write media memory = silent (inr tt)
+silent_of Silent NotMars silent good write media memory = silent (inr tt)
+silent_of Silent (BadShape which given) silent good write media memory = silent (inr tt)
 
 -- a command that reads nothing leaves the source's count
 pub counts_unread : (status : Status) (s k k' m m' : ℕ) → (IsEarly status → ⊥) → Counts status 0 0 k k' m m' → Counts status s s k k' m m'
@@ -67,7 +67,7 @@ format_late asked size Good Untold Untouched says early = early
 format_late asked size WriteFault Untold Untouched says early = early
 format_late asked size MediaFault Untold Untouched says early = early
 format_late asked size (BadShape which given) Untold Untouched says early = early
-format_late asked size Usage Untold Untouched says early = says
+format_late asked size Usage Untold Untouched says early = early
 format_late asked size TooLong Untold Untouched says early = says
 format_late asked size ReadFault Untold Untouched says early = says
 format_late asked size NoMemory Untold Untouched says early = says
@@ -113,6 +113,28 @@ pub served_refused : (Silent : Type 0) (result : Result Ended CoreFault) → IfE
 served_refused Silent (Ok ended) silent refusal = absurd (script_accepted ended refusal)
 served_refused Silent (Err fault) silent refusal = silent
 
+-- it is no wrong use
+pub served_usage : (result : Result Ended CoreFault) → served_status result ≡ Usage → ⊥
+served_usage (Ok script.All) is = cc is
+served_usage (Ok script.WriteFault) is = cc is
+served_usage (Ok script.MediaFault) is = cc is
+served_usage (Ok script.NoMemory) is = cc is
+served_usage (Err (core.Damaged page)) is = cc is
+served_usage (Err core.Media) is = cc is
+served_usage (Err core.NoMemory) is = cc is
+
+-- nothing is told of work that is written at its end and did not come to it
+told_late : (Silent : Type 0) (ended : Ended) → (ended ≡ script.All) ⊎ (ended ≡ script.WriteFault) → (script_status ended ≡ MediaFault) ⊎ (script_status ended ≡ NoMemory) → Silent
+told_late Silent ended (inl is) (inl status) = absurd (cc (ap script_status is, status))
+told_late Silent ended (inl is) (inr status) = absurd (cc (ap script_status is, status))
+told_late Silent ended (inr is) (inl status) = absurd (cc (ap script_status is, status))
+told_late Silent ended (inr is) (inr status) = absurd (cc (ap script_status is, status))
+
+pub served_untold : (Silent : Type 0) (result : Result Ended CoreFault) → IfErr result (λ fault. Silent) → IfOk result (λ ended. (ended ≡ script.All) ⊎ (ended ≡ script.WriteFault))
+    → (served_status result ≡ MediaFault) ⊎ (served_status result ≡ NoMemory) → Silent
+served_untold Silent (Ok ended) silent end either = told_late Silent ended end either
+served_untold Silent (Err fault) silent end either = silent
+
 -- the status says which count rose, that of the medium through its store
 script_counts : (ended : Ended) (s k k' m m' : ℕ) → ScriptCounts ended k k' m m' → Counts (script_status ended) s s k k' m m'
 script_counts script.All s k k' m m' counts = (refl, counts.0, counts.1)
@@ -136,7 +158,7 @@ served result status s s' k k' m m' n n' is read before after counts = rw (is, r
 -- an input that was read, at a status that is not early
 pub input_read : (status : Status) (given left : List ℕ) → (IsEarly status → ⊥) → length given ≤ input_limit → left ≡ [] → InputSays status given left
 input_read Good given left late short done = (short, done)
-input_read Usage given left late short done = absurd (late tt)
+input_read Usage given left late short done = (short, done)
 input_read TooLong given left late short done = absurd (late tt)
 input_read ReadFault given left late short done = tt
 input_read WriteFault given left late short done = (short, done)
@@ -146,3 +168,31 @@ input_read (Damaged page) given left late short done = (short, done)
 input_read (BadRow logger tid) given left late short done = (short, done)
 input_read NotMars given left late short done = (short, done)
 input_read (BadShape which given') given left late short done = (short, done)
+
+-- an input that is not taken
+pub unread_unopened : (status : Status) → IsUnread status → IsUnopened status
+unread_unopened TooLong kind = tt
+unread_unopened ReadFault kind = tt
+unread_unopened NoMemory kind = tt
+unread_unopened Good kind = kind
+unread_unopened Usage kind = kind
+unread_unopened WriteFault kind = kind
+unread_unopened MediaFault kind = absurd kind
+unread_unopened (Damaged page) kind = kind
+unread_unopened (BadRow logger tid) kind = absurd kind
+unread_unopened NotMars kind = absurd kind
+unread_unopened (BadShape which given) kind = absurd kind
+
+-- leaves the medium's count
+pub counts_unlooked : (status : Status) (s s' m : ℕ) → IsUnread status → Counts status s s' 0 0 0 0 → Counts status s s' 0 0 m m
+counts_unlooked TooLong s s' m kind counts = (counts.0, refl, refl)
+counts_unlooked ReadFault s s' m kind counts = (counts.0, refl, refl)
+counts_unlooked NoMemory s s' m kind counts = (counts.0, refl, refl)
+counts_unlooked Good s s' m kind counts = absurd kind
+counts_unlooked Usage s s' m kind counts = absurd kind
+counts_unlooked WriteFault s s' m kind counts = absurd kind
+counts_unlooked MediaFault s s' m kind counts = absurd kind
+counts_unlooked (Damaged page) s s' m kind counts = absurd kind
+counts_unlooked (BadRow logger tid) s s' m kind counts = absurd kind
+counts_unlooked NotMars s s' m kind counts = absurd kind
+counts_unlooked (BadShape which given) s s' m kind counts = absurd kind

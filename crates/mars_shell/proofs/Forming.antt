@@ -1,6 +1,6 @@
 -- Which index the data has, and work under that index.
 use Rattle.std.proofs.Common.{◌≡◌, ℕ, zero, suc, Bool, true, inl, List, refl, sym, ap, subst, ◌∙◌, length, arith, Result, Ok, Err}
-use Rattle.std.specs.Prelude.{IsTrue, IfOk}
+use Rattle.std.specs.Prelude.{IsTrue}
 use Rattle.mars_base.proofs.Going as going
 use Rattle.array_shape.specs.declared.shape.Shape.{Shape}
 use Rattle.eaw_face.specs.State.{State}
@@ -88,8 +88,15 @@ module _ (tells : Bool) (told : IsTrue tells) (Opens : Shape → List ℕ → Li
     untaken_on : (fault : CoreFault) (cut : Bool) (text : List ℕ) → Untaken Opens index mid fault cut text new → Untaken Opens index old fault cut text new
     untaken_on fault cut text off = record { whole = off.whole; silent = off.silent; cause = moved_cause index old mid bytes_are fault off.cause; time = time_on off.time }
 
-    served_on : (Says : Limits → List Turn → face.State → Type 0) (ended : Ended) → Served Says Opens index mid ended new → Served Says Opens index old ended new
-    served_on Says ended served =
+    spared_on : Spared Opens mid new → Spared Opens old new
+    spared_on spared = record {
+      alive = spared.alive;
+      time = time_on spared.time;
+      now = λ image left. subst (λ (b : List ℕ). Opens old.shape image b) bytes_are (subst (λ (s : Shape). Opens s image mid.state.bytes) says.shape (spared.now image left));
+    }
+
+    served_on : (spares : Bool) (Says : Limits → List Turn → face.State → Type 0) (ended : Ended) → Served spares Says Opens index mid ended new → Served spares Says Opens index old ended new
+    served_on spares Says ended served =
         let sound = subst (λ (b : List ℕ). index.sound b) bytes_are served.sound in
         let base : served.final.base ≡ table_of index old.state.bytes = served.base ∙ ap (table_of index) bytes_are in
         record {
@@ -109,21 +116,11 @@ module _ (tells : Bool) (told : IsTrue tells) (Opens : Shape → List ℕ → Li
           }) (says.time told)) (subst (λ (s : Shape). LeavesOnly (opens_of Opens s index served.final 0) mid new) says.shape served.since);
           now = λ image left. subst (λ (s : Shape). opens_of Opens s index served.final (length served.final.history) image) says.shape (served.now image left);
           left = served.left;
+          spared = λ is. spared_on (served.spared is);
         }
 
-    spared_on : Spared Opens mid new → Spared Opens old new
-    spared_on spared = record {
-      alive = spared.alive;
-      time = time_on spared.time;
-      now = λ image left. subst (λ (b : List ℕ). Opens old.shape image b) bytes_are (subst (λ (s : Shape). Opens s image mid.state.bytes) says.shape (spared.now image left));
-    }
-
     -- the work was done under the store's own index
-    pub serves_on : (Says : Ended → Limits → List Turn → face.State → Type 0) (result : Result Ended CoreFault) (cut : Bool) (text : List ℕ) → Serves Says Opens (index_of_form form) mid result cut text new
-        → Serves Says Opens (index_at old.state.bytes) old result cut text new
-    serves_on Says (Ok ended) cut text served = subst (λ (i : Index). Served (Says ended) Opens i old ended new) (sym own) (served_on (Says ended) ended served)
-    serves_on Says (Err fault) cut text off = subst (λ (i : Index). Untaken Opens i old fault cut text new) (sym own) (untaken_on fault cut text off)
-
-    pub spared_if_on : (result : Result Ended CoreFault) → IfOk result (λ ended. Spared Opens mid new) → IfOk result (λ ended. Spared Opens old new)
-    spared_if_on (Ok ended) spared = spared_on spared
-    spared_if_on (Err fault) spared = tt
+    pub serves_on : (spares : Bool) (Says : Ended → Limits → List Turn → face.State → Type 0) (result : Result Ended CoreFault) (cut : Bool) (text : List ℕ) → Serves spares Says Opens (index_of_form form) mid result cut text new
+        → Serves spares Says Opens (index_at old.state.bytes) old result cut text new
+    serves_on spares Says (Ok ended) cut text served = subst (λ (i : Index). Served spares (Says ended) Opens i old ended new) (sym own) (served_on spares (Says ended) ended served)
+    serves_on spares Says (Err fault) cut text off = subst (λ (i : Index). Untaken Opens i old fault cut text new) (sym own) (untaken_on fault cut text off)

@@ -7,6 +7,7 @@ pub mod Acknowledged
 pub mod Shapes
 pub mod Forming
 pub mod Serving
+pub mod Lining
 pub mod Joining
 pub mod Making
 pub mod Summing

@@ -5,17 +5,19 @@ use Rattle.std.specs.List.{All, count_by}
 use Rattle.std.proofs.lemmas.Bool.{cases_lt, false≢true}
 use Rattle.std.proofs.lemmas.Bool.Decides.{nat_tests}
 use Rattle.std.proofs.lemmas.List.{map-append, take_more}
-use Rattle.std.proofs.lemmas.List.Elements.{All-from_recursion, All-append, All-nil}
+use Rattle.std.proofs.lemmas.List.Elements.{All-from_recursion, All-append, All-nil, All-weaker}
+use Rattle.std.proofs.lemmas.List.Folds.{list_any-append, list_any_none}
 use Rattle.std.proofs.lemmas.List.Sums.{sum_by-append}
 use Rattle.history.specs.declared.call.Call.{Call}
 use Rattle.history.specs.declared.call.Reply.{Reply}
 use Rattle.history.specs.declared.call.Reply.TheVariants as told
 use Rattle.caller_steps.specs.State.{State}
 use Rattle.caller_steps.specs.Room.{Limits}
-use Rattle.caller_steps.specs.Run.{Turn}
+use Rattle.caller_steps.specs.Run.{Turn, has_fault}
 use Rattle.caller_steps.specs.Step.{Step, Runs}
 use Rattle.caller_steps.specs.Fate.{is_committed, is_media}
 use Rattle.caller_steps.specs.Core.{CoreView, Steps}
+use Rattle.caller_steps.proofs.Running.{turns_dead, turns_of_runs}
 use Rattle.caller_steps.proofs.Continuing.{continues_none, continues_step, continues_on}
 use Rattle.drill_gen.specs.Drill.{alone, paired, one_by_one, in_pairs, drill, transaction}
 use Rattle.drill_gen.specs.declared.transaction.Transaction.{Transaction}
@@ -43,6 +45,39 @@ tally_more turns caller call reply = λ i. record {
   busy = count_more (λ turn. is_busy turn.2) turns (caller, call, reply) i;
   refused = count_more (λ turn. is_full turn.2) turns (caller, call, reply) i;
 }
+
+-- ---- turns without a fault of the medium
+
+-- a reply after which the script goes on is no fault of the medium
+pub no_fault : (reply : Reply) → IsTrue (goes_on reply) → IsFalse (is_media reply)
+no_fault told.Fine goes = refl
+no_fault (told.Found value) goes = refl
+no_fault told.Absent goes = refl
+no_fault (told.Listed rows) goes = refl
+no_fault (told.Saved n) goes = refl
+no_fault (told.Committed n) goes = refl
+no_fault told.NoTransaction goes = refl
+no_fault told.Already goes = refl
+no_fault (told.NoSave n) goes = refl
+no_fault told.SavesFull goes = refl
+no_fault (told.Busy holder) goes = refl
+no_fault (told.LogFull logger held needed) goes = refl
+no_fault (told.SlotsFull n) goes = refl
+no_fault (told.PagesFull n) goes = refl
+no_fault told.Media goes = absurd (false≢true goes)
+no_fault told.Dead goes = refl
+no_fault told.NoMemory goes = refl
+no_fault (told.Damaged page) goes = refl
+
+pub clean_more : (turns : List Turn) (turn : Turn) → has_fault turns ≡ false → is_media turn.2 ≡ false → has_fault (turns ++ turn ∷ []) ≡ false
+clean_more turns turn none here = list_any-append (λ (t : Turn). is_media t.2) turns (turn ∷ []) ∙ (λ i. none i || (here i || false))
+
+pub clean_all : (turns : List Turn) → GoOn turns → has_fault turns ≡ false
+clean_all turns on = list_any_none (λ (t : Turn). is_media t.2) turns (All-weaker (λ (t : Turn). IsTrue (goes_on t.2)) (λ (t : Turn). is_media t.2 ≡ false) (λ t goes. no_fault t.2 goes) turns on)
+
+-- they leave the core alive
+pub living : (limits : Limits) (first now : State) (turns : List Turn) → Runs limits first turns now → first.is_dead ≡ false → has_fault turns ≡ false → now.is_dead ≡ false
+living limits first now turns runs alive none = turns_dead true limits first now turns (turns_of_runs limits first now turns runs) ∙ (λ i. alive i || none i)
 
 -- ---- the calls
 
@@ -79,32 +114,11 @@ module _ (tells : Bool) (old : CoreView) (script : List (ℕ × Call)) where
     pub ends_early : (d : ℕ × Call) → length turns < length script → get_or script (length turns) d ≡ (caller, call) → GoOn turns → (tally later : Tally) (stop : Stop)
         → (let r : Result (Unit {0}) Stop = Err stop in Counted tally caller call reply later r) → EndsEarly tells old script stop new
     ends_early d more is on tally later (Media number) counted = (more_turns, made_more d more is, (turns, caller, call, ap (λ (r : Reply). turns ++ (caller, call, r) ∷ []) counted.1, on))
-    ends_early d more is on tally later NoMemory counted = (more_turns, made_more d more is)
+    ends_early d more is on tally later NoMemory counted = (more_turns, made_more d more is, clean_more turns (caller, call, reply) (clean_all turns on) (ap is_media counted))
 
     -- a reply that is no fault of the medium leaves the core alive
     pub stays_alive : mid.state.is_dead ≡ false → IsFalse (is_media reply) → new.state.is_dead ≡ false
     stays_alive alive none = steps.moves.dead ∙ ap (λ (d : Bool). d || is_media reply) alive ∙ none
-
--- a reply after which the script goes on is no fault of the medium
-pub no_fault : (reply : Reply) → IsTrue (goes_on reply) → IsFalse (is_media reply)
-no_fault told.Fine goes = refl
-no_fault (told.Found value) goes = refl
-no_fault told.Absent goes = refl
-no_fault (told.Listed rows) goes = refl
-no_fault (told.Saved n) goes = refl
-no_fault (told.Committed n) goes = refl
-no_fault told.NoTransaction goes = refl
-no_fault told.Already goes = refl
-no_fault (told.NoSave n) goes = refl
-no_fault told.SavesFull goes = refl
-no_fault (told.Busy holder) goes = refl
-no_fault (told.LogFull logger held needed) goes = refl
-no_fault (told.SlotsFull n) goes = refl
-no_fault (told.PagesFull n) goes = refl
-no_fault told.Media goes = absurd (false≢true goes)
-no_fault told.Dead goes = refl
-no_fault told.NoMemory goes = refl
-no_fault (told.Damaged page) goes = refl
 
 -- ---- the callers of a drawn script
 

@@ -24,11 +24,12 @@ use Rattle.script_io.specs.Written.{IsWritten}
 use Rattle.script_run.specs.declared.ended.Ended.{Ended}
 use Rattle.mars_shell.specs.Dump.{Spares}
 use Rattle.mars_shell.specs.Forms.{index_at, index_in}
-use Rattle.mars_shell.specs.Outcome.{Idle, OutcomeOf}
-use Rattle.mars_shell.specs.Run.{HoldsRecords, IsDamaged, begun_on, HasAll, TakesTurns}
+use Rattle.mars_shell.specs.Outcome.{Idle}
+use Rattle.mars_shell.specs.Run.{HoldsRecords, OverRecords, begun_on, HasAll, TakesTurns}
 use Rattle.mars_shell.specs.PrefixLaw.{Recovers}
 use Rattle.mars_shell.specs.Served.{opens_of, Untaken, Served, Spared}
 use Rattle.mars_shell.specs.Statuses.{served_status}
+use Rattle.mars_shell.proofs.Completing.{no_excess}
 use Rattle.mars_shell.proofs.Forming.{sound_says}
 use Rattle.mars_shell.proofs.Unopened.{first_like}
 
@@ -85,18 +86,18 @@ module _ (tells : Bool) (told : IsTrue tells) (old : View) (only_now : (image : 
       }
 
     -- the records were not taken
-    pub untaken_outcome : (Works : Ended → Type 0) (fault : CoreFault) (cut : Bool) (text : List ℕ) → Untaken Opens (index_at store.state.bytes) store fault cut text later
-        → OutcomeOf Works (IsDamaged old) (HoldsArray old) old (served_status (Err fault)) new cut text
-    untaken_outcome Works (core.Damaged page) cut text off =
-        idle (core.Damaged page) cut text off (IsDamaged old page) (store.shape, array, subst (λ (b : List ℕ). (index_at b).fails b page) (attached.bytes told) (off.cause refl))
-    untaken_outcome Works core.Media cut text off = inl (idle core.Media cut text off _ (inr (store.shape, array)))
-    untaken_outcome Works core.NoMemory cut text off = inr (inl (idle core.NoMemory cut text off _ (store.shape, array)))
+    pub untaken_outcome : (Works : Ended → Type 0) (callers : ℕ) → callers ≤ store.shape.numbers → (fault : CoreFault) (cut : Bool) (text : List ℕ) → Untaken Opens (index_at store.state.bytes) store fault cut text later
+        → OverRecords callers Works old (served_status (Err fault)) new cut text
+    untaken_outcome Works callers enough (core.Damaged page) cut text off = idle (core.Damaged page) cut text off _
+        ((store.shape, array, subst (λ (b : List ℕ). (index_at b).fails b page) (attached.bytes told) (off.cause refl)), no_excess old store.shape callers array enough)
+    untaken_outcome Works callers enough core.Media cut text off = inl (idle core.Media cut text off _ (inr ((store.shape, array), no_excess old store.shape callers array enough)))
+    untaken_outcome Works callers enough core.NoMemory cut text off = inr (inl (idle core.NoMemory cut text off _ ((store.shape, array), no_excess old store.shape callers array enough)))
 
     module _ (counts_now : (t : ℕ) (image : List ℕ) → IsTrue tells → t ≤ new.moment → MayLeave new.content image → new.left_since t image) where
       left_now : (image : List ℕ) → MayLeave new.content image → later.left_since later.moment image
       left_now image left = subst (λ (t : ℕ). later.left_since t image) behind.moment (behind.left new.moment image (counts_now new.moment image told (omega arith) left))
 
-      module _ (Says : Limits → List Turn → State → Type 0) (ended : Ended) (served : Served Says Opens (index_at store.state.bytes) store ended later) where
+      module _ (spares : Bool) (Says : Limits → List Turn → State → Type 0) (ended : Ended) (served : Served spares Says Opens (index_at store.state.bytes) store ended later) where
         recovers : (least : ℕ) (image : List ℕ) → opens_of Opens store.shape (index_at store.state.bytes) served.final least image → Recovers store.shape (index_in store.shape old) served.final least image
         recovers least image has = subst (λ (b : List ℕ). Recovers store.shape (index_at b) served.final least image) (attached.bytes told) has
 
@@ -108,7 +109,7 @@ module _ (tells : Bool) (told : IsTrue tells) (old : View) (only_now : (image : 
             (subst (λ (i : Index). HasAll i later.state.bytes served.final) (sym (sound_says store.state.bytes later.state.bytes has.sound)) has)
 
         -- callers took turns
-        pub takes_turns : TakesTurns Says old ended new
+        takes_turns : TakesTurns Says old ended new
         takes_turns = record {
           shape = store.shape;
           holds = holds served.sound;
@@ -123,18 +124,18 @@ module _ (tells : Bool) (told : IsTrue tells) (old : View) (only_now : (image : 
             since = λ all image left. ⊎_elim (λ was. inl (at_entry store.shape all image was)) (λ anew. inr (recovers 0 image anew))
                 (served.since.only old.moment image (keeps told store.shape all).later (behind.left old.moment image left));
           };
-          quiet = λ all. subst (λ (s : Shape). HasNoVote s new.content.bytes) served.shape (behind.quiet told (served.left all).0);
-          left = λ all. own_all (served.left all).1;
+          quiet = λ unfailed. subst (λ (s : Shape). HasNoVote s new.content.bytes) served.shape (behind.quiet told (served.left unfailed).0);
+          left = λ unfailed. own_all (served.left unfailed).1;
         }
 
         -- and what was opened stays, if the store was spared
-        spares : Spared Opens store later → Spares store.shape old new
-        spares spared = record {
+        spared_on : Spared Opens store later → Spares store.shape old new
+        spared_on spared = record {
           quiet = subst (λ (s : Shape). HasNoVote s new.content.bytes) served.shape (behind.quiet told spared.alive);
           now = λ image left. subst (λ (b : List ℕ). Opens store.shape image b) (attached.bytes told) (spared.now image (left_now image left));
           since = λ all image left. looked spared.time store.shape all image left;
         }
 
-        pub spared_turns : Spared Opens store later → (taken : TakesTurns Says old ended new) × Spares taken.shape old new
+        pub turns_taken : (taken : TakesTurns Says old ended new) × (IsTrue spares → Spares taken.shape old new)
         unfolding takes_turns
-        spared_turns spared = (takes_turns, spares spared)
+        turns_taken = (takes_turns, λ is. spared_on (served.spared is))

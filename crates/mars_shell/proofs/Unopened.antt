@@ -9,7 +9,7 @@ use Rattle.eaw_device.specs.Opens.{AllOpen, OpensLike, KeepsData, OpensWithin, A
 use Rattle.eaw_device.specs.declared.fault.AttachFault.{AttachFault}
 use Rattle.eaw_device.specs.declared.fault.AttachFault.TheVariants as opening
 use Rattle.script_run.specs.declared.ended.Ended.{Ended}
-use Rattle.mars_shell.specs.Opening.{IsUnopened, Unopened}
+use Rattle.mars_shell.specs.Opening.{IsUnread, IsUnopened, Unopened}
 use Rattle.mars_shell.specs.Outcome.{Idle, OutcomeOf}
 use Rattle.mars_shell.specs.Statuses.{status_of}
 use Rattle.mars_shell.specs.declared.status.Status.{Status}
@@ -26,6 +26,20 @@ module _ (tells : Bool) (told : IsTrue tells) (old : View) (only_now : (image : 
   -- a medium to which nothing was done
   pub idle_same : (MayWrite Cause : Type 0) → Cause → Idle MayWrite Cause old old false []
   idle_same MayWrite Cause cause = record { silent = refl; keeps = first_like; spared = inl (touched_by_nothing [] old.content); cause = cause }
+
+  -- nor was it looked at, as the input was not taken
+  pub unread_of : (status : Status) → IsUnread status → Unopened old status old
+  unread_of TooLong kind = idle_same _ _ tt
+  unread_of ReadFault kind = idle_same _ _ tt
+  unread_of NoMemory kind = inl (idle_same _ _ (inl refl))
+  unread_of Good kind = absurd kind
+  unread_of Usage kind = absurd kind
+  unread_of WriteFault kind = absurd kind
+  unread_of MediaFault kind = absurd kind
+  unread_of (Damaged page) kind = absurd kind
+  unread_of (BadRow logger tid) kind = absurd kind
+  unread_of NotMars kind = absurd kind
+  unread_of (BadShape which given) kind = absurd kind
 
   -- a medium whose array was not opened
   idle_kept : (MayWrite Cause : Type 0) (new : View) → KeepsData tells old new.moment new.left_since → Touched [] old.content new.content ⊎ MayWrite → Cause → Idle MayWrite Cause old new false []
@@ -46,19 +60,19 @@ module _ (tells : Bool) (told : IsTrue tells) (old : View) (only_now : (image : 
       inl (idle_kept _ _ new keeps (inl (leaves told)) (inr (early refl, (cause told).0, (cause told).1, (cause told).2)))
 
 -- nothing was done, whatever the work is
-pub unopened_as : (Works : Ended → Type 0) (Broken : ℕ → Type 0) (Looks : Type 0) (old : View) (status : Status) (new : View) → IsUnopened status → Unopened old status new → OutcomeOf Works Broken Looks old status new false []
-unopened_as Works Broken Looks old Good new kind outcome = absurd kind
-unopened_as Works Broken Looks old Usage new kind outcome = absurd kind
-unopened_as Works Broken Looks old TooLong new kind outcome = outcome
-unopened_as Works Broken Looks old ReadFault new kind outcome = outcome
-unopened_as Works Broken Looks old WriteFault new kind outcome = absurd kind
-unopened_as Works Broken Looks old MediaFault new kind (inl fails) =
+pub unopened_as : (Works : Ended → Type 0) (Broken : ℕ → Type 0) (Looks Lacks : Type 0) (old : View) (status : Status) (new : View) → IsUnopened status → Unopened old status new → OutcomeOf Works Broken Looks Lacks old status new false []
+unopened_as Works Broken Looks Lacks old Good new kind outcome = absurd kind
+unopened_as Works Broken Looks Lacks old Usage new kind outcome = absurd kind
+unopened_as Works Broken Looks Lacks old TooLong new kind outcome = outcome
+unopened_as Works Broken Looks Lacks old ReadFault new kind outcome = outcome
+unopened_as Works Broken Looks Lacks old WriteFault new kind outcome = absurd kind
+unopened_as Works Broken Looks Lacks old MediaFault new kind (inl fails) =
     inl (record { silent = fails.silent; keeps = fails.keeps; spared = fails.spared; cause = ⊎_elim (λ within. inl within) (λ none. absurd none) fails.cause })
-unopened_as Works Broken Looks old MediaFault new kind (inr none) = absurd none
-unopened_as Works Broken Looks old NoMemory new kind (inl short) = inl short
-unopened_as Works Broken Looks old NoMemory new kind (inr (inl none)) = absurd none.cause
-unopened_as Works Broken Looks old NoMemory new kind (inr (inr none)) = absurd none
-unopened_as Works Broken Looks old (Damaged page) new kind outcome = absurd kind
-unopened_as Works Broken Looks old (BadRow logger tid) new kind outcome = outcome
-unopened_as Works Broken Looks old NotMars new kind outcome = outcome
-unopened_as Works Broken Looks old (BadShape which given) new kind outcome = outcome
+unopened_as Works Broken Looks Lacks old MediaFault new kind (inr none) = absurd none
+unopened_as Works Broken Looks Lacks old NoMemory new kind (inl short) = inl short
+unopened_as Works Broken Looks Lacks old NoMemory new kind (inr (inl none)) = absurd none.cause
+unopened_as Works Broken Looks Lacks old NoMemory new kind (inr (inr none)) = absurd none
+unopened_as Works Broken Looks Lacks old (Damaged page) new kind outcome = absurd kind
+unopened_as Works Broken Looks Lacks old (BadRow logger tid) new kind outcome = outcome
+unopened_as Works Broken Looks Lacks old NotMars new kind outcome = outcome
+unopened_as Works Broken Looks Lacks old (BadShape which given) new kind outcome = outcome

@@ -10,11 +10,11 @@ use Rattle.eaw_device.specs.Opens.{HoldsArray}
 use Rattle.script_io.specs.Input.{input_limit}
 use Rattle.mars_shell.specs.Commands.{Obeys}
 use Rattle.mars_shell.specs.Formats.{GiveLength, FormatOutcome}
-use Rattle.mars_shell.specs.Joint.{JointOutcome}
+use Rattle.mars_shell.specs.Joint.{JointWork}
 use Rattle.mars_shell.specs.Outcome.{OutcomeOf}
 use Rattle.mars_shell.specs.Drill.{Drills}
 use Rattle.mars_shell.specs.Dump.{Dumps, Spares}
-use Rattle.mars_shell.specs.Run.{HoldsRecords, TakesTurns, Answers, IsDamaged}
+use Rattle.mars_shell.specs.Run.{HoldsRecords, TakesTurns, Answers, OverRecords}
 use Rattle.mars_shell.specs.declared.status.Status.{Status}
 use Rattle.mars_shell.specs.declared.status.Status.TheVariants.{Usage, NoMemory}
 
@@ -43,13 +43,14 @@ IfReads Eaw Without Reads = Reads
 IfReads _ Without Reads = Without
 
 -- What was written and done, by what is asked for. `run`, `callers`, `drill` and `dump` read the records of an array that was opened. `eaw`
--- does not.
+-- does not. Only `callers` need numbers.
 abbrev pub OutcomeFor : Words → View → Status → View → List ℕ → Bool → List ℕ → Type 0
-OutcomeFor Run old status new input cut text = OutcomeOf (λ ended. TakesTurns (Answers input ended cut text) old ended new) (IsDamaged old) (HoldsArray old) old status new cut text
-OutcomeFor (Callers numbers) old status new input cut text = JointOutcome numbers.callers numbers.tries old status new input cut text
-OutcomeFor Eaw old status new input cut text = OutcomeOf (λ ended. Obeys old input ended new cut text) (λ page. ⊥) ⊥ old status new cut text
-OutcomeFor Dump old status new input cut text = OutcomeOf (λ ended. (taken : TakesTurns (Dumps ended cut text) old ended new) × Spares taken.shape old new) (IsDamaged old) (HoldsArray old) old status new cut text
-OutcomeFor (Drill numbers) old status new input cut text = OutcomeOf (λ ended. TakesTurns (Drills numbers ended cut text) old ended new) (IsDamaged old) (HoldsArray old) old status new cut text
+OutcomeFor Run old status new input cut text = OverRecords 0 (λ ended. TakesTurns (Answers input ended cut text) old ended new) old status new cut text
+OutcomeFor (Callers numbers) old status new input cut text =
+    OverRecords numbers.callers (λ ended. TakesTurns (JointWork numbers.callers numbers.tries input ended cut text) old ended new) old status new cut text
+OutcomeFor Eaw old status new input cut text = OutcomeOf (λ ended. Obeys old input ended new cut text) (λ page. ⊥) ⊥ ⊥ old status new cut text
+OutcomeFor Dump old status new input cut text = OverRecords 0 (λ ended. (taken : TakesTurns (Dumps ended cut text) old ended new) × Spares taken.shape old new) old status new cut text
+OutcomeFor (Drill numbers) old status new input cut text = OverRecords 0 (λ ended. TakesTurns (Drills numbers ended cut text) old ended new) old status new cut text
 OutcomeFor (Format numbers) old status new input cut text = FormatOutcome numbers old status new cut text
 
 -- an input whose bytes are known and within the limit

@@ -2,9 +2,6 @@
 use Rattle.std.specs.Prelude.{ℕ, ◌≡◌, ◌≤◌, ◌<◌, ◌↔◌, List, [], ◌∷◌, ◌++◌, length, codes, Bool, false, IsTrue, Option, None}
 use Rattle.std.specs.FinMap.{entries}
 use Rattle.std.specs.List.{flat_map}
-use Rattle.pcm_media.specs.View.{View}
-use Rattle.array_shape.specs.declared.shape.Shape.{Shape}
-use Rattle.eaw_device.specs.Opens.{IsArray, HoldsArray}
 use Rattle.history.specs.Legal.{records}
 use Rattle.history.specs.declared.call.Reply.{Reply}
 use Rattle.caller_steps.specs.State.{State}
@@ -22,10 +19,6 @@ use Rattle.script_text.specs.declared.line.Line.{Line}
 use Rattle.script_run.specs.declared.ended.Ended.{Ended}
 use Rattle.script_run.specs.declared.ended.Ended.TheVariants.{MediaFault, NoMemory}
 use Rattle.mars_shell.specs.Dump.{IsCutAt}
-use Rattle.mars_shell.specs.Outcome.{OutcomeOf}
-use Rattle.mars_shell.specs.Run.{TakesTurns, IsDamaged}
-use Rattle.mars_shell.specs.declared.status.Status.{Status}
-use Rattle.mars_shell.specs.declared.status.Status.TheVariants.{Usage}
 
 -- the last line if the medium failed
 abbrev pub media_line : List ℕ
@@ -59,12 +52,3 @@ pub record JointWork (callers tries : ℕ) (input : List ℕ) (ended : Ended) (c
   pub fault : (ended ≡ MediaFault) ↔ IsTrue final.is_dead
   pub tells : TellsWork ended cut text (work_text (faults_from 1 (λ caller. false) said) final.history fates (entries (records final.base final.history)))
       (flat_map done_lines final.history)
-
--- the medium holds an array with fewer transaction numbers than callers
-abbrev pub Exceeds : ℕ → View → Type 0
-Exceeds callers media = (shape : Shape) × IsArray shape media × (shape.numbers < callers)
-
--- What was written and done, by the status. Usage comes only if there are more callers than numbers.
-abbrev pub JointOutcome : ℕ → ℕ → View → Status → View → List ℕ → Bool → List ℕ → Type 0
-JointOutcome callers tries old status new input cut text =
-    OutcomeOf (λ ended. TakesTurns (JointWork callers tries input ended cut text) old ended new) (IsDamaged old) (HoldsArray old) old status new cut text × (status ≡ Usage → Exceeds callers old)

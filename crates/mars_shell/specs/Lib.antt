@@ -4,6 +4,7 @@ pub mod Statuses
 pub mod Input
 pub mod Outcome
 pub mod Opening
+pub mod OnCore
 pub mod Forms
 pub mod PrefixLaw
 pub mod Run

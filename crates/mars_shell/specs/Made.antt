@@ -1,12 +1,12 @@
 -- Calls that a core made, one after another.
-use Rattle.std.specs.Prelude.{ℕ, ◌≡◌, List, length, map, take, Bool, IsTrue}
+use Rattle.std.specs.Prelude.{ℕ, ◌≡◌, List, length, map, take, Bool, IsTrue, IsFalse}
 use Rattle.std.specs.FinMap.{entries}
 use Rattle.history.specs.declared.call.Call.{Call}
 use Rattle.command_words.specs.declared.words.DrillNumbers.{DrillNumbers}
 use Rattle.caller_steps.specs.State.{records_of}
 use Rattle.caller_steps.specs.Core.{CoreView, IsSafe, Continues}
 use Rattle.caller_steps.specs.Sound.{IsSound}
-use Rattle.caller_steps.specs.Run.{Turn}
+use Rattle.caller_steps.specs.Run.{Turn, has_fault}
 use Rattle.caller_steps.specs.Step.{Runs}
 use Rattle.script_run.specs.declared.responder.Stop.{Stop}
 use Rattle.script_run.specs.declared.responder.Stop.TheVariants.{Media, NoMemory}
@@ -24,7 +24,7 @@ pub record Made (tells : Bool) (old : CoreView) (script : List (ℕ × Call)) (t
 -- the medium failed at the last call made, or there was no memory to go on
 abbrev pub EndsEarly : Bool → CoreView → List (ℕ × Call) → Stop → CoreView → Type 0
 EndsEarly tells old script (Media number) new = (turns : List Turn) × Made tells old script turns new × FailsAtLast turns
-EndsEarly tells old script NoMemory new = (turns : List Turn) × Made tells old script turns new
+EndsEarly tells old script NoMemory new = (turns : List Turn) × Made tells old script turns new × IsFalse (has_fault turns)
 
 -- all of them were made, and this is the tally of their replies
 abbrev pub MadeAll : Bool → CoreView → List (ℕ × Call) → Tally → CoreView → Type 0

@@ -11,7 +11,7 @@ use Rattle.script_io.specs.Written.{IsWritten}
 use Rattle.script_run.specs.declared.ended.Ended.{Ended}
 use Rattle.script_run.specs.declared.ended.Ended.TheVariants as script
 use Rattle.mars_shell.specs.declared.status.Status.{Status}
-use Rattle.mars_shell.specs.declared.status.Status.TheVariants.{Good, WriteFault, MediaFault, NoMemory, Damaged, BadRow, NotMars, BadShape}
+use Rattle.mars_shell.specs.declared.status.Status.TheVariants.{Good, Usage, WriteFault, MediaFault, NoMemory, Damaged, BadRow, NotMars, BadShape}
 
 -- No line was answered, for this cause, and nothing was written to the sink. If all that a loss of power could leave at first opens, then
 -- all that it might have left since opens with data of one of those images. Nothing was written to the medium unless MayWrite holds.
@@ -32,15 +32,16 @@ IsWithin old new = (shape : Shape) → SaysShape (header_of old.content.bytes) s
 
 -- What was written and done, by the status: the work over an array that was opened, or that there was none to open. The medium may be
 -- written only if it holds an array. Looks says that the records of the array are read before the work, so that the medium may fail and
--- memory run out meanwhile. Broken says which page may be named as damaged.
-abbrev pub OutcomeOf : (Ended → Type 0) → (ℕ → Type 0) → Type 0 → View → Status → View → Bool → List ℕ → Type 0
-OutcomeOf Works Broken Looks old Good new cut text = Works script.All
-OutcomeOf Works Broken Looks old WriteFault new cut text = Works script.WriteFault
-OutcomeOf Works Broken Looks old MediaFault new cut text = Idle (HoldsArray old) (IsWithin old new ⊎ Looks) old new cut text ⊎ Works script.MediaFault
-OutcomeOf Works Broken Looks old NoMemory new cut text = Idle ⊥ (IsShort old new) old new cut text ⊎ (Idle (HoldsArray old) Looks old new cut text ⊎ Works script.NoMemory)
-OutcomeOf Works Broken Looks old (Damaged page) new cut text = Idle (HoldsArray old) (Broken page) old new cut text
-OutcomeOf Works Broken Looks old (BadRow logger tid) new cut text = Idle ⊥ (HasBadRow old logger tid) old new cut text
-OutcomeOf Works Broken Looks old NotMars new cut text = Idle ⊥ (512 ≤ old.size → HasMark (header_of old.content.bytes) → ⊥) old new cut text
-OutcomeOf Works Broken Looks old (BadShape which given) new cut text =
+-- memory run out meanwhile. Broken says which page may be named as damaged, and Lacks why the words do not fit the array.
+abbrev pub OutcomeOf : (Ended → Type 0) → (ℕ → Type 0) → (Looks Lacks : Type 0) → View → Status → View → Bool → List ℕ → Type 0
+OutcomeOf Works Broken Looks Lacks old Good new cut text = Works script.All
+OutcomeOf Works Broken Looks Lacks old WriteFault new cut text = Works script.WriteFault
+OutcomeOf Works Broken Looks Lacks old MediaFault new cut text = Idle (HoldsArray old) (IsWithin old new ⊎ Looks) old new cut text ⊎ Works script.MediaFault
+OutcomeOf Works Broken Looks Lacks old NoMemory new cut text = Idle ⊥ (IsShort old new) old new cut text ⊎ (Idle (HoldsArray old) Looks old new cut text ⊎ Works script.NoMemory)
+OutcomeOf Works Broken Looks Lacks old (Damaged page) new cut text = Idle (HoldsArray old) (Broken page) old new cut text
+OutcomeOf Works Broken Looks Lacks old (BadRow logger tid) new cut text = Idle ⊥ (HasBadRow old logger tid) old new cut text
+OutcomeOf Works Broken Looks Lacks old NotMars new cut text = Idle ⊥ (512 ≤ old.size → HasMark (header_of old.content.bytes) → ⊥) old new cut text
+OutcomeOf Works Broken Looks Lacks old (BadShape which given) new cut text =
     Idle ⊥ ((512 ≤ old.size) × HasMark (header_of old.content.bytes) × IsBadIn (header_of old.content.bytes) old.size which given) old new cut text
-OutcomeOf Works Broken Looks old _ new cut text = Idle (HoldsArray old) ⊤ old new cut text
+OutcomeOf Works Broken Looks Lacks old Usage new cut text = Idle (HoldsArray old) Lacks old new cut text
+OutcomeOf Works Broken Looks Lacks old _ new cut text = Idle (HoldsArray old) ⊤ old new cut text

@@ -1,12 +1,12 @@
 -- What a run over records does on a medium that tells its bytes.
-use Rattle.std.specs.Prelude.{ℕ, ◌≡◌, ◌^◌, ◌<◌, ◌≤◌, List, [], ◌++◌, length, Bool, Contains}
+use Rattle.std.specs.Prelude.{ℕ, ◌≡◌, ◌≢◌, ◌^◌, ◌<◌, ◌≤◌, List, [], ◌++◌, length, Bool, Contains}
 use Rattle.std.specs.List.{concat}
 use Rattle.pcm_media.specs.View.{View}
 use Rattle.array_shape.specs.declared.shape.Shape.{Shape}
 use Rattle.array_image.specs.Image.{data_of}
 use Rattle.array_image.specs.Decided.{settled_data}
 use Rattle.device_recovery.specs.Recovered.{HasNoVote}
-use Rattle.eaw_device.specs.Opens.{IsArray}
+use Rattle.eaw_device.specs.Opens.{IsArray, HoldsArray}
 use Rattle.page_store.specs.Index.{Index}
 use Rattle.record_table.specs.Shown.{table_of, keys_of}
 use Rattle.history.specs.Legal.{IsLegal, records}
@@ -19,11 +19,13 @@ use Rattle.mars_core.specs.Over.{limits_of, index_of}
 use Rattle.script_io.specs.Lines.{lines_of}
 use Rattle.script_run.specs.Transcript.{Answered}
 use Rattle.script_run.specs.declared.ended.Ended.{Ended}
-use Rattle.script_run.specs.declared.ended.Ended.TheVariants.{All}
+use Rattle.script_run.specs.declared.ended.Ended.TheVariants.{MediaFault}
 use Rattle.script_text.specs.Replies.{reply_line}
 use Rattle.mars_shell.specs.Forms.{index_at, index_in}
 use Rattle.mars_shell.specs.Lines.{call_script}
+use Rattle.mars_shell.specs.Outcome.{OutcomeOf}
 use Rattle.mars_shell.specs.PrefixLaw.{PrefixLaw}
+use Rattle.mars_shell.specs.declared.status.Status.{Status}
 
 -- the medium holds an array whose records are sound under the index that its data names
 pub record HoldsRecords (shape : Shape) (media : View) : Type 0 where
@@ -33,6 +35,16 @@ pub record HoldsRecords (shape : Shape) (media : View) : Type 0 where
 -- the medium holds an array in whose data this is the first page that is not sound
 abbrev pub IsDamaged : View → ℕ → Type 0
 IsDamaged media page = (shape : Shape) × IsArray shape media × (index_in shape media).fails (settled_data shape media.content.bytes) page
+
+-- the medium holds an array with fewer transaction numbers than callers
+abbrev pub Exceeds : ℕ → View → Type 0
+Exceeds callers media = (shape : Shape) × IsArray shape media × (shape.numbers < callers)
+
+-- What comes of work over the records of an array, by the status. Whether it has numbers for so many callers is tested after the opening and
+-- before the records are read.
+abbrev pub OverRecords : ℕ → (Ended → Type 0) → View → Status → View → Bool → List ℕ → Type 0
+OverRecords callers Works old status new cut text =
+    OutcomeOf Works (λ page. IsDamaged old page × (Exceeds callers old → ⊥)) (HoldsArray old × (Exceeds callers old → ⊥)) (Exceeds callers old) old status new cut text
 
 -- the callers before the first line, over this data under an index
 abbrev pub begun_on : Index → List ℕ → State
@@ -45,8 +57,8 @@ pub record HasAll (index : Index) (bytes : List ℕ) (state : State) : Type 0 wh
   pub keys : state.index ≡ index_of (keys_of index bytes)
 
 -- Callers took turns over an array whose records are sound: there is a run of steps from the state that was opened to the last one. Says
--- tells, of the limits of the array, the turns and the last state, what was written. The history, also with what is
--- in doubt, is legal on the base and obeys the prefix law. At the end of all turns the data has exactly the records of the history.
+-- tells, of the limits of the array, the turns and the last state, what was written. The history, also with what is in doubt, is legal on
+-- the base and obeys the prefix law. Unless the medium failed, the data has exactly the records of the history.
 pub record TakesTurns (Says : Limits → List Turn → State → Type 0) (old : View) (ended : Ended) (new : View) : Type 0 where
   pub shape : Shape
   pub holds : HoldsRecords shape old
@@ -57,8 +69,8 @@ pub record TakesTurns (Says : Limits → List Turn → State → Type 0) (old : 
   pub base : final.base ≡ table_of (index_in shape old) (settled_data shape old.content.bytes)
   pub legal : IsLegal final.base (final.history ++ final.doubt)
   pub prefix_law : PrefixLaw shape old final new
-  pub quiet : ended ≡ All → HasNoVote shape new.content.bytes
-  pub left : ended ≡ All → HasAll (index_at (data_of shape new.content.bytes)) (data_of shape new.content.bytes) final
+  pub quiet : ended ≢ MediaFault → HasNoVote shape new.content.bytes
+  pub left : ended ≢ MediaFault → HasAll (index_at (data_of shape new.content.bytes)) (data_of shape new.content.bytes) final
 
 -- The lines of the input were answered one by one, each call of a caller by the reply of its turn. What was acknowledged as committed is
 -- kept: the history has at least n transactions if an answer is the whole line `c committed n`.

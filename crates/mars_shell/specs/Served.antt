@@ -1,5 +1,5 @@
 -- What is done over a store whose records are read first.
-use Rattle.std.specs.Prelude.{ℕ, ◌≡◌, List, [], ◌++◌, length, Bool, true, false, IsTrue, Result, Ok, Err}
+use Rattle.std.specs.Prelude.{ℕ, ◌≡◌, ◌≢◌, List, [], ◌++◌, length, Bool, true, false, IsTrue, Result, Ok, Err}
 use Rattle.mars_base.specs.Causes.{Rose}
 use Rattle.array_shape.specs.declared.shape.Shape.{Shape}
 use Rattle.eaw_face.specs.Causes.{IsAlive}
@@ -21,7 +21,7 @@ use Rattle.mars_core.specs.declared.fault.CoreFault.{CoreFault}
 use Rattle.mars_core.specs.declared.fault.CoreFault.TheVariants.{Media}
 use Rattle.script_run.specs.Counts.{Counts}
 use Rattle.script_run.specs.declared.ended.Ended.{Ended}
-use Rattle.script_run.specs.declared.ended.Ended.TheVariants.{All}
+use Rattle.script_run.specs.declared.ended.Ended.TheVariants.{MediaFault}
 use Rattle.mars_shell.specs.Run.{begun_on, HasAll}
 
 -- The super page of the store's data names this form. Nothing was written, and whatever a loss of power might have left meanwhile opens
@@ -46,9 +46,15 @@ pub record Untaken (Opens : Shape → List ℕ → List ℕ → Type 0) (index :
   pub cause : CoreCause true index old fault
   pub time : LeavesOnly (λ image. Opens old.shape image old.state.bytes) old new
 
+-- The store is alive, and whatever a loss of power might have left meanwhile or may leave now opens with the data that it had.
+pub record Spared (Opens : Shape → List ℕ → List ℕ → Type 0) (old new : StoreView) : Type 0 where
+  pub alive : IsAlive new
+  pub time : LeavesOnly (λ image. Opens old.shape image old.state.bytes) old new
+  pub now : (image : List ℕ) → new.left_since new.moment image → Opens old.shape image old.state.bytes
+
 -- Callers took turns over the records of the store's data, which are sound under an index. This is what is said of a run, in terms of the
--- store.
-pub record Served (Says : Limits → List Turn → State → Type 0) (Opens : Shape → List ℕ → List ℕ → Type 0) (index : Index) (old : StoreView) (ended : Ended) (new : StoreView) : Type 0 where
+-- store, which may be one that was spared.
+pub record Served (spares : Bool) (Says : Limits → List Turn → State → Type 0) (Opens : Shape → List ℕ → List ℕ → Type 0) (index : Index) (old : StoreView) (ended : Ended) (new : StoreView) : Type 0 where
   pub sound : index.sound old.state.bytes
   pub shape : new.shape ≡ old.shape
   pub turns : List Turn
@@ -59,17 +65,13 @@ pub record Served (Says : Limits → List Turn → State → Type 0) (Opens : Sh
   pub legal : IsLegal final.base (final.history ++ final.doubt)
   pub since : LeavesOnly (opens_of Opens old.shape index final 0) old new
   pub now : (image : List ℕ) → new.left_since new.moment image → opens_of Opens old.shape index final (length final.history) image
-  pub left : ended ≡ All → IsAlive new × HasAll index new.state.bytes final
+  pub left : ended ≢ MediaFault → IsAlive new × HasAll index new.state.bytes final
+  pub spared : IsTrue spares → Spared Opens old new
 
-abbrev pub Serves : (Ended → Limits → List Turn → State → Type 0) → (Shape → List ℕ → List ℕ → Type 0) → Index → StoreView → Result Ended CoreFault → Bool → List ℕ → StoreView → Type 0
-Serves Says Opens index old (Ok ended) cut text new = Served (Says ended) Opens index old ended new
-Serves Says Opens index old (Err fault) cut text new = Untaken Opens index old fault cut text new
-
--- The store is alive, and whatever a loss of power might have left meanwhile or may leave now opens with the data that it had.
-pub record Spared (Opens : Shape → List ℕ → List ℕ → Type 0) (old new : StoreView) : Type 0 where
-  pub alive : IsAlive new
-  pub time : LeavesOnly (λ image. Opens old.shape image old.state.bytes) old new
-  pub now : (image : List ℕ) → new.left_since new.moment image → Opens old.shape image old.state.bytes
+-- that, or the records were not taken
+abbrev pub Serves : Bool → (Ended → Limits → List Turn → State → Type 0) → (Shape → List ℕ → List ℕ → Type 0) → Index → StoreView → Result Ended CoreFault → Bool → List ℕ → StoreView → Type 0
+Serves spares Says Opens index old (Ok ended) cut text new = Served spares (Says ended) Opens index old ended new
+Serves spares Says Opens index old (Err fault) cut text new = Untaken Opens index old fault cut text new
 
 -- the counts of faults of the sink and of the medium
 abbrev pub ServedCounts : Result Ended CoreFault → ℕ → ℕ → ℕ → ℕ → Type 0

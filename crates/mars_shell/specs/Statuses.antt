@@ -10,15 +10,15 @@ use Rattle.script_run.specs.declared.ended.Ended.TheVariants as script
 use Rattle.mars_shell.specs.declared.status.Status.{Status}
 use Rattle.mars_shell.specs.declared.status.Status.TheVariants.{Good, Usage, TooLong, ReadFault, WriteFault, MediaFault, NoMemory, Damaged, BadRow, NotMars, BadShape}
 
--- the statuses of a run that ends before the medium is touched (except `Usage` of `callers`, which comes after the opening)
+-- the statuses of a run whose input is not taken, and which ends before the medium is touched
 abbrev pub IsEarly : Status → Type 0
-IsEarly Usage = Unit {0}
 IsEarly TooLong = Unit {0}
 IsEarly ReadFault = Unit {0}
 IsEarly _ = ⊥
 
 -- the array on the medium, or what is there in place of one, is refused
 abbrev pub IsRefusal : Status → Type 0
+IsRefusal Usage = Unit {0}
 IsRefusal (Damaged page) = Unit {0}
 IsRefusal (BadRow logger tid) = Unit {0}
 IsRefusal NotMars = Unit {0}

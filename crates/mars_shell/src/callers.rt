@@ -1,63 +1,194 @@
-// Callers on threads.
-ghost use Rattle.std.specs.Prelude.{◌≡◌, ◌<◌, ◌≤◌, ◌⊎◌, ℕ, List, IsTrue};
+// Callers on threads over the records of an array.
+ghost use Rattle.std.specs.Prelude.{◌≡◌, ◌<◌, ◌≤◌, ◌⊎◌, ℕ, List, None, false, IsTrue, IfOk, IfErr};
+ghost use Rattle.command_words.specs.declared.words.Words.TheVariants.{Callers};
+ghost use Rattle.eaw_face.specs.Causes.{IsAlive};
+ghost use Rattle.mars_core.specs.Held.{core_of};
+ghost use Rattle.mars_manager.specs.Sharing.{CanShare};
 ghost use Rattle.script_io.specs.Written.{Wrote};
-ghost use Rattle.mars_shell.specs.Joint.{JointOutcome};
+ghost use Rattle.script_run.specs.Counts.{Counts as WorkCounts};
+ghost use Rattle.mars_shell.specs.Asked.{OutcomeFor};
+ghost use Rattle.mars_shell.specs.Forms.{index_at};
 ghost use Rattle.mars_shell.specs.Input.{InputSays};
+ghost use Rattle.mars_shell.specs.Joint.{JointWork};
+ghost use Rattle.mars_shell.specs.OnCore.{Works};
+ghost use Rattle.mars_shell.specs.Served.{Serves, ServedCounts};
 ghost use Rattle.mars_shell.specs.Statuses.{Counts, IsEarly, IsRefusal};
 
-use crate::joint::serve_jointly;
-use crate::opening::open;
+use crate::forms::find_form;
+use crate::joint::tell_end;
+use crate::opening::open_for;
 use crate::status::{Status, served_status};
-use caller_work::Gate;
+use btree_pages::BTreePages;
+use caller_plans::{Script, read_script};
+use caller_work::{Gate, work};
+use command_words::CallersNumbers;
 use eaw_face::EawStore;
+use key_list::KeyList;
+use mars_base::NoMemory;
+use mars_core::{Core, CoreFault};
 use outside::{Sink, Source};
-use page_store::SaveRoom;
+use page_store::{KeyIndex, SaveRoom};
 use pcm_media::Media;
+use record_table::Form;
+use script_run::Ended;
 use std::alloc::Global;
 use std::sync::Wait;
 use std::thread::Threads;
 
-/// Gives each caller's transactions in the source to a worker of its own, over the array that the medium holds, if its records are sound.
-/// Answers `Usage` if the array has fewer transaction numbers than there are callers.
-pub(crate) fn run_callers<
+/// What callers on threads work with.
+#[derive(Drop)]
+pub struct Crew<'a, R, G> {
+    pub rt: &'a R,
+    pub numbers: CallersNumbers,
+    pub gate: &'a G,
+}
+
+/// Gives each caller's transactions in the source to a worker of its own on a thread, which calls the gate between its calls, over the array
+/// that the medium holds, if its records are sound. Answers `Usage` if the array has fewer transaction numbers than there are callers.
+pub fn run_callers<
     R: Threads + Wait + Sync,
     S: Source,
     K: Sink,
     M: Media + Drop + Send,
     G: Gate + Sync,
->(
-    rt: &R,
-    alloc: Global,
-    callers: u8,
-    tries: u32,
-    source: &mut S,
-    sink: &mut K,
-    media: M,
-    gate: &G,
-) -> (Status, M)
-    requires some { 0 < callers }
-    requires tries { 1 ≤ tries }
-    ensures early { (result.0 ≡ Status.TooLong) ⊎ (result.0 ≡ Status.ReadFault) → result.1 ≡ media }
-    ensures silent { IsEarly result.0 → sink.new ≡ sink.old }
-    ensures refused { IsRefusal result.0 → sink.new ≡ sink.old }
+>(alloc: Global, source: &mut S, sink: &mut K, media: M, crew: &Crew<R, G>) -> (Status, M)
+    requires some { 0 < crew.now.numbers.callers }
+    requires tries { 1 ≤ crew.now.numbers.tries }
+    ensures early { IsEarly result.0 → result.1 ≡ media }
+    ensures silent { IsEarly result.0 ⊎ IsRefusal result.0 → sink.new ≡ sink.old }
     ensures counts { Counts result.0 (S.faults source.old) (S.faults source.new) (K.faults sink.old) (K.faults sink.new) (M.view media).faults (M.view result.1).faults }
     ensures steady { IsTrue (S.steady source.old) → result.0 ≡ Status.ReadFault → ⊥ }
     ensures input { IsTrue S.tells → InputSays result.0 (S.left source.old) (S.left source.new) }
     ensures ran { Wrote K.tells (K.written sink.old) (K.written sink.new) (K.faults sink.old) (K.faults sink.new)
-        (λ cut text. (input : List ℕ) × (IsTrue S.tells → S.left source.old ≡ input) × (IsTrue M.tells → JointOutcome callers tries (M.view media) result.0 (M.view result.1) input cut text)) }
+        (λ cut text. (input : List ℕ) × (IsTrue S.tells → S.left source.old ≡ input)
+        × (IsTrue M.tells → OutcomeFor (Callers crew.now.numbers) (M.view media) result.0 (M.view result.1) input cut text)) }
 {
-    // The room for the pages is taken first, so that a lack of memory for it leaves the medium alone.
-    let room = match SaveRoom::new(alloc) {
-        Ok(room) => room,
-        Err(_) => return (Status::NoMemory, media),
-    };
-    let (input, store) = match open(alloc, source, media) {
+    let (room, input, store) = match open_for(alloc, true, crew.numbers.callers, source, media) {
         Ok(opened) => opened,
         Err(ended) => return ended,
     };
-    if callers > store.shape().numbers {
-        return (Status::Usage, store.into_media());
+    let (served, store) = serve_jointly(alloc, &input, sink, room, store, crew);
+    (served_status(served), store.into_media())
+}
+
+// Does the callers' work over the records of a store, under the index that its data names, and returns the store. What sends work to
+// threads is no method of a trait, so this does not go the way of other work.
+fn serve_jointly<R: Threads + Wait + Sync, K: Sink, S: EawStore + Drop + Send, G: Gate + Sync>(
+    alloc: Global,
+    input: &[u8],
+    sink: &mut K,
+    room: SaveRoom,
+    store: S,
+    crew: &Crew<R, G>,
+) -> (Result<Ended, CoreFault>, S)
+    requires alive { IsAlive (S.view store) }
+    requires free { (t : ℕ) → (S.view store).ranges t ≡ None }
+    requires some { 0 < crew.now.numbers.callers }
+    requires enough { crew.now.numbers.callers ≤ (S.view store).shape.numbers }
+    requires tries { 1 ≤ crew.now.numbers.tries }
+    ensures served { Wrote K.tells (K.written sink.old) (K.written sink.new) (K.faults sink.old) (K.faults sink.new)
+        (λ cut text. IsTrue S.tells → Serves false (λ ended. JointWork crew.now.numbers.callers crew.now.numbers.tries input.now ended cut text) S.opens (index_at (S.view store).state.bytes) (S.view store)
+        result.0 cut text (S.view result.1)) }
+    ensures untold { IfErr result.0 (λ fault. sink.new ≡ sink.old) }
+    ensures counts { ServedCounts result.0 (K.faults sink.old) (K.faults sink.new) (S.view store).faults (S.view result.1).faults }
+{
+    let mut store = store;
+    match find_form(&mut store) {
+        Ok(Form::Chain) => {
+            work_under::<R, K, S, KeyList, G>(alloc, input, sink, room, store, crew)
+        }
+        Ok(Form::Tree) => {
+            work_under::<R, K, S, BTreePages, G>(alloc, input, sink, room, store, crew)
+        }
+        Err(fault) => (Err(fault), store),
     }
-    let (worked, store) = serve_jointly(rt, alloc, &input, callers, tries, sink, room, store, gate);
-    (served_status(worked), store.into_media())
+}
+
+// The same under an index.
+fn work_under<
+    R: Threads + Wait + Sync,
+    K: Sink,
+    S: EawStore + Drop + Send,
+    I: KeyIndex + Send,
+    G: Gate + Sync,
+>(
+    alloc: Global,
+    input: &[u8],
+    sink: &mut K,
+    room: SaveRoom,
+    store: S,
+    crew: &Crew<R, G>,
+) -> (Result<Ended, CoreFault>, S)
+    requires alive { IsAlive (S.view store) }
+    requires free { (t : ℕ) → (S.view store).ranges t ≡ None }
+    requires some { 0 < crew.now.numbers.callers }
+    requires enough { crew.now.numbers.callers ≤ (S.view store).shape.numbers }
+    requires tries { 1 ≤ crew.now.numbers.tries }
+    ensures served { Wrote K.tells (K.written sink.old) (K.written sink.new) (K.faults sink.old) (K.faults sink.new)
+        (λ cut text. IsTrue S.tells → Serves false (λ ended. JointWork crew.now.numbers.callers crew.now.numbers.tries input.now ended cut text) S.opens I.index (S.view store) result.0 cut text (S.view result.1)) }
+    ensures untold { IfErr result.0 (λ fault. sink.new ≡ sink.old) }
+    ensures counts { ServedCounts result.0 (K.faults sink.old) (K.faults sink.new) (S.view store).faults (S.view result.1).faults }
+{
+    let core = match Core::<S, I>::attach(alloc, room, store) {
+        Ok(core) => core,
+        Err((fault, store)) => return (Err(fault), store),
+    };
+    let (worked, core) = work_jointly(alloc, input, sink, core, crew);
+    let store = core.into_store();
+    match worked {
+        Ok(ended) => (Ok(ended), store),
+        Err(NoMemory) => (Err(CoreFault::NoMemory), store),
+    }
+}
+
+// Does the callers' work on a core. `NoMemory` says that nothing was done.
+fn work_jointly<
+    R: Threads + Wait + Sync,
+    K: Sink,
+    S: EawStore + Drop + Send,
+    I: KeyIndex + Send,
+    G: Gate + Sync,
+>(
+    alloc: Global,
+    input: &[u8],
+    sink: &mut K,
+    core: Core<S, I>,
+    crew: &Crew<R, G>,
+) -> (Result<Ended, NoMemory>, Core<S, I>)
+    requires some { 0 < crew.now.numbers.callers }
+    requires tries { 1 ≤ crew.now.numbers.tries }
+    requires ready { CanShare S.tells crew.now.numbers.callers (core_of S.opens I.index (S.view core.records.store) core) }
+    ensures works { Wrote K.tells (K.written sink.old) (K.written sink.new) (K.faults sink.old) (K.faults sink.new)
+        (λ cut text. IsTrue S.tells → Works (λ ended. JointWork crew.now.numbers.callers crew.now.numbers.tries input.now ended cut text) (core_of S.opens I.index (S.view core.records.store) core) result.0
+        cut text (core_of S.opens I.index (S.view result.1.records.store) result.1)) }
+    ensures untold { IfErr result.0 (λ fault. sink.new ≡ sink.old) }
+    ensures given_back { IfErr result.0 (λ fault. result.1 ≡ core) }
+    ensures counts { IfOk result.0 (λ ended. WorkCounts ended (K.faults sink.old) (K.faults sink.new) (S.view core.records.store).faults (S.view result.1.records.store).faults) }
+{
+    let CallersNumbers { callers, tries } = crew.numbers;
+    let Ok(script) = read_script(alloc, input, callers) else {
+        return (Err(NoMemory), core);
+    };
+    let Script { faults, plans } = script;
+    // Behind a pointer the core goes from thread to thread without a copy.
+    let core = match Box::new(alloc, core) {
+        Ok(core) => core,
+        Err(full) => return (Err(NoMemory), full.value),
+    };
+    match work(crew.rt, alloc, core, plans, u64::from(tries), crew.gate) {
+        Ok((core, fates, end)) => {
+            let core = Box::into_inner(core);
+            let ended = tell_end(
+                alloc,
+                sink,
+                faults.items(),
+                core.history(),
+                core.base(),
+                &fates,
+                end,
+            );
+            (Ok(ended), core)
+        }
+        Err((NoMemory, core)) => (Err(NoMemory), Box::into_inner(core)),
+    }
 }

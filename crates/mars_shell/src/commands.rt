@@ -1,5 +1,5 @@
 // A run of raw commands.
-ghost use Rattle.std.specs.Prelude.{◌≡◌, ℕ, List, IsTrue};
+ghost use Rattle.std.specs.Prelude.{◌≡◌, ◌⊎◌, ℕ, List, IsTrue};
 ghost use Rattle.script_io.specs.Written.{Wrote};
 ghost use Rattle.command_words.specs.declared.words.Words.TheVariants.{Eaw};
 ghost use Rattle.mars_shell.specs.Asked.{OutcomeFor};
@@ -21,15 +21,15 @@ pub(crate) fn run_commands<S: Source, K: Sink, M: Media>(
     media: M,
 ) -> (Status, M)
     ensures no_usage { result.0 ≡ Status.Usage → ⊥ }
-    ensures early { IsEarly result.0 → (sink.new ≡ sink.old) × (result.1 ≡ media) }
-    ensures refused { IsRefusal result.0 → sink.new ≡ sink.old }
+    ensures early { IsEarly result.0 → result.1 ≡ media }
+    ensures silent { IsEarly result.0 ⊎ IsRefusal result.0 → sink.new ≡ sink.old }
     ensures counts { Counts result.0 (S.faults source.old) (S.faults source.new) (K.faults sink.old) (K.faults sink.new) (M.view media).faults (M.view result.1).faults }
     ensures steady { IsTrue (S.steady source.old) → result.0 ≡ Status.ReadFault → ⊥ }
     ensures input { IsTrue S.tells → InputSays result.0 (S.left source.old) (S.left source.new) }
     ensures ran { Wrote K.tells (K.written sink.old) (K.written sink.new) (K.faults sink.old) (K.faults sink.new)
         (λ cut text. (input : List ℕ) × (IsTrue S.tells → S.left source.old ≡ input) × (IsTrue M.tells → OutcomeFor Eaw (M.view media) result.0 (M.view result.1) input cut text)) }
 {
-    let (input, store) = match open(alloc, source, media) {
+    let (input, store) = match open(alloc, true, source, media) {
         Ok(opened) => opened,
         Err(ended) => return ended,
     };

@@ -1,127 +1,67 @@
-// A run of a drawn script, which ends with a summary.
-ghost use Rattle.std.specs.Prelude.{◌≡◌, ◌<◌, ◌^◌, ℕ, List, None, IsTrue, IfOk, IfErr, OnOk};
+// The work of a drawn script, which ends with a summary.
+ghost use Rattle.std.specs.Prelude.{◌≡◌, ◌<◌, ◌^◌, IfOk, IfErr};
 ghost use Rattle.eaw_face.specs.Causes.{IsAlive};
 ghost use Rattle.drill_gen.specs.Drill.{drill};
 ghost use Rattle.mars_core.specs.Held.{core_of};
-ghost use Rattle.script_io.specs.Written.{Wrote};
 ghost use Rattle.script_run.specs.Answers.{HasStopCause};
-ghost use Rattle.command_words.specs.declared.words.Words.TheVariants.{Drill};
-ghost use Rattle.mars_shell.specs.Asked.{OutcomeFor};
-ghost use Rattle.mars_shell.specs.Drill.{Drills};
-ghost use Rattle.mars_shell.specs.Forms.{index_at};
 ghost use Rattle.mars_shell.specs.Made.{SummedUp, EndsEarly};
-ghost use Rattle.mars_shell.specs.Served.{Serves, ServedCounts};
-ghost use Rattle.mars_shell.specs.Statuses.{Counts, IsEarly, IsRefusal};
 
-use crate::forms::find_form;
-use crate::opening::open_array;
-use crate::status::{Status, served_status};
+use crate::core_work::CoreWork;
+use crate::ending::write_ended;
 use crate::summary::summary_text;
 use crate::turns::make_turns;
-use btree_pages::BTreePages;
 use command_words::DrillNumbers;
 use drill_gen::script;
 use eaw_face::EawStore;
 use history::play;
-use key_list::KeyList;
-use mars_core::{Core, CoreFault};
+use mars_base::NoMemory;
+use mars_core::Core;
 use outside::Sink;
-use page_store::{KeyIndex, SaveRoom};
-use pcm_media::Media;
-use record_table::Form;
-use script_io::{write_front, write_whole};
+use page_store::KeyIndex;
+use script_io::write_front;
 use script_run::{Ended, Stop};
 use std::alloc::Global;
 
-/// Makes the calls of the script that the numbers draw, over the records of the array that the medium holds, and writes a summary.
-pub(crate) fn run_drill<K: Sink, M: Media>(
-    alloc: Global,
-    sink: &mut K,
-    media: M,
-    numbers: &DrillNumbers,
-) -> (Status, M)
-    requires seed { numbers.now.seed < 2 ^ 31 }
-    ensures no_usage { result.0 ≡ Status.Usage → ⊥ }
-    ensures late { IsEarly result.0 → ⊥ }
-    ensures refused { IsRefusal result.0 → sink.new ≡ sink.old }
-    ensures counts { Counts result.0 0 0 (K.faults sink.old) (K.faults sink.new) (M.view media).faults (M.view result.1).faults }
-    ensures ran { Wrote K.tells (K.written sink.old) (K.written sink.new) (K.faults sink.old) (K.faults sink.new)
-        (λ cut text. (input : List ℕ) → IsTrue M.tells → OutcomeFor (Drill numbers.now) (M.view media) result.0 (M.view result.1) input cut text) }
-{
-    // The room for the pages is taken first, so that a lack of memory for it leaves the medium alone.
-    let room = match SaveRoom::new(alloc) {
-        Ok(room) => room,
-        Err(_) => return (Status::NoMemory, media),
-    };
-    let store = match open_array(alloc, media) {
-        Ok(store) => store,
-        Err(ended) => return ended,
-    };
-    let (drilled, store) = drill(alloc, numbers, sink, room, store);
-    (served_status(drilled), store.into_media())
+/// The calls of the script that the numbers draw are made, and a summary is written.
+#[derive(Drop)]
+pub struct DrawnScript {
+    pub numbers: DrillNumbers,
 }
 
-// Makes the calls over the records of a store, under the index that its data names. Writes a summary, or that the medium failed, and
-// returns the store.
-fn drill<K: Sink, S: EawStore>(
-    alloc: Global,
-    numbers: &DrillNumbers,
-    sink: &mut K,
-    room: SaveRoom,
-    store: S,
-) -> (Result<Ended, CoreFault>, S)
-    requires seed { numbers.now.seed < 2 ^ 31 }
-    requires alive { IsAlive (S.view store) }
-    requires free { (t : ℕ) → (S.view store).ranges t ≡ None }
-    ensures served { Wrote K.tells (K.written sink.old) (K.written sink.new) (K.faults sink.old) (K.faults sink.new)
-        (λ cut text. IsTrue S.tells → Serves (λ ended. Drills numbers.now ended cut text) S.opens (index_at (S.view store).state.bytes) (S.view store) result.0 cut text (S.view result.1)) }
-    ensures untold { IfErr result.0 (λ fault. sink.new ≡ sink.old) }
-    ensures counts { ServedCounts result.0 (K.faults sink.old) (K.faults sink.new) (S.view store).faults (S.view result.1).faults }
-{
-    let mut store = store;
-    match find_form(&mut store) {
-        Ok(Form::Chain) => drill_under::<K, S, KeyList>(alloc, numbers, sink, room, store),
-        Ok(Form::Tree) => drill_under::<K, S, BTreePages>(alloc, numbers, sink, room, store),
-        Err(fault) => (Err(fault), store),
+impl CoreWork for DrawnScript {
+    ghost use Rattle.std.specs.Prelude.{◌<◌, ◌^◌, false};
+    ghost use Rattle.mars_shell.specs.Drill.{Drills};
+
+    ghost reads = { false };
+
+    ghost spares = { false };
+
+    ghost can_be_done = { λ work. work.numbers.seed < 2 ^ 31 };
+
+    ghost does = { λ work input. Drills work.numbers };
+
+    fn reads(&self) -> bool {
+        false
     }
-}
 
-// The same under an index.
-fn drill_under<K: Sink, S: EawStore, I: KeyIndex>(
-    alloc: Global,
-    numbers: &DrillNumbers,
-    sink: &mut K,
-    room: SaveRoom,
-    store: S,
-) -> (Result<Ended, CoreFault>, S)
-    requires seed { numbers.now.seed < 2 ^ 31 }
-    requires alive { IsAlive (S.view store) }
-    requires free { (t : ℕ) → (S.view store).ranges t ≡ None }
-    ensures served { Wrote K.tells (K.written sink.old) (K.written sink.new) (K.faults sink.old) (K.faults sink.new)
-        (λ cut text. IsTrue S.tells → Serves (λ ended. Drills numbers.now ended cut text) S.opens I.index (S.view store) result.0 cut text (S.view result.1)) }
-    ensures untold { IfErr result.0 (λ fault. sink.new ≡ sink.old) }
-    ensures counts { ServedCounts result.0 (K.faults sink.old) (K.faults sink.new) (S.view store).faults (S.view result.1).faults }
-{
-    let callers = store.shape().numbers;
-    let mut core = match Core::<S, I>::attach(alloc, room, store) {
-        Ok(core) => core,
-        Err((fault, store)) => return (Err(fault), store),
-    };
-    let summed = sum_up(alloc, numbers, callers, &mut core);
-    let store = core.into_store();
-    match summed {
-        Ok(text) => match write_whole(sink, &text) {
-            Ok(()) => (Ok(Ended::All), store),
-            Err(_) => (Ok(Ended::WriteFault), store),
-        },
-        Err(stop) => match stop {
-            Stop::Media { number: _ } => {
+    fn work_on<K: Sink, S: EawStore + Drop + Send, I: KeyIndex + Send>(
+        &self,
+        alloc: Global,
+        _input: &[u8],
+        numbers: u8,
+        sink: &mut K,
+        core: Core<S, I>,
+    ) -> (Result<Ended, NoMemory>, Core<S, I>) {
+        let mut core = core;
+        match sum_up(alloc, &self.numbers, numbers, &mut core) {
+            Ok(text) => (Ok(write_ended(sink, &text)), core),
+            Err(Stop::Media { number: _ }) => {
                 // This line needs no memory, so how the script ends does not depend on memory.
                 write_front(sink, b"media fault\n");
-                (Ok(Ended::MediaFault), store)
+                (Ok(Ended::MediaFault), core)
             }
-            Stop::NoMemory => (Ok(Ended::NoMemory), store),
-        },
+            Err(Stop::NoMemory) => (Ok(Ended::NoMemory), core),
+        }
     }
 }
 
@@ -139,7 +79,6 @@ fn sum_up<S: EawStore, I: KeyIndex>(
         (drill numbers.now.seed numbers.now.count callers) text.items (core_of S.opens I.index (S.view core.new.records.store) core.new)) }
     ensures early { IfErr result (λ stop. EndsEarly S.tells (core_of S.opens I.index (S.view core.old.records.store) core.old)
         (drill numbers.now.seed numbers.now.count callers) stop (core_of S.opens I.index (S.view core.new.records.store) core.new)) }
-    ensures alive { OnOk result (IsAlive (S.view core.new.records.store)) }
     ensures cause { HasStopCause (S.view core.old.records.store).faults (S.view core.new.records.store).faults result }
 {
     let Ok(turns) = script(alloc, numbers.seed, numbers.count, callers) else {

@@ -1,133 +1,28 @@
-// The work of callers on threads.
-ghost use Rattle.std.specs.Prelude.{◌≡◌, ◌++◌, ◌<◌, ◌≤◌, ◌↔◌, ℕ, List, None, length, IsTrue, IfErr, IfOk, OnOk};
+// What is told of the work of callers on threads.
+ghost use Rattle.std.specs.Prelude.{◌≡◌, ◌++◌, ◌≤◌, ◌↔◌, length, IfOk, OnOk};
 ghost use Rattle.std.specs.FinMap.{entries};
 ghost use Rattle.std.specs.List.{flat_map};
-ghost use Rattle.eaw_face.specs.Causes.{IsAlive};
 ghost use Rattle.history.specs.Legal.{records};
+ghost use Rattle.history.specs.Rows.{table_of};
 ghost use Rattle.history_text.specs.Text.{done_lines, work_text, all_fate_lines};
 ghost use Rattle.script_io.specs.Written.{Appends, IsWritten, Wrote};
-ghost use Rattle.history.specs.Rows.{table_of};
-ghost use Rattle.mars_shell.specs.Forms.{index_at};
-ghost use Rattle.mars_shell.specs.Joint.{media_line, TellsWork, IsBrokenOff, JointWork};
-ghost use Rattle.mars_shell.specs.Served.{Serves, ServedCounts};
+ghost use Rattle.mars_shell.specs.Joint.{media_line, TellsWork, IsBrokenOff};
 
-use crate::forms::find_form;
-use btree_pages::BTreePages;
-use caller_plans::{LineFault, Script, read_script};
-use caller_work::{Fates, Gate, WorkEnd, work};
-use eaw_face::EawStore;
+use crate::ending::write_ended;
+use caller_plans::LineFault;
+use caller_work::{Fates, WorkEnd};
 use history::{History, Rows, play};
 use history_text::{put_history, write_fates, write_faults, write_records};
-use key_list::KeyList;
 use mars_base::NoMemory;
-use mars_core::{Core, CoreFault};
 use outside::Sink;
-use page_store::{KeyIndex, SaveRoom};
-use record_table::Form;
-use script_io::{TextOut, write_whole};
+use script_io::TextOut;
 use script_run::Ended;
 use std::alloc::Global;
-use std::sync::Wait;
-use std::thread::Threads;
 
 const MEDIA_LINE: &[u8] = b"media fault\n";
 
-/// Gives each caller's transactions in the input to a worker of its own, over the records of a store, under the index that its data names.
-/// Writes what came of them and returns the store. Nothing is written if the records were not taken or memory ran out before the work.
-pub fn serve_jointly<R: Threads + Wait + Sync, K: Sink, S: EawStore + Drop + Send, G: Gate + Sync>(
-    rt: &R,
-    alloc: Global,
-    input: &[u8],
-    callers: u8,
-    tries: u32,
-    sink: &mut K,
-    room: SaveRoom,
-    store: S,
-    gate: &G,
-) -> (Result<Ended, CoreFault>, S)
-    requires alive { IsAlive (S.view store) }
-    requires free { (t : ℕ) → (S.view store).ranges t ≡ None }
-    requires some { 0 < callers }
-    requires enough { callers ≤ (S.view store).shape.numbers }
-    requires tries { 1 ≤ tries }
-    ensures joined { Wrote K.tells (K.written sink.old) (K.written sink.new) (K.faults sink.old) (K.faults sink.new)
-        (λ cut text. IsTrue S.tells → Serves (λ ended. JointWork callers tries input.now ended cut text) S.opens (index_at (S.view store).state.bytes) (S.view store) result.0 cut text (S.view result.1)) }
-    ensures untold { IfErr result.0 (λ fault. sink.new ≡ sink.old) }
-    ensures counts { ServedCounts result.0 (K.faults sink.old) (K.faults sink.new) (S.view store).faults (S.view result.1).faults }
-{
-    let mut store = store;
-    match find_form(&mut store) {
-        Ok(Form::Chain) => work_under::<R, K, S, KeyList, G>(
-            rt, alloc, input, callers, tries, sink, room, store, gate,
-        ),
-        Ok(Form::Tree) => work_under::<R, K, S, BTreePages, G>(
-            rt, alloc, input, callers, tries, sink, room, store, gate,
-        ),
-        Err(fault) => (Err(fault), store),
-    }
-}
-
-// The same under an index.
-fn work_under<
-    R: Threads + Wait + Sync,
-    K: Sink,
-    S: EawStore + Drop + Send,
-    I: KeyIndex + Send,
-    G: Gate + Sync,
->(
-    rt: &R,
-    alloc: Global,
-    input: &[u8],
-    callers: u8,
-    tries: u32,
-    sink: &mut K,
-    room: SaveRoom,
-    store: S,
-    gate: &G,
-) -> (Result<Ended, CoreFault>, S)
-    requires alive { IsAlive (S.view store) }
-    requires free { (t : ℕ) → (S.view store).ranges t ≡ None }
-    requires some { 0 < callers }
-    requires enough { callers ≤ (S.view store).shape.numbers }
-    requires tries { 1 ≤ tries }
-    ensures joined { Wrote K.tells (K.written sink.old) (K.written sink.new) (K.faults sink.old) (K.faults sink.new)
-        (λ cut text. IsTrue S.tells → Serves (λ ended. JointWork callers tries input.now ended cut text) S.opens I.index (S.view store) result.0 cut text (S.view result.1)) }
-    ensures untold { IfErr result.0 (λ fault. sink.new ≡ sink.old) }
-    ensures counts { ServedCounts result.0 (K.faults sink.old) (K.faults sink.new) (S.view store).faults (S.view result.1).faults }
-{
-    let Ok(script) = read_script(alloc, input, callers) else {
-        return (Err(CoreFault::NoMemory), store);
-    };
-    let Script { faults, plans } = script;
-    let core = match Core::<S, I>::attach(alloc, room, store) {
-        Ok(core) => core,
-        Err((fault, store)) => return (Err(fault), store),
-    };
-    // Behind a pointer the core goes from thread to thread without a copy.
-    let core = match Box::new(alloc, core) {
-        Ok(core) => core,
-        Err(full) => return (Err(CoreFault::NoMemory), full.value.into_store()),
-    };
-    match work(rt, alloc, core, plans, u64::from(tries), gate) {
-        Ok((core, fates, end)) => {
-            let core = Box::into_inner(core);
-            let ended = tell_end(
-                alloc,
-                sink,
-                faults.items(),
-                core.history(),
-                core.base(),
-                &fates,
-                end,
-            );
-            (Ok(ended), core.into_store())
-        }
-        Err((NoMemory, core)) => (Err(CoreFault::NoMemory), Box::into_inner(core).into_store()),
-    }
-}
-
-// Writes what came of the work, by how it ended.
-fn tell_end<K: Sink>(
+/// Writes what came of the work, by how it ended.
+pub fn tell_end<K: Sink>(
     alloc: Global,
     sink: &mut K,
     faults: &[LineFault],
@@ -144,10 +39,7 @@ fn tell_end<K: Sink>(
 {
     match end {
         WorkEnd::All => match work_text(alloc, faults, history, base, fates) {
-            Ok(text) => match write_whole(sink, &text) {
-                Ok(()) => Ended::All,
-                Err(_) => Ended::WriteFault,
-            },
+            Ok(text) => write_ended(sink, &text),
             Err(NoMemory) => Ended::NoMemory,
         },
         WorkEnd::MediaFault => {

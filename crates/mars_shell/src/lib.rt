@@ -3,8 +3,10 @@
 
 mod callers;
 mod commands;
+mod core_work;
 mod drilling;
 mod dump;
+mod ending;
 mod fault;
 mod formatting;
 mod forms;
@@ -14,8 +16,8 @@ mod lines;
 mod media_room;
 mod number_line;
 mod opening;
+mod records;
 mod responder;
-mod serve;
 mod status;
 mod summary;
 mod tally;

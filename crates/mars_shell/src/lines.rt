@@ -1,44 +1,48 @@
-// A run over records.
-ghost use Rattle.std.specs.Prelude.{◌≡◌, ℕ, List, IsTrue};
-ghost use Rattle.script_io.specs.Written.{Wrote};
-ghost use Rattle.command_words.specs.declared.words.Words.TheVariants.{Run};
-ghost use Rattle.mars_shell.specs.Asked.{OutcomeFor};
-ghost use Rattle.mars_shell.specs.Input.{InputSays};
-ghost use Rattle.mars_shell.specs.Statuses.{Counts, IsEarly, IsRefusal};
-
-use crate::opening::open;
-use crate::serve::serve;
-use crate::status::{Status, served_status};
-use outside::{Sink, Source};
-use page_store::SaveRoom;
-use pcm_media::Media;
+// The work of callers that take turns by the lines of the input.
+use crate::core_work::CoreWork;
+use crate::responder::LineCore;
+use eaw_face::EawStore;
+use mars_base::NoMemory;
+use mars_core::Core;
+use outside::Sink;
+use page_store::KeyIndex;
+use script_run::{Ended, answer_lines};
 use std::alloc::Global;
 
-/// Answers the lines of the source over the array that the medium holds, if its records are sound.
-pub(crate) fn run_lines<S: Source, K: Sink, M: Media>(
-    alloc: Global,
-    source: &mut S,
-    sink: &mut K,
-    media: M,
-) -> (Status, M)
-    ensures no_usage { result.0 ≡ Status.Usage → ⊥ }
-    ensures early { IsEarly result.0 → (sink.new ≡ sink.old) × (result.1 ≡ media) }
-    ensures refused { IsRefusal result.0 → sink.new ≡ sink.old }
-    ensures counts { Counts result.0 (S.faults source.old) (S.faults source.new) (K.faults sink.old) (K.faults sink.new) (M.view media).faults (M.view result.1).faults }
-    ensures steady { IsTrue (S.steady source.old) → result.0 ≡ Status.ReadFault → ⊥ }
-    ensures input { IsTrue S.tells → InputSays result.0 (S.left source.old) (S.left source.new) }
-    ensures ran { Wrote K.tells (K.written sink.old) (K.written sink.new) (K.faults sink.old) (K.faults sink.new)
-        (λ cut text. (input : List ℕ) × (IsTrue S.tells → S.left source.old ≡ input) × (IsTrue M.tells → OutcomeFor Run (M.view media) result.0 (M.view result.1) input cut text)) }
-{
-    // The room for the pages is taken first, so that a lack of memory for it leaves the medium alone.
-    let room = match SaveRoom::new(alloc) {
-        Ok(room) => room,
-        Err(_) => return (Status::NoMemory, media),
-    };
-    let (input, store) = match open(alloc, source, media) {
-        Ok(opened) => opened,
-        Err(ended) => return ended,
-    };
-    let (served, store) = serve(alloc, &input, sink, room, store);
-    (served_status(served), store.into_media())
+/// The lines of the input are answered one by one.
+#[derive(Drop)]
+pub struct ByTurns;
+
+impl CoreWork for ByTurns {
+    ghost use Rattle.std.specs.Prelude.{true, false};
+    ghost use Rattle.mars_shell.specs.Run.{Answers};
+
+    ghost reads = { true };
+
+    ghost spares = { false };
+
+    ghost can_be_done = { λ work. Unit {0} };
+
+    ghost does = { λ work. Answers };
+
+    fn reads(&self) -> bool {
+        true
+    }
+
+    fn work_on<K: Sink, S: EawStore + Drop + Send, I: KeyIndex + Send>(
+        &self,
+        alloc: Global,
+        input: &[u8],
+        numbers: u8,
+        sink: &mut K,
+        core: Core<S, I>,
+    ) -> (Result<Ended, NoMemory>, Core<S, I>) {
+        let mut lines = LineCore {
+            core,
+            callers: numbers,
+        };
+        let ended = answer_lines(alloc, input, sink, &mut lines);
+        let LineCore { core, callers: _ } = lines;
+        (Ok(ended), core)
+    }
 }

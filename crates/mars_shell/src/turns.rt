@@ -1,5 +1,5 @@
 // Calls of callers, made one after another.
-ghost use Rattle.std.specs.Prelude.{◌≡◌, ◌<◌, false, IfOk, IfErr, OnOk};
+ghost use Rattle.std.specs.Prelude.{◌≡◌, ◌<◌, false, IfOk, IfErr};
 ghost use Rattle.std.specs.List.{All};
 ghost use Rattle.script_run.specs.Answers.{HasStopCause};
 ghost use Rattle.mars_shell.specs.Made.{MadeAll, EndsEarly};
@@ -15,7 +15,6 @@ pub fn make_turns<C: Core>(core: &mut C, script: &[(u8, Call)]) -> Result<Tally,
     requires alive { (C.view core.old).state.is_dead ≡ false }
     ensures all { IfOk result (λ tally. MadeAll C.tells (C.view core.old) script.now tally (C.view core.new)) }
     ensures early { IfErr result (λ stop. EndsEarly C.tells (C.view core.old) script.now stop (C.view core.new)) }
-    ensures alive { OnOk result ((C.view core.new).state.is_dead ≡ false) }
     ensures cause { HasStopCause (C.view core.old).faults (C.view core.new).faults result }
 {
     let mut tally = Tally::new();

@@ -9,15 +9,16 @@ ghost use Rattle.mars_shell.specs.Formats.{FormatSays};
 ghost use Rattle.mars_shell.specs.Input.{InputSays};
 ghost use Rattle.mars_shell.specs.Statuses.{Counts};
 
-use crate::callers::run_callers;
+use crate::callers::{Crew, run_callers};
 use crate::commands::run_commands;
-use crate::drilling::run_drill;
-use crate::dump::run_dump;
+use crate::drilling::DrawnScript;
+use crate::dump::RecordDump;
 use crate::formatting::run_format;
-use crate::lines::run_lines;
+use crate::lines::ByTurns;
+use crate::records::over_records;
 use crate::status::Status;
 use caller_work::Gate;
-use command_words::{CallersNumbers, Words, WordsFault, read_words};
+use command_words::{Words, WordsFault, read_words};
 use outside::{Sink, Source};
 use pcm_media::Media;
 use std::sync::Wait;
@@ -66,14 +67,16 @@ pub fn run<
     match read_words(rt.alloc(), words) {
         Err(WordsFault::NoCommand) => (Status::Usage, media),
         Err(WordsFault::NoMemory) => (Status::NoMemory, media),
-        Ok(Words::Run) => run_lines(rt.alloc(), source, sink, media),
+        Ok(Words::Run) => over_records(rt.alloc(), source, sink, media, &ByTurns),
         Ok(Words::Callers(numbers)) => {
-            let CallersNumbers { callers, tries } = numbers;
-            run_callers(rt, rt.alloc(), callers, tries, source, sink, media, gate)
+            let crew = Crew { rt, numbers, gate };
+            run_callers(rt.alloc(), source, sink, media, &crew)
         }
         Ok(Words::Eaw) => run_commands(rt.alloc(), source, sink, media),
-        Ok(Words::Dump) => run_dump(rt.alloc(), sink, media),
-        Ok(Words::Drill(numbers)) => run_drill(rt.alloc(), sink, media, &numbers),
+        Ok(Words::Dump) => over_records(rt.alloc(), source, sink, media, &RecordDump),
+        Ok(Words::Drill(numbers)) => {
+            over_records(rt.alloc(), source, sink, media, &DrawnScript { numbers })
+        }
         Ok(Words::Format(numbers)) => run_format(sink, media, &numbers),
     }
 }

@@ -1,10 +1,9 @@
 use Rattle.std.proofs.Common.{subst}
-use Rattle.mars_shell.specs.Run.{Answers}
 use Rattle.record_table.specs.Form.{form_number}
 use Rattle.record_table.specs.declared.form.Form.{Form}
 use Rattle.mars_shell.specs.Served.{SaysForm}
 use Rattle.mars_shell.proofs.Forming.{serves_on}
-use Rattle.mars_shell.proofs.serve.serve.Goals as goal
+use Rattle.mars_shell.proofs.records.serve.Goals as goal
 
 pub returns-in-Ok-Chain-clause-served : goal.returns-in-Ok-Chain-clause-served
 returns-in-Ok-Chain-clause-served g c =
@@ -18,8 +17,17 @@ returns-in-Ok-Chain-clause-served g c =
       text = said.text;
       wrote = said.wrote;
       counts = said.counts;
-      holds = λ told. serves_on s.tells told s.opens 0 old mid form (s.view c.serve_under.result.1) (λ ended. Answers c.args.input.now ended said.cut said.text) c.serve_under.result.0 said.cut said.text (said.holds told);
+      holds = λ told. serves_on s.tells told s.opens 0 old mid form (s.view c.serve_under.result.1) g.W.CoreWork.spares (λ ended. g.W.CoreWork.does c.args.work.now c.args.input.now ended said.cut said.text) c.serve_under.result.0 said.cut said.text (said.holds told);
     }
+
+pub returns-in-Ok-Chain-clause-untold : goal.returns-in-Ok-Chain-clause-untold
+returns-in-Ok-Chain-clause-untold g c = c.serve_under.ensures.untold
+
+pub returns-in-Ok-Chain-clause-end : goal.returns-in-Ok-Chain-clause-end
+returns-in-Ok-Chain-clause-end g c = c.serve_under.ensures.end
+
+pub returns-in-Ok-Chain-clause-counts : goal.returns-in-Ok-Chain-clause-counts
+returns-in-Ok-Chain-clause-counts g c = rw c.in-Ok-Chain.ensures.says.faults at c.serve_under.ensures.counts
 
 pub returns-in-Ok-Tree-clause-served : goal.returns-in-Ok-Tree-clause-served
 returns-in-Ok-Tree-clause-served g c =
@@ -33,17 +41,14 @@ returns-in-Ok-Tree-clause-served g c =
       text = said.text;
       wrote = said.wrote;
       counts = said.counts;
-      holds = λ told. serves_on s.tells told s.opens 1 old mid form (s.view c.serve_under-in-Ok-Tree.result.1) (λ ended. Answers c.args.input.now ended said.cut said.text) c.serve_under-in-Ok-Tree.result.0 said.cut said.text (said.holds told);
+      holds = λ told. serves_on s.tells told s.opens 1 old mid form (s.view c.serve_under-in-Ok-Tree.result.1) g.W.CoreWork.spares (λ ended. g.W.CoreWork.does c.args.work.now c.args.input.now ended said.cut said.text) c.serve_under-in-Ok-Tree.result.0 said.cut said.text (said.holds told);
     }
-
-pub returns-in-Ok-Chain-clause-untold : goal.returns-in-Ok-Chain-clause-untold
-returns-in-Ok-Chain-clause-untold g c = c.serve_under.ensures.untold
-
-pub returns-in-Ok-Chain-clause-counts : goal.returns-in-Ok-Chain-clause-counts
-returns-in-Ok-Chain-clause-counts g c = rw c.in-Ok-Chain.ensures.says.faults at c.serve_under.ensures.counts
 
 pub returns-in-Ok-Tree-clause-untold : goal.returns-in-Ok-Tree-clause-untold
 returns-in-Ok-Tree-clause-untold g c = c.serve_under-in-Ok-Tree.ensures.untold
+
+pub returns-in-Ok-Tree-clause-end : goal.returns-in-Ok-Tree-clause-end
+returns-in-Ok-Tree-clause-end g c = c.serve_under-in-Ok-Tree.ensures.end
 
 pub returns-in-Ok-Tree-clause-counts : goal.returns-in-Ok-Tree-clause-counts
 returns-in-Ok-Tree-clause-counts g c = rw c.in-Ok-Tree.ensures.says.faults at c.serve_under-in-Ok-Tree.ensures.counts

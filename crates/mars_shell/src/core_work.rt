@@ -1,0 +1,58 @@
+// The trait of what is done on a core over the records of an array.
+ghost use Rattle.std.specs.Prelude.{◌≡◌, ◌⊎◌, ℕ, Bool, List, IsTrue, IfOk, IfErr};
+ghost use Rattle.caller_steps.specs.State.{State};
+ghost use Rattle.caller_steps.specs.Room.{Limits};
+ghost use Rattle.caller_steps.specs.Run.{Turn};
+ghost use Rattle.mars_core.specs.Held.{core_of};
+ghost use Rattle.mars_manager.specs.Sharing.{CanShare};
+ghost use Rattle.script_io.specs.Written.{Wrote};
+ghost use Rattle.script_run.specs.Counts.{Counts};
+ghost use Rattle.script_run.specs.declared.ended.Ended.{Ended};
+ghost use Rattle.mars_shell.specs.OnCore.{Works};
+
+use eaw_face::EawStore;
+use mars_base::NoMemory;
+use mars_core::Core;
+use outside::Sink;
+use page_store::KeyIndex;
+use script_run::Ended;
+use std::alloc::Global;
+
+/// Work on a core that has just begun with the records of an array.
+pub trait CoreWork {
+    /// Whether it reads the input.
+    ghost reads: { Bool };
+
+    /// Whether it leaves the core as it was, and writes nothing but at its end.
+    ghost spares: { Bool };
+
+    /// It can be done.
+    ghost can_be_done: { Self → Type 0 };
+
+    /// What is done, in terms of the input, how the work ended, what was written, the limits of the core, the turns and the last state.
+    ghost does: { Self → List ℕ → Ended → Bool → List ℕ → Limits → List Turn → State → Type 0 };
+
+    fn reads(&self) -> bool
+        ensures { result ≡ reads };
+
+    /// Does it on a core over an array of so many transaction numbers. `NoMemory` says that nothing was done.
+    fn work_on<K: Sink, S: EawStore + Drop + Send, I: KeyIndex + Send>(
+        &self,
+        alloc: Global,
+        input: &[u8],
+        numbers: u8,
+        sink: &mut K,
+        core: Core<S, I>,
+    ) -> (Result<Ended, NoMemory>, Core<S, I>)
+        requires set { can_be_done self.now }
+        requires numbers { numbers ≡ (S.view core.records.store).shape.numbers }
+        requires ready { CanShare S.tells 0 (core_of S.opens I.index (S.view core.records.store) core) }
+        ensures works { Wrote K.tells (K.written sink.old) (K.written sink.new) (K.faults sink.old) (K.faults sink.new)
+            (λ cut text. IsTrue S.tells → Works (λ ended. does self.now input.now ended cut text) (core_of S.opens I.index (S.view core.records.store) core) result.0 cut text
+            (core_of S.opens I.index (S.view result.1.records.store) result.1)) }
+        ensures untold { IfErr result.0 (λ fault. sink.new ≡ sink.old) }
+        ensures given_back { IfErr result.0 (λ fault. result.1 ≡ core) }
+        ensures spared { IsTrue spares → result.1 ≡ core }
+        ensures end { IsTrue spares → IfOk result.0 (λ ended. (ended ≡ Ended.All) ⊎ (ended ≡ Ended.WriteFault)) }
+        ensures counts { IfOk result.0 (λ ended. Counts ended (K.faults sink.old) (K.faults sink.new) (S.view core.records.store).faults (S.view result.1.records.store).faults) };
+}

@@ -1,0 +1,20 @@
+// The end of work whose text is written at once.
+ghost use Rattle.std.specs.Prelude.{◌≡◌, ◌⊎◌};
+ghost use Rattle.script_io.specs.Written.{IsWritten, Wrote};
+ghost use Rattle.mars_shell.specs.Dump.{IsCutAt};
+
+use outside::Sink;
+use script_io::write_whole;
+use script_run::Ended;
+
+/// Writes the text of work that came to its end, and says how it then ended.
+pub fn write_ended<K: Sink>(sink: &mut K, text: &[u8]) -> Ended
+    ensures wrote { Wrote K.tells (K.written sink.old) (K.written sink.new) (K.faults sink.old) (K.faults sink.new)
+        (λ cut part. IsCutAt result cut × IsWritten cut part text.now) }
+    ensures end { (result ≡ Ended.All) ⊎ (result ≡ Ended.WriteFault) }
+{
+    match write_whole(sink, text) {
+        Ok(()) => Ended::All,
+        Err(_) => Ended::WriteFault,
+    }
+}

@@ -1,0 +1,114 @@
+// Work over the records of the array that a medium holds.
+ghost use Rattle.std.specs.Prelude.{◌≡◌, ◌⊎◌, ℕ, List, None, IsTrue, IsFalse, IfOk, IfErr};
+ghost use Rattle.eaw_face.specs.Causes.{IsAlive};
+ghost use Rattle.script_io.specs.Written.{Wrote};
+ghost use Rattle.mars_shell.specs.Dump.{Spares};
+ghost use Rattle.mars_shell.specs.Forms.{index_at};
+ghost use Rattle.mars_shell.specs.Input.{InputSays};
+ghost use Rattle.mars_shell.specs.Run.{TakesTurns, OverRecords};
+ghost use Rattle.mars_shell.specs.Served.{Serves, ServedCounts};
+ghost use Rattle.mars_shell.specs.Statuses.{Counts, IsEarly, IsRefusal};
+
+use crate::core_work::CoreWork;
+use crate::forms::find_form;
+use crate::opening::open_for;
+use crate::status::{Status, served_status};
+use btree_pages::BTreePages;
+use eaw_face::EawStore;
+use key_list::KeyList;
+use mars_base::NoMemory;
+use mars_core::{Core, CoreFault};
+use outside::{Sink, Source};
+use page_store::{KeyIndex, SaveRoom};
+use pcm_media::Media;
+use record_table::Form;
+use script_run::Ended;
+use std::alloc::Global;
+
+/// Does work over the records of the array that the medium holds, if they are sound.
+pub fn over_records<S: Source, K: Sink, M: Media + Drop + Send, W: CoreWork>(
+    alloc: Global,
+    source: &mut S,
+    sink: &mut K,
+    media: M,
+    work: &W,
+) -> (Status, M)
+    requires set { W.can_be_done work.now }
+    ensures no_usage { result.0 ≡ Status.Usage → ⊥ }
+    ensures early { IsEarly result.0 → IsTrue W.reads × (result.1 ≡ media) }
+    ensures silent { IsEarly result.0 ⊎ IsRefusal result.0 → sink.new ≡ sink.old }
+    ensures untold { IsTrue W.spares → (result.0 ≡ Status.MediaFault) ⊎ (result.0 ≡ Status.NoMemory) → sink.new ≡ sink.old }
+    ensures counts { Counts result.0 (S.faults source.old) (S.faults source.new) (K.faults sink.old) (K.faults sink.new) (M.view media).faults (M.view result.1).faults }
+    ensures steady { IsTrue (S.steady source.old) → result.0 ≡ Status.ReadFault → ⊥ }
+    ensures input { IsTrue W.reads → IsTrue S.tells → InputSays result.0 (S.left source.old) (S.left source.new) }
+    ensures unread { IsFalse W.reads → source.new ≡ source.old }
+    ensures ran { Wrote K.tells (K.written sink.old) (K.written sink.new) (K.faults sink.old) (K.faults sink.new)
+        (λ cut text. (input : List ℕ) × (IsTrue W.reads → IsTrue S.tells → S.left source.old ≡ input) × (IsTrue M.tells → OverRecords 0
+        (λ ended. (taken : TakesTurns (W.does work.now input ended cut text) (M.view media) ended (M.view result.1)) × (IsTrue W.spares → Spares taken.shape (M.view media) (M.view result.1)))
+        (M.view media) result.0 (M.view result.1) cut text)) }
+{
+    let (room, input, store) = match open_for(alloc, work.reads(), 0, source, media) {
+        Ok(opened) => opened,
+        Err(ended) => return ended,
+    };
+    let (served, store) = serve(alloc, &input, sink, room, store, work);
+    (served_status(served), store.into_media())
+}
+
+// Does work over the records of a store, under the index that its data names, and returns the store. Nothing is written if the records
+// were not taken.
+fn serve<K: Sink, S: EawStore + Drop + Send, W: CoreWork>(
+    alloc: Global,
+    input: &[u8],
+    sink: &mut K,
+    room: SaveRoom,
+    store: S,
+    work: &W,
+) -> (Result<Ended, CoreFault>, S)
+    requires set { W.can_be_done work.now }
+    requires alive { IsAlive (S.view store) }
+    requires free { (t : ℕ) → (S.view store).ranges t ≡ None }
+    ensures served { Wrote K.tells (K.written sink.old) (K.written sink.new) (K.faults sink.old) (K.faults sink.new)
+        (λ cut text. IsTrue S.tells → Serves W.spares (λ ended. W.does work.now input.now ended cut text) S.opens (index_at (S.view store).state.bytes) (S.view store) result.0 cut text (S.view result.1)) }
+    ensures untold { IfErr result.0 (λ fault. sink.new ≡ sink.old) }
+    ensures end { IsTrue W.spares → IfOk result.0 (λ ended. (ended ≡ Ended.All) ⊎ (ended ≡ Ended.WriteFault)) }
+    ensures counts { ServedCounts result.0 (K.faults sink.old) (K.faults sink.new) (S.view store).faults (S.view result.1).faults }
+{
+    let mut store = store;
+    match find_form(&mut store) {
+        Ok(Form::Chain) => serve_under::<K, S, KeyList, W>(alloc, input, sink, room, store, work),
+        Ok(Form::Tree) => serve_under::<K, S, BTreePages, W>(alloc, input, sink, room, store, work),
+        Err(fault) => (Err(fault), store),
+    }
+}
+
+// The same under an index.
+fn serve_under<K: Sink, S: EawStore + Drop + Send, I: KeyIndex + Send, W: CoreWork>(
+    alloc: Global,
+    input: &[u8],
+    sink: &mut K,
+    room: SaveRoom,
+    store: S,
+    work: &W,
+) -> (Result<Ended, CoreFault>, S)
+    requires set { W.can_be_done work.now }
+    requires alive { IsAlive (S.view store) }
+    requires free { (t : ℕ) → (S.view store).ranges t ≡ None }
+    ensures served { Wrote K.tells (K.written sink.old) (K.written sink.new) (K.faults sink.old) (K.faults sink.new)
+        (λ cut text. IsTrue S.tells → Serves W.spares (λ ended. W.does work.now input.now ended cut text) S.opens I.index (S.view store) result.0 cut text (S.view result.1)) }
+    ensures untold { IfErr result.0 (λ fault. sink.new ≡ sink.old) }
+    ensures end { IsTrue W.spares → IfOk result.0 (λ ended. (ended ≡ Ended.All) ⊎ (ended ≡ Ended.WriteFault)) }
+    ensures counts { ServedCounts result.0 (K.faults sink.old) (K.faults sink.new) (S.view store).faults (S.view result.1).faults }
+{
+    let numbers = store.shape().numbers;
+    let core = match Core::<S, I>::attach(alloc, room, store) {
+        Ok(core) => core,
+        Err((fault, store)) => return (Err(fault), store),
+    };
+    let (worked, core) = work.work_on(alloc, input, numbers, sink, core);
+    let store = core.into_store();
+    match worked {
+        Ok(ended) => (Ok(ended), store),
+        Err(NoMemory) => (Err(CoreFault::NoMemory), store),
+    }
+}
