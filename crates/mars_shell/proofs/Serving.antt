@@ -19,7 +19,7 @@ use Rattle.caller_steps.proofs.Sound.{opened_sound}
 use Rattle.mars_core.specs.Attached.{CoreCause, GivesBack, is_media_fault}
 use Rattle.mars_core.specs.Over.{limits_of, index_of, IsOver, Begins}
 use Rattle.mars_core.specs.declared.fault.CoreFault.{CoreFault}
-use Rattle.script_io.specs.Lines.{lines_of}
+use Rattle.script_run.specs.Lines.{lines_of}
 use Rattle.script_run.specs.Transcript.{Ends, Answered, Ran}
 use Rattle.script_run.specs.declared.ended.Ended.{Ended}
 use Rattle.script_run.specs.declared.ended.Ended.TheVariants.{All, WriteFault, MediaFault, NoMemory}

@@ -1,6 +1,6 @@
 -- What a drill over a core comes to.
 use Rattle.std.proofs.Common.{◌≡◌, ℕ, List, [], ◌∷◌, ◌++◌, map, take, length, Bool, false, refl, subst}
-use Rattle.std.specs.Prelude.{IsTrue, codes}
+use Rattle.std.specs.Prelude.{IsTrue}
 use Rattle.std.specs.FinMap.{entries}
 use Rattle.history.specs.declared.call.Call.{Call}
 use Rattle.caller_steps.specs.State.{State, records_of}
@@ -8,7 +8,8 @@ use Rattle.caller_steps.specs.Core.{CoreView}
 use Rattle.caller_steps.specs.Run.{Turn}
 use Rattle.command_words.specs.declared.words.DrillNumbers.{DrillNumbers}
 use Rattle.drill_gen.specs.Drill.{drill}
-use Rattle.script_io.specs.Written.{IsWritten}
+use Rattle.texts.specs.MediaFault.{media_line}
+use Rattle.texts.specs.Written.{IsWritten}
 use Rattle.script_run.specs.declared.ended.Ended.{Ended}
 use Rattle.script_run.specs.declared.ended.Ended.TheVariants.{All, WriteFault, MediaFault, NoMemory}
 use Rattle.script_run.specs.declared.responder.Stop.TheVariants as stop
@@ -39,7 +40,7 @@ module _ (numbers : DrillNumbers) (tells : Bool) (old new : CoreView) (callers :
   }
 
   -- to a fault of the medium,
-  pub fault_told : (number : ℕ) (cut : Bool) (text : List ℕ) (early : EndsEarly tells old (drill numbers.seed numbers.count callers) (stop.Media number) new) → IsWritten cut text (codes "media fault" ++ 10 ∷ [])
+  pub fault_told : (number : ℕ) (cut : Bool) (text : List ℕ) (early : EndsEarly tells old (drill numbers.seed numbers.count callers) (stop.Media number) new) → IsWritten cut text media_line
       → Drills numbers MediaFault cut text old.limits early.0 new.state
   fault_told number cut text early wrote = record { drawn = own early.0 early.1; told = (early.2, wrote) }
 

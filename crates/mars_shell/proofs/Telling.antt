@@ -12,7 +12,7 @@ use Rattle.caller_steps.specs.Core.{CoreView}
 use Rattle.caller_steps.proofs.Continuing.{continues_none}
 use Rattle.mars_core.specs.Over.{IsOver, Begins}
 use Rattle.mars_core.specs.declared.fault.CoreFault.TheVariants.{NoMemory}
-use Rattle.script_io.specs.Written.{IsWritten}
+use Rattle.texts.specs.Written.{IsWritten}
 use Rattle.script_run.specs.declared.ended.Ended.{Ended}
 use Rattle.mars_shell.specs.Dump.{Dumps, dump_lines, IsCutAt}
 use Rattle.mars_shell.specs.Served.{Untaken, Served, Spared}

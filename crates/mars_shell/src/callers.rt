@@ -1,6 +1,6 @@
 // Callers on threads.
 ghost use Rattle.std.specs.Prelude.{◌≡◌, ◌<◌, ◌≤◌, ◌⊎◌, ℕ, List, IsTrue};
-ghost use Rattle.script_io.specs.Written.{Wrote};
+ghost use Rattle.texts.specs.Written.{Wrote};
 ghost use Rattle.mars_shell.specs.Joint.{JointOutcome};
 ghost use Rattle.mars_shell.specs.Input.{InputSays};
 ghost use Rattle.mars_shell.specs.Statuses.{Counts, IsEarly, IsRefusal};

@@ -3,7 +3,7 @@ ghost use Rattle.std.specs.Prelude.{◌≡◌, ◌<◌, ◌^◌, ℕ, List, None
 ghost use Rattle.eaw_face.specs.Causes.{IsAlive};
 ghost use Rattle.drill_gen.specs.Drill.{drill};
 ghost use Rattle.mars_core.specs.Held.{core_of};
-ghost use Rattle.script_io.specs.Written.{Wrote};
+ghost use Rattle.texts.specs.Written.{Wrote};
 ghost use Rattle.script_run.specs.Answers.{HasStopCause};
 ghost use Rattle.command_words.specs.declared.words.Words.TheVariants.{Drill};
 ghost use Rattle.mars_shell.specs.Asked.{OutcomeFor};
@@ -29,9 +29,9 @@ use outside::Sink;
 use page_store::{KeyIndex, SaveRoom};
 use pcm_media::Media;
 use record_table::Form;
-use script_io::{write_front, write_whole};
 use script_run::{Ended, Stop};
 use std::alloc::Global;
+use texts::{MEDIA_LINE, write_front, write_whole};
 
 /// Makes the calls of the script that the numbers draw, over the records of the array that the medium holds, and writes a summary.
 pub(crate) fn run_drill<K: Sink, M: Media>(
@@ -117,7 +117,7 @@ fn drill_under<K: Sink, S: EawStore, I: KeyIndex>(
         Err(stop) => match stop {
             Stop::Media { number: _ } => {
                 // This line needs no memory, so how the script ends does not depend on memory.
-                write_front(sink, b"media fault\n");
+                write_front(sink, MEDIA_LINE);
                 (Ok(Ended::MediaFault), store)
             }
             Stop::NoMemory => (Ok(Ended::NoMemory), store),

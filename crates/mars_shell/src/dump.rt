@@ -1,7 +1,7 @@
 // A dump of the records of an array.
 ghost use Rattle.std.specs.Prelude.{◌≡◌, ℕ, List, None, IsTrue, IfOk, IfErr, ◌⊎◌};
 ghost use Rattle.eaw_face.specs.Causes.{IsAlive};
-ghost use Rattle.script_io.specs.Written.{Wrote};
+ghost use Rattle.texts.specs.Written.{Wrote};
 ghost use Rattle.command_words.specs.declared.words.Words.TheVariants.{Dump};
 ghost use Rattle.mars_shell.specs.Asked.{OutcomeFor};
 ghost use Rattle.mars_shell.specs.Dump.{Dumps, dump_lines};
@@ -24,9 +24,9 @@ use outside::Sink;
 use page_store::{KeyIndex, SaveRoom};
 use pcm_media::Media;
 use record_table::Form;
-use script_io::write_whole;
 use script_run::Ended;
 use std::alloc::Global;
+use texts::write_whole;
 
 /// Writes the records of the array that the medium holds, if they are sound, and how many there are.
 pub(crate) fn run_dump<K: Sink, M: Media>(alloc: Global, sink: &mut K, media: M) -> (Status, M)

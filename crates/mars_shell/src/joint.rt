@@ -5,7 +5,7 @@ ghost use Rattle.std.specs.List.{flat_map};
 ghost use Rattle.eaw_face.specs.Causes.{IsAlive};
 ghost use Rattle.history.specs.Legal.{records};
 ghost use Rattle.history_text.specs.Text.{done_lines, work_text, all_fate_lines};
-ghost use Rattle.script_io.specs.Written.{Appends, IsWritten, Wrote};
+ghost use Rattle.texts.specs.Written.{Appends, IsWritten, Wrote};
 ghost use Rattle.history.specs.Rows.{table_of};
 ghost use Rattle.mars_shell.specs.Forms.{index_at};
 ghost use Rattle.mars_shell.specs.Joint.{media_line, TellsWork, IsBrokenOff, JointWork};
@@ -24,13 +24,11 @@ use mars_core::{Core, CoreFault};
 use outside::Sink;
 use page_store::{KeyIndex, SaveRoom};
 use record_table::Form;
-use script_io::{TextOut, write_whole};
 use script_run::Ended;
 use std::alloc::Global;
 use std::sync::Wait;
 use std::thread::Threads;
-
-const MEDIA_LINE: &[u8] = b"media fault\n";
+use texts::{MEDIA_LINE, TextOut, write_whole};
 
 /// Gives each caller's transactions in the input to a worker of its own, over the records of a store, under the index that its data names.
 /// Writes what came of them and returns the store. Nothing is written if the records were not taken or memory ran out before the work.
@@ -114,7 +112,7 @@ fn work_under<
             let ended = tell_end(
                 alloc,
                 sink,
-                faults.items(),
+                faults.as_slice(),
                 core.history(),
                 core.base(),
                 &fates,

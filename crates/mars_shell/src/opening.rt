@@ -10,7 +10,7 @@ use eaw_device::Eaw;
 use eaw_face::EawStore;
 use outside::Source;
 use pcm_media::Media;
-use script_io::{InputFault, read_input};
+use script_run::{InputFault, read_input};
 use std::alloc::Global;
 
 /// Reads the input to its end, then opens the array that the medium holds. An error returns the medium with the status that the run ends

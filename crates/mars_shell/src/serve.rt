@@ -1,7 +1,7 @@
 // The work over the records of an array.
 ghost use Rattle.std.specs.Prelude.{◌≡◌, ℕ, None, false, IsTrue, IfErr};
 ghost use Rattle.eaw_face.specs.Causes.{IsAlive};
-ghost use Rattle.script_io.specs.Written.{Wrote};
+ghost use Rattle.texts.specs.Written.{Wrote};
 ghost use Rattle.mars_shell.specs.Forms.{index_at};
 ghost use Rattle.mars_shell.specs.Run.{Answers};
 ghost use Rattle.mars_shell.specs.Served.{Serves, ServedCounts};

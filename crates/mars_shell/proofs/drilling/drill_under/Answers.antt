@@ -3,7 +3,7 @@ use Rattle.std.proofs.lemmas.List.{append-nil}
 use Rattle.array_shape.specs.declared.shape.Shape.{Shape}
 use Rattle.mars_core.specs.Held.{core_of}
 use Rattle.mars_core.specs.Over.{IsOver}
-use Rattle.script_io.specs.Written.{IsWritten}
+use Rattle.texts.specs.Written.{IsWritten}
 use Rattle.script_run.specs.declared.ended.Ended.TheVariants.{All, WriteFault, MediaFault, NoMemory}
 use Rattle.mars_shell.specs.Drill.{Drills}
 use Rattle.mars_shell.specs.Served.{Served}

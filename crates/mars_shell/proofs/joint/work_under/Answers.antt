@@ -55,7 +55,7 @@ returns-in-Ok-work-clause-joined g c =
           (runs s.tells _ _ c.args.callers c.args.tries c.args.input.now read.0 read.1 c.in-Ok.script.plans.items read.3 c.in-Ok-work.fates.items c.in-Ok-work.end worked enough tells)
           (joint_work s.tells _ _ c.args.callers c.args.tries c.args.input.now read.0 read.1 c.in-Ok.script.plans.items read.3 c.in-Ok-work.fates.items c.in-Ok-work.end worked enough
           c.tell_end-ended.result told.cut told.text c.tell_end-ended.ensures.whole c.tell_end-ended.ensures.fault
-          (retold c.tell_end-ended.result told.cut told.text _ _ _ _ _ _ _ _ (c.items.ensures ∙ read.2) c.history.ensures c.base.ensures.base c.deref.ensures.value told.holds))
+          (retold c.tell_end-ended.result told.cut told.text _ _ _ _ _ _ _ _ (c.as_slice.ensures ∙ read.2) c.history.ensures c.base.ensures.base c.deref.ensures.value told.holds))
           (λ all. living s.tells _ _ c.args.callers c.args.tries c.args.input.now read.0 read.1 c.in-Ok.script.plans.items read.3 c.in-Ok-work.fates.items c.in-Ok-work.end worked enough (c.tell_end-ended.ensures.whole (unbroken c.tell_end-ended.result all))));
     }
 
