@@ -3,9 +3,9 @@ ghost use Rattle.std.specs.Prelude.{◌≡◌, ◌^◌, ◌<◌, IfSome, decimal
 ghost use Rattle.bank.specs.Accounts.{worth};
 
 use history::Reply;
-use itoa::Buffer;
 use record_slots::Value;
 use std::str;
+use texts::{Piece, ShortText};
 
 /// Why a transfer was not made, or a balance was not given.
 #[derive(Debug, PartialEq, Eq, Drop)]
@@ -33,8 +33,8 @@ pub(crate) fn number_in(value: &Value) -> Option<u64>
 pub(crate) fn value_of(number: u64) -> Value
     ensures { result ≡ decimal number }
 {
-    let mut buffer = Buffer::new();
-    match Value::of(buffer.format(number).as_bytes()) {
+    let text = ShortText::of(&[Piece::Number(number)]);
+    match Value::of(text.as_bytes()) {
         Some(value) => value,
         None => unreachable!(),
     }

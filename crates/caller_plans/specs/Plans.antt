@@ -4,7 +4,7 @@ use Rattle.history.specs.declared.call.Call.{Call}
 use Rattle.history.specs.declared.call.Call.TheVariants.{Begin, Commit, Abort}
 use Rattle.script_text.specs.declared.line.Line.{Line}
 use Rattle.script_text.specs.declared.line.Line.TheVariants.{Nothing, Told, Bad}
-use Rattle.script_text.specs.Line.{Says}
+use Rattle.script_text.specs.Line.{LineSays}
 use Rattle.caller_plans.specs.declared.plan.Plan.{Plan}
 use Rattle.caller_plans.specs.declared.plan.PlanEnd.{PlanEnd}
 use Rattle.caller_plans.specs.declared.plan.PlanEnd.TheVariants as end
@@ -57,7 +57,7 @@ faults_from n within (Told caller call ∷ lines) =
 -- what each line says, with this many callers
 abbrev pub AllSay : ℕ → List (List ℕ) → List Line → Type 0
 AllSay callers [] [] = Unit {0}
-AllSay callers (bytes ∷ lines) (line ∷ said) = Says callers bytes line × AllSay callers lines said
+AllSay callers (bytes ∷ lines) (line ∷ said) = LineSays callers bytes line × AllSay callers lines said
 AllSay callers _ _ = ⊥
 
 -- what each of n callers plans, from this one on

@@ -73,9 +73,7 @@ impl Draft {
         ensures begun { self.new.begun ≡ None }
     {
         if let Some(calls) = self.begun.take() {
-            if self.plans.push(Plan { calls, end }).is_err() {
-                return Err(NoMemory);
-            }
+            self.plans.push(Plan { calls, end })?;
         }
         Ok(())
     }

@@ -1,10 +1,6 @@
 // What becomes of the lines of a script.
-ghost use Rattle.std.specs.Prelude.{◌≡◌, [], ◌∷◌, ◌++◌, OnOk, OnErr};
-
 use history::Reply;
-use mars_base::NoMemory;
-use std::alloc::Global;
-use std::marker::Model;
+use mars_base::Listed;
 
 /// What became of a planned transaction.
 #[derive(Debug, Drop)]
@@ -27,40 +23,4 @@ pub enum LineFault {
 }
 
 /// The lines that are passed over, by rising number.
-#[derive(Debug, Drop)]
-pub struct LineFaults {
-    items: Vec<LineFault>,
-}
-
-impl Model for LineFaults {
-    ghost use Rattle.std.specs.Prelude.{List};
-    ghost use Rattle.caller_plans.specs.declared.fate.LineFault.{LineFault};
-
-    ghost Value = { List LineFault };
-
-    ghost view = { λ f. f.items.items };
-}
-
-impl LineFaults {
-    pub fn new(alloc: Global) -> Self
-        ensures { result ≡ [] }
-    {
-        LineFaults {
-            items: Vec::new(alloc),
-        }
-    }
-
-    pub fn push(&mut self, fault: LineFault) -> Result<(), NoMemory>
-        ensures ok { OnOk result (self.new ≡ self.old ++ fault ∷ []) }
-        ensures err { OnErr result (self.new ≡ self.old) }
-    {
-        self.items.push(fault)?;
-        Ok(())
-    }
-
-    pub fn items(&self) -> &[LineFault]
-        ensures { result.now ≡ self.now }
-    {
-        &self.items
-    }
-}
+pub type LineFaults = Listed<LineFault>;

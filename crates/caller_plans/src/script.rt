@@ -1,6 +1,6 @@
 // What a script says for its callers.
 ghost use Rattle.std.specs.Prelude.{◌≡◌, ◌<◌, List, [], length, replicate, false, IfOk, OnOk};
-ghost use Rattle.script_io.specs.Lines.{lines_of};
+ghost use Rattle.script_run.specs.Lines.{lines_of};
 ghost use Rattle.script_text.specs.declared.line.Line.{Line};
 ghost use Rattle.script_text.specs.declared.line.Line.TheVariants.{Told};
 ghost use Rattle.caller_plans.specs.Plans.{AllSay, faults_from, plans_from};
@@ -11,7 +11,7 @@ use crate::fate::{LineFault, LineFaults};
 use crate::plan::Plans;
 use history::Call;
 use mars_base::NoMemory;
-use script_io::next_line;
+use script_run::next_line;
 use script_text::{Line, read_line};
 use std::alloc::Global;
 
@@ -69,7 +69,10 @@ impl Reading {
     {
         match line {
             Line::Nothing => Ok(()),
-            Line::Bad => self.faults.push(LineFault::Bad { line: number }),
+            Line::Bad => {
+                self.faults.push(LineFault::Bad { line: number })?;
+                Ok(())
+            }
             Line::Told { caller, call } => self.hear(alloc, number, *caller, call),
         }
     }
@@ -80,7 +83,8 @@ impl Reading {
         ensures { OnOk result (Takes number (Told caller call.now) self.old self.new) }
     {
         if self.drafts[usize::from(caller)].is_stray(call) {
-            return self.faults.push(LineFault::Stray { line: number });
+            self.faults.push(LineFault::Stray { line: number })?;
+            return Ok(());
         }
         self.drafts[usize::from(caller)].add(alloc, call)
     }

@@ -7,8 +7,8 @@ use Rattle.std.proofs.lemmas.Fmt.{decimal_injective}
 use Rattle.clap.specs.Words.{Text, Row, subcommand_rows_of}
 use Rattle.clap.specs.Matches.{subcommand_name_of}
 use Rattle.clap.specs.declared.parser.ArgMatches.{ArgMatches}
-use Rattle.command_words.specs.Reads.{Reads}
-use Rattle.command_words.specs.Asked.{Says, GivesNumbers, GivesDrill, GivesCallers, IsNumber}
+use Rattle.texts.specs.Reads.{Reads}
+use Rattle.command_words.specs.Asked.{SubcommandAsks, GivesNumbers, GivesDrill, GivesCallers, IsNumber}
 use Rattle.command_words.specs.declared.words.CallersNumbers.{CallersNumbers}
 use Rattle.command_words.specs.declared.words.DrillNumbers.{DrillNumbers}
 use Rattle.command_words.specs.declared.words.FormatNumbers.{FormatNumbers}
@@ -69,7 +69,7 @@ name_of (Drill numbers) = codes "drill"
 name_of (Format numbers) = codes "format"
 
 -- whoever says it has that name
-named : (name : Text) (options : List Row) (asked : Words) → Says name options asked → name ≡ name_of asked
+named : (name : Text) (options : List Row) (asked : Words) → SubcommandAsks name options asked → name ≡ name_of asked
 named name options Run says = says
 named name options (Callers numbers) says = says.0
 named name options Eaw says = says
@@ -78,24 +78,24 @@ named name options (Drill numbers) says = says.0
 named name options (Format numbers) says = says.0
 
 -- if the numbers are wrong, nothing is asked for
-pub no_callers : (options : List Row) → ((numbers : CallersNumbers) → GivesCallers options numbers → ⊥) → (asked : Words) → Says (codes "callers") options asked → ⊥
+pub no_callers : (options : List Row) → ((numbers : CallersNumbers) → GivesCallers options numbers → ⊥) → (asked : Words) → SubcommandAsks (codes "callers") options asked → ⊥
 no_callers options none (Callers numbers) says = none numbers says.1
 no_callers options none asked says = apart (codes "callers") (name_of asked) refl (named (codes "callers") options asked says)
 
-pub no_drill : (values : List Row) → ((numbers : DrillNumbers) → GivesDrill values numbers → ⊥) → (asked : Words) → Says (codes "drill") values asked → ⊥
+pub no_drill : (values : List Row) → ((numbers : DrillNumbers) → GivesDrill values numbers → ⊥) → (asked : Words) → SubcommandAsks (codes "drill") values asked → ⊥
 no_drill values none (Drill numbers) says = none numbers says.1
 no_drill values none asked says = apart (codes "drill") (name_of asked) refl (named (codes "drill") values asked says)
 
-pub no_format : (options : List Row) → ((numbers : FormatNumbers) → GivesNumbers options numbers → ⊥) → (asked : Words) → Says (codes "format") options asked → ⊥
+pub no_format : (options : List Row) → ((numbers : FormatNumbers) → GivesNumbers options numbers → ⊥) → (asked : Words) → SubcommandAsks (codes "format") options asked → ⊥
 no_format options none (Format numbers) says = none numbers says.1
 no_format options none asked says = apart (codes "format") (name_of asked) refl (named (codes "format") options asked says)
 
 -- and so under whatever name and options the subcommand is found
 pub none_said : (m : ArgMatches) (word name : Text) (options : List Row) → name ≡ word → Some name ≡ subcommand_name_of m → Some options ≡ option_map (λ p. p.1) (subcommand_rows_of m)
-    → ((asked : Words) → Says word options asked → ⊥) → (other : Text) (others : List Row) (asked : Words) → subcommand_rows_of m ≡ Some (other, others) → Says other others asked → ⊥
+    → ((asked : Words) → SubcommandAsks word options asked → ⊥) → (other : Text) (others : List Row) (asked : Words) → subcommand_rows_of m ≡ Some (other, others) → SubcommandAsks other others asked → ⊥
 none_said m word name options is named has none other others asked met says =
     let same = one_met (subcommand_rows_of m) name other options others (met_is m name options named has) met in
-    let said : Says word options asked = rw (same.0, same.1, is) at says in
+    let said : SubcommandAsks word options asked = rw (same.0, same.1, is) at says in
     none asked said
 
 -- numbers of the same options are the same
@@ -109,7 +109,7 @@ one_format : (options : List Row) (numbers other : FormatNumbers) → GivesNumbe
 one_format options numbers other are also = search (rules, one_number)
 
 -- a name and options say at most one thing
-pub one_asked : (name : Text) (options : List Row) (asked other : Words) → Says name options asked → Says name options other → asked ≡ other
+pub one_asked : (name : Text) (options : List Row) (asked other : Words) → SubcommandAsks name options asked → SubcommandAsks name options other → asked ≡ other
 one_asked name options Run Run says also = refl
 one_asked name options (Callers numbers) (Callers other) says also = ap Callers (one_callers options numbers other says.1 also.1)
 one_asked name options Eaw Eaw says also = refl
@@ -120,7 +120,7 @@ one_asked name options asked other says also = apart (name_of asked) (name_of ot
 
 -- a word that names no command asks for nothing
 pub none_other : (word : Text) → (word ≡ codes "run" → ⊥) → (word ≡ codes "callers" → ⊥) → (word ≡ codes "eaw" → ⊥) → (word ≡ codes "dump" → ⊥) → (word ≡ codes "drill" → ⊥)
-    → (word ≡ codes "format" → ⊥) → (options : List Row) (asked : Words) → Says word options asked → ⊥
+    → (word ≡ codes "format" → ⊥) → (options : List Row) (asked : Words) → SubcommandAsks word options asked → ⊥
 none_other word run callers eaw dump drill format options Run says = run says
 none_other word run callers eaw dump drill format options (Callers numbers) says = callers says.0
 none_other word run callers eaw dump drill format options Eaw says = eaw says

@@ -1,4 +1,3 @@
-mod NumberLemmas
 pub mod OneAsked
 mod AskedLemmas
 mod ReadLemmas

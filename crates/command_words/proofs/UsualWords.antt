@@ -85,38 +85,30 @@ level_passes : (s : Shape) (words : List Text) (w : Walk) → walk_fault s [] (w
     → behind_walk s w ≡ [] → level_fault s [] nothing_held words false [] ≡ []
 level_passes s words w passes is no_more = ap (λ k. or_else k (behind_walk s (walk s.rules [] nothing_held words))) passes ∙ ap (behind_walk s) is ∙ no_more
 
-run_taken : fault_of command_line (codes "run" ∷ []) ≡ []
-unfolding clap_on_literals
-run_taken = refl
+-- the words are accepted, with this subcommand in them and these options
+abbrev IsTaken : List Text → Text → List Row → Type 0
+IsTaken words name options = (fault_of command_line words ≡ []) × (subcommand_of command_line words ≡ Some (name, options))
 
-run_met : subcommand_of command_line (codes "run" ∷ []) ≡ Some (codes "run", [])
+run_taken : IsTaken (codes "run" ∷ []) (codes "run") []
 unfolding clap_on_literals
-run_met = refl
+run_taken = (refl, refl)
 
 pub run_asks : AsksFor (codes "run" ∷ []) Run
-run_asks = (run_taken, codes "run", [], run_met, refl)
+run_asks = (run_taken.0, codes "run", [], run_taken.1, refl)
 
-eaw_taken : fault_of command_line (codes "eaw" ∷ []) ≡ []
+eaw_taken : IsTaken (codes "eaw" ∷ []) (codes "eaw") []
 unfolding clap_on_literals
-eaw_taken = refl
-
-eaw_met : subcommand_of command_line (codes "eaw" ∷ []) ≡ Some (codes "eaw", [])
-unfolding clap_on_literals
-eaw_met = refl
+eaw_taken = (refl, refl)
 
 pub eaw_asks : AsksFor (codes "eaw" ∷ []) Eaw
-eaw_asks = (eaw_taken, codes "eaw", [], eaw_met, refl)
+eaw_asks = (eaw_taken.0, codes "eaw", [], eaw_taken.1, refl)
 
-dump_taken : fault_of command_line (codes "dump" ∷ []) ≡ []
+dump_taken : IsTaken (codes "dump" ∷ []) (codes "dump") []
 unfolding clap_on_literals
-dump_taken = refl
-
-dump_met : subcommand_of command_line (codes "dump" ∷ []) ≡ Some (codes "dump", [])
-unfolding clap_on_literals
-dump_met = refl
+dump_taken = (refl, refl)
 
 pub dump_asks : AsksFor (codes "dump" ∷ []) Dump
-dump_asks = (dump_taken, codes "dump", [], dump_met, refl)
+dump_asks = (dump_taken.0, codes "dump", [], dump_taken.1, refl)
 
 -- there is a fault
 some_fault : {kind : ErrorKind} {kinds : Kinds} → kind ∷ kinds ≡ [] → ⊥

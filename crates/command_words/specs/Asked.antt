@@ -32,18 +32,18 @@ pub record GivesCallers (options : List Row) (given : CallersNumbers) : Type 0 w
   pub tries : IsNumber 1 1000000 (Some 100) (first_of (codes "tries") options) given.tries
 
 -- the subcommand with this name and these options asks for this
-abbrev pub Says : Text → List Row → Words → Type 0
-Says name options Run = name ≡ codes "run"
-Says name options (Callers numbers) = (name ≡ codes "callers") × GivesCallers options numbers
-Says name options Eaw = name ≡ codes "eaw"
-Says name options Dump = name ≡ codes "dump"
-Says name options (Drill numbers) = (name ≡ codes "drill") × GivesDrill options numbers
-Says name options (Format numbers) = (name ≡ codes "format") × GivesNumbers options numbers
+abbrev pub SubcommandAsks : Text → List Row → Words → Type 0
+SubcommandAsks name options Run = name ≡ codes "run"
+SubcommandAsks name options (Callers numbers) = (name ≡ codes "callers") × GivesCallers options numbers
+SubcommandAsks name options Eaw = name ≡ codes "eaw"
+SubcommandAsks name options Dump = name ≡ codes "dump"
+SubcommandAsks name options (Drill numbers) = (name ≡ codes "drill") × GivesDrill options numbers
+SubcommandAsks name options (Format numbers) = (name ≡ codes "format") × GivesNumbers options numbers
 
 -- clap accepts the words, and the subcommand that it finds in them asks for this
 abbrev pub AsksFor : List Text → Words → Type 0
 AsksFor words asked = (fault_of command_line words ≡ [])
-    × (name : Text) × (options : List Row) × (subcommand_of command_line words ≡ Some (name, options)) × Says name options asked
+    × (name : Text) × (options : List Row) × (subcommand_of command_line words ≡ Some (name, options)) × SubcommandAsks name options asked
 
 abbrev pub AskForNothing : List Text → Type 0
 AskForNothing words = (asked : Words) → AsksFor words asked → ⊥

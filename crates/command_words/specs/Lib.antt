@@ -1,4 +1,3 @@
-pub mod Reads
 pub mod CommandLine
 pub mod Asked
 pub mod Usual

@@ -1,4 +1,7 @@
 //! The words of the command line after the one that names the image.
+//!
+//! Begin with `read_words`. The command line in `clap`'s terms is `specs/CommandLine.antt`, and what words ask for is `AsksFor` in
+//! `specs/Asked.antt`. The laws are that words ask for one thing at most (`one_command`), and what usual words ask for (`usual_words`).
 #![tactic(auto)]
 
 mod command_line;

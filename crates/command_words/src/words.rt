@@ -1,6 +1,6 @@
 ghost use Rattle.std.specs.Prelude.{◌≡◌, ℕ, List, Some, map, string_bytes, MatchOption, IfOk, IfErr};
 ghost use Rattle.clap.specs.Words.{Text, Row, found_of, rows_of, first_of, subcommand_rows_of};
-ghost use Rattle.command_words.specs.Asked.{AsksFor, AskForNothing, Says, GivesNumbers, GivesDrill, GivesCallers, IsNumber};
+ghost use Rattle.command_words.specs.Asked.{AsksFor, AskForNothing, SubcommandAsks, GivesNumbers, GivesDrill, GivesCallers, IsNumber};
 
 use crate::command_line::command_line;
 use crate::number::read_within;
@@ -103,8 +103,8 @@ pub fn read_words(alloc: Global, words: &[String]) -> Result<Words, WordsFault>
 // What the subcommand asks for.
 fn asked(matches: &ArgMatches<'_>) -> Option<Words>
     ensures { MatchOption result
-        ((name : Text) (options : List Row) (asked : Words) → subcommand_rows_of matches.now ≡ Some (name, options) → Says name options asked → ⊥)
-        (λ asked. (name : Text) × (options : List Row) × (subcommand_rows_of matches.now ≡ Some (name, options)) × Says name options asked) }
+        ((name : Text) (options : List Row) (asked : Words) → subcommand_rows_of matches.now ≡ Some (name, options) → SubcommandAsks name options asked → ⊥)
+        (λ asked. (name : Text) × (options : List Row) × (subcommand_rows_of matches.now ≡ Some (name, options)) × SubcommandAsks name options asked) }
 {
     let (name, options) = matches.subcommand()?;
     match name {

@@ -3,8 +3,7 @@ ghost use Rattle.std.specs.Prelude.{◌≡◌, ◌<◌, ◌^◌, ◌++◌, IfOk,
 ghost use Rattle.drill_gen.specs.Drill.{drill, one_by_one, in_pairs};
 
 use crate::draws::Draws;
-use crate::transaction::{draw_transaction, push_alone, push_pair};
-use crate::turns::Turns;
+use crate::transaction::{Turns, draw_transaction, push_alone, push_pair};
 use mars_base::NoMemory;
 use std::alloc::Global;
 

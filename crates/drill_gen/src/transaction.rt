@@ -6,11 +6,13 @@ ghost use Rattle.drill_gen.specs.Draws.{draw, drawn_on};
 ghost use Rattle.drill_gen.specs.Drill.{alone, paired, drawn_from, put_of, end_of};
 
 use crate::draws::Draws;
-use crate::turns::Turns;
 use history::Call;
-use itoa::Buffer;
-use mars_base::NoMemory;
+use mars_base::{Listed, NoMemory};
 use record_slots::Value;
+use texts::{Piece, ShortText};
+
+/// Calls of callers, one after another.
+pub type Turns = Listed<(u8, Call)>;
 
 // Keys are below this.
 const KEYS: u64 = 256;
@@ -65,12 +67,8 @@ fn value_of(drawn: u64) -> Value
     requires { drawn < 32768 }
     ensures { result ≡ codes "v" ++ decimal drawn }
 {
-    let mut buffer = Buffer::new();
-    let digits = buffer.format(drawn).as_bytes();
-    let mut text = [b'v'; 24];
-    let end = 1 + digits.len();
-    text[1..end].copy_from_slice(digits);
-    match Value::of(&text[..end]) {
+    let text = ShortText::of(&[Piece::Words(b"v"), Piece::Number(drawn)]);
+    match Value::of(text.as_bytes()) {
         Some(value) => value,
         None => unreachable!(),
     }
@@ -79,21 +77,23 @@ fn value_of(drawn: u64) -> Value
 pub fn push_alone(turns: &mut Turns, drawn: &Transaction) -> Result<(), NoMemory>
     ensures { OnOk result (turns.new ≡ turns.old ++ alone drawn.now) }
 {
-    turns.push(0, Call::Begin)?;
-    turns.push(0, drawn.first)?;
-    turns.push(0, drawn.second)?;
-    turns.push(0, drawn.end)
+    turns.push((0, Call::Begin))?;
+    turns.push((0, drawn.first))?;
+    turns.push((0, drawn.second))?;
+    turns.push((0, drawn.end))?;
+    Ok(())
 }
 
 pub fn push_pair(turns: &mut Turns, one: &Transaction, other: &Transaction) -> Result<(), NoMemory>
     ensures { OnOk result (turns.new ≡ turns.old ++ paired one.now other.now) }
 {
-    turns.push(0, Call::Begin)?;
-    turns.push(1, Call::Begin)?;
-    turns.push(0, one.first)?;
-    turns.push(1, other.first)?;
-    turns.push(0, one.second)?;
-    turns.push(1, other.second)?;
-    turns.push(0, one.end)?;
-    turns.push(1, other.end)
+    turns.push((0, Call::Begin))?;
+    turns.push((1, Call::Begin))?;
+    turns.push((0, one.first))?;
+    turns.push((1, other.first))?;
+    turns.push((0, one.second))?;
+    turns.push((1, other.second))?;
+    turns.push((0, one.end))?;
+    turns.push((1, other.end))?;
+    Ok(())
 }

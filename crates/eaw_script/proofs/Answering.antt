@@ -16,9 +16,9 @@ use Rattle.script_text.specs.declared.eaw_line.EawLine.TheVariants.{Nothing, Tol
 use Rattle.script_run.specs.Answers.{Answers}
 use Rattle.script_run.specs.declared.responder.Stop.{Stop}
 use Rattle.script_run.specs.declared.responder.Stop.TheVariants.{Media, NoMemory}
-use Rattle.eaw_script.specs.Tests.{log_of, asks, Passes}
-use Rattle.eaw_script.specs.Answers.{AnswersWith, done_by}
-use Rattle.eaw_script.specs.Lines.{LineGives, raw_script}
+use Rattle.eaw_script.specs.Tests.{logged_in, asks, Passes}
+use Rattle.eaw_script.specs.Answers.{AnswersWith, state_after}
+use Rattle.eaw_script.specs.Lines.{RawLineGives, raw_script}
 use Rattle.eaw_script.specs.Performed.{Performed}
 use Rattle.eaw_script.specs.Progress.{Progress, Shows, Comes, moved}
 use Rattle.eaw_script.specs.Laws.{comes_none}
@@ -70,7 +70,7 @@ module _ (Opens : Shape → List ℕ → List ℕ → Type 0) (store : StoreView
   refused_short text says = (at store past, (bad_line n, (bad, means_bad store.shape.numbers line says, (refl, refl))), stays)
 
 module _ (tells : Bool) (tell : IsTrue tells) (Opens : Shape → List ℕ → List ℕ → Type 0) (old new : StoreView) (n : ℕ) (line : List ℕ) (t : ℕ) (raw : Raw)
-    (outline : old.ranges t ≡ log_of old.state t) (means : Means old.shape.numbers line (told t raw)) (past : List (List ℕ)) where
+    (outline : old.ranges t ≡ logged_in old.state t) (means : Means old.shape.numbers line (told t raw)) (past : List (List ℕ)) where
   module _ (answer : Answer) (did : Performed tells (Opens old.shape) old new t raw (Ok answer)) (only : (image : List ℕ) → new.left_since new.moment image → Opens new.shape image new.state.bytes) where
     -- what a command makes of a script
     moved_on : Comes Opens old (at old past) new (moved (at old past) new.state)
@@ -89,7 +89,7 @@ module _ (tells : Bool) (tell : IsTrue tells) (Opens : Shape → List ℕ → Li
           now = λ image left. (new.state.bytes, subst (λ (s : Shape). Opens s image new.state.bytes) did.shape (only image left), inl refl);
         }
 
-    gives : LineGives (at old past) n line (answer_line t answer) (moved (at old past) new.state)
+    gives : RawLineGives (at old past) n line (answer_line t answer) (moved (at old past) new.state)
     gives = (
       told t raw,
       means,
@@ -99,7 +99,7 @@ module _ (tells : Bool) (tell : IsTrue tells) (Opens : Shape → List ℕ → Li
     pub performed : (text : List ℕ) → text ≡ answer_line t answer → Answers raw_script (Shows new) (Comes Opens old (at old past) new) (at old past) n line text (let r : Reply = Ok tt in r)
     performed text is = (
       moved (at old past) new.state,
-      subst (λ (txt : List ℕ). LineGives (at old past) n line txt (moved (at old past) new.state)) (sym is) gives,
+      subst (λ (txt : List ℕ). RawLineGives (at old past) n line txt (moved (at old past) new.state)) (sym is) gives,
       record { shape = sym did.shape; state = refl; certain = refl },
       moved_on,
     )
@@ -113,7 +113,7 @@ module _ (tells : Bool) (tell : IsTrue tells) (Opens : Shape → List ℕ → Li
       (counts : (m : ℕ) (image : List ℕ) → m ≤ new.moment → new.left_since new.moment image → new.left_since m image) where
     pub failed : (text : List ℕ) → Answers raw_script (Shows new) (Comes Opens old (at old past) new) (at old past) n line text (let r : Reply = Err (Media t) in r)
     failed text =
-        let made = (done_by raw old.state).bytes in
+        let made = (state_after raw old.state).bytes in
         let time = did.time tell in (
           record { shape = old.shape; state = old.state; past = past; doubt = Some made },
           (

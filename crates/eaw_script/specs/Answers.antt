@@ -7,12 +7,12 @@ use Rattle.eaw_face.specs.Command.{log_write, read, after}
 use Rattle.script_text.specs.Eaw.{Raw, does, read_log, log_len, held}
 use Rattle.script_text.specs.declared.answer.Answer.{Answer}
 use Rattle.script_text.specs.declared.answer.Answer.TheVariants.{Logged, Fine, Part, Data, Len, Held, Unknown, BadRange, Live, LogFull}
-use Rattle.eaw_script.specs.Tests.{asks, IsFull, Passes}
+use Rattle.eaw_script.specs.Tests.{asks, IsFullAt, Passes}
 
 -- the state after a command that was done; a question changes nothing
-abbrev pub done_by : Raw → State → State
-done_by (does command) old = after command old
-done_by _ old = old
+abbrev pub state_after : Raw → State → State
+state_after (does command) old = after command old
+state_after _ old = old
 
 -- the answer to a command that was done: the length of the log after a write, the bytes that were asked for, or a count
 abbrev pub answer_to : Shape → Option (List (ℕ × ℕ)) → State → ℕ → Raw → Answer
@@ -29,5 +29,5 @@ AnswersWith shape log old t raw Unknown new = ((asks shape log raw).known → �
 AnswersWith shape log old t raw BadRange new = (asks shape log raw).known × ((asks shape log raw).there → ⊥) × (new ≡ old)
 AnswersWith shape log old t raw Live new = (asks shape log raw).known × (asks shape log raw).there × ((asks shape log raw).free → ⊥) × (new ≡ old)
 AnswersWith shape log old t raw (LogFull g h n) new =
-    (asks shape log raw).known × (asks shape log raw).there × (asks shape log raw).free × IsFull shape (asks shape log raw) g h n × (new ≡ old)
-AnswersWith shape log old t raw answer new = Passes shape (asks shape log raw) × (answer ≡ answer_to shape log old t raw) × (new ≡ done_by raw old)
+    (asks shape log raw).known × (asks shape log raw).there × (asks shape log raw).free × IsFullAt shape (asks shape log raw) g h n × (new ≡ old)
+AnswersWith shape log old t raw answer new = Passes shape (asks shape log raw) × (answer ≡ answer_to shape log old t raw) × (new ≡ state_after raw old)

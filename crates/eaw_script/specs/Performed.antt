@@ -11,7 +11,7 @@ use Rattle.script_text.specs.Eaw.{Raw}
 use Rattle.script_text.specs.declared.answer.Answer.{Answer}
 use Rattle.script_text.specs.declared.answer.Answer.TheVariants.{Unknown, LogFull}
 use Rattle.eaw_script.specs.Tests.{asks, Passes}
-use Rattle.eaw_script.specs.Answers.{AnswersWith, done_by}
+use Rattle.eaw_script.specs.Answers.{AnswersWith, state_after}
 
 -- the answer for a refusal of the store
 abbrev pub refusal_of : EawFault → Result Answer Failed
@@ -23,7 +23,7 @@ refusal_of Dead = Err (record {})
 -- the state that a command made: the present one, or, if the medium failed, the one that it was to make
 abbrev pub made_by : State → State → Raw → Result Answer Failed → State
 made_by old new raw (Ok answer) = new
-made_by old new raw (Err failed) = done_by raw old
+made_by old new raw (Err failed) = state_after raw old
 
 -- Number t's command on a store whose images open as Opens says. An answer is the model's. An error comes only if the medium failed, in a
 -- command that passed each test and uses the medium. In either case, each image that a loss of power might newly have left opens with the

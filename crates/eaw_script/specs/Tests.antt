@@ -1,6 +1,7 @@
 -- What a raw command asks for, given only its number's log: None if the number holds none, else where its parts lie.
 use Rattle.std.specs.Prelude.{ℕ, ◌≡◌, ◌+◌, ◌<◌, ◌≤◌, List, [], length, Option, None, IsSome, ⊤}
 use Rattle.std.specs.Option.{option_map}
+use Rattle.mars_base.specs.Room.{HaveRoom, IsFirstFull}
 use Rattle.array_shape.specs.declared.shape.Shape.{Shape}
 use Rattle.array_shape.specs.Places.{data_len}
 use Rattle.array_shape.specs.Parts.{parts_of_write}
@@ -10,12 +11,12 @@ use Rattle.eaw_face.specs.Command.{log_write, log_edit, commit, abort, nested_to
 use Rattle.script_text.specs.Eaw.{Raw, does, read_log, log_len, held}
 
 -- what a number has logged in a state
-abbrev pub log_of : State → ℕ → Option (List (ℕ × ℕ))
-log_of state t = option_map ranges_of (state.logs t)
+abbrev pub logged_in : State → ℕ → Option (List (ℕ × ℕ))
+logged_in state t = option_map ranges_of (state.logs t)
 
 -- The tests of a command in their order: the number holds a log, what is named exists, the number holds no log, and each logger has room
 -- for what is needed on top of what it holds. And whether the medium is used.
-pub record Asks : Type 1 where
+pub record Tests : Type 1 where
   pub known : Type 0
   pub there : Type 0
   pub free : Type 0
@@ -24,12 +25,12 @@ pub record Asks : Type 1 where
   pub media : Type 0
 
 -- no tests, and the medium is used
-abbrev pub untested : Asks
+abbrev pub untested : Tests
 untested = record { known = ⊤; there = ⊤; free = ⊤; held = []; needed = []; media = ⊤ }
 
 -- A range lies in the data; an offset is at most the log's length; a position is below that, and an edit lies within its part; a logger is
 -- one of the array's. Discarding or counting parts does not use the medium, nor does committing none.
-abbrev pub asks : Shape → Option (List (ℕ × ℕ)) → Raw → Asks
+abbrev pub asks : Shape → Option (List (ℕ × ℕ)) → Raw → Tests
 asks shape log (does (log_write t addr bytes)) =
     record untested { there = addr + length bytes ≤ data_len shape; held = listed log; needed = ranges_of (parts_of_write addr bytes) }
 asks shape log (does (log_edit t pos at bytes)) =
@@ -46,15 +47,14 @@ asks shape log log_len = record untested { media = ⊥ }
 asks shape log (held logger) = record untested { there = logger < shape.loggers; media = ⊥ }
 asks shape log _ = untested
 
--- logger g has room for its share
-abbrev pub HasRoom : Shape → Asks → ℕ → Type 0
-HasRoom shape asked g = count_on shape g asked.held + count_on shape g asked.needed ≤ shape.entries
+-- how many of these parts each logger holds
+abbrev pub shares : Shape → List (ℕ × ℕ) → ℕ → ℕ
+shares shape ranges g = count_on shape g ranges
 
 -- logger g is the first without room: it holds h parts of the number, and n more are needed
-abbrev pub IsFull : Shape → Asks → ℕ → ℕ → ℕ → Type 0
-IsFull shape asked g h n = (g < shape.loggers) × (h ≡ count_on shape g asked.held) × (n ≡ count_on shape g asked.needed)
-    × (shape.entries < h + n) × ((k : ℕ) → k < g → HasRoom shape asked k)
+abbrev pub IsFullAt : Shape → Tests → ℕ → ℕ → ℕ → Type 0
+IsFullAt shape asked = IsFirstFull shape.loggers shape.entries (shares shape asked.held) (shares shape asked.needed)
 
 -- each test is passed
-abbrev pub Passes : Shape → Asks → Type 0
-Passes shape asked = asked.known × asked.there × asked.free × ((g : ℕ) → g < shape.loggers → HasRoom shape asked g)
+abbrev pub Passes : Shape → Tests → Type 0
+Passes shape asked = asked.known × asked.there × asked.free × HaveRoom shape.loggers shape.entries (shares shape asked.held) (shares shape asked.needed)

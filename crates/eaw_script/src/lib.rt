@@ -1,4 +1,7 @@
-//! Scripts of raw commands, run over any store.
+//! Scripts of raw commands, run over any store that answers the commands of the array (`EawStore`).
+//!
+//! Begin with `answer_commands`. What a command asks for, and which test fails first, is in `specs/Tests.antt`, what it is answered in
+//! `specs/Answers.antt`, and how the lines act in `specs/Lines.antt`.
 #![tactic(auto)]
 
 mod buffers;

@@ -1,7 +1,7 @@
 // The run of a script of raw commands.
 ghost use Rattle.std.specs.Prelude.{◌≡◌, ◌≢◌, false, IsTrue};
-ghost use Rattle.script_io.specs.Lines.{lines_of};
-ghost use Rattle.script_io.specs.Written.{Wrote};
+ghost use Rattle.script_run.specs.Lines.{lines_of};
+ghost use Rattle.texts.specs.Written.{Wrote};
 ghost use Rattle.script_run.specs.Counts.{Counts};
 ghost use Rattle.script_run.specs.Transcript.{Ran};
 ghost use Rattle.eaw_script.specs.Lines.{raw_script};

@@ -35,8 +35,8 @@ all_fate_lines caller (fates ∷ others) = fate_lines caller 1 fates ++ all_fate
 
 -- the line of a record
 abbrev pub rec_line : ℕ × List ℕ → List ℕ
-rec_line row = codes "rec " ++ (decimal row.0 ++ 32 ∷ (row.1 ++ 10 ∷ []))
+rec_line r = codes "rec " ++ (decimal r.0 ++ 32 ∷ (r.1 ++ 10 ∷ []))
 
 -- the text of work that came to its end
 abbrev pub work_text : List LineFault → List Done → List (List Fate) → List (ℕ × List ℕ) → List ℕ
-work_text faults history fates rows = flat_map fault_line faults ++ flat_map done_lines history ++ all_fate_lines 0 fates ++ flat_map rec_line rows
+work_text faults history fates records = flat_map fault_line faults ++ flat_map done_lines history ++ all_fate_lines 0 fates ++ flat_map rec_line records

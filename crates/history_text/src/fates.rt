@@ -3,11 +3,11 @@ ghost use Rattle.std.specs.Prelude.{◌≡◌, ◌++◌, OnOk};
 ghost use Rattle.caller_plans.specs.declared.fate.Fate.TheVariants.{Aborted, Refused};
 ghost use Rattle.history_text.specs.Text.{fate_line, fate_lines};
 
-use crate::number::write_number;
 use caller_plans::Fate;
 use history::Reply;
 use mars_base::NoMemory;
 use script_text::put_reply_text;
+use texts::{Piece, append_pieces};
 
 /// Appends a line for each of the caller's plans that was aborted or refused. At `Err` some of them may have been appended.
 pub fn write_fates(text: &mut Vec<u8>, caller: u8, fates: &[Fate]) -> Result<(), NoMemory>
@@ -32,20 +32,29 @@ fn write_fate(text: &mut Vec<u8>, caller: u8, n: u64, fate: &Fate) -> Result<(),
 fn write_aborted(text: &mut Vec<u8>, caller: u8, n: u64) -> Result<(), NoMemory>
     ensures { OnOk result (text.new.items ≡ text.old.items ++ fate_line caller n Aborted) }
 {
-    write_number(text, u64::from(caller))?;
-    text.extend_from_slice(b" aborted ")?;
-    write_number(text, n)?;
-    text.extend_from_slice(b"\n")?;
-    Ok(())
+    append_pieces(
+        text,
+        &[
+            Piece::Number(u64::from(caller)),
+            Piece::Words(b" aborted "),
+            Piece::Number(n),
+            Piece::Words(b"\n"),
+        ],
+    )
 }
 
 fn write_refused(text: &mut Vec<u8>, caller: u8, n: u64, reply: &Reply) -> Result<(), NoMemory>
     ensures { OnOk result (text.new.items ≡ text.old.items ++ fate_line caller n (Refused reply.now)) }
 {
-    write_number(text, u64::from(caller))?;
-    text.extend_from_slice(b" refused ")?;
-    write_number(text, n)?;
-    text.extend_from_slice(b" ")?;
+    append_pieces(
+        text,
+        &[
+            Piece::Number(u64::from(caller)),
+            Piece::Words(b" refused "),
+            Piece::Number(n),
+            Piece::Words(b" "),
+        ],
+    )?;
     put_reply_text(text, reply)?;
     text.extend_from_slice(b"\n")?;
     Ok(())

@@ -4,10 +4,10 @@ ghost use Rattle.std.specs.List.{flat_map};
 ghost use Rattle.caller_plans.specs.declared.fate.LineFault.TheVariants.{Stray};
 ghost use Rattle.history_text.specs.Text.{fault_line};
 
-use crate::number::write_number;
 use caller_plans::LineFault;
 use mars_base::NoMemory;
 use script_text::write_bad_line;
+use texts::{Piece, append_pieces};
 
 /// Appends a line for each line that was passed over. At `Err` some of them may have been appended.
 pub fn write_faults(text: &mut Vec<u8>, faults: &[LineFault]) -> Result<(), NoMemory>
@@ -31,8 +31,12 @@ fn write_fault(text: &mut Vec<u8>, fault: &LineFault) -> Result<(), NoMemory>
 fn write_stray(text: &mut Vec<u8>, line: u64) -> Result<(), NoMemory>
     ensures { OnOk result (text.new.items ≡ text.old.items ++ fault_line (Stray line)) }
 {
-    text.extend_from_slice(b"stray line ")?;
-    write_number(text, line)?;
-    text.extend_from_slice(b"\n")?;
-    Ok(())
+    append_pieces(
+        text,
+        &[
+            Piece::Words(b"stray line "),
+            Piece::Number(line),
+            Piece::Words(b"\n"),
+        ],
+    )
 }

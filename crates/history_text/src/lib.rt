@@ -1,13 +1,13 @@
-//! The text of callers' work: lines that were passed over, a history, what became of other transactions, and records.
+//! The text of callers' work: the lines that were passed over, the history, what became of the other transactions, and the records. What it
+//! is stands in `specs/Text.antt` (`work_text`).
 #![tactic(auto)]
 
 mod fates;
 mod faults;
-mod number;
 mod records;
 mod transactions;
 
 pub use fates::write_fates;
 pub use faults::write_faults;
-pub use records::{write_records, write_row};
+pub use records::{write_record, write_records};
 pub use transactions::put_history;

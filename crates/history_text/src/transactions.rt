@@ -1,14 +1,13 @@
 // The transactions of a history.
 ghost use Rattle.std.specs.Prelude.{[], ◌∷◌, ◌++◌, codes, decimal};
 ghost use Rattle.std.specs.List.{flat_map};
-ghost use Rattle.script_io.specs.Written.{Appends};
+ghost use Rattle.texts.specs.Written.{Appends};
 ghost use Rattle.script_text.specs.Replies.{reply_line};
 ghost use Rattle.history_text.specs.Text.{done_lines};
 
 use history::{Calls, Done, History};
-use itoa::Buffer;
-use script_io::{TextOut, put_pieces};
 use script_text::put_reply;
+use texts::{Piece, TextOut, put_pieces};
 
 /// Puts the lines of each transaction.
 pub fn put_history<E, T: TextOut<E>>(out: &mut T, history: &History) -> Result<(), E>
@@ -31,11 +30,16 @@ fn put_done<E, T: TextOut<E>>(out: &mut T, done: &Done) -> Result<(), E>
 fn put_head<E, T: TextOut<E>>(out: &mut T, done: &Done) -> Result<(), E>
     ensures { Appends T.tells (T.view out.old) (T.view out.new) result (codes "txn " ++ decimal done.now.at ++ codes " caller " ++ decimal done.now.caller ++ 10 ∷ []) }
 {
-    let mut first = Buffer::new();
-    let mut second = Buffer::new();
-    let number = first.format(done.at).as_bytes();
-    let caller = second.format(done.caller).as_bytes();
-    put_pieces(out, &[b"txn ", number, b" caller ", caller, b"\n"])
+    put_pieces(
+        out,
+        &[
+            Piece::Words(b"txn "),
+            Piece::Number(done.at),
+            Piece::Words(b" caller "),
+            Piece::Number(u64::from(done.caller)),
+            Piece::Words(b"\n"),
+        ],
+    )
 }
 
 fn put_replies<E, T: TextOut<E>>(out: &mut T, caller: u8, calls: &Calls) -> Result<(), E>

@@ -21,7 +21,7 @@ use Rattle.caller_steps.proofs.Continuing.{grows_longer}
 use Rattle.caller_steps.proofs.Fates.{Fate, refused, failed, began, granted, committed, doubted, aborted, step_fate}
 use Rattle.caller_steps.proofs.Refusing.{line_is as turn_is}
 use Rattle.caller_steps.proofs.Running.{turns_grow}
-use Rattle.script_text.specs.Line.{Says}
+use Rattle.script_text.specs.Line.{LineSays}
 use Rattle.script_text.specs.Replies.{reply_text, row_lines, reply_line, bad_line}
 use Rattle.script_text.specs.declared.line.Line.{Line}
 use Rattle.script_text.specs.declared.line.Line.TheVariants.{Nothing, Told, Bad}
@@ -177,7 +177,7 @@ record IsTold (m : ℕ) (turns : List Turn) : Type 0 where
   pub enough : m ≤ number
 
 module _ (callers : ℕ) (most : callers ≤ 2 ^ 64) (caller m : ℕ) (few : caller < 2 ^ 64) (fits : m < 2 ^ 64) where
-  gives_told : (old : List Turn) (n : ℕ) (bytes : List ℕ) (line : Line) (new : List Turn) → Says callers bytes line → Gives old n line (reply_line caller (Committed m)) new → IsTold m new
+  gives_told : (old : List Turn) (n : ℕ) (bytes : List ℕ) (line : Line) (new : List Turn) → LineSays callers bytes line → Gives old n line (reply_line caller (Committed m)) new → IsTold m new
   gives_told old n bytes Nothing new says gives = absurd (not_empty caller m few gives.0)
   gives_told old n bytes Bad new says gives = absurd (not_bad caller m n few gives.0)
   gives_told old n bytes (Told other call) new says gives =

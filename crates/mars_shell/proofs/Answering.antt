@@ -9,7 +9,7 @@ use Rattle.caller_steps.specs.Core.{CoreView, Steps, Continues}
 use Rattle.caller_steps.specs.Room.{Limits}
 use Rattle.caller_steps.specs.Run.{Turn}
 use Rattle.caller_steps.proofs.Continuing.{continues_none, continues_step}
-use Rattle.script_text.specs.Line.{Says}
+use Rattle.script_text.specs.Line.{LineSays}
 use Rattle.script_text.specs.Replies.{reply_line, bad_line}
 use Rattle.script_text.specs.declared.line.Line.{Line}
 use Rattle.script_text.specs.declared.line.Line.TheVariants.{Nothing, Told, Bad}
@@ -24,23 +24,23 @@ abbrev pub Answer : Type 0
 Answer = Result (Unit {0}) Stop
 
 module _ (core : CoreView) (callers n : ℕ) (line : List ℕ) (progress : Progress) (ready : IsReady callers core) (stands : Stands core progress) where
-  says_here : (what : Line) → Says callers line what → Says progress.callers line what
-  says_here what says = subst (λ (k : ℕ). Says k line what) (ready.callers_are ∙ sym stands.callers_are) says
+  says_here : (what : Line) → LineSays callers line what → LineSays progress.callers line what
+  says_here what says = subst (λ (k : ℕ). LineSays k line what) (ready.callers_are ∙ sym stands.callers_are) says
 
   no_turn : Comes core progress core progress
   no_turn = record { more = []; turns_are = sym (append-nil progress.turns); runs = refl; continues = continues_none core stands.sound stands.safe }
 
   -- a line that is passed over, and one that is refused
-  pub passed_over : (text : List ℕ) → text ≡ [] → Says callers line Nothing → Answers line_script (Stands core) (Comes core progress core) progress n line text (let r : Answer = Ok tt in r)
+  pub passed_over : (text : List ℕ) → text ≡ [] → LineSays callers line Nothing → Answers line_script (Stands core) (Comes core progress core) progress n line text (let r : Answer = Ok tt in r)
   passed_over text is says = (progress, (refl, (Nothing, says_here Nothing says, (is, refl))), stands, no_turn)
 
-  pub refused : (text : List ℕ) → text ≡ bad_line n → Says callers line Bad → Answers line_script (Stands core) (Comes core progress core) progress n line text (let r : Answer = Ok tt in r)
+  pub refused : (text : List ℕ) → text ≡ bad_line n → LineSays callers line Bad → Answers line_script (Stands core) (Comes core progress core) progress n line text (let r : Answer = Ok tt in r)
   refused text is says = (progress, (refl, (Bad, says_here Bad says, (is, refl))), stands, no_turn)
 
-  pub refused_short : (text : List ℕ) → Says callers line Bad → Answers line_script (Stands core) (Comes core progress core) progress n line text (let r : Answer = Err NoMemory in r)
+  pub refused_short : (text : List ℕ) → LineSays callers line Bad → Answers line_script (Stands core) (Comes core progress core) progress n line text (let r : Answer = Err NoMemory in r)
   refused_short text says = (progress, (refl, inr (bad_line n, (Bad, says_here Bad says, (refl, refl)))), no_turn)
 
-  module _ (tells : Bool) (told : IsTrue tells) (later : CoreView) (caller : ℕ) (call : Call) (reply : Reply) (says : Says callers line (Told caller call)) (steps : Steps tells caller call core later reply) where
+  module _ (tells : Bool) (told : IsTrue tells) (later : CoreView) (caller : ℕ) (call : Call) (reply : Reply) (says : LineSays callers line (Told caller call)) (steps : Steps tells caller call core later reply) where
     abbrev after : Progress
     after = record { callers = progress.callers; turns = progress.turns ++ (caller, call, reply) ∷ [] }
 
@@ -62,6 +62,6 @@ module _ (core : CoreView) (callers n : ℕ) (line : List ℕ) (progress : Progr
     called before text (Ok x) none replied =
         (after, (refl, (Told caller call, says_here (Told caller call) says, (reply, replied.0, refl, replied.1 ∙ ap (λ (front : List ℕ). front ++ reply_line caller reply) none))), stand, come)
     called before text (Err (Media number)) none replied =
-        (after, (refl, (call, subst (λ (c : ℕ). Says progress.callers line (Told c call)) (sym replied.0) (says_here (Told caller call) says), as_told number said.Media replied.0 replied.1)), come)
+        (after, (refl, (call, subst (λ (c : ℕ). LineSays progress.callers line (Told c call)) (sym replied.0) (says_here (Told caller call) says), as_told number said.Media replied.0 replied.1)), come)
     called before text (Err NoMemory) none (inl short) = (after, (refl, inl (caller, (call, says_here (Told caller call) says, as_told caller said.NoMemory refl short))), come)
     called before text (Err NoMemory) none (inr goes) = (after, (refl, inr (reply_line caller reply, (Told caller call, says_here (Told caller call) says, (reply, goes, refl, refl)))), come)

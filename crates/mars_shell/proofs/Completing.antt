@@ -14,7 +14,7 @@ use Rattle.command_words.specs.declared.words.CallersNumbers.{CallersNumbers}
 use Rattle.command_words.specs.declared.words.Words.{Words}
 use Rattle.command_words.specs.declared.words.Words.TheVariants.{Callers}
 use Rattle.script_run.specs.declared.ended.Ended.{Ended}
-use Rattle.script_io.specs.Input.{input_limit}
+use Rattle.script_run.specs.Input.{input_limit}
 use Rattle.mars_shell.specs.Asked.{WordsSay}
 use Rattle.mars_shell.specs.Forms.{index_in}
 use Rattle.mars_shell.specs.Input.{InputSays}

@@ -10,7 +10,7 @@ use Rattle.mars_core.specs.declared.fault.CoreFault.TheVariants as core
 use Rattle.script_run.specs.Counts.{Counts as ScriptCounts}
 use Rattle.script_run.specs.declared.ended.Ended.{Ended}
 use Rattle.script_run.specs.declared.ended.Ended.TheVariants as script
-use Rattle.script_io.specs.Input.{input_limit}
+use Rattle.script_run.specs.Input.{input_limit}
 use Rattle.mars_shell.specs.Input.{InputSays}
 use Rattle.mars_shell.specs.Opening.{IsUnread, IsUnopened}
 use Rattle.mars_shell.specs.Served.{ServedCounts}

@@ -21,7 +21,7 @@ use Rattle.caller_work.specs.declared.tries.Tries.TheVariants.{Times}
 use Rattle.caller_work.specs.Tries.{IsWork}
 use Rattle.caller_work.specs.Worked.{Worked, is_fault, of_caller}
 use Rattle.history_text.specs.Text.{done_lines, work_text}
-use Rattle.script_io.specs.Lines.{lines_of}
+use Rattle.script_run.specs.Lines.{lines_of}
 use Rattle.script_text.specs.declared.line.Line.{Line}
 use Rattle.script_run.specs.declared.ended.Ended.{Ended}
 use Rattle.script_run.specs.declared.ended.Ended.TheVariants as ends

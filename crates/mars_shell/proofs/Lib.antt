@@ -1,5 +1,4 @@
 pub mod FateTexts
-pub mod FaultLemmas
 pub mod FormatLemmas
 pub mod FreshRecords
 pub mod Answering

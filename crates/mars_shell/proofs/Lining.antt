@@ -6,7 +6,7 @@ use Rattle.caller_steps.specs.Step.{Runs}
 use Rattle.caller_steps.specs.Core.{CoreView, IsSafe}
 use Rattle.history.specs.declared.call.Reply.TheVariants as reply
 use Rattle.mars_manager.specs.Sharing.{CanShare}
-use Rattle.script_io.specs.Lines.{lines_of}
+use Rattle.script_run.specs.Lines.{lines_of}
 use Rattle.script_text.specs.declared.line.Line.{Line}
 use Rattle.script_text.specs.declared.line.Line.TheVariants.{Nothing, Told, Bad}
 use Rattle.script_run.specs.Transcript.{Ends, Answered, Ran}

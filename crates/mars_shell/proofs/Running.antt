@@ -20,7 +20,7 @@ use Rattle.caller_steps.specs.Step.{Runs}
 use Rattle.mars_core.specs.Over.{limits_of}
 use Rattle.mars_core.specs.declared.fault.CoreFault.{CoreFault}
 use Rattle.mars_core.specs.declared.fault.CoreFault.TheVariants as core
-use Rattle.script_io.specs.Written.{IsWritten}
+use Rattle.texts.specs.Written.{IsWritten}
 use Rattle.script_run.specs.declared.ended.Ended.{Ended}
 use Rattle.mars_shell.specs.Dump.{Spares}
 use Rattle.mars_shell.specs.Forms.{index_at, index_in}

@@ -1,6 +1,6 @@
 -- What a drill over a core comes to.
 use Rattle.std.proofs.Common.{◌≡◌, ◌≢◌, ℕ, List, [], ◌∷◌, ◌++◌, map, take, length, Bool, false, refl, subst}
-use Rattle.std.specs.Prelude.{IsTrue, codes}
+use Rattle.std.specs.Prelude.{IsTrue}
 use Rattle.std.specs.FinMap.{entries}
 use Rattle.history.specs.declared.call.Call.{Call}
 use Rattle.caller_steps.specs.State.{State, records_of}
@@ -9,7 +9,8 @@ use Rattle.caller_steps.specs.Run.{Turn, has_fault}
 use Rattle.mars_manager.specs.Sharing.{CanShare}
 use Rattle.command_words.specs.declared.words.DrillNumbers.{DrillNumbers}
 use Rattle.drill_gen.specs.Drill.{drill}
-use Rattle.script_io.specs.Written.{IsWritten}
+use Rattle.texts.specs.MediaFault.{media_line}
+use Rattle.texts.specs.Written.{IsWritten}
 use Rattle.script_run.specs.declared.ended.Ended.{Ended}
 use Rattle.script_run.specs.declared.ended.Ended.TheVariants.{All, WriteFault, MediaFault, NoMemory}
 use Rattle.script_run.specs.declared.responder.Stop.TheVariants as stop
@@ -54,7 +55,7 @@ module _ (numbers : DrillNumbers) (tells : Bool) (old new : CoreView) (callers :
         (λ unfailed. clean_all up.0 up.3)
 
     -- to a fault of the medium,
-    pub fault_told : (number : ℕ) (cut : Bool) (text : List ℕ) → EndsEarly tells old (drill numbers.seed numbers.count callers) (stop.Media number) new → IsWritten cut text (codes "media fault" ++ 10 ∷ [])
+    pub fault_told : (number : ℕ) (cut : Bool) (text : List ℕ) → EndsEarly tells old (drill numbers.seed numbers.count callers) (stop.Media number) new → IsWritten cut text media_line
         → TurnsOn (Drills numbers MediaFault cut text) old MediaFault new
     fault_told number cut text early wrote = turns_on MediaFault cut text early.0 early.1 (early.2, wrote) (λ unfailed. absurd (unfailed refl))
 

@@ -8,7 +8,7 @@ use Rattle.caller_steps.specs.State.{records_of}
 use Rattle.caller_steps.specs.Core.{CoreView}
 use Rattle.caller_steps.proofs.Continuing.{continues_none}
 use Rattle.mars_manager.specs.Sharing.{CanShare}
-use Rattle.script_io.specs.Written.{IsWritten}
+use Rattle.texts.specs.Written.{IsWritten}
 use Rattle.script_run.specs.declared.ended.Ended.{Ended}
 use Rattle.mars_shell.specs.Dump.{Dumps, dump_lines, IsCutAt}
 use Rattle.mars_shell.specs.OnCore.{TurnsOn}

@@ -7,7 +7,7 @@ use Rattle.command_words.specs.declared.words.FormatNumbers.{FormatNumbers}
 use Rattle.command_words.specs.declared.words.Words.{Words}
 use Rattle.command_words.specs.declared.words.Words.TheVariants.{Run, Callers, Eaw, Dump, Drill, Format}
 use Rattle.eaw_device.specs.Opens.{HoldsArray}
-use Rattle.script_io.specs.Input.{input_limit}
+use Rattle.script_run.specs.Input.{input_limit}
 use Rattle.mars_shell.specs.Commands.{Obeys}
 use Rattle.mars_shell.specs.Formats.{GiveLength, FormatOutcome}
 use Rattle.mars_shell.specs.Joint.{JointWork}

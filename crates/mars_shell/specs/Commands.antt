@@ -10,7 +10,7 @@ use Rattle.device_recovery.specs.Recovered.{HasNoVote}
 use Rattle.eaw_device.specs.Opens.{Opens, AllOpen, OpensLike, IsArray}
 use Rattle.eaw_script.specs.Lines.{raw_script}
 use Rattle.eaw_script.specs.Progress.{Progress, MayStand}
-use Rattle.script_io.specs.Lines.{lines_of}
+use Rattle.script_run.specs.Lines.{lines_of}
 use Rattle.script_run.specs.Transcript.{Answered}
 use Rattle.script_run.specs.declared.ended.Ended.{Ended}
 use Rattle.script_run.specs.declared.ended.Ended.TheVariants.{All}

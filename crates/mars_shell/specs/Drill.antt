@@ -10,7 +10,8 @@ use Rattle.caller_steps.specs.Room.{Limits}
 use Rattle.caller_steps.specs.Run.{Turn}
 use Rattle.drill_gen.specs.Drill.{drill}
 use Rattle.command_words.specs.declared.words.DrillNumbers.{DrillNumbers}
-use Rattle.script_io.specs.Written.{IsWritten}
+use Rattle.texts.specs.MediaFault.{media_line}
+use Rattle.texts.specs.Written.{IsWritten}
 use Rattle.script_run.specs.declared.ended.Ended.{Ended}
 use Rattle.script_run.specs.declared.ended.Ended.TheVariants.{MediaFault, NoMemory}
 use Rattle.mars_shell.specs.Dump.{IsCutAt, number_line}
@@ -44,7 +45,7 @@ FailsAtLast turns = (made : List Turn) × (caller : ℕ) × (call : Call) × (tu
 -- What is written of these calls of a script and their replies, by how it ended. The summary is of all its calls. It may be cut short, and
 -- so may the line that reports a fault of the medium. If memory ran out, nothing is written.
 abbrev pub Summed : DrillNumbers → List (ℕ × Call) → Ended → Bool → List ℕ → List Turn → State → Type 0
-Summed numbers script MediaFault cut text turns final = FailsAtLast turns × IsWritten cut text (codes "media fault" ++ 10 ∷ [])
+Summed numbers script MediaFault cut text turns final = FailsAtLast turns × IsWritten cut text media_line
 Summed numbers script NoMemory cut text turns final = (cut ≡ false) × (text ≡ [])
 Summed numbers script ended cut text turns final = (map without_reply turns ≡ script) × GoOn turns × IsCutAt ended cut
     × IsWritten cut text (summary_text numbers (tally_of turns) (entries (records_of final)))

@@ -15,7 +15,7 @@ use Rattle.eaw_device.specs.Fresh.{IsFresh, IsHalfFresh}
 use Rattle.eaw_device.specs.Opens.{Opens}
 use Rattle.btree_pages.specs.Index.{tree}
 use Rattle.record_table.specs.Shown.{table_of}
-use Rattle.script_io.specs.Written.{IsWritten}
+use Rattle.texts.specs.Written.{IsWritten}
 use Rattle.command_words.specs.declared.words.FormatNumbers.{FormatNumbers}
 use Rattle.mars_shell.specs.declared.status.Status.{Status}
 use Rattle.mars_shell.specs.declared.status.Status.TheVariants.{Good, WriteFault, MediaFault, BadShape}

@@ -1,6 +1,6 @@
 -- What a status says of the input.
 use Rattle.std.specs.Prelude.{ℕ, ◌≡◌, ◌<◌, ◌≤◌, List, [], length}
-use Rattle.script_io.specs.Input.{input_limit}
+use Rattle.script_run.specs.Input.{input_limit}
 use Rattle.mars_shell.specs.declared.status.Status.{Status}
 use Rattle.mars_shell.specs.declared.status.Status.TheVariants.{TooLong, ReadFault, NoMemory}
 

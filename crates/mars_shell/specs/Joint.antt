@@ -13,16 +13,13 @@ use Rattle.caller_work.specs.declared.tries.Tries.TheVariants.{Times}
 use Rattle.caller_work.specs.Tries.{IsWork}
 use Rattle.caller_work.specs.Worked.{of_caller}
 use Rattle.history_text.specs.Text.{done_lines, work_text}
-use Rattle.script_io.specs.Lines.{lines_of}
-use Rattle.script_io.specs.Written.{IsWritten}
+use Rattle.script_run.specs.Lines.{lines_of}
+use Rattle.texts.specs.MediaFault.{media_line}
+use Rattle.texts.specs.Written.{IsWritten}
 use Rattle.script_text.specs.declared.line.Line.{Line}
 use Rattle.script_run.specs.declared.ended.Ended.{Ended}
 use Rattle.script_run.specs.declared.ended.Ended.TheVariants.{MediaFault, NoMemory}
 use Rattle.mars_shell.specs.Dump.{IsCutAt}
-
--- the last line if the medium failed
-abbrev pub media_line : List ℕ
-media_line = codes "media fault" ++ 10 ∷ []
 
 -- What is written at each end, given the whole text and the text of the history. If the medium failed, it is the history and the line that
 -- says so.

@@ -7,7 +7,7 @@ use Rattle.array_shape.specs.Places.{media_len}
 use Rattle.row_bytes.specs.Header.{HasMark, SaysShape, IsBadIn}
 use Rattle.device_recovery.specs.Recovered.{HasNoVote}
 use Rattle.eaw_device.specs.Opens.{header_of, AllOpen, OpensLike, HasBadRow, HoldsArray, opening_calls}
-use Rattle.script_io.specs.Written.{IsWritten}
+use Rattle.texts.specs.Written.{IsWritten}
 use Rattle.script_run.specs.declared.ended.Ended.{Ended}
 use Rattle.script_run.specs.declared.ended.Ended.TheVariants as script
 use Rattle.mars_shell.specs.declared.status.Status.{Status}

@@ -4,7 +4,7 @@ ghost use Rattle.command_words.specs.declared.words.Words.TheVariants.{Callers};
 ghost use Rattle.eaw_face.specs.Causes.{IsAlive};
 ghost use Rattle.mars_core.specs.Held.{core_of};
 ghost use Rattle.mars_manager.specs.Sharing.{CanShare};
-ghost use Rattle.script_io.specs.Written.{Wrote};
+ghost use Rattle.texts.specs.Written.{Wrote};
 ghost use Rattle.script_run.specs.Counts.{Counts as WorkCounts};
 ghost use Rattle.mars_shell.specs.Asked.{OutcomeFor};
 ghost use Rattle.mars_shell.specs.Forms.{index_at};
@@ -181,7 +181,7 @@ fn work_jointly<
             let ended = tell_end(
                 alloc,
                 sink,
-                faults.items(),
+                faults.as_slice(),
                 core.history(),
                 core.base(),
                 &fates,

@@ -5,7 +5,7 @@ ghost use Rattle.caller_steps.specs.Room.{Limits};
 ghost use Rattle.caller_steps.specs.Run.{Turn};
 ghost use Rattle.mars_core.specs.Held.{core_of};
 ghost use Rattle.mars_manager.specs.Sharing.{CanShare};
-ghost use Rattle.script_io.specs.Written.{Wrote};
+ghost use Rattle.texts.specs.Written.{Wrote};
 ghost use Rattle.script_run.specs.Counts.{Counts};
 ghost use Rattle.script_run.specs.declared.ended.Ended.{Ended};
 ghost use Rattle.mars_shell.specs.OnCore.{Works};

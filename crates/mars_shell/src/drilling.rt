@@ -18,9 +18,9 @@ use mars_base::NoMemory;
 use mars_core::Core;
 use outside::Sink;
 use page_store::KeyIndex;
-use script_io::write_front;
 use script_run::{Ended, Stop};
 use std::alloc::Global;
+use texts::{MEDIA_LINE, write_front};
 
 /// The calls of the script that the numbers draw are made, and a summary is written.
 #[derive(Drop)]
@@ -57,7 +57,7 @@ impl CoreWork for DrawnScript {
             Ok(text) => (Ok(write_ended(sink, &text)), core),
             Err(Stop::Media { number: _ }) => {
                 // This line needs no memory, so how the script ends does not depend on memory.
-                write_front(sink, b"media fault\n");
+                write_front(sink, MEDIA_LINE);
                 (Ok(Ended::MediaFault), core)
             }
             Err(Stop::NoMemory) => (Ok(Ended::NoMemory), core),

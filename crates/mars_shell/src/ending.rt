@@ -1,11 +1,11 @@
 // The end of work whose text is written at once.
 ghost use Rattle.std.specs.Prelude.{◌≡◌, ◌⊎◌};
-ghost use Rattle.script_io.specs.Written.{IsWritten, Wrote};
+ghost use Rattle.texts.specs.Written.{IsWritten, Wrote};
 ghost use Rattle.mars_shell.specs.Dump.{IsCutAt};
 
 use outside::Sink;
-use script_io::write_whole;
 use script_run::Ended;
+use texts::write_whole;
 
 /// Writes the text of work that came to its end, and says how it then ended.
 pub fn write_ended<K: Sink>(sink: &mut K, text: &[u8]) -> Ended

@@ -1,20 +1,19 @@
 // Makes a fresh array on the medium and writes its lengths.
-ghost use Rattle.std.specs.Prelude.{◌≡◌, ◌↔◌, ◌+◌, ◌≤◌, ◌++◌, length, take, IsOk, IfOk, IfErr, IsTrue};
+ghost use Rattle.std.specs.Prelude.{◌≡◌, ◌↔◌, IsOk, IfOk, IfErr, IsTrue};
 ghost use Rattle.array_shape.specs.declared.shape.Shape.{Shape};
 ghost use Rattle.array_shape.specs.Numbers.{IsFirstBad};
 ghost use Rattle.array_shape.specs.Places.{media_len};
 ghost use Rattle.mars_shell.specs.Formats.{CanBe, HasAsked, asked_for, formatted_line, FormatSays, FormatOutcome};
 ghost use Rattle.mars_shell.specs.Statuses.{Counts, IsRefusal};
-ghost use Rattle.script_io.specs.Written.{Wrote};
+ghost use Rattle.texts.specs.Written.{Wrote};
 
 use crate::status::Status;
 use array_shape::{BadShape, Shape, ShapeNumber};
 use command_words::FormatNumbers;
 use eaw_device::{FormatFault, format};
-use itoa::Buffer;
 use outside::Sink;
 use pcm_media::Media;
-use script_io::write_whole;
+use texts::{Piece, ShortText, write_whole};
 
 /// The length in bytes of the medium of such an array, or 0 if a number is out of range.
 pub(crate) fn room_of(asked: &FormatNumbers) -> u64
@@ -52,8 +51,8 @@ pub(crate) fn run_format<K: Sink, M: Media>(
         }
         Err(FormatFault::Media) => return (Status::MediaFault, media),
     }
-    let mut buf = [0; 64];
-    match write_whole(sink, formatted_line(shape, &mut buf)) {
+    let line = formatted_line(shape);
+    match write_whole(sink, line.as_bytes()) {
         Ok(()) => (Status::Good, media),
         Err(_) => (Status::WriteFault, media),
     }
@@ -88,25 +87,14 @@ fn asked_for(asked: &FormatNumbers, which: ShapeNumber, given: u64) -> u64
 }
 
 // The line of a fresh array. It is formed without memory, so the status does not depend on memory.
-fn formatted_line(shape: Shape, buf: &mut [u8; 64]) -> &[u8]
-    ensures { result.now ≡ formatted_line shape }
+fn formatted_line(shape: Shape) -> ShortText
+    ensures { result ≡ formatted_line shape }
 {
-    let mut buffer = Buffer::new();
-    let words = put_behind(buf, 0, b"formatted ");
-    let media = put_behind(buf, words, buffer.format(shape.media_len()).as_bytes());
-    let space = put_behind(buf, media, b" ");
-    let data = put_behind(buf, space, buffer.format(shape.data_len()).as_bytes());
-    let end = put_behind(buf, data, b"\n");
-    &buf[..end]
-}
-
-// Puts a piece after the first `at` bytes and returns where it ends.
-fn put_behind(buf: &mut [u8; 64], at: usize, piece: &[u8]) -> usize
-    requires { at + length piece.now ≤ 64 }
-    ensures end { result ≡ at + length piece.now }
-    ensures text { take result buf.new ≡ take at buf.old ++ piece.now }
-{
-    let end = at + piece.len();
-    buf[at..end].copy_from_slice(piece);
-    end
+    ShortText::of(&[
+        Piece::Words(b"formatted "),
+        Piece::Number(shape.media_len()),
+        Piece::Words(b" "),
+        Piece::Number(shape.data_len()),
+        Piece::Words(b"\n"),
+    ])
 }

@@ -5,8 +5,9 @@ ghost use Rattle.std.specs.List.{flat_map};
 ghost use Rattle.history.specs.Legal.{records};
 ghost use Rattle.history.specs.Rows.{table_of};
 ghost use Rattle.history_text.specs.Text.{done_lines, work_text, all_fate_lines};
-ghost use Rattle.script_io.specs.Written.{Appends, IsWritten, Wrote};
-ghost use Rattle.mars_shell.specs.Joint.{media_line, TellsWork, IsBrokenOff};
+ghost use Rattle.texts.specs.Written.{Appends, IsWritten, Wrote};
+ghost use Rattle.mars_shell.specs.Joint.{TellsWork, IsBrokenOff};
+ghost use Rattle.texts.specs.MediaFault.{media_line};
 
 use crate::ending::write_ended;
 use caller_plans::LineFault;
@@ -15,11 +16,9 @@ use history::{History, Rows, play};
 use history_text::{put_history, write_fates, write_faults, write_records};
 use mars_base::NoMemory;
 use outside::Sink;
-use script_io::TextOut;
 use script_run::Ended;
 use std::alloc::Global;
-
-const MEDIA_LINE: &[u8] = b"media fault\n";
+use texts::{MEDIA_LINE, TextOut};
 
 /// Writes what came of the work, by how it ended.
 pub fn tell_end<K: Sink>(

@@ -12,7 +12,7 @@ use eaw_face::EawStore;
 use outside::Source;
 use page_store::SaveRoom;
 use pcm_media::Media;
-use script_io::{InputFault, read_input};
+use script_run::{InputFault, read_input};
 use std::alloc::Global;
 
 /// Reads the input to its end if it is asked for, then opens the array that the medium holds. An error returns the medium with the status

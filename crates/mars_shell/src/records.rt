@@ -1,7 +1,7 @@
 // Work over the records of the array that a medium holds.
 ghost use Rattle.std.specs.Prelude.{◌≡◌, ◌⊎◌, ℕ, List, None, IsTrue, IsFalse, IfOk, IfErr};
 ghost use Rattle.eaw_face.specs.Causes.{IsAlive};
-ghost use Rattle.script_io.specs.Written.{Wrote};
+ghost use Rattle.texts.specs.Written.{Wrote};
 ghost use Rattle.mars_shell.specs.Dump.{Spares};
 ghost use Rattle.mars_shell.specs.Forms.{index_at};
 ghost use Rattle.mars_shell.specs.Input.{InputSays};

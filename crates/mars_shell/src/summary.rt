@@ -8,10 +8,10 @@ use crate::number_line::append_number;
 use crate::tally::Tally;
 use command_words::DrillNumbers;
 use history::Rows;
-use itoa::Buffer;
 use mars_base::NoMemory;
 use record_slots::Value;
 use std::alloc::Global;
+use texts::{Piece, append_pieces};
 
 /// The text that says what a script was drawn from, the tally of its replies, and how many records there are at the end with the sum of
 /// their keys.
@@ -38,12 +38,15 @@ pub fn summary_text(
 fn append_drill(text: &mut Vec<u8>, numbers: &DrillNumbers) -> Result<(), NoMemory>
     ensures { OnOk result (text.new.items ≡ text.old.items ++ number_line (codes "drill " ++ decimal numbers.now.seed) numbers.now.count) }
 {
-    let mut buffer = Buffer::new();
-    text.extend_from_slice(b"drill ")?;
-    append_number(
+    append_pieces(
         text,
-        buffer.format(numbers.seed).as_bytes(),
-        u64::from(numbers.count),
+        &[
+            Piece::Words(b"drill "),
+            Piece::Number(u64::from(numbers.seed)),
+            Piece::Words(b" "),
+            Piece::Number(u64::from(numbers.count)),
+            Piece::Words(b"\n"),
+        ],
     )
 }
 

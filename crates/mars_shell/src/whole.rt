@@ -1,7 +1,7 @@
 // The whole run.
 ghost use Rattle.std.specs.Prelude.{◌≡◌, ◌≢◌, ◌⊎◌, ℕ, List, map, IsTrue, string_bytes};
 ghost use Rattle.mars_base.specs.Causes.{Rose};
-ghost use Rattle.script_io.specs.Written.{Wrote};
+ghost use Rattle.texts.specs.Written.{Wrote};
 ghost use Rattle.command_words.specs.Asked.{AskForNothing};
 ghost use Rattle.command_words.specs.declared.words.Words.TheVariants.{Dump};
 ghost use Rattle.mars_shell.specs.Asked.{WordsSay, IfFormat, IfReads, OutcomeFor, IsFit};

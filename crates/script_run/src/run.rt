@@ -1,17 +1,17 @@
 // The run of a script: each line is done and its answer is written.
 ghost use Rattle.std.specs.Prelude.{◌≡◌, OnOk, IsErrOf, IsTrue};
-ghost use Rattle.script_io.specs.Lines.{lines_of};
-ghost use Rattle.script_io.specs.Written.{Wrote};
+ghost use Rattle.script_run.specs.Lines.{lines_of};
+ghost use Rattle.texts.specs.Written.{Wrote};
 ghost use Rattle.script_run.specs.Answers.{LineRan, ending};
 ghost use Rattle.script_run.specs.Counts.{Counts};
 ghost use Rattle.script_run.specs.Transcript.{Ran};
 
 use crate::ended::Ended;
+use crate::lines::next_line;
 use crate::responder::{Responder, Stop};
 use outside::Sink;
-use script_io::{next_line, write_front, write_whole};
-use script_text::media_fault_line;
 use std::alloc::Global;
+use texts::{numbered_media_line, write_front, write_whole};
 
 /// Answers the lines of an input until all are answered or one ends the script. Each answer is written in full before the next line is
 /// read.
@@ -67,8 +67,8 @@ fn answer_line<K: Sink, R: Responder>(
         },
         Err(Stop::Media { number }) => {
             // This line is formed without memory, so how the script ends does not depend on memory.
-            let mut buf = [0; 16];
-            write_front(sink, media_fault_line(number, &mut buf));
+            let line = numbered_media_line(number);
+            write_front(sink, line.as_bytes());
             Err(Ended::MediaFault)
         }
         Err(Stop::NoMemory) => Err(Ended::NoMemory),

@@ -21,6 +21,15 @@ answer_appended number now answer text rest old new result first is behind ok =
 pub part_text : (number addr : ℕ) (bytes : List ℕ) → codes " part " ++ (decimal addr ++ 32 ∷ (hex_of bytes ++ 10 ∷ [])) ≡ 32 ∷ (answer_text number (Part addr bytes) ++ 10 ∷ [])
 part_text number addr bytes = simp append_assoc
 
+-- a part after the number, its word and the address
+pub part_appended : {T E : Type 0} (number : ℕ) (now : Answer) (addr : ℕ) (part bytes text old new : List ℕ) (result : Result T E) → text ≡ decimal number → bytes ≡ part → now ≡ Part addr part
+    → OnOk result (new ≡ old ++ ((text ++ (codes " part " ++ (decimal addr ++ 32 ∷ []))) ++ (hex_of bytes ++ 10 ∷ []))) → OnOk result (new ≡ old ++ answer_line number now)
+part_appended number now addr part bytes text old new result first same is ok =
+    let behind = codes " part " ++ (decimal addr ++ 32 ∷ (hex_of bytes ++ 10 ∷ [])) in
+    let together : (text ++ (codes " part " ++ (decimal addr ++ 32 ∷ []))) ++ (hex_of bytes ++ 10 ∷ []) ≡ text ++ behind = simp append_assoc in
+    answer_appended number now (Part addr bytes) text behind old new result first (is ∙ ap (Part addr) (sym same)) (part_text number addr bytes)
+    (subst (λ (line : List ℕ). OnOk result (new ≡ old ++ line)) together ok)
+
 -- committed data after the number and its word
 pub data_appended : {T E : Type 0} (number : ℕ) (now : Answer) (bytes text old new : List ℕ) (result : Result T E) → text ≡ decimal number → now ≡ Data bytes
     → OnOk result (new ≡ old ++ ((text ++ codes " data ") ++ (hex_of bytes ++ 10 ∷ []))) → OnOk result (new ≡ old ++ answer_line number now)

@@ -44,9 +44,5 @@ no_command text none t (read_log pos) is = none.read_log pos is.0 is.1
 no_command text none t log_len is = none.log_len is
 no_command text none t (held logger) is = none.held logger is.0 is.1
 
--- a number's text, a space and the rest
-pub line_told : (line word rest : List ℕ) (t : ℕ) → line ≡ word ++ 32 ∷ rest → word ≡ decimal t → line ≡ decimal t ++ 32 ∷ rest
-line_told line word rest t split first = split ∙ ap (λ (w : List ℕ). w ++ 32 ∷ rest) first
-
 pub text_behind : (t : ℕ) (raw : Raw) (rest text : List ℕ) → rest ≡ text → IsTextOf t raw text → IsTextOf t raw rest
 text_behind t raw rest text same is = subst (IsTextOf t raw) (sym same) is

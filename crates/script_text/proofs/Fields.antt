@@ -3,7 +3,7 @@ use Rattle.std.proofs.Common.{◌≡◌, ℕ, ◌^◌, ◌<◌, List, ◌∷◌,
 use Rattle.std.specs.Fmt.{decimal}
 use Rattle.std.proofs.lemmas.Fmt.{decimal_injective}
 use Rattle.std.proofs.lemmas.List.{append_cancel_left}
-use Rattle.script_text.specs.Reads.{Reads}
+use Rattle.texts.specs.Reads.{Reads}
 use Rattle.script_text.proofs.Words.{first_space}
 use Rattle.script_text.proofs.Numbers.{decimal_is_word}
 
@@ -26,3 +26,7 @@ same_long_fields bytes rest tail m n mf nf is other =
 -- the same for numbers of 32 bits
 pub same_fields : (bytes rest tail : List ℕ) (m n : ℕ) → m < 2 ^ 32 → n < 2 ^ 32 → bytes ≡ decimal m ++ 32 ∷ rest → bytes ≡ decimal n ++ 32 ∷ tail → (m ≡ n) × (rest ≡ tail)
 same_fields bytes rest tail m n mf nf is other = same_long_fields bytes rest tail m n (omega arith) (omega arith) is other
+
+-- a number's text, a space and the rest
+pub line_told : (line word rest : List ℕ) (t : ℕ) → line ≡ word ++ 32 ∷ rest → word ≡ decimal t → line ≡ decimal t ++ 32 ∷ rest
+line_told line word rest t split first = split ∙ ap (λ (w : List ℕ). w ++ 32 ∷ rest) first

@@ -1,15 +1,21 @@
 -- Bytes that are the text of no call.
-use Rattle.std.proofs.Common.{◌≡◌, ℕ, ◌^◌, ◌<◌, List, [], ◌∷◌, ◌++◌, length, get_or, sym, subst, arith}
-use Rattle.std.specs.Prelude.{codes}
+use Rattle.std.proofs.Common.{◌≡◌, ℕ, ◌^◌, ◌<◌, Bool, true, false, List, [], ◌∷◌, ◌++◌, length, get_or, refl, sym, subst, eqb-true, arith}
+use Rattle.std.specs.Prelude.{codes, nat_eq, MatchBool}
+use Rattle.std.proofs.lemmas.Bool.{eqb-false}
 use Rattle.std.specs.Fmt.{decimal}
 use Rattle.record_slots.specs.Text.{IsValue}
 use Rattle.history.specs.declared.call.Call.{Call}
 use Rattle.history.specs.declared.call.Call.TheVariants.{Begin, Get, Put, Del, Scan, Save, Back, Commit, Abort}
 use Rattle.script_text.specs.Line.{IsCallText, IsPassedOver}
 
-pub not_passed_over : (bytes : List ℕ) → 0 < length bytes → (get_or bytes 0 0 ≡ 35 → ⊥) → IsPassedOver bytes → ⊥
-not_passed_over [] some other is = omega arith
-not_passed_over (byte ∷ bytes) some other is = other is
+-- bytes are passed over exactly if the first is a #
+pub passed_or_not : (bytes : List ℕ) → 0 < length bytes → MatchBool (nat_eq (get_or bytes 0 0) 35) (IsPassedOver bytes) (IsPassedOver bytes → ⊥)
+passed_or_not [] some = absurd (omega arith)
+passed_or_not (byte ∷ bytes) some = tested (nat_eq byte 35) refl
+  where
+    tested : (b : Bool) → nat_eq byte 35 ≡ b → MatchBool b (byte ≡ 35) (byte ≡ 35 → ⊥)
+    tested true is = eqb-true byte 35 is
+    tested false is = eqb-false byte 35 is
 
 -- bytes that no reader of a verb reads
 pub record IsUnread (bytes : List ℕ) : Type 0 where

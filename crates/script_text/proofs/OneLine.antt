@@ -6,7 +6,7 @@ use Rattle.std.proofs.lemmas.Fmt.{decimal_injective, decimal_digit, decimal_none
 use Rattle.std.proofs.lemmas.List.{append_cancel_left, get_or_append_left, length-append}
 use Rattle.history.specs.declared.call.Call.{Call}
 use Rattle.history.specs.declared.call.Call.TheVariants.{Begin, Get, Put, Del, Scan, Save, Back, Commit, Abort}
-use Rattle.script_text.specs.Line.{IsCallText, IsCallLine, IsPassedOver, Says}
+use Rattle.script_text.specs.Line.{IsCallText, IsCallLine, IsPassedOver, LineSays}
 use Rattle.script_text.specs.declared.line.Line.{Line}
 use Rattle.script_text.specs.declared.line.Line.TheVariants.{Nothing, Told, Bad}
 use Rattle.script_text.proofs.Words.{first_space}
@@ -91,7 +91,7 @@ not_passed c text (byte ∷ bytes) cf e over =
     omega (arith, over, head, digit, first_digit c cf)
 
 -- no two of the three cases hold for one line
-pub same_told : (callers : ℕ) (bytes : List ℕ) (line other : Line) → callers ≤ 2 ^ 64 → Says callers bytes line → Says callers bytes other → line ≡ other
+pub same_told : (callers : ℕ) (bytes : List ℕ) (line other : Line) → callers ≤ 2 ^ 64 → LineSays callers bytes line → LineSays callers bytes other → line ≡ other
 same_told callers bytes Nothing Nothing few is js = refl
 same_told callers bytes Nothing (Told c call) few is js = absurd (not_passed c js.1 bytes (omega (arith, js.0)) js.3 is)
 same_told callers bytes Nothing Bad few is js = absurd (js.0 is)

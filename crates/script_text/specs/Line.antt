@@ -29,7 +29,7 @@ IsPassedOver [] = Unit {0}
 IsPassedOver (byte ∷ bytes) = byte ≡ 35
 
 -- What a line says: nothing, a call of a caller, or it is bad.
-abbrev pub Says : ℕ → List ℕ → Line → Type 0
-Says callers line Nothing = IsPassedOver line
-Says callers line (Told caller call) = IsCallLine callers caller call line
-Says callers line Bad = (IsPassedOver line → ⊥) × ((caller : ℕ) (call : Call) → IsCallLine callers caller call line → ⊥)
+abbrev pub LineSays : ℕ → List ℕ → Line → Type 0
+LineSays callers line Nothing = IsPassedOver line
+LineSays callers line (Told caller call) = IsCallLine callers caller call line
+LineSays callers line Bad = (IsPassedOver line → ⊥) × ((caller : ℕ) (call : Call) → IsCallLine callers caller call line → ⊥)

@@ -1,14 +1,8 @@
--- What a reader of a text guarantees.
+-- What a reader of a text guarantees if a thing may have several texts.
 use Rattle.std.specs.Prelude.{ℕ, ◌≡◌, List, [], ◌∷◌, Option, Some, None}
 use Rattle.std.specs.Borrow.{Bor}
 
--- Things of a kind have texts. What is read is of the kind and has the bytes as its text. If nothing is read, the bytes are the text of no
--- such thing.
-abbrev pub Reads : {X : Type 0} → (X → Type 0) → (X → List ℕ) → List ℕ → Option X → Type 0
-Reads {X} IsOne text bytes None = (x : X) → IsOne x → bytes ≡ text x → ⊥
-Reads {X} IsOne text bytes (Some x) = IsOne x × (bytes ≡ text x)
-
--- The same, if a thing may have several texts.
+-- What is read has the bytes as its text. If nothing is read, the bytes are the text of nothing of the kind.
 abbrev pub ReadsText : {X : Type 0} → (X → List ℕ → Type 0) → List ℕ → Option X → Type 0
 ReadsText {X} IsText bytes None = (x : X) → IsText x bytes → ⊥
 ReadsText {X} IsText bytes (Some x) = IsText x bytes

@@ -1,14 +1,12 @@
 ghost use Rattle.std.specs.Prelude.{◌≡◌, ℕ, List, [], ◌∷◌, ◌++◌, codes, decimal, OnOk, OnErr};
-ghost use Rattle.std.specs.List.{flat_map};
+ghost use Rattle.texts.specs.Pieces.{text_of};
 ghost use Rattle.script_text.specs.HexText.{hex_of};
 ghost use Rattle.script_text.specs.AnswerLines.{answer_line};
 
-use crate::append::append;
 use crate::hex_text::append_hex;
 use crate::lent::Lent;
-use crate::reply::append_number;
-use itoa::Buffer;
 use mars_base::NoMemory;
+use texts::{Piece, append_pieces};
 
 /// The answer to a raw command.
 #[derive(Drop)]
@@ -38,69 +36,80 @@ pub fn write_answer(out: &mut Vec<u8>, number: u8, answer: &Answer<'_>) -> Resul
     ensures ok { OnOk result (out.new.items ≡ out.old.items ++ answer_line number answer.now) }
     ensures err { OnErr result (out.new.items ≡ out.old.items) }
 {
-    let mut buffer = Buffer::new();
-    let text = buffer.format(number).as_bytes();
+    let told = Piece::Number(u64::from(number));
+    let end = Piece::Words(b"\n");
     match answer {
-        Answer::Logged(n) => append_number(out, text, b" logged ", u64::from(*n)),
-        Answer::Fine => append(out, &[text, b" ok\n"]),
-        Answer::Part { addr, bytes } => append_part(out, text, *addr, bytes.as_bytes()),
-        Answer::Data { bytes } => append_bytes(out, &[text, b" data "], bytes.as_bytes()),
-        Answer::Len(n) => append_number(out, text, b" len ", u64::from(*n)),
-        Answer::Held(n) => append_number(out, text, b" held ", u64::from(*n)),
-        Answer::Unknown => append(out, &[text, b" unknown ", text, b"\n"]),
-        Answer::BadRange => append(out, &[text, b" bad range\n"]),
-        Answer::Live => append(out, &[text, b" live\n"]),
+        Answer::Logged(n) => append_count(out, number, b" logged ", *n),
+        Answer::Fine => append_pieces(out, &[told, Piece::Words(b" ok"), end]),
+        Answer::Part { addr, bytes } => {
+            let front = [
+                told,
+                Piece::Words(b" part "),
+                Piece::Number(*addr),
+                Piece::Words(b" "),
+            ];
+            append_bytes(out, &front, bytes.as_bytes())
+        }
+        Answer::Data { bytes } => {
+            append_bytes(out, &[told, Piece::Words(b" data ")], bytes.as_bytes())
+        }
+        Answer::Len(n) => append_count(out, number, b" len ", *n),
+        Answer::Held(n) => append_count(out, number, b" held ", u32::from(*n)),
+        Answer::Unknown => append_count(out, number, b" unknown ", u32::from(number)),
+        Answer::BadRange => append_pieces(out, &[told, Piece::Words(b" bad range"), end]),
+        Answer::Live => append_pieces(out, &[told, Piece::Words(b" live"), end]),
         Answer::LogFull {
             logger,
             held,
             needed,
-        } => append_log_full(out, text, *logger, *held, *needed),
+        } => append_log_full(out, number, *logger, *held, *needed),
     }
 }
 
-fn append_log_full(
-    out: &mut Vec<u8>,
-    number: &[u8],
-    logger: u8,
-    held: u16,
-    needed: u16,
-) -> Result<(), NoMemory>
-    ensures ok { OnOk result (out.new.items ≡ out.old.items ++ (number.now ++ (codes " log full " ++ (decimal logger ++ 32 ∷ (decimal held ++ 32 ∷ (decimal needed ++ 10 ∷ [])))))) }
+// Appends a line that ends with a count.
+fn append_count(out: &mut Vec<u8>, number: u8, words: &[u8], n: u32) -> Result<(), NoMemory>
+    ensures ok { OnOk result (out.new.items ≡ out.old.items ++ (decimal number ++ (words.now ++ (decimal n ++ 10 ∷ [])))) }
     ensures err { OnErr result (out.new.items ≡ out.old.items) }
 {
-    let mut first = Buffer::new();
-    let mut second = Buffer::new();
-    let mut third = Buffer::new();
-    let logger = first.format(logger).as_bytes();
-    let held = second.format(held).as_bytes();
-    let needed = third.format(needed).as_bytes();
-    append(
+    append_pieces(
         out,
         &[
-            number,
-            b" log full ",
-            logger,
-            b" ",
-            held,
-            b" ",
-            needed,
-            b"\n",
+            Piece::Number(u64::from(number)),
+            Piece::Words(words),
+            Piece::Number(u64::from(n)),
+            Piece::Words(b"\n"),
         ],
     )
 }
 
-fn append_part(out: &mut Vec<u8>, number: &[u8], addr: u64, bytes: &[u8]) -> Result<(), NoMemory>
-    ensures ok { OnOk result (out.new.items ≡ out.old.items ++ (number.now ++ (codes " part " ++ (decimal addr ++ 32 ∷ (hex_of bytes.now ++ 10 ∷ []))))) }
+fn append_log_full(
+    out: &mut Vec<u8>,
+    number: u8,
+    logger: u8,
+    held: u16,
+    needed: u16,
+) -> Result<(), NoMemory>
+    ensures ok { OnOk result (out.new.items ≡ out.old.items ++ (decimal number ++ (codes " log full " ++ (decimal logger ++ 32 ∷ (decimal held ++ 32 ∷ (decimal needed ++ 10 ∷ [])))))) }
     ensures err { OnErr result (out.new.items ≡ out.old.items) }
 {
-    let mut buffer = Buffer::new();
-    let addr = buffer.format(addr).as_bytes();
-    append_bytes(out, &[number, b" part ", addr, b" "], bytes)
+    append_pieces(
+        out,
+        &[
+            Piece::Number(u64::from(number)),
+            Piece::Words(b" log full "),
+            Piece::Number(u64::from(logger)),
+            Piece::Words(b" "),
+            Piece::Number(u64::from(held)),
+            Piece::Words(b" "),
+            Piece::Number(u64::from(needed)),
+            Piece::Words(b"\n"),
+        ],
+    )
 }
 
 // Appends a line that ends with bytes in hexadecimal.
-fn append_bytes(out: &mut Vec<u8>, front: &[&[u8]], bytes: &[u8]) -> Result<(), NoMemory>
-    ensures ok { OnOk result (out.new.items ≡ out.old.items ++ (flat_map (λ piece. piece.now) front.now ++ (hex_of bytes.now ++ 10 ∷ []))) }
+fn append_bytes(out: &mut Vec<u8>, front: &[Piece<'_>], bytes: &[u8]) -> Result<(), NoMemory>
+    ensures ok { OnOk result (out.new.items ≡ out.old.items ++ (text_of front.now ++ (hex_of bytes.now ++ 10 ∷ []))) }
     ensures err { OnErr result (out.new.items ≡ out.old.items) }
 {
     let start = out.len();
@@ -112,11 +121,11 @@ fn append_bytes(out: &mut Vec<u8>, front: &[&[u8]], bytes: &[u8]) -> Result<(), 
 }
 
 // The same, but at `Err` a front of the line may have been appended.
-fn append_some_bytes(out: &mut Vec<u8>, front: &[&[u8]], bytes: &[u8]) -> Result<(), NoMemory>
-    ensures ok { OnOk result (out.new.items ≡ out.old.items ++ (flat_map (λ piece. piece.now) front.now ++ (hex_of bytes.now ++ 10 ∷ []))) }
+fn append_some_bytes(out: &mut Vec<u8>, front: &[Piece<'_>], bytes: &[u8]) -> Result<(), NoMemory>
+    ensures ok { OnOk result (out.new.items ≡ out.old.items ++ (text_of front.now ++ (hex_of bytes.now ++ 10 ∷ []))) }
     ensures err { OnErr result ((rest : List ℕ) × (out.new.items ≡ out.old.items ++ rest)) }
 {
-    append(out, front)?;
+    append_pieces(out, front)?;
     append_hex(out, bytes)?;
-    append(out, &[b"\n"])
+    append_pieces(out, &[Piece::Words(b"\n")])
 }

@@ -1,13 +1,15 @@
 ghost use Rattle.std.specs.Prelude.{◌<◌, ◌^◌, ◌∷◌, ◌++◌, codes};
 ghost use Rattle.std.specs.Fmt.{decimal};
 ghost use Rattle.record_slots.specs.Text.{IsValue};
-ghost use Rattle.script_text.specs.Reads.{Reads, ReadsText};
+ghost use Rattle.texts.specs.Reads.{Reads};
+ghost use Rattle.script_text.specs.Reads.{ReadsText};
 ghost use Rattle.script_text.specs.Line.{IsCallText};
 
-use crate::number::{read_u32_after, read_u64, read_u64_after, split_u64};
+use crate::number::{read_u32_after, read_u64_after, split_u64};
 use crate::word::{after, is_text};
 use history::Call;
 use record_slots::Value;
+use texts::read_u64;
 
 pub fn read_call(bytes: &[u8]) -> Option<Call>
     ensures { ReadsText IsCallText bytes.now result }

@@ -1,15 +1,17 @@
 ghost use Rattle.std.specs.Prelude.{ℕ, ◌^◌, ◌<◌, ◌≤◌, ◌∷◌, ◌++◌, codes};
 ghost use Rattle.std.specs.Fmt.{decimal};
 ghost use Rattle.std.specs.Option.{option_map};
-ghost use Rattle.script_text.specs.Reads.{Reads, ReadsShown, place_and_bytes, edit_and_bytes};
+ghost use Rattle.texts.specs.Reads.{Reads};
+ghost use Rattle.script_text.specs.Reads.{ReadsShown, place_and_bytes, edit_and_bytes};
 ghost use Rattle.script_text.specs.HexText.{IsHex};
 ghost use Rattle.script_text.specs.Eaw.{IsTextOf};
 ghost use Rattle.script_text.specs.EawLines.{ShowsCall};
 
 use crate::hex_text::is_hex;
 use crate::lent::BLOCK;
-use crate::number::{read_below, read_u32_after, split_u32};
+use crate::number::{read_u32_after, split_u32};
 use crate::word::{after, is_text};
+use texts::read_below;
 
 /// A raw command. The bytes to be written are the hexadecimal text of the line.
 #[derive(Clone, Copy, Debug, PartialEq, Eq)]

@@ -3,8 +3,8 @@ ghost use Rattle.script_text.specs.Eaw.{IsLineOf};
 ghost use Rattle.script_text.specs.EawLines.{SaysEaw, ShowsTold};
 
 use crate::eaw_call::{EawCall, read_eaw_call};
-use crate::number::read_below;
-use crate::word::split_word;
+use crate::number::split_below;
+use crate::word::is_passed_over;
 
 /// What a line of raw commands says. It borrows the line.
 #[derive(Clone, Copy, Debug, PartialEq, Eq)]
@@ -19,10 +19,7 @@ pub enum EawLine<'a> {
 pub fn read_eaw(bytes: &[u8], numbers: u8) -> EawLine<'_>
     ensures { SaysEaw numbers bytes.now result }
 {
-    if bytes.is_empty() {
-        return EawLine::Nothing;
-    }
-    if bytes[0] == b'#' {
+    if is_passed_over(bytes) {
         return EawLine::Nothing;
     }
     match read_eaw_told(bytes, numbers) {
@@ -34,8 +31,7 @@ pub fn read_eaw(bytes: &[u8], numbers: u8) -> EawLine<'_>
 fn read_eaw_told(bytes: &[u8], numbers: u8) -> Option<(u8, EawCall<'_>)>
     ensures { ReadsShown ShowsTold (λ m. IsLineOf numbers m.0 m.1) bytes.now result }
 {
-    let (word, rest) = split_word(bytes)?;
-    let number = read_below(word, u64::from(numbers))?;
+    let (number, rest) = split_below(bytes, numbers)?;
     let call = read_eaw_call(rest)?;
-    Some((number as u8, call))
+    Some((number, call))
 }

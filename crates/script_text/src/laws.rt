@@ -1,17 +1,20 @@
 // Laws of the grammars.
 ghost use Rattle.std.specs.Prelude.{◌≡◌, ◌^◌, ◌≤◌, ℕ, List};
 ghost use Rattle.history.specs.declared.call.Call.{Call};
+ghost use Rattle.history.specs.declared.call.Reply.TheVariants.{Media};
+ghost use Rattle.texts.specs.MediaFault.{numbered_media_line};
 ghost use Rattle.script_text.specs.declared.line.Line.{Line};
-ghost use Rattle.script_text.specs.Line.{Says, IsCallLine};
+ghost use Rattle.script_text.specs.Line.{LineSays, IsCallLine};
 ghost use Rattle.script_text.specs.Eaw.{Raw, IsLineOf};
 ghost use Rattle.script_text.specs.EawLines.{Meaning, Means};
+ghost use Rattle.script_text.specs.Replies.{reply_line};
 
 /// No line is the text of two calls or of two callers, so a line says one thing.
 pub fn one_line()
     ensures text { (callers c d : ℕ) (call other : Call) (line : List ℕ) → callers ≤ 2 ^ 64
         → IsCallLine callers c call line → IsCallLine callers d other line → (c ≡ d) × (call ≡ other) }
     ensures says { (callers : ℕ) (bytes : List ℕ) (line other : Line) → callers ≤ 2 ^ 64
-        → Says callers bytes line → Says callers bytes other → line ≡ other }
+        → LineSays callers bytes line → LineSays callers bytes other → line ≡ other }
 {}
 
 /// No line is the text of two raw commands or of two numbers, so such a line means one thing.
@@ -20,4 +23,9 @@ pub fn one_raw_line()
         → (c ≡ d) × (raw ≡ other) }
     ensures means { (numbers : ℕ) (bytes : List ℕ) (meaning other : Meaning) → numbers ≤ 2 ^ 64
         → Means numbers bytes meaning → Means numbers bytes other → meaning ≡ other }
+{}
+
+/// The line of the reply `Media` is the one that is told without memory.
+pub fn media_reply_line()
+    ensures { (caller : ℕ) → reply_line caller Media ≡ numbered_media_line caller }
 {}

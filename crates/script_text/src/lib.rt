@@ -1,8 +1,12 @@
-//! The lines of scripts and the texts of replies.
+//! The lines of scripts and the texts of replies: what a line says, and how each answer is written. There are two grammars, one of callers'
+//! calls and one of raw commands.
+//!
+//! Begin with `read_line` and `put_reply`. The grammars are the texts of calls in `specs/Line.antt` and of raw commands in `specs/Eaw.antt`,
+//! and the replies are in `specs/Replies.antt` and `specs/AnswerLines.antt`. The laws are that no line is the text of two calls (`one_line`,
+//! `one_raw_line`).
 #![tactic(auto)]
 
 mod answer;
-mod append;
 mod call;
 mod eaw_call;
 mod eaw_line;
@@ -18,7 +22,7 @@ pub use answer::{Answer, write_answer};
 pub use eaw_call::EawCall;
 pub use eaw_line::{EawLine, read_eaw};
 pub use hex_text::bytes_of;
-pub use laws::{one_line, one_raw_line};
+pub use laws::{media_reply_line, one_line, one_raw_line};
 pub use lent::{BLOCK, Lent};
 pub use line::{Line, read_line};
-pub use reply::{media_fault_line, put_reply, put_reply_text, write_bad_line, write_reply};
+pub use reply::{put_reply, put_reply_text, write_bad_line, write_reply};

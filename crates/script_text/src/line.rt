@@ -1,9 +1,9 @@
 ghost use Rattle.script_text.specs.Reads.{ReadsText};
-ghost use Rattle.script_text.specs.Line.{Says, IsCallLine};
+ghost use Rattle.script_text.specs.Line.{LineSays, IsCallLine};
 
 use crate::call::read_call;
-use crate::number::read_below;
-use crate::word::split_word;
+use crate::number::split_below;
+use crate::word::is_passed_over;
 use history::Call;
 
 /// What a line of a script says.
@@ -17,12 +17,9 @@ pub enum Line {
 
 /// Reads a line without its newline, for `callers` callers.
 pub fn read_line(bytes: &[u8], callers: u8) -> Line
-    ensures { Says callers bytes.now result }
+    ensures { LineSays callers bytes.now result }
 {
-    if bytes.is_empty() {
-        return Line::Nothing;
-    }
-    if bytes[0] == b'#' {
+    if is_passed_over(bytes) {
         return Line::Nothing;
     }
     match read_told(bytes, callers) {
@@ -34,8 +31,7 @@ pub fn read_line(bytes: &[u8], callers: u8) -> Line
 fn read_told(bytes: &[u8], callers: u8) -> Option<(u8, Call)>
     ensures { ReadsText (λ t. IsCallLine callers t.0 t.1) bytes.now result }
 {
-    let (word, rest) = split_word(bytes)?;
-    let caller = read_below(word, u64::from(callers))?;
+    let (caller, rest) = split_below(bytes, callers)?;
     let call = read_call(rest)?;
-    Some((caller as u8, call))
+    Some((caller, call))
 }

@@ -1,4 +1,5 @@
 ghost use Rattle.std.specs.Prelude.{◌≡◌, ◌≢◌, ◌∷◌, ◌++◌, MatchOption, MatchBool};
+ghost use Rattle.script_text.specs.Line.{IsPassedOver};
 ghost use Rattle.script_text.specs.Reads.{IsWord};
 
 /// The bytes before the first space and those after it.
@@ -32,4 +33,14 @@ pub fn is_text(bytes: &[u8], text: &[u8]) -> bool
     ensures { MatchBool result (bytes.now ≡ text.now) (bytes.now ≢ text.now) }
 {
     bytes == text
+}
+
+/// Whether a line is empty or begins with `#`.
+pub fn is_passed_over(line: &[u8]) -> bool
+    ensures { MatchBool result (IsPassedOver line.now) (IsPassedOver line.now → ⊥) }
+{
+    if line.is_empty() {
+        return true;
+    }
+    line[0] == b'#'
 }

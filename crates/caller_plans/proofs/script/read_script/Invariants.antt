@@ -1,5 +1,5 @@
 use Rattle.std.proofs.Common.{◌≡◌, ◌≤◌, ◌+◌, false, List, length}
-use Rattle.script_io.specs.Lines.{lines_of}
+use Rattle.script_run.specs.Lines.{lines_of}
 use Rattle.script_text.specs.declared.line.Line.{Line}
 use Rattle.caller_plans.specs.Plans.{AllSay, faults_from, plans_from}
 use Rattle.caller_plans.specs.Drafts.{all_faults, all_drafted}

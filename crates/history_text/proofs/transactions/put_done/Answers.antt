@@ -1,4 +1,4 @@
-use Rattle.script_io.proofs.Appending.{same_text, all_of, and_then, cut_there}
+use Rattle.texts.proofs.Appending.{same_text, all_of, and_then, cut_there}
 use Rattle.history_text.proofs.HistoryLines.{done_pieces}
 use Rattle.history_text.proofs.transactions.put_done.Goals as goal
 

@@ -1,6 +1,6 @@
 use Rattle.std.proofs.Common.{ap}
 use Rattle.std.specs.List.{flat_map}
-use Rattle.script_io.proofs.Appending.{same_text, cut_at}
+use Rattle.texts.proofs.Appending.{same_text, cut_at}
 use Rattle.history_text.specs.Text.{done_lines}
 use Rattle.history_text.proofs.transactions.put_history.Goals as goal
 

@@ -1,6 +1,6 @@
 use Rattle.std.proofs.Common.{take}
 use Rattle.std.specs.List.{flat_map}
-use Rattle.script_io.proofs.Appending.{AppendsAll}
+use Rattle.texts.proofs.Appending.{AppendsAll}
 use Rattle.history_text.specs.Text.{done_lines}
 use Rattle.history_text.proofs.transactions.put_history.Given as goal
 

@@ -2,7 +2,7 @@ use Rattle.std.proofs.Common.{ap}
 use Rattle.std.specs.List.{flat_map}
 use Rattle.history.specs.declared.call.Call.{Call}
 use Rattle.history.specs.declared.call.Reply.{Reply}
-use Rattle.script_io.proofs.Appending.{same_text, cut_at}
+use Rattle.texts.proofs.Appending.{same_text, cut_at}
 use Rattle.script_text.specs.Replies.{reply_line}
 use Rattle.history_text.proofs.transactions.put_replies.Goals as goal
 

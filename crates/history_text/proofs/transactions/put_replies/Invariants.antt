@@ -1,6 +1,6 @@
 use Rattle.std.proofs.Common.{take}
 use Rattle.std.specs.List.{flat_map}
-use Rattle.script_io.proofs.Appending.{AppendsAll}
+use Rattle.texts.proofs.Appending.{AppendsAll}
 use Rattle.history.specs.declared.call.Call.{Call}
 use Rattle.history.specs.declared.call.Reply.{Reply}
 use Rattle.script_text.specs.Replies.{reply_line}

@@ -42,7 +42,7 @@ returns-in-Ok-work-clause-works g c =
       counts = told.counts;
       holds = λ tells. joint_turns s.tells _ _ numbers.callers numbers.tries c.args.input.now read.0 read.1 c.in-Ok.script.plans.items read.3 c.in-Ok-work.fates.items c.in-Ok-work.end worked c.requires.ready.enough tells
           c.tell_end-ended.result told.cut told.text c.tell_end-ended.ensures.whole c.tell_end-ended.ensures.fault
-          (retold c.tell_end-ended.result told.cut told.text _ _ _ _ _ _ _ _ (c.items.ensures ∙ read.2) c.history.ensures c.base.ensures.base c.deref.ensures.value told.holds);
+          (retold c.tell_end-ended.result told.cut told.text _ _ _ _ _ _ _ _ (c.as_slice.ensures ∙ read.2) c.history.ensures c.base.ensures.base c.deref.ensures.value told.holds);
     }
 
 pub returns-clause-works : goal.returns-clause-works

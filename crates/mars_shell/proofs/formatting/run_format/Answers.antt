@@ -6,7 +6,7 @@ use Rattle.array_shape.specs.declared.shape.Shape.{Shape}
 use Rattle.array_shape.specs.Numbers.{IsFirstBad}
 use Rattle.array_shape.specs.Places.{media_len}
 use Rattle.command_words.specs.declared.words.FormatNumbers.{FormatNumbers}
-use Rattle.script_io.specs.Written.{IsWritten}
+use Rattle.texts.specs.Written.{IsWritten}
 use Rattle.mars_shell.specs.Formats.{HasAsked}
 use Rattle.mars_shell.proofs.FormatLemmas.{half_fresh}
 use Rattle.mars_shell.proofs.FreshRecords.{fresh_none}
@@ -60,7 +60,7 @@ returns-in-Ok-write_whole-clause-ran g c =
     let shape = c.in-Ok.shape in
     record {
       cut = false;
-      text = c.formatted_line.result.now;
+      text = c.as_bytes.result.now;
       wrote = c.in-Ok-write_whole.ensures.whole;
       counts = c.in-Ok-write_whole.ensures.cause.kept;
       holds = λ told. (
@@ -75,7 +75,7 @@ returns-in-Ok-write_whole-clause-ran g c =
           fresh = c.in-Ok-format.ensures.fresh told;
           opens = c.in-Ok-format.ensures.opens told;
           records = fresh_none shape (media.view c.format.new.media).content.bytes (c.in-Ok-format.ensures.fresh told).parts.pages;
-          wrote = c.formatted_line.ensures;
+          wrote = c.as_bytes.ensures ∙ c.formatted_line-line.ensures;
         },
       );
     }
@@ -105,7 +105,7 @@ returns-in-Err-write_whole-clause-ran g c =
           fresh = c.in-Ok-format.ensures.fresh told;
           opens = c.in-Ok-format.ensures.opens told;
           records = fresh_none shape (media.view c.format.new.media).content.bytes (c.in-Ok-format.ensures.fresh told).parts.pages;
-          wrote = subst (IsWritten true part.0) c.formatted_line.ensures part.1;
+          wrote = subst (IsWritten true part.0) (c.as_bytes.ensures ∙ c.formatted_line-line.ensures) part.1;
         },
       );
     }

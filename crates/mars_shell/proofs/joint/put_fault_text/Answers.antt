@@ -1,5 +1,5 @@
-use Rattle.script_io.proofs.Appending.{all_of, and_then, cut_there}
-use Rattle.mars_shell.specs.Joint.{media_line}
+use Rattle.texts.proofs.Appending.{all_of, and_then, cut_there}
+use Rattle.texts.specs.MediaFault.{media_line}
 use Rattle.mars_shell.proofs.joint.put_fault_text.Goals as goal
 
 pub returns-in_err-put_history : goal.returns-in_err-put_history

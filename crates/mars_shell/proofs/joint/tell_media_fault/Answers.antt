@@ -1,4 +1,4 @@
-use Rattle.script_io.proofs.Appending.{wrote_front}
+use Rattle.texts.proofs.Appending.{wrote_front}
 use Rattle.mars_shell.proofs.joint.tell_media_fault.Goals as goal
 
 pub returns-in-Ok : goal.returns-in-Ok

@@ -1,6 +1,6 @@
 use Rattle.std.proofs.Common.{Bool, ◌≡◌, ◌≤◌, ◌+◌, ◌++◌, List, ℕ, length, IsTrue}
 use Rattle.std.specs.List.{concat}
-use Rattle.script_io.specs.Lines.{lines_of}
+use Rattle.script_run.specs.Lines.{lines_of}
 use Rattle.script_run.specs.Transcript.{Answered}
 use Rattle.script_run.specs.declared.ended.Ended.{Ended}
 use Rattle.script_run.proofs.run.answer_lines.Given as goal

@@ -2,7 +2,7 @@ use Rattle.std.proofs.Common.{◌++◌, ◌∷◌, arith}
 use Rattle.std.specs.Prelude.{codes}
 use Rattle.std.specs.Fmt.{decimal}
 use Rattle.script_text.proofs.Fields.{behind, same_fields}
-use Rattle.script_text.proofs.Numbers.{same_number}
+use Rattle.texts.proofs.Numbers.{same_number}
 use Rattle.script_text.proofs.eaw_call.read_range.Goals as goal
 
 pub returns-in_err-addr : goal.returns-in_err-addr

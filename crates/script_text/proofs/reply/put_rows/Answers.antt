@@ -1,5 +1,5 @@
 use Rattle.std.proofs.Common.{ap}
-use Rattle.script_io.proofs.Appending.{cut_at}
+use Rattle.texts.proofs.Appending.{cut_at}
 use Rattle.script_text.specs.Replies.{row_line}
 use Rattle.script_text.proofs.reply.put_rows.Goals as goal
 

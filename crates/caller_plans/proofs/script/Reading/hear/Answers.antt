@@ -1,6 +1,5 @@
 use Rattle.std.proofs.Common.{ℕ, ◌≡◌, Some, length, get_or, slice_get, refl, sym, ap, ◌∙◌}
 use Rattle.std.proofs.lemmas.Option.{slice_get_read}
-use Rattle.std.proofs.lemmas.Result.{on_ok_weaker}
 use Rattle.std.specs.Prelude.{Result, Ok, Err, OnOk}
 use Rattle.caller_plans.specs.declared.draft.Draft.{Draft}
 use Rattle.caller_plans.specs.Plans.{is_stray}
@@ -17,7 +16,7 @@ returns-then-is_stray c =
     let drafts = c.args.self.now.drafts.items in
     let draft = c.index.result.now in
     let at = slice_get_read drafts (length drafts) c.args.caller draft refl c.requires (c.index.ensures ∙ ap (λ (i : ℕ). get_or drafts i draft) c.from.ensures) in
-    on_ok_weaker c.push.result (λ faults. takes_stray c.args.number c.args.caller c.args.call.now c.args.self.now _ draft at (sym c.is_stray.ensures ∙ c.if-is_stray.true) faults refl) c.push.ensures.ok
+    takes_stray c.args.number c.args.caller c.args.call.now c.args.self.now _ draft at (sym c.is_stray.ensures ∙ c.if-is_stray.true) c.in_ok-push.ensures.ok refl
 
 pub returns : goal.returns
 returns c =

@@ -1,6 +1,6 @@
 use Rattle.std.proofs.Common.{[], false, refl, sym, subst}
 use Rattle.std.proofs.lemmas.List.{append-nil}
-use Rattle.script_io.specs.Written.{IsWritten}
+use Rattle.texts.specs.Written.{IsWritten}
 use Rattle.mars_shell.proofs.Summing.{summary_told, fault_told, short_told}
 use Rattle.mars_shell.proofs.drilling.DrawnScriptCoreWork.work_on.Goals as goal
 

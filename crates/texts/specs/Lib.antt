@@ -1,0 +1,4 @@
+pub mod MediaFault
+pub mod Pieces
+pub mod Reads
+pub mod Written
