@@ -28,7 +28,7 @@ use Rattle.btree_pages.specs.Descent.{page_for}
 use Rattle.index_pages.specs.Written.{written_page}
 use Rattle.btree_pages.specs.OnWay.{IsOnWay}
 use Rattle.btree_pages.specs.Tree.{IsUnder, IsSoundTree, pairs_of_tree}
-use Rattle.btree_pages.specs.Seen.{tree_of_sound, IsTree}
+use Rattle.btree_pages.specs.Seen.{IsTree}
 use Rattle.btree_pages.specs.Writes.{IsRead}
 use Rattle.btree_pages.specs.Index.{tree}
 use Rattle.btree_pages.proofs.Puts.{AllApart, Stand, applied_long, applied_away, applied_stand}
@@ -101,7 +101,7 @@ module _ (shape : Shape) (old : List ℕ) (half : ℕ) (long : length old ≡ da
   own_root = (omega arith, omega (arith, sound.0.some_pages))
 
   root_tree : IsTree (above d 0) old 1 0 key_end
-  root_tree = subst (λ (n : ℕ). IsTree n old 1 0 key_end) way.level_is (tree_of_sound old sound)
+  root_tree = subst (λ (n : ℕ). IsTree n old 1 0 key_end) way.level_is sound.1.1
 
   own_leaf : IsOwn old leaf
   own_leaf = subst (λ (x : ℕ). IsOwn old x) (sym way.page_is) (way_own d 0 old key 1 0 key_end own_root root_tree (omega arith) (omega arith))
@@ -110,7 +110,7 @@ module _ (shape : Shape) (old : List ℕ) (half : ℕ) (long : length old ≡ da
   leaf_way = subst (λ (x : ℕ). Way old 0 x key 0 key_end) (sym way.page_is) (way_of d 0 old key 1 0 key_end root_tree (omega arith) (omega arith))
 
   bottom : level_of old leaf ≡ 0
-  bottom = leaf_way.tree.level
+  bottom = leaf_way.tree.0.level
 
   leaf_below : leaf < half
   leaf_below = omega (arith, own_leaf, sound.0.pages, first)
@@ -239,7 +239,7 @@ module _ (shape : Shape) (old : List ℕ) (half : ℕ) (long : length old ≡ da
       later = omega (arith, page_now, says.pages);
       few = omega (arith, page_now, says.pages);
       named = λ x from to. absurd (omega (arith, page_now, says.pages));
-      kept = λ x u. subst (λ (n : ℕ). IsUnder n added x 1) (sym added_level) (inner_stays old added leaf x bottom (λ q own other. page_old q own.0 own.1 other) (level_of old 1) 1 0 key_end own_root (tree_of_sound old sound) u);
+      kept = λ x u. subst (λ (n : ℕ). IsUnder n added x 1) (sym added_level) (inner_stays old added leaf x bottom (λ q own other. page_old q own.0 own.1 other) (level_of old 1) 1 0 key_end own_root sound.1.1 u);
       levels = omega (arith, added_level);
     },
     record {

@@ -31,7 +31,7 @@ use Rattle.btree_pages.specs.Checked.{IsFrontOf}
 use Rattle.btree_pages.specs.Descent.{child_for, page_for}
 use Rattle.btree_pages.specs.OnWay.{IsOnWay}
 use Rattle.btree_pages.specs.Tree.{IsUnder, IsSoundTree, pairs_of_tree, next_low}
-use Rattle.btree_pages.specs.Seen.{tree_of_sound, IsTree}
+use Rattle.btree_pages.specs.Seen.{IsTree}
 use Rattle.btree_pages.specs.Writes.{IsRead, cutting_parts}
 use Rattle.btree_pages.specs.Index.{tree, half_for, half_pairs, actions_below}
 use Rattle.btree_pages.proofs.Actions.{under_self, way_same, half_actions}
@@ -56,7 +56,7 @@ small_at (suc n) (p ∷ ps) lt small = small_at n ps (omega arith) small.2
 
 -- the kind of a page is that of its level
 pub tree_kind : (m : ℕ) (bytes : List ℕ) (page low high : ℕ) → IsTree m bytes page low high → kind_of bytes page ≡ kind_for m
-tree_kind zero bytes page low high t = t.kind
+tree_kind zero bytes page low high t = t.0.kind
 tree_kind (suc m) bytes page low high t = t.0.kind
 
 module _ (shape : Shape) (old : List ℕ) (half : ℕ) (long : length old ≡ data_len shape) (half_is : half ≡ index_pages_of shape) (all : half + half ≡ array.page_count shape) (few : half ≤ 16384)
@@ -113,7 +113,7 @@ module _ (shape : Shape) (old : List ℕ) (half : ℕ) (long : length old ≡ da
   own_root = (omega arith, omega (arith, sound.0.some_pages))
 
   root_tree : IsTree (above d (suc level)) old 1 0 key_end
-  root_tree = subst (λ (n : ℕ). IsTree n old 1 0 key_end) way.level_is (tree_of_sound old sound)
+  root_tree = subst (λ (n : ℕ). IsTree n old 1 0 key_end) way.level_is sound.1.1
 
   parent_way : Way old (suc level) parent key 0 key_end
   parent_way = subst (λ (x : ℕ). Way old (suc level) x key 0 key_end) (sym way.page_is) (way_of d (suc level) old key 1 0 key_end root_tree (omega arith) (omega arith))
@@ -360,7 +360,7 @@ module _ (shape : Shape) (old : List ℕ) (half : ℕ) (long : length old ≡ da
 
   cut_tree : IsTree (above d (suc level)) cut 1 0 key_end
   unfolding cut
-  cut_tree = subst (λ (n : ℕ). IsTree n cut 1 0 key_end) (cut_level ∙ way.level_is) (tree_of_sound cut cut_sound.0)
+  cut_tree = subst (λ (n : ℕ). IsTree n cut 1 0 key_end) (cut_level ∙ way.level_is) cut_sound.0.1.1
 
   below_half : (x : ℕ) → IsUnder level cut x front.next_page → IsUnder (level_of cut 1) cut x 1
   unfolding cut
@@ -374,7 +374,7 @@ module _ (shape : Shape) (old : List ℕ) (half : ℕ) (long : length old ≡ da
   unfolding cut
   cut_stays x u =
       let level_child : level_of old (child_for (page_pairs old parent) key) ≡ level = ap (λ (q : ℕ). level_of old q) (sym page_there) ∙ level_page in
-      elim (split_stays old cut level parent key front.next_page cut_splits level_parent level_child (λ q own no_parent no_child. others_there q own.0 own.1 no_parent no_child) (level_of old 1) 1 0 key_end x own_root (tree_of_sound old sound) u) [
+      elim (split_stays old cut level parent key front.next_page cut_splits level_parent level_child (λ q own no_parent no_child. others_there q own.0 own.1 no_parent no_child) (level_of old 1) 1 0 key_end x own_root sound.1.1 u) [
         | inl a ↦ subst (λ (n : ℕ). IsUnder n cut x 1) (sym cut_level) a
         | inr a ↦ below_half x a
       ]

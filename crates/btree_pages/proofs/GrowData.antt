@@ -27,7 +27,7 @@ use Rattle.btree_pages.specs.Checked.{IsFrontOf}
 use Rattle.btree_pages.specs.Descent.{child_for, page_for}
 use Rattle.btree_pages.specs.Index.{tree, half_for, half_pairs, actions_below}
 use Rattle.btree_pages.specs.Tree.{IsUnder, IsSoundTree, pairs_of_tree}
-use Rattle.btree_pages.specs.Seen.{tree_of_sound, IsTree}
+use Rattle.btree_pages.specs.Seen.{IsTree}
 use Rattle.btree_pages.specs.Writes.{IsRead, growing_parts}
 use Rattle.btree_pages.proofs.Actions.{half_actions}
 use Rattle.btree_pages.proofs.Belonging.{grown_stays, left_named, right_named}
@@ -86,7 +86,7 @@ module _ (shape : Shape) (old : List ℕ) (half : ℕ) (long : length old ≡ da
   own_root = (omega arith, omega (arith, sound.0.some_pages))
 
   root_tree : IsTree level old 1 0 key_end
-  root_tree = subst (λ (n : ℕ). IsTree n old 1 0 key_end) level_is (tree_of_sound old sound)
+  root_tree = subst (λ (n : ℕ). IsTree n old 1 0 key_end) level_is sound.1.1
 
   next_is : front.next_page ≡ next_page old
   next_is = says.pages
