@@ -4,7 +4,7 @@ use Rattle.mars_base.specs.Check.{Check}
 use Rattle.record_slots.specs.Places.{next_page}
 use Rattle.btree_pages.specs.TreeFacts.{children_tile, tree_rises, tree_wide, tree_level}
 use Rattle.btree_pages.specs.Tree.{AreChildren, next_low, pieces_with, pairs_under, IsUnder, IsUnderSome, tree_from}
-use Rattle.btree_pages.specs.Seen.{AreSound, IsTree}
+use Rattle.btree_pages.specs.Sound.{AreSound, IsTree}
 use Rattle.index_pages.proofs.PageFacts.{length-page_pairs}
 use Rattle.index_pages.proofs.Rising.{key_at-bounds}
 use Rattle.index_pages.proofs.Tiling.{tile_bounds}

@@ -9,7 +9,7 @@ use Rattle.index_pages.proofs.PageFacts.{length-page_pairs}
 use Rattle.btree_pages.specs.Changes.{middle, with_entry, SplitsChild, SplitsRoot}
 use Rattle.btree_pages.specs.Descent.{child_for, page_for}
 use Rattle.btree_pages.specs.Tree.{AreChildren, next_low, IsUnder, IsUnderSome, tree_from}
-use Rattle.btree_pages.specs.Seen.{AreSound, IsTree}
+use Rattle.btree_pages.specs.Sound.{AreSound, IsTree}
 use Rattle.btree_pages.proofs.Actions.{child_some, under_self}
 use Rattle.btree_pages.proofs.Apart.{sub_of, sub_below, start_of}
 use Rattle.btree_pages.proofs.Descending.{child_step}

@@ -10,7 +10,7 @@ use Rattle.btree_pages.specs.Descent.{child_for}
 use Rattle.btree_pages.specs.Node.{IsNode}
 use Rattle.btree_pages.specs.OnWay.{IsReached}
 use Rattle.btree_pages.specs.Tree.{IsSoundTree, next_low}
-use Rattle.btree_pages.specs.Seen.{IsTree}
+use Rattle.btree_pages.specs.Sound.{IsTree}
 use Rattle.btree_pages.proofs.Apart.{start_of}
 use Rattle.btree_pages.proofs.Descending.{child_step, node_of}
 use Rattle.btree_pages.proofs.Ways.{Way, way_of, child_given, above-le}

@@ -15,7 +15,7 @@ use Rattle.btree_pages.specs.Descent.{child_for, page_for, leaf_for}
 use Rattle.btree_pages.specs.Leaf.{bound_in, from_bound, IsBegin, AtLeaf}
 use Rattle.btree_pages.specs.Node.{IsNode}
 use Rattle.btree_pages.specs.Tree.{AreChildren, next_low, pieces_with, pairs_under, IsSoundTree, pairs_of_tree, tree_from}
-use Rattle.btree_pages.specs.Seen.{AreSound, IsTree, slots_seen}
+use Rattle.btree_pages.specs.Sound.{AreSound, IsTree, slots_seen}
 use Rattle.btree_pages.proofs.Apart.{tree_some, child_facts, entries_tile, start_of}
 use Rattle.btree_pages.proofs.Ways.{found_on_way, child_given}
 use Rattle.btree_pages.specs.TreeFacts.{tree_level}

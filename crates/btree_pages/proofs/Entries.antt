@@ -8,7 +8,7 @@ use Rattle.index_pages.specs.Page.{page_pairs}
 use Rattle.btree_pages.specs.Changes.{with_entry}
 use Rattle.btree_pages.specs.Descent.{child_for, page_for}
 use Rattle.btree_pages.specs.Tree.{AreChildren, next_low, tree_from}
-use Rattle.btree_pages.specs.Seen.{AreSound, IsTree}
+use Rattle.btree_pages.specs.Sound.{AreSound, IsTree}
 use Rattle.btree_pages.proofs.Apart.{child_facts}
 use Rattle.btree_pages.proofs.Descending.{child_step}
 use Rattle.btree_pages.proofs.Splitting.{length-with, next_low-with}

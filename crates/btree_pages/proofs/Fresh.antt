@@ -1,7 +1,7 @@
 -- An index without pairs.
 use Rattle.std.proofs.Common.{◌≡◌, ℕ, List, [], refl, sym, ◌∙◌, ap, subst, arith}
 use Rattle.btree_pages.specs.Tree.{pairs_under, IsSoundTree, pairs_of_tree}
-use Rattle.btree_pages.specs.Seen.{IsTree, slots_pass}
+use Rattle.btree_pages.specs.Sound.{IsTree, slots_pass}
 use Rattle.index_pages.specs.Keys.{key_end}
 use Rattle.index_pages.specs.Page.{kind_of, level_of, link_of, count_of, page_pairs}
 use Rattle.page_store.specs.Pairs.{Pair, Rise}

@@ -10,7 +10,7 @@ use Rattle.btree_pages.proofs.Ways.{graft, way_own, way_of}
 use Rattle.btree_pages.specs.Changes.{IsHalf, IsCut, middle, with_entry, SplitsChild, SplitsRoot}
 use Rattle.btree_pages.specs.Descent.{page_for, child_for}
 use Rattle.btree_pages.specs.Tree.{IsInner, AreChildren, next_low, pieces_with, pairs_under, IsUnder, IsUnderSome, IsSoundTree, pairs_of_tree, tree_from}
-use Rattle.btree_pages.specs.Seen.{AreSound, IsTree, slots_seen, slots_pass}
+use Rattle.btree_pages.specs.Sound.{AreSound, IsTree, slots_seen, slots_pass}
 use Rattle.index_pages.proofs.Given.{same_local}
 use Rattle.index_pages.proofs.Kept.{given_kept}
 use Rattle.index_pages.proofs.PageFacts.{length-page_pairs}

@@ -4,7 +4,7 @@ use Rattle.btree_pages.proofs.Ways.{graft, found_on_way}
 use Rattle.btree_pages.specs.Changes.{TakesPair}
 use Rattle.btree_pages.specs.Descent.{page_for}
 use Rattle.btree_pages.specs.Tree.{pairs_under, IsUnder, IsSoundTree, pairs_of_tree}
-use Rattle.btree_pages.specs.Seen.{IsTree, slots_seen, slots_pass}
+use Rattle.btree_pages.specs.Sound.{IsTree, slots_seen, slots_pass}
 use Rattle.index_pages.proofs.Kept.{given_kept}
 use Rattle.index_pages.proofs.PageFacts.{length-page_pairs}
 use Rattle.index_pages.proofs.Rising.{inserted-rises, length-inserted}

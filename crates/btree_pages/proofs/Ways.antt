@@ -6,7 +6,7 @@ use Rattle.btree_pages.proofs.Apart.{child_facts, entries_tile, sub_below, sub_o
 use Rattle.btree_pages.specs.Frames.{inner_kept, tree_kept, below_kept}
 use Rattle.btree_pages.specs.Descent.{child_for, page_for, leaf_for}
 use Rattle.btree_pages.specs.Tree.{AreChildren, next_low, pieces_with, pairs_under, IsUnder, IsUnderSome, IsSoundTree, pairs_of_tree, tree_from}
-use Rattle.btree_pages.specs.Seen.{AreSound, IsTree}
+use Rattle.btree_pages.specs.Sound.{AreSound, IsTree}
 use Rattle.index_pages.proofs.Given.{above_zero}
 use Rattle.index_pages.proofs.PageFacts.{length-page_pairs}
 use Rattle.index_pages.proofs.Rising.{found-left, found-right}

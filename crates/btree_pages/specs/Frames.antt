@@ -1,7 +1,7 @@
 -- Trees on data of which some pages have changed.
 use Rattle.std.proofs.Common.{◌≡◌, ℕ, zero, suc, ◌≤◌, inl, inr, List, [], ◌∷◌, refl, sym, ◌∙◌, ap, subst, arith}
 use Rattle.btree_pages.specs.Tree.{AreChildren, next_low, IsInner, pieces_with, pairs_under, IsUnder, IsUnderSome, tree_from}
-use Rattle.btree_pages.specs.Seen.{AreSound, IsTree, slots_seen, slots_pass}
+use Rattle.btree_pages.specs.Sound.{AreSound, IsTree, slots_seen, slots_pass}
 use Rattle.index_pages.specs.Keys.{key_end}
 use Rattle.index_pages.specs.Page.{page_pairs, pairs_said, kind_said, level_said, link_said, count_said}
 use Rattle.index_pages.specs.Pieces.{joined}

@@ -3,7 +3,7 @@ use Rattle.std.proofs.Common.{◌≡◌, ◌≢◌, ℕ, zero, suc, ◌<◌, ◌
 use Rattle.mars_base.specs.Check.{Check}
 use Rattle.record_slots.specs.Places.{next_page}
 use Rattle.btree_pages.specs.Tree.{AreChildren, next_low, pieces_with, pairs_under, pieces_under, IsSoundTree, pairs_of_tree, IsUnder, IsUnderSome, tree_from}
-use Rattle.btree_pages.specs.Seen.{AreSound, IsTree}
+use Rattle.btree_pages.specs.Sound.{AreSound, IsTree}
 use Rattle.index_pages.proofs.Tiling.{tile_bounds, joined_rises}
 use Rattle.index_pages.specs.Keys.{key_end}
 use Rattle.index_pages.specs.Page.{page_pairs, level_of}

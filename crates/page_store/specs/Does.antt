@@ -1,8 +1,8 @@
 -- What a call of pages does, and when each answer comes.
-use Rattle.std.specs.Prelude.{ℕ, ◌≡◌, ◌<◌, Bool, true, false, IsTrue, List, [], ◌∷◌, length, Option, Some, None, Result, Ok, Err, OnOk, OnErr, IsErrOf}
+use Rattle.std.specs.Prelude.{ℕ, ◌≡◌, ◌<◌, ◌⊎◌, Bool, true, false, IsTrue, List, [], ◌∷◌, length, Option, Some, None, Result, Ok, Err, OnOk, OnErr, IsErrOf}
 use Rattle.mars_base.specs.Causes.{Rose}
 use Rattle.eaw_face.specs.State.{listed}
-use Rattle.eaw_face.specs.StoreView.{LeavesOnly}
+use Rattle.eaw_face.specs.StoreView.{StoreView, LeavesOnly}
 use Rattle.eaw_face.specs.Causes.{IsAlive, Fit, IsFirstFull}
 use Rattle.eaw_face.specs.Does.{IsEither}
 use Rattle.page_store.specs.Edit.{edit_pos}

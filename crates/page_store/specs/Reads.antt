@@ -1,5 +1,5 @@
 -- What reads do to a store.
-use Rattle.std.specs.Prelude.{◌≡◌, Bool, true, false, IsTrue, List, ℕ, Result, Ok, Err, OnOk, IsErrOf}
+use Rattle.std.specs.Prelude.{◌≡◌, ◌≤◌, Bool, true, false, IsTrue, List, ℕ, Result, Ok, Err, OnOk, IsErrOf}
 use Rattle.mars_base.specs.Causes.{Rose}
 use Rattle.eaw_face.specs.StoreView.{StoreView, LeavesOnly}
 use Rattle.eaw_face.specs.declared.fault.EawFault.{EawFault}

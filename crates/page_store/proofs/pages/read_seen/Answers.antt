@@ -1,11 +1,11 @@
-use Rattle.std.proofs.Common.{◌≡◌, ℕ, ◌+◌, ◌<◌, List, Ok, Result, length, take, refl, sym, ◌∙◌, ap, subst, add-one, arith}
-use Rattle.std.specs.Prelude.{Option}
+use Rattle.std.proofs.Common.{◌≡◌, ℕ, suc, ◌+◌, ◌<◌, ◌≤◌, List, Ok, Result, length, take, refl, sym, ◌∙◌, ap, subst, add-one, arith}
+use Rattle.std.specs.Prelude.{Option, IsTrue}
 use Rattle.std.proofs.Math.Seq.{take-length}
 use Rattle.mars_base.specs.Bytes.{put, range}
 use Rattle.array_shape.specs.declared.shape.Shape.{Shape}
 use Rattle.array_shape.specs.Places.{data_len}
-use Rattle.array_shape.specs.Logged.{Part, applied}
-use Rattle.eaw_face.specs.State.{listed, part_at}
+use Rattle.array_shape.specs.Logged.{Part, applied, ranges_of}
+use Rattle.eaw_face.specs.State.{State, listed, part_at}
 use Rattle.eaw_face.specs.StoreView.{ArePlaced}
 use Rattle.eaw_face.specs.declared.fault.EawFault.{EawFault}
 use Rattle.page_store.specs.Reads.{Reads}

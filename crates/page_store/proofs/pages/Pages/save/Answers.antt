@@ -6,13 +6,13 @@ use Rattle.eaw_face.specs.StoreView.{StoreView}
 use Rattle.page_store.specs.State.{with_one}
 use Rattle.page_store.specs.Command.{save}
 use Rattle.page_store.specs.Marked.{Marked}
-use Rattle.page_store.specs.Outline.{outline_after}
+use Rattle.page_store.specs.Outline.{Outline, outline_after}
 use Rattle.page_store.specs.Kept.{IsOrdered}
 use Rattle.page_store.specs.Invariant.{outline_in}
-use Rattle.page_store.specs.Shown.{PagesView, counts_in, top_in}
+use Rattle.page_store.specs.Shown.{PagesView, pages_of, counts_in, top_in, outline_of}
 use Rattle.page_store.proofs.Shown.{IsTold}
 use Rattle.page_store.proofs.Ordered.{ordered_after}
-use Rattle.page_store.proofs.Lifting.{still}
+use Rattle.page_store.proofs.Lifting.{still, still_becomes}
 use Rattle.page_store.proofs.Marking.{was, counts_become, top_stay, counts_now}
 use Rattle.page_store.proofs.pages.Pages.save.Goals as goal
 
