@@ -14,7 +14,7 @@ use Rattle.btree_pages.specs.Changes.{IsCut}
 use Rattle.btree_pages.specs.Descent.{child_for, page_for}
 use Rattle.btree_pages.specs.Index.{adding, cutting, half_for, actions_below}
 use Rattle.btree_pages.specs.Tree.{IsUnder, IsUnderSome}
-use Rattle.btree_pages.specs.Seen.{IsTree}
+use Rattle.btree_pages.specs.Sound.{IsTree}
 use Rattle.btree_pages.proofs.Apart.{sub_of, start_of}
 use Rattle.btree_pages.proofs.Descending.{child_step}
 use Rattle.btree_pages.proofs.Ways.{above-le, child_given}

@@ -18,7 +18,8 @@ use Rattle.index_pages.specs.Keys.{key_end}
 use Rattle.index_pages.specs.Fetched.{IsFront}
 use Rattle.index_pages.specs.Page.{pairs_said, kind_said, level_said, link_said, level_of}
 use Rattle.index_pages.specs.Ways.{above, Keeps, IsOwn}
-use Rattle.index_pages.proofs.Fronts.{length-count_bytes, slot_written, page_written, mark_kept, form_kept}
+use Rattle.index_pages.proofs.Fronts.{length-count_bytes, super_written}
+use Rattle.index_pages.proofs.Carrying.{carries_on, carries_absent}
 use Rattle.index_pages.proofs.PageFacts.{length-page_pairs}
 use Rattle.index_pages.proofs.Ranges.{Apart}
 use Rattle.index_pages.proofs.Rising.{length-inserted}
@@ -28,7 +29,7 @@ use Rattle.btree_pages.specs.Descent.{page_for}
 use Rattle.index_pages.specs.Written.{written_page}
 use Rattle.btree_pages.specs.OnWay.{IsOnWay}
 use Rattle.btree_pages.specs.Tree.{IsUnder, IsSoundTree, pairs_of_tree}
-use Rattle.btree_pages.specs.Seen.{tree_of_sound, IsTree}
+use Rattle.btree_pages.specs.Sound.{IsTree}
 use Rattle.btree_pages.specs.Writes.{IsRead}
 use Rattle.btree_pages.specs.Index.{tree}
 use Rattle.btree_pages.proofs.Puts.{AllApart, Stand, applied_long, applied_away, applied_stand}
@@ -44,12 +45,7 @@ use Rattle.index_pages.proofs.Given.{above_zero}
 use Rattle.btree_pages.specs.Changes.{TakesPair}
 use Rattle.index_pages.specs.Adding.{adding_parts}
 use Rattle.btree_pages.proofs.Belonging.{inner_stays}
-use Rattle.btree_pages.proofs.CutData.{carries_on}
 use Rattle.btree_pages.proofs.Taking.{sound_tree_takes}
-
-carries_absent : (new : List ℕ) (key slot : ℕ) → key < 2 ^ 64 → slot_of new slot ≡ slot_bytes (Absent key) → Carries new (key, slot)
-unfolding Carries
-carries_absent new key slot fits is = subst (λ (o : Option Slot). IsOfKey key o) (sym (ap slot_said is ∙ slot_said-slot_bytes (Absent key) fits)) refl
 
 module _ (shape : Shape) (old : List ℕ) (half : ℕ) (long : length old ≡ data_len shape) (half_is : half ≡ index_pages_of shape) (all : half + half ≡ array.page_count shape) (few : half ≤ 16384)
     (front : Super) (key d leaf : ℕ) (pairs : List Pair) (fits : key < 2 ^ 64) (front_is : IsFront shape front) (read : IsRead shape leaf 0 pairs)
@@ -101,7 +97,7 @@ module _ (shape : Shape) (old : List ℕ) (half : ℕ) (long : length old ≡ da
   own_root = (omega arith, omega (arith, sound.0.some_pages))
 
   root_tree : IsTree (above d 0) old 1 0 key_end
-  root_tree = subst (λ (n : ℕ). IsTree n old 1 0 key_end) way.level_is (tree_of_sound old sound)
+  root_tree = subst (λ (n : ℕ). IsTree n old 1 0 key_end) way.level_is sound.1.1
 
   own_leaf : IsOwn old leaf
   own_leaf = subst (λ (x : ℕ). IsOwn old x) (sym way.page_is) (way_own d 0 old key 1 0 key_end own_root root_tree (omega arith) (omega arith))
@@ -110,7 +106,7 @@ module _ (shape : Shape) (old : List ℕ) (half : ℕ) (long : length old ≡ da
   leaf_way = subst (λ (x : ℕ). Way old 0 x key 0 key_end) (sym way.page_is) (way_of d 0 old key 1 0 key_end root_tree (omega arith) (omega arith))
 
   bottom : level_of old leaf ≡ 0
-  bottom = leaf_way.tree.level
+  bottom = leaf_way.tree.0.level
 
   leaf_below : leaf < half
   leaf_below = omega (arith, own_leaf, sound.0.pages, first)
@@ -177,27 +173,14 @@ module _ (shape : Shape) (old : List ℕ) (half : ℕ) (long : length old ≡ da
       ∙ away (512 * half + 64 * j) 64 (inl (omega (arith, place_is, says.slots))) (inr (omega (arith, len2, leaf_below))) (inr (omega (arith, len3, leaf_below)))
       ∙ ap (λ (x : ℕ). range old x 64) (sym at')
 
-  slot_now : next_slot added ≡ front.next_slot + 1
+  counted : (next_slot added ≡ front.next_slot + 1) × (next_page added ≡ front.next_page) × IsSuper 1 added
   unfolding counts
-  slot_now = slot_written added (front.next_slot + 1) front.next_page (omega (arith, eight)) (omega (arith, front_is.pages, half_is)) counts_new
-
-  page_now : next_page added ≡ front.next_page
-  unfolding counts
-  page_now = page_written added (front.next_slot + 1) front.next_page (omega (arith, eight)) (omega (arith, front_is.pages, half_is)) counts_new
-
-  front_now : IsSuper 1 added
-  front_now = record {
-    has_mark = mark_kept old added zero_new sound.0.has_mark;
-    form_is = form_kept old added zero_new ∙ sound.0.form_is;
-    slots = omega (arith, slot_now, added_count, eight);
-    some_pages = omega (arith, page_now, front_is.some);
-    pages = omega (arith, page_now, added_count, front_is.pages, half_is);
-  }
+  counted = super_written 1 old added half (front.next_slot + 1) front.next_page added_count few zero_new counts_new (omega (arith, eight)) front_is.some (omega (arith, front_is.pages, half_is)) sound.0
 
   keeps : Keeps old added
   keeps = record {
-    pages = omega (arith, page_now, says.pages);
-    slots = omega (arith, slot_now, says.slots);
+    pages = omega (arith, counted.1, says.pages);
+    slots = omega (arith, counted.0, says.slots);
     carried = λ p lt carries. carries_on old added p (slot_old p.1 lt) carries;
   }
 
@@ -210,7 +193,7 @@ module _ (shape : Shape) (old : List ℕ) (half : ℕ) (long : length old ≡ da
     link = ap link_said page_new ∙ written_link 0 0 (inserted pairs key front.next_slot) leaf_few (omega arith);
     pairs = ap pairs_said page_new ∙ written_pairs 0 0 (inserted pairs key front.next_slot) leaf_few (omega arith) (small_inserted key front.next_slot pairs read.small fits (omega (arith, eight)))
         ∙ ap (λ (ps : List Pair). inserted ps key front.next_slot) way.pairs_are;
-    given = omega (arith, slot_now);
+    given = omega (arith, counted.0);
     carries = carries_absent added key front.next_slot fits slot_new;
   }
 
@@ -218,7 +201,7 @@ module _ (shape : Shape) (old : List ℕ) (half : ℕ) (long : length old ≡ da
   leaf_there = way.page_is ∙ ap (λ (n : ℕ). page_for n old 1 key) (sym (way.level_is ∙ above_zero d))
 
   adds : IsSoundTree added × (pairs_of_tree added ≡ inserted (pairs_of_tree old) key front.next_slot)
-  adds = sound_tree_takes old added key front.next_slot sound keeps front_now fits none
+  adds = sound_tree_takes old added key front.next_slot sound keeps counted.2 fits none
       (subst (λ (x : ℕ). TakesPair old added x key front.next_slot) leaf_there takes)
       (subst (λ (x : ℕ). (y : ℕ) → 1 ≤ y → y < next_page old → y ≢ x → page_bytes added y ≡ page_bytes old y) leaf_there page_old)
 
@@ -236,19 +219,19 @@ module _ (shape : Shape) (old : List ℕ) (half : ℕ) (long : length old ≡ da
       sound = adds.0;
       size = added_long;
       slots = slot_old;
-      later = omega (arith, page_now, says.pages);
-      few = omega (arith, page_now, says.pages);
-      named = λ x from to. absurd (omega (arith, page_now, says.pages));
-      kept = λ x u. subst (λ (n : ℕ). IsUnder n added x 1) (sym added_level) (inner_stays old added leaf x bottom (λ q own other. page_old q own.0 own.1 other) (level_of old 1) 1 0 key_end own_root (tree_of_sound old sound) u);
+      later = omega (arith, counted.1, says.pages);
+      few = omega (arith, counted.1, says.pages);
+      named = λ x from to. absurd (omega (arith, counted.1, says.pages));
+      kept = λ x u. subst (λ (n : ℕ). IsUnder n added x 1) (sym added_level) (inner_stays old added leaf x bottom (λ q own other. page_old q own.0 own.1 other) (level_of old 1) 1 0 key_end own_root sound.1.1 u);
       levels = omega (arith, added_level);
     },
     record {
       pairs = adds.1 ∙ ap (λ (s : ℕ). inserted (pairs_of_tree old) key s) says.slots;
-      slots = slot_now ∙ (let e : front.next_slot + 1 ≡ suc (next_slot old) = omega (arith, says.slots) in e);
+      slots = counted.0 ∙ (let e : front.next_slot + 1 ≡ suc (next_slot old) = omega (arith, says.slots) in e);
       fresh = subst (λ (s : ℕ). slot_of added s ≡ slot_bytes (Absent key)) says.slots slot_new;
     },
   )
 
   pub adding_takes_none : next_page (applied (adding_parts half front leaf 0 pairs key) old) ≡ next_page old
   unfolding added
-  adding_takes_none = page_now ∙ says.pages
+  adding_takes_none = counted.1 ∙ says.pages

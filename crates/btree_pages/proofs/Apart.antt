@@ -1,9 +1,10 @@
 -- No page occurs twice in a sound tree.
-use Rattle.std.proofs.Common.{◌≡◌, ◌≢◌, ℕ, zero, suc, ◌<◌, ◌≤◌, inl, inr, List, [], ◌∷◌, length, length-append, sym, ◌∙◌, subst, arith}
+use Rattle.std.proofs.Common.{◌≡◌, ◌≢◌, ℕ, zero, suc, ◌<◌, ◌≤◌, inl, inr, List, [], ◌∷◌, length, length-append, sym, ◌∙◌, subst, arith, None}
+use Rattle.mars_base.specs.Check.{Check}
 use Rattle.record_slots.specs.Places.{next_page}
 use Rattle.btree_pages.specs.TreeFacts.{children_tile, tree_rises, tree_wide, tree_level}
-use Rattle.btree_pages.specs.Tree.{AreChildren, next_low, pieces_with, pairs_under, IsUnder, IsUnderSome}
-use Rattle.btree_pages.specs.Seen.{IsTreeLeaf, AreSound, IsTree}
+use Rattle.btree_pages.specs.Tree.{AreChildren, next_low, pieces_with, pairs_under, IsUnder, IsUnderSome, tree_from}
+use Rattle.btree_pages.specs.Sound.{AreSound, IsTree}
 use Rattle.index_pages.proofs.PageFacts.{length-page_pairs}
 use Rattle.index_pages.proofs.Rising.{key_at-bounds}
 use Rattle.index_pages.proofs.Tiling.{tile_bounds}
@@ -21,31 +22,31 @@ pub record Sub (bytes : List ℕ) (q l low high : ℕ) : Type 0 where
   pub below : to ≤ high
   pub most : m ≤ l
 
-first_some : (f : ℕ → List Pair) (P : ℕ → ℕ → ℕ → Type 0) → ((page low high : ℕ) → 2 ≤ page → P page low high → 1 ≤ length (f page))
-    → (bytes : List ℕ) (es : List Pair) (high : ℕ) → 1 ≤ length es → AreChildren (next_page bytes) es → AreSound P es high → 1 ≤ length (joined (pieces_with f es))
-first_some f P fact bytes [] high some are sound = absurd (omega arith)
-first_some f P fact bytes (e ∷ es) high some are sound =
+first_some : (f : ℕ → List Pair) (check : ℕ → ℕ → ℕ → Check ℕ) → ((page low high : ℕ) → 2 ≤ page → check page low high None → 1 ≤ length (f page))
+    → (bytes : List ℕ) (es : List Pair) (high : ℕ) → 1 ≤ length es → AreChildren (next_page bytes) es → AreSound check es high → 1 ≤ length (joined (pieces_with f es))
+first_some f check fact bytes [] high some are sound = absurd (omega arith)
+first_some f check fact bytes (e ∷ es) high some are sound =
     let h = fact e.1 e.0 (next_low es high) are.0 sound.0 in
     omega (arith, h, length-append (f e.1) (joined (pieces_with f es)))
 
 -- no tree but that of the root is empty
 pub tree_some : (m : ℕ) (bytes : List ℕ) (q low high : ℕ) → IsTree m bytes q low high → q ≢ 1 → 1 ≤ length (pairs_under m bytes q)
-tree_some zero bytes q low high t other = omega (arith, t.some other, length-page_pairs bytes q)
+tree_some zero bytes q low high t other = omega (arith, t.0.some other, length-page_pairs bytes q)
 tree_some (suc m) bytes q low high t other =
-    first_some (pairs_under m bytes) (IsTree m bytes) (λ (c low' high' : ℕ) (two : 2 ≤ c) (sub : IsTree m bytes c low' high'). tree_some m bytes c low' high' sub (omega arith))
+    first_some (pairs_under m bytes) (tree_from m bytes) (λ (c low' high' : ℕ) (two : 2 ≤ c) (sub : IsTree m bytes c low' high'). tree_some m bytes c low' high' sub (omega arith))
     bytes (page_pairs bytes q) high (omega (arith, t.0.some, length-page_pairs bytes q)) t.0.children t.1
 
 pub child_facts : (l : ℕ) (bytes : List ℕ) (page low high : ℕ) → 2 ≤ page → IsTree l bytes page low high → Rise low high (pairs_under l bytes page) × (low < high)
 child_facts l bytes page low high two t = (tree_rises l bytes page low high t, tree_wide l bytes page low high t (omega arith))
 
-pub entries_tile : (l : ℕ) (bytes : List ℕ) (es : List Pair) (high : ℕ) → AreChildren (next_page bytes) es → AreSound (IsTree l bytes) es high → Tile (next_low es high) high (pieces_with (pairs_under l bytes) es)
-entries_tile l bytes es high are sound = children_tile (pairs_under l bytes) (IsTree l bytes) (child_facts l bytes) bytes es high are sound
+pub entries_tile : (l : ℕ) (bytes : List ℕ) (es : List Pair) (high : ℕ) → AreChildren (next_page bytes) es → AreSound (tree_from l bytes) es high → Tile (next_low es high) high (pieces_with (pairs_under l bytes) es)
+entries_tile l bytes es high are sound = children_tile (pairs_under l bytes) (tree_from l bytes) (child_facts l bytes) bytes es high are sound
 
 wider : (bytes : List ℕ) (q l l' low low' high high' : ℕ) → low' ≤ low → high ≤ high' → l ≤ l' → Sub bytes q l low high → Sub bytes q l' low' high'
 wider bytes q l l' low low' high high' a b c s = record { m = s.m; from = s.from; to = s.to; tree = s.tree; above = omega (arith, s.above); below = omega (arith, s.below); most = omega (arith, s.most) }
 
 pub sub_below : (l : ℕ) (bytes : List ℕ) (q : ℕ) → ((page low high : ℕ) → IsTree l bytes page low high → IsUnder l bytes q page → Sub bytes q l low high)
-    → (es : List Pair) (high : ℕ) → AreChildren (next_page bytes) es → AreSound (IsTree l bytes) es high → IsUnderSome (IsUnder l bytes q) es → Sub bytes q l (next_low es high) high
+    → (es : List Pair) (high : ℕ) → AreChildren (next_page bytes) es → AreSound (tree_from l bytes) es high → IsUnderSome (IsUnder l bytes q) es → Sub bytes q l (next_low es high) high
 sub_below l bytes q ih [] high are sound u = absurd u
 sub_below l bytes q ih (e ∷ es) high are sound (inl u) =
     let rest = tile_bounds (next_low es high) high (pieces_with (pairs_under l bytes) es) (entries_tile l bytes es high are.2 sound.1) in
@@ -60,7 +61,7 @@ start_of low high (x ∷ es) some e = e
 
 pub sub_of : (l : ℕ) (bytes : List ℕ) (q page low high : ℕ) → IsTree l bytes page low high → IsUnder l bytes q page → Sub bytes q l low high
 sub_of zero bytes q page low high t u =
-    record { m = 0; from = low; to = high; tree = subst (λ (x : ℕ). IsTreeLeaf bytes x low high) (sym u) t; above = omega arith; below = omega arith; most = omega arith }
+    record { m = 0; from = low; to = high; tree = subst (λ (x : ℕ). IsTree 0 bytes x low high) (sym u) t; above = omega arith; below = omega arith; most = omega arith }
 sub_of (suc l) bytes q page low high t (inl e) =
     record { m = suc l; from = low; to = high; tree = subst (λ (x : ℕ). IsTree (suc l) bytes x low high) (sym e) t; above = omega arith; below = omega arith; most = omega arith }
 sub_of (suc l) bytes q page low high t (inr u) =

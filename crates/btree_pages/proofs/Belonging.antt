@@ -8,8 +8,8 @@ use Rattle.index_pages.specs.Ways.{above, IsOwn}
 use Rattle.index_pages.proofs.PageFacts.{length-page_pairs}
 use Rattle.btree_pages.specs.Changes.{middle, with_entry, SplitsChild, SplitsRoot}
 use Rattle.btree_pages.specs.Descent.{child_for, page_for}
-use Rattle.btree_pages.specs.Tree.{AreChildren, next_low, IsUnder, IsUnderSome}
-use Rattle.btree_pages.specs.Seen.{AreSound, IsTree}
+use Rattle.btree_pages.specs.Tree.{AreChildren, next_low, IsUnder, IsUnderSome, tree_from}
+use Rattle.btree_pages.specs.Sound.{AreSound, IsTree}
 use Rattle.btree_pages.proofs.Actions.{child_some, under_self}
 use Rattle.btree_pages.proofs.Apart.{sub_of, sub_below, start_of}
 use Rattle.btree_pages.proofs.Descending.{child_step}
@@ -53,7 +53,7 @@ under_way (suc d) l bytes key p low high x t le lt u =
 module _ (old new : List ℕ) (l parent key right : ℕ) (splits : SplitsChild old new parent key right) (parent_level : level_of old parent ≡ suc l) (child_level : level_of old (child_for (page_pairs old parent) key) ≡ l)
     (kept : (x : ℕ) → IsOwn old x → x ≢ parent → x ≢ child_for (page_pairs old parent) key → page_bytes new x ≡ page_bytes old x) where
   below_stays : (n x : ℕ) → ((p low high : ℕ) → IsOwn old p → IsTree n old p low high → IsUnder n old x p → IsUnder n new x p ⊎ IsUnder l new x right)
-      → (es : List Pair) (high : ℕ) → AreChildren (next_page old) es → AreSound (IsTree n old) es high → IsUnderSome (IsUnder n old x) es → IsUnderSome (IsUnder n new x) es ⊎ IsUnder l new x right
+      → (es : List Pair) (high : ℕ) → AreChildren (next_page old) es → AreSound (tree_from n old) es high → IsUnderSome (IsUnder n old x) es → IsUnderSome (IsUnder n new x) es ⊎ IsUnder l new x right
   below_stays n x ih [] high are sound u = absurd u
   below_stays n x ih (e ∷ es) high are sound (inl u) = elim (ih e.1 e.0 (next_low es high) (omega (arith, are.0), are.1) sound.0 u) [ inl a ↦ inl (inl a) | inr a ↦ inr a ]
   below_stays n x ih (e ∷ es) high are sound (inr u) = elim (below_stays n x ih es high are.2 sound.1 u) [ inl a ↦ inl (inr a) | inr a ↦ inr a ]
@@ -96,7 +96,7 @@ module _ (old new : List ℕ) (l parent key right : ℕ) (splits : SplitsChild o
 -- under an unchanged page
 module _ (old new : List ℕ) (x : ℕ) where
   some_same : (l : ℕ) → ((p low high : ℕ) → IsTree l old p low high → ((q : ℕ) → IsUnder l old q p → page_bytes new q ≡ page_bytes old q) → IsUnder l old x p → IsUnder l new x p)
-      → (es : List Pair) (high : ℕ) → AreSound (IsTree l old) es high → ((q : ℕ) → IsUnderSome (IsUnder l old q) es → page_bytes new q ≡ page_bytes old q) → IsUnderSome (IsUnder l old x) es → IsUnderSome (IsUnder l new x) es
+      → (es : List Pair) (high : ℕ) → AreSound (tree_from l old) es high → ((q : ℕ) → IsUnderSome (IsUnder l old q) es → page_bytes new q ≡ page_bytes old q) → IsUnderSome (IsUnder l old x) es → IsUnderSome (IsUnder l new x) es
   some_same l ih [] high sound kept u = absurd u
   some_same l ih (e ∷ es) high sound kept (inl u) = inl (ih e.1 e.0 (next_low es high) sound.0 (λ q v. kept q (inl v)) u)
   some_same l ih (e ∷ es) high sound kept (inr u) = inr (some_same l ih es high sound.1 (λ q v. kept q (inr v)) u)
@@ -132,7 +132,7 @@ module _ (old new : List ℕ) (left right : ℕ) (splits : SplitsRoot old new le
 -- only a leaf has changed
 module _ (old new : List ℕ) (leaf x : ℕ) (bottom : level_of old leaf ≡ 0) (kept : (q : ℕ) → IsOwn old q → q ≢ leaf → page_bytes new q ≡ page_bytes old q) where
   inner_some : (l : ℕ) → ((p low high : ℕ) → IsOwn old p → IsTree l old p low high → IsUnder l old x p → IsUnder l new x p)
-      → (es : List Pair) (high : ℕ) → AreChildren (next_page old) es → AreSound (IsTree l old) es high → IsUnderSome (IsUnder l old x) es → IsUnderSome (IsUnder l new x) es
+      → (es : List Pair) (high : ℕ) → AreChildren (next_page old) es → AreSound (tree_from l old) es high → IsUnderSome (IsUnder l old x) es → IsUnderSome (IsUnder l new x) es
   inner_some l ih [] high are sound u = absurd u
   inner_some l ih (e ∷ es) high are sound (inl u) = inl (ih e.1 e.0 (next_low es high) (omega (arith, are.0), are.1) sound.0 u)
   inner_some l ih (e ∷ es) high are sound (inr u) = inr (inner_some l ih es high are.2 sound.1 u)

@@ -10,7 +10,7 @@ use Rattle.btree_pages.specs.Descent.{child_for}
 use Rattle.btree_pages.specs.Node.{IsNode}
 use Rattle.btree_pages.specs.OnWay.{IsReached}
 use Rattle.btree_pages.specs.Tree.{IsSoundTree, next_low}
-use Rattle.btree_pages.specs.Seen.{tree_of_sound, IsTree}
+use Rattle.btree_pages.specs.Sound.{IsTree}
 use Rattle.btree_pages.proofs.Apart.{start_of}
 use Rattle.btree_pages.proofs.Descending.{child_step, node_of}
 use Rattle.btree_pages.proofs.Ways.{Way, way_of, child_given, above-le}
@@ -28,7 +28,7 @@ reached_child bytes key page zero pairs sound lt reached inner = absurd (omega a
 reached_child bytes key page (suc m) pairs sound lt reached inner =
     let d : ℕ = reached.0 in
     let way = reached.1 in
-    let root : IsTree (above reached.0 (suc m)) bytes 1 0 key_end = subst (λ (n : ℕ). IsTree n bytes 1 0 key_end) way.level_is (tree_of_sound bytes sound) in
+    let root : IsTree (above reached.0 (suc m)) bytes 1 0 key_end = subst (λ (n : ℕ). IsTree n bytes 1 0 key_end) way.level_is sound.1.1 in
     let here : Way bytes (suc m) page key 0 key_end = subst (λ (x : ℕ). Way bytes (suc m) x key 0 key_end) (sym way.page_is) (way_of reached.0 (suc m) bytes key 1 0 key_end root (omega arith) lt) in
     let some : 1 ≤ length (page_pairs bytes page) = omega (arith, here.tree.0.some, length-page_pairs bytes page) in
     let there : child_for pairs key ≡ child_for (page_pairs bytes page) key = ap (λ (ps : List Pair). child_for ps key) way.pairs_are in

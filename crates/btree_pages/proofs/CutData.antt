@@ -21,7 +21,8 @@ use Rattle.index_pages.specs.Keys.{key_at, key_end}
 use Rattle.index_pages.specs.Page.{page_pairs, pairs_said, kind_said, level_said, link_said, kind_of, level_of, count_of}
 use Rattle.index_pages.specs.Ways.{above, Keeps, IsOwn}
 use Rattle.index_pages.specs.Written.{AreSmall, kind_for, written_page}
-use Rattle.index_pages.proofs.Fronts.{length-count_bytes, slot_written, page_written, mark_kept, form_kept}
+use Rattle.index_pages.proofs.Fronts.{length-count_bytes, super_written}
+use Rattle.index_pages.proofs.Carrying.{carries_on}
 use Rattle.index_pages.proofs.PageFacts.{length-page_pairs}
 use Rattle.index_pages.proofs.Ranges.{Apart}
 use Rattle.index_pages.proofs.Rising.{length-inserted}
@@ -31,7 +32,7 @@ use Rattle.btree_pages.specs.Checked.{IsFrontOf}
 use Rattle.btree_pages.specs.Descent.{child_for, page_for}
 use Rattle.btree_pages.specs.OnWay.{IsOnWay}
 use Rattle.btree_pages.specs.Tree.{IsUnder, IsSoundTree, pairs_of_tree, next_low}
-use Rattle.btree_pages.specs.Seen.{tree_of_sound, IsTree}
+use Rattle.btree_pages.specs.Sound.{IsTree}
 use Rattle.btree_pages.specs.Writes.{IsRead, cutting_parts}
 use Rattle.btree_pages.specs.Index.{tree, half_for, half_pairs, actions_below}
 use Rattle.btree_pages.proofs.Actions.{under_self, way_same, half_actions}
@@ -44,11 +45,6 @@ use Rattle.btree_pages.proofs.Splitting.{halves, sound_tree_splits}
 use Rattle.btree_pages.proofs.Ways.{Way, way_of, way_own, child_given}
 use Rattle.btree_pages.specs.TreeFacts.{tree_level, under_own}
 
--- a slot that is as it was carries the same key
-pub carries_on : (old new : List ℕ) (p : Pair) → slot_of new p.1 ≡ slot_of old p.1 → Carries old p → Carries new p
-unfolding Carries
-carries_on old new p same carries = subst (λ (b : List ℕ). IsOfKey p.0 (slot_said b)) (sym same) carries
-
 pub small_at : (n : ℕ) (ps : List Pair) → n < length ps → AreSmall ps → key_at ps n < 2 ^ 64
 small_at n [] lt small = absurd (omega arith)
 small_at zero (p ∷ ps) lt small = small.0
@@ -56,7 +52,7 @@ small_at (suc n) (p ∷ ps) lt small = small_at n ps (omega arith) small.2
 
 -- the kind of a page is that of its level
 pub tree_kind : (m : ℕ) (bytes : List ℕ) (page low high : ℕ) → IsTree m bytes page low high → kind_of bytes page ≡ kind_for m
-tree_kind zero bytes page low high t = t.kind
+tree_kind zero bytes page low high t = t.0.kind
 tree_kind (suc m) bytes page low high t = t.0.kind
 
 module _ (shape : Shape) (old : List ℕ) (half : ℕ) (long : length old ≡ data_len shape) (half_is : half ≡ index_pages_of shape) (all : half + half ≡ array.page_count shape) (few : half ≤ 16384)
@@ -113,7 +109,7 @@ module _ (shape : Shape) (old : List ℕ) (half : ℕ) (long : length old ≡ da
   own_root = (omega arith, omega (arith, sound.0.some_pages))
 
   root_tree : IsTree (above d (suc level)) old 1 0 key_end
-  root_tree = subst (λ (n : ℕ). IsTree n old 1 0 key_end) way.level_is (tree_of_sound old sound)
+  root_tree = subst (λ (n : ℕ). IsTree n old 1 0 key_end) way.level_is sound.1.1
 
   parent_way : Way old (suc level) parent key 0 key_end
   parent_way = subst (λ (x : ℕ). Way old (suc level) x key 0 key_end) (sym way.page_is) (way_of d (suc level) old key 1 0 key_end root_tree (omega arith) (omega arith))
@@ -237,28 +233,15 @@ module _ (shape : Shape) (old : List ℕ) (half : ℕ) (long : length old ≡ da
       ∙ away (512 * half + 64 * j) 64 (inr (omega (arith, len1, own_page, next_is, next_below))) (inr (omega (arith, len2, next_below))) (inr (omega (arith, len3, own_parent, next_is, next_below))) (inr (omega (arith, len4, next_below)))
       ∙ ap (λ (x : ℕ). range old x 64) (sym place')
 
-  slot_now : next_slot cut ≡ front.next_slot
+  counted : (next_slot cut ≡ front.next_slot) × (next_page cut ≡ front.next_page + 1) × IsSuper 1 cut
   unfolding counts
-  slot_now = slot_written cut front.next_slot (front.next_page + 1) (omega (arith, front_is.slots, all)) (omega (arith, next_below)) counts_new
-
-  page_now : next_page cut ≡ front.next_page + 1
-  unfolding counts
-  page_now = page_written cut front.next_slot (front.next_page + 1) (omega (arith, front_is.slots, all)) (omega (arith, next_below)) counts_new
-
-  front_now : IsSuper 1 cut
-  front_now = record {
-    has_mark = mark_kept old cut zero_new sound.0.has_mark;
-    form_is = form_kept old cut zero_new ∙ sound.0.form_is;
-    slots = omega (arith, slot_now, cut_count, front_is.slots, all);
-    some_pages = omega (arith, page_now);
-    pages = omega (arith, page_now, cut_count, next_below);
-  }
+  counted = super_written 1 old cut half front.next_slot (front.next_page + 1) cut_count few zero_new counts_new (omega (arith, front_is.slots, all)) (omega (arith, front_is.some)) (omega (arith, next_below)) sound.0
 
   keeps : Keeps old cut
   unfolding cut
   keeps = record {
-    pages = omega (arith, page_now, next_is);
-    slots = omega (arith, slot_now, says.slots);
+    pages = omega (arith, counted.1, next_is);
+    slots = omega (arith, counted.0, says.slots);
     carried = λ p lt carries. carries_on old cut p (cut_slots p.1) carries;
   }
 
@@ -320,7 +303,7 @@ module _ (shape : Shape) (old : List ℕ) (half : ℕ) (long : length old ≡ da
     pairs = named_pairs ∙ ap (λ (x : ℕ). with_entry (page_pairs old parent) key (middle old x, front.next_page)) page_there;
     cut = subst (λ (x : ℕ). IsCut old cut x x front.next_page) page_there is_cut;
     two = front_is.some;
-    given = omega (arith, page_now);
+    given = omega (arith, counted.1);
   }
 
   others_there : (x : ℕ) → 1 ≤ x → x < next_page old → x ≢ parent → x ≢ child_for (page_pairs old parent) key → page_bytes cut x ≡ page_bytes old x
@@ -331,14 +314,14 @@ module _ (shape : Shape) (old : List ℕ) (half : ℕ) (long : length old ≡ da
   pub cut_sound : IsSoundTree (applied (cutting_parts front page level pairs parent entries) old) × (pairs_of_tree (applied (cutting_parts front page level pairs parent entries) old) ≡ pairs_of_tree old)
   unfolding cut
   cut_sound =
-      sound_tree_splits old cut d level key front.next_page sound keeps front_now fits way.level_is
+      sound_tree_splits old cut d level key front.next_page sound keeps counted.2 fits way.level_is
       (subst (λ (q : ℕ). SplitsChild old cut q key front.next_page) way.page_is cut_splits)
       (subst (λ (q : ℕ). (x : ℕ) → 1 ≤ x → x < next_page old → x ≢ q → x ≢ child_for (page_pairs old q) key → page_bytes cut x ≡ page_bytes old x) way.page_is others_there)
 
   pub cut_counts : (next_slot (applied (cutting_parts front page level pairs parent entries) old) ≡ next_slot old) × (next_page (applied (cutting_parts front page level pairs parent entries) old) ≡ suc (next_page old))
       × (length (applied (cutting_parts front page level pairs parent entries) old) ≡ length old)
   unfolding cut
-  cut_counts = (slot_now ∙ says.slots, page_now ∙ (let e : front.next_page + 1 ≡ suc (next_page old) = omega (arith, next_is) in e), cut_long)
+  cut_counts = (counted.0 ∙ says.slots, counted.1 ∙ (let e : front.next_page + 1 ≡ suc (next_page old) = omega (arith, next_is) in e), cut_long)
 
   -- the root keeps its level
   pub cut_level : level_of (applied (cutting_parts front page level pairs parent entries) old) 1 ≡ level_of old 1
@@ -360,7 +343,7 @@ module _ (shape : Shape) (old : List ℕ) (half : ℕ) (long : length old ≡ da
 
   cut_tree : IsTree (above d (suc level)) cut 1 0 key_end
   unfolding cut
-  cut_tree = subst (λ (n : ℕ). IsTree n cut 1 0 key_end) (cut_level ∙ way.level_is) (tree_of_sound cut cut_sound.0)
+  cut_tree = subst (λ (n : ℕ). IsTree n cut 1 0 key_end) (cut_level ∙ way.level_is) cut_sound.0.1.1
 
   below_half : (x : ℕ) → IsUnder level cut x front.next_page → IsUnder (level_of cut 1) cut x 1
   unfolding cut
@@ -374,7 +357,7 @@ module _ (shape : Shape) (old : List ℕ) (half : ℕ) (long : length old ≡ da
   unfolding cut
   cut_stays x u =
       let level_child : level_of old (child_for (page_pairs old parent) key) ≡ level = ap (λ (q : ℕ). level_of old q) (sym page_there) ∙ level_page in
-      elim (split_stays old cut level parent key front.next_page cut_splits level_parent level_child (λ q own no_parent no_child. others_there q own.0 own.1 no_parent no_child) (level_of old 1) 1 0 key_end x own_root (tree_of_sound old sound) u) [
+      elim (split_stays old cut level parent key front.next_page cut_splits level_parent level_child (λ q own no_parent no_child. others_there q own.0 own.1 no_parent no_child) (level_of old 1) 1 0 key_end x own_root sound.1.1 u) [
         | inl a ↦ subst (λ (n : ℕ). IsUnder n cut x 1) (sym cut_level) a
         | inr a ↦ below_half x a
       ]
@@ -387,13 +370,13 @@ module _ (shape : Shape) (old : List ℕ) (half : ℕ) (long : length old ≡ da
       sound = cut_sound.0;
       size = cut_long;
       slots = λ j lt. cut_slots j;
-      later = omega (arith, page_now, next_is);
-      few = omega (arith, page_now, next_is);
-      named = λ x from to. subst (λ (y : ℕ). IsUnder (level_of cut 1) cut y 1) (let e : front.next_page ≡ x = omega (arith, page_now, next_is) in e) (below_half front.next_page (under_self level cut front.next_page));
+      later = omega (arith, counted.1, next_is);
+      few = omega (arith, counted.1, next_is);
+      named = λ x from to. subst (λ (y : ℕ). IsUnder (level_of cut 1) cut y 1) (let e : front.next_page ≡ x = omega (arith, counted.1, next_is) in e) (below_half front.next_page (under_self level cut front.next_page));
       kept = cut_stays;
       levels = omega (arith, cut_level);
     },
-    record { pairs = cut_sound.1; slots = slot_now ∙ says.slots },
+    record { pairs = cut_sound.1; slots = counted.0 ∙ says.slots },
   )
 
   -- the half that has the key is now on its way, and has room
@@ -428,6 +411,6 @@ module _ (shape : Shape) (old : List ℕ) (half : ℕ) (long : length old ≡ da
       ≡ actions_below level old page (half_for (page_pairs old page) page front.next_page key) (suc (next_page old)) key
   unfolding cut
   half_left =
-      half_actions old cut (slot_now ∙ says.slots) cut_long page page front.next_page key is_cut level child.from child.to page_tree child.from_key child.key_to (below_page child.from child.to page_tree)
+      half_actions old cut (counted.0 ∙ says.slots) cut_long page page front.next_page key is_cut level child.from child.to page_tree child.from_key child.key_to (below_page child.from child.to page_tree)
       (half_for (page_pairs old page) page front.next_page key) (next_page cut)
       ∙ ap (λ (n : ℕ). actions_below level old page (half_for (page_pairs old page) page front.next_page key) n key) cut_counts.1

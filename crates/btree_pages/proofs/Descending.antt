@@ -14,8 +14,8 @@ use Rattle.index_pages.proofs.Tiling.{tile_bounds, joined_rises}
 use Rattle.btree_pages.specs.Descent.{child_for, page_for, leaf_for}
 use Rattle.btree_pages.specs.Leaf.{bound_in, from_bound, IsBegin, AtLeaf}
 use Rattle.btree_pages.specs.Node.{IsNode}
-use Rattle.btree_pages.specs.Tree.{AreChildren, next_low, pieces_with, pairs_under, IsSoundTree, pairs_of_tree}
-use Rattle.btree_pages.specs.Seen.{tree_of_sound, AreSound, IsTree}
+use Rattle.btree_pages.specs.Tree.{AreChildren, next_low, pieces_with, pairs_under, IsSoundTree, pairs_of_tree, tree_from}
+use Rattle.btree_pages.specs.Sound.{AreSound, IsTree, slots_seen}
 use Rattle.btree_pages.proofs.Apart.{tree_some, child_facts, entries_tile, start_of}
 use Rattle.btree_pages.proofs.Ways.{found_on_way, child_given}
 use Rattle.btree_pages.specs.TreeFacts.{tree_level}
@@ -55,7 +55,7 @@ first_child : (e : Pair) (es : List Pair) (high : ℕ) → e.0 < next_low es hig
 first_child e [] high lt = refl
 first_child e (f ∷ es) high lt = let b : nat_lt e.0 f.0 ≡ true = grind (arith, nat_tests) in rw b refl
 
-pub child_step : (l : ℕ) (bytes : List ℕ) (es : List Pair) (high key : ℕ) → 1 ≤ length es → AreChildren (next_page bytes) es → AreSound (IsTree l bytes) es high → next_low es high ≤ key → key < high → Child l bytes es high key
+pub child_step : (l : ℕ) (bytes : List ℕ) (es : List Pair) (high key : ℕ) → 1 ≤ length es → AreChildren (next_page bytes) es → AreSound (tree_from l bytes) es high → next_low es high ≤ key → key < high → Child l bytes es high key
 child_step l bytes [] high key some are sound le lt = absurd (omega arith)
 child_step l bytes (e ∷ []) high key some are sound le lt = record {
   from = e.0;
@@ -152,7 +152,7 @@ child_step l bytes (e ∷ f ∷ es) high key some are sound le lt =
 
 -- the way to the lower bound of a page ends at a leaf that begins there
 first_begins : (m : ℕ) (bytes : List ℕ) → ((q low high : ℕ) → 2 ≤ q → IsTree m bytes q low high → next (page_pairs bytes (page_for m bytes q low)) low ≢ None)
-    → (es : List Pair) (low high : ℕ) → 1 ≤ length es → next_low es high ≡ low → AreChildren (next_page bytes) es → AreSound (IsTree m bytes) es high → next (page_pairs bytes (page_for m bytes (child_for es low) low)) low ≢ None
+    → (es : List Pair) (low high : ℕ) → 1 ≤ length es → next_low es high ≡ low → AreChildren (next_page bytes) es → AreSound (tree_from m bytes) es high → next (page_pairs bytes (page_for m bytes (child_for es low) low)) low ≢ None
 first_begins m bytes ih [] low high some start are sound none = absurd (omega arith)
 first_begins m bytes ih (e ∷ es) low high some start are sound none =
     let wide = child_facts m bytes e.1 e.0 (next_low es high) are.0 sound.0 in
@@ -162,8 +162,8 @@ first_begins m bytes ih (e ∷ es) low high some start are sound none =
 
 leaf_begins : (m : ℕ) (bytes : List ℕ) (q low high : ℕ) → 2 ≤ q → IsTree m bytes q low high → next (page_pairs bytes (page_for m bytes q low)) low ≢ None
 leaf_begins zero bytes q low high two t = λ none.
-    let first = head_some (page_pairs bytes q) (omega (arith, t.some (omega (arith, two)), length-page_pairs bytes q)) in
-    let e : next (page_pairs bytes q) low ≡ Some first.0 = next-head low high low (page_pairs bytes q) t.rises (omega arith) ∙ first.1 in
+    let first = head_some (page_pairs bytes q) (omega (arith, t.0.some (omega (arith, two)), length-page_pairs bytes q)) in
+    let e : next (page_pairs bytes q) low ≡ Some first.0 = next-head low high low (page_pairs bytes q) t.0.rises (omega arith) ∙ first.1 in
     absurd (cc)
 leaf_begins (suc m) bytes q low high two t =
     let some : 1 ≤ length (page_pairs bytes q) = omega (arith, t.0.some, length-page_pairs bytes q) in
@@ -198,7 +198,7 @@ down_first bytes key sound lt = record {
   m = level_of bytes 1;
   low = 0;
   high = key_end;
-  tree = (tree_of_sound bytes sound);
+  tree = sound.1.1;
   from = omega arith;
   to = lt;
   left = omega (arith, sound.1.0);
@@ -274,7 +274,7 @@ pub down_step : (bytes : List ℕ) (key steps page : ℕ) (bound : Option ℕ) �
 down_step bytes key steps page bound d inner = on d.m bytes key steps page bound d refl (omega (arith, inner, down_level bytes key steps page bound d))
 
 pub node_of : (m : ℕ) (bytes : List ℕ) (page low high : ℕ) → m ≤ 7 → IsTree m bytes page low high → IsNode (page_bytes bytes page)
-node_of zero bytes page low high most t = record { form = inl (t.kind, t.level); link = t.link; most = t.most }
+node_of zero bytes page low high most t = record { form = inl (t.0.kind, t.0.level); link = t.0.link; most = t.0.most }
 node_of (suc m) bytes page low high most t = record {
   form = inr (t.0.kind, omega (arith, t.0.level_is), omega (arith, t.0.level_is), t.0.some);
   link = t.0.link;
@@ -293,7 +293,7 @@ last zero bytes key steps page bound d is none =
     let leaf : IsTree 0 bytes page d.low d.high = subst (λ (n : ℕ). IsTree n bytes page d.low d.high) is d.tree in
     record {
       pairs = ap (λ (q : ℕ). page_pairs bytes q) (sym (d.way key d.from d.to ∙ ap (λ (n : ℕ). page_for n bytes page key) is));
-      given = leaf.given;
+      given = slots_seen bytes page (page_pairs bytes page) leaf.1;
       found_is = d.finds key d.from d.to ∙ ap (λ (n : ℕ). found (pairs_under n bytes page) key) is;
       next_is = d.nexts key d.from d.to ∙ ap (λ (n : ℕ). or_else (next (pairs_under n bytes page) key) (from_bound bytes bound)) is;
       begins = d.begins;

@@ -18,7 +18,8 @@ use Rattle.index_pages.specs.Keys.{key_at, key_end}
 use Rattle.index_pages.specs.Page.{page_pairs, pairs_said, kind_said, level_said, link_said, level_of, count_of}
 use Rattle.index_pages.specs.Ways.{Keeps, IsOwn}
 use Rattle.index_pages.specs.Written.{AreSmall, kind_for, written_page}
-use Rattle.index_pages.proofs.Fronts.{length-count_bytes, slot_written, page_written, mark_kept, form_kept}
+use Rattle.index_pages.proofs.Fronts.{length-count_bytes, super_written}
+use Rattle.index_pages.proofs.Carrying.{carries_on}
 use Rattle.index_pages.proofs.PageFacts.{length-page_pairs}
 use Rattle.index_pages.proofs.Ranges.{Apart}
 use Rattle.index_pages.proofs.Writing.{small_take, written_kind, written_level, written_link, written_pairs, length-written_page}
@@ -27,11 +28,11 @@ use Rattle.btree_pages.specs.Checked.{IsFrontOf}
 use Rattle.btree_pages.specs.Descent.{child_for, page_for}
 use Rattle.btree_pages.specs.Index.{tree, half_for, half_pairs, actions_below}
 use Rattle.btree_pages.specs.Tree.{IsUnder, IsSoundTree, pairs_of_tree}
-use Rattle.btree_pages.specs.Seen.{tree_of_sound, IsTree}
+use Rattle.btree_pages.specs.Sound.{IsTree}
 use Rattle.btree_pages.specs.Writes.{IsRead, growing_parts}
 use Rattle.btree_pages.proofs.Actions.{half_actions}
 use Rattle.btree_pages.proofs.Belonging.{grown_stays, left_named, right_named}
-use Rattle.btree_pages.proofs.CutData.{carries_on, small_at, tree_kind}
+use Rattle.btree_pages.proofs.CutData.{small_at, tree_kind}
 use Rattle.btree_pages.proofs.Puts.{AllApart, Stand, applied_long, applied_away, applied_stand}
 use Rattle.btree_pages.proofs.Splitting.{sound_tree_grows}
 use Rattle.btree_pages.specs.TreeFacts.{under_own}
@@ -86,7 +87,7 @@ module _ (shape : Shape) (old : List ℕ) (half : ℕ) (long : length old ≡ da
   own_root = (omega arith, omega (arith, sound.0.some_pages))
 
   root_tree : IsTree level old 1 0 key_end
-  root_tree = subst (λ (n : ℕ). IsTree n old 1 0 key_end) level_is (tree_of_sound old sound)
+  root_tree = subst (λ (n : ℕ). IsTree n old 1 0 key_end) level_is sound.1.1
 
   next_is : front.next_page ≡ next_page old
   next_is = says.pages
@@ -165,27 +166,14 @@ module _ (shape : Shape) (old : List ℕ) (half : ℕ) (long : length old ≡ da
       ∙ away (512 * half + 64 * j) 64 (inr (omega (arith, len1, next_below))) (inr (omega (arith, len2, next_below))) (inr (omega (arith, len3, next_below))) (inr (omega (arith, len4, next_below)))
       ∙ ap (λ (x : ℕ). range old x 64) (sym place')
 
-  slot_now : next_slot grown ≡ front.next_slot
+  counted : (next_slot grown ≡ front.next_slot) × (next_page grown ≡ front.next_page + 2) × IsSuper 1 grown
   unfolding counts
-  slot_now = slot_written grown front.next_slot (front.next_page + 2) (omega (arith, front_is.slots, all)) (omega (arith, next_below)) counts_new
-
-  page_now : next_page grown ≡ front.next_page + 2
-  unfolding counts
-  page_now = page_written grown front.next_slot (front.next_page + 2) (omega (arith, front_is.slots, all)) (omega (arith, next_below)) counts_new
-
-  front_now : IsSuper 1 grown
-  front_now = record {
-    has_mark = mark_kept old grown zero_new sound.0.has_mark;
-    form_is = form_kept old grown zero_new ∙ sound.0.form_is;
-    slots = omega (arith, slot_now, grown_count, front_is.slots, all);
-    some_pages = omega (arith, page_now);
-    pages = omega (arith, page_now, grown_count, next_below);
-  }
+  counted = super_written 1 old grown half front.next_slot (front.next_page + 2) grown_count few zero_new counts_new (omega (arith, front_is.slots, all)) (omega (arith, front_is.some)) (omega (arith, next_below)) sound.0
 
   keeps : Keeps old grown
   keeps = record {
-    pages = omega (arith, page_now, next_is);
-    slots = omega (arith, slot_now, says.slots);
+    pages = omega (arith, counted.1, next_is);
+    slots = omega (arith, counted.0, says.slots);
     carried = λ p lt carries. carries_on old grown p (slots_same p.1) carries;
   }
 
@@ -231,13 +219,13 @@ module _ (shape : Shape) (old : List ℕ) (half : ℕ) (long : length old ≡ da
     pairs = named_pairs;
     cut = is_cut;
     two = two;
-    left_given = omega (arith, page_now);
+    left_given = omega (arith, counted.1);
     two' = omega (arith, two);
-    right_given = omega (arith, page_now);
+    right_given = omega (arith, counted.1);
   }
 
   grown_sound : IsSoundTree grown × (pairs_of_tree grown ≡ pairs_of_tree old)
-  grown_sound = sound_tree_grows old grown front.next_page (front.next_page + 1) sound keeps front_now (omega (arith, level_is)) splits others
+  grown_sound = sound_tree_grows old grown front.next_page (front.next_page + 1) sound keeps counted.2 (omega (arith, level_is)) splits others
 
   below_root : (x : ℕ) → IsUnder level old x 1 → x ≢ 1 → page_bytes grown x ≡ page_bytes old x
   below_root x u ne = let own = under_own level old x 1 0 key_end own_root root_tree u in others x (omega (arith, own.0, ne)) own.1
@@ -251,7 +239,7 @@ module _ (shape : Shape) (old : List ℕ) (half : ℕ) (long : length old ≡ da
   new_named x from to = elim (eqb_tells x front.next_page) [
     | inl same ↦ subst (λ (y : ℕ). IsUnder (suc level) grown y 1) (sym same.1) (left_named old grown front.next_page (front.next_page + 1) splits level)
     | inr far ↦
-        let e : x ≡ front.next_page + 1 = omega (arith, far.1, page_now, next_is) in
+        let e : x ≡ front.next_page + 1 = omega (arith, far.1, counted.1, next_is) in
         subst (λ (y : ℕ). IsUnder (suc level) grown y 1) (sym e) (right_named old grown front.next_page (front.next_page + 1) splits level)
   ]
 
@@ -263,19 +251,19 @@ module _ (shape : Shape) (old : List ℕ) (half : ℕ) (long : length old ≡ da
       sound = grown_sound.0;
       size = grown_long;
       slots = λ j lt. slots_same j;
-      later = omega (arith, page_now, next_is);
-      few = omega (arith, page_now, next_is);
+      later = omega (arith, counted.1, next_is);
+      few = omega (arith, counted.1, next_is);
       named = λ x from to. subst (λ (n : ℕ). IsUnder n grown x 1) (sym grown_level) (new_named x from to);
       kept = λ x u. subst (λ (n : ℕ). IsUnder n grown x 1) (sym grown_level)
           (grown_stays old grown front.next_page (front.next_page + 1) splits level 0 key_end x root_tree below_root (subst (λ (n : ℕ). IsUnder n old x 1) level_is u));
       levels = omega (arith, grown_level, level_is);
     },
-    record { pairs = grown_sound.1; slots = slot_now ∙ says.slots },
+    record { pairs = grown_sound.1; slots = counted.0 ∙ says.slots },
   )
 
   pub grown_counts : (next_slot (applied (growing_parts front level pairs) old) ≡ next_slot old) × (next_page (applied (growing_parts front level pairs) old) ≡ suc (suc (next_page old)))
   unfolding grown
-  grown_counts = (slot_now ∙ says.slots, page_now ∙ (let e : front.next_page + 2 ≡ suc (suc (next_page old)) = omega (arith, next_is) in e))
+  grown_counts = (counted.0 ∙ says.slots, counted.1 ∙ (let e : front.next_page + 2 ≡ suc (suc (next_page old)) = omega (arith, next_is) in e))
 
   -- the half that has the key is the root's child for it, has room, and has what is left to do
   pub grown_half : half_for (page_pairs old 1) front.next_page (front.next_page + 1) key ≡ page_for 1 (applied (growing_parts front level pairs) old) 1 key
@@ -306,6 +294,6 @@ module _ (shape : Shape) (old : List ℕ) (half : ℕ) (long : length old ≡ da
       ≡ actions_below level old 1 (half_for (page_pairs old 1) front.next_page (front.next_page + 1) key) (suc (suc (next_page old))) key
   unfolding grown
   grown_left =
-      half_actions old grown (slot_now ∙ says.slots) grown_long 1 front.next_page (front.next_page + 1) key is_cut level 0 key_end root_tree (omega arith) fits below_root
+      half_actions old grown (counted.0 ∙ says.slots) grown_long 1 front.next_page (front.next_page + 1) key is_cut level 0 key_end root_tree (omega arith) fits below_root
       (half_for (page_pairs old 1) front.next_page (front.next_page + 1) key) (next_page grown)
       ∙ ap (λ (n : ℕ). actions_below level old 1 (half_for (page_pairs old 1) front.next_page (front.next_page + 1) key) n key) grown_counts.1

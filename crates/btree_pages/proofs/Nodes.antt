@@ -1,8 +1,8 @@
 -- A page of the tree, pair by pair.
-use Rattle.std.proofs.Common.{◌≡◌, ◌≢◌, ℕ, zero, suc, ◌-◌, ◌<◌, ◌≤◌, true, false, nat_eq, nat_lt, inl, inr, List, [], ◌∷◌, length, take, drop, Some, None, refl, sym, ◌∙◌, ap, arith}
+use Rattle.std.proofs.Common.{◌≡◌, ◌≢◌, ℕ, zero, suc, ◌-◌, ◌<◌, ◌≤◌, true, false, nat_eq, nat_lt, inl, inr, List, [], ◌∷◌, length, Some, None, refl, sym, ◌∙◌, ap, arith}
 use Rattle.std.proofs.lemmas.Bool.Decides.{nat_tests}
 use Rattle.page_store.specs.Pairs.{Pair, found}
-use Rattle.index_pages.specs.Page.{kind_said, level_said, count_said, link_said, pair_said, pairs_from, pairs_said}
+use Rattle.index_pages.specs.Page.{level_said, count_said, pair_said, pairs_from, pairs_said}
 use Rattle.index_pages.specs.Written.{IsPage, SaysHead}
 use Rattle.index_pages.specs.declared.page.Head.{Head}
 use Rattle.index_pages.proofs.Reading.{from_step, from_end}

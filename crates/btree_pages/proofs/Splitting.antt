@@ -1,5 +1,6 @@
 -- What splits do to a tree.
-use Rattle.std.proofs.Common.{◌≡◌, ◌≢◌, ℕ, zero, suc, ◌<◌, ◌≤◌, true, false, nat_lt, inl, inr, List, [], ◌∷◌, ◌++◌, length, take, drop, refl, sym, ◌∙◌, ap, subst, arith, append_assoc}
+use Rattle.std.proofs.Common.{◌≡◌, ◌≢◌, ℕ, zero, suc, ◌<◌, ◌≤◌, true, false, nat_lt, inl, inr, List, [], ◌∷◌, ◌++◌, length, take, drop, refl, sym, ◌∙◌, ap, subst, arith, append_assoc, None}
+use Rattle.mars_base.specs.Check.{Check}
 use Rattle.std.proofs.lemmas.Bool.Decides.{leb_tells}
 use Rattle.std.proofs.lemmas.List.{append-nil, take-append-drop, length-drop, length-take-le}
 use Rattle.btree_pages.proofs.Apart.{entries_tile, sub_of, sub_below, subs_apart, start_of}
@@ -8,8 +9,8 @@ use Rattle.btree_pages.specs.TreeFacts.{length-pieces, tile_wide, tree_level, un
 use Rattle.btree_pages.proofs.Ways.{graft, way_own, way_of}
 use Rattle.btree_pages.specs.Changes.{IsHalf, IsCut, middle, with_entry, SplitsChild, SplitsRoot}
 use Rattle.btree_pages.specs.Descent.{page_for, child_for}
-use Rattle.btree_pages.specs.Tree.{IsInner, AreChildren, next_low, pieces_with, pairs_under, IsUnder, IsUnderSome, IsSoundTree, pairs_of_tree}
-use Rattle.btree_pages.specs.Seen.{tree_of_sound, sound_by_tree, IsTreeLeaf, AreSound, IsTree}
+use Rattle.btree_pages.specs.Tree.{IsInner, AreChildren, next_low, pieces_with, pairs_under, IsUnder, IsUnderSome, IsSoundTree, pairs_of_tree, tree_from}
+use Rattle.btree_pages.specs.Sound.{AreSound, IsTree, slots_seen, slots_pass}
 use Rattle.index_pages.proofs.Given.{same_local}
 use Rattle.index_pages.proofs.Kept.{given_kept}
 use Rattle.index_pages.proofs.PageFacts.{length-page_pairs}
@@ -32,12 +33,12 @@ next_low-take n high [] lt = absurd (omega arith)
 next_low-take zero high (e ∷ es) lt = refl
 next_low-take (suc n) high (e ∷ es) lt = refl
 
-sound_take : (P : ℕ → ℕ → ℕ → Type 0) (n high : ℕ) (es : List Pair) → n < length es → AreSound P es high → AreSound P (take n es) (key_at es n) × AreSound P (drop n es) high
-sound_take P n high [] lt s = absurd (omega arith)
-sound_take P zero high (e ∷ es) lt s = (tt, s)
-sound_take P (suc n) high (e ∷ es) lt s =
-    let h = sound_take P n high es (omega arith) s.1 in
-    ((subst (λ (x : ℕ). P e.1 e.0 x) (sym (next_low-take n high es (omega arith))) s.0, h.0), h.1)
+sound_take : (check : ℕ → ℕ → ℕ → Check ℕ) (n high : ℕ) (es : List Pair) → n < length es → AreSound check es high → AreSound check (take n es) (key_at es n) × AreSound check (drop n es) high
+sound_take check n high [] lt s = absurd (omega arith)
+sound_take check zero high (e ∷ es) lt s = (tt, s)
+sound_take check (suc n) high (e ∷ es) lt s =
+    let h = sound_take check n high es (omega arith) s.1 in
+    ((subst (λ (x : ℕ). check e.1 e.0 x None) (sym (next_low-take n high es (omega arith))) s.0, h.0), h.1)
 
 joined_take : (f : ℕ → List Pair) (n : ℕ) (es : List Pair) → joined (pieces_with f (take n es)) ++ joined (pieces_with f (drop n es)) ≡ joined (pieces_with f es)
 joined_take f zero es = refl
@@ -61,19 +62,20 @@ pub record AreHalves (new : List ℕ) (l left right low mid high : ℕ) (pairs :
   pub above : low < mid
   pub below : mid < high
 
-pub leaf_half : (old new : List ℕ) (whole half : ℕ) (ps : List Pair) → IsHalf old new whole half ps → (low high low' high' : ℕ) → IsTreeLeaf old whole low' high'
-    → length ps ≡ 15 → Rise low high ps → AreGiven new ps → IsTreeLeaf new half low high
+pub leaf_half : (old new : List ℕ) (whole half : ℕ) (ps : List Pair) → IsHalf old new whole half ps → (low high low' high' : ℕ) → IsTree 0 old whole low' high'
+    → length ps ≡ 15 → Rise low high ps → AreGiven new ps → IsTree 0 new half low high
 leaf_half old new whole half ps is low high low' high' t long r g =
-    let count : count_of new half ≡ 15 = sym (length-page_pairs new half) ∙ ap (λ (l : List Pair). length l) is.pairs_are ∙ long in
-    record {
-      kind = is.kind ∙ t.kind;
-      level = is.level ∙ t.level;
-      link = is.link;
-      most = omega arith;
-      some = λ other. omega arith;
-      rises = subst (λ (l : List Pair). Rise low high l) (sym is.pairs_are) r;
-      given = subst (λ (l : List Pair). AreGiven new l) (sym is.pairs_are) g;
-    }
+    let count : count_of new half ≡ 15 = sym (length-page_pairs new half) ∙ ap (λ (l : List Pair). length l) is.pairs_are ∙ long in (
+      record {
+        kind = is.kind ∙ t.0.kind;
+        level = is.level ∙ t.0.level;
+        link = is.link;
+        most = omega arith;
+        some = λ other. omega arith;
+        rises = subst (λ (l : List Pair). Rise low high l) (sym is.pairs_are) r;
+      },
+      slots_pass new half (page_pairs new half) (subst (λ (l : List Pair). AreGiven new l) (sym is.pairs_are) g),
+    )
 
 pub inner_half : (old new : List ℕ) (whole half : ℕ) (ps : List Pair) → IsHalf old new whole half ps → (level low low' : ℕ) → IsInner old level whole low'
     → length ps ≡ 15 → next_low ps low ≡ low → Rise low key_end ps → AreChildren (next_page new) ps → IsInner new level half low
@@ -97,13 +99,13 @@ pub halves : (old new : List ℕ) → Keeps old new → (l whole left right low 
 halves old new keeps zero whole left right low high t cut kept =
     let full = cut.full in
     let ps : List Pair = page_pairs old whole in
-    let b = key_at-bounds 15 low high (page_pairs old whole) (omega arith) t.rises in
-    let g = given_take new 15 (page_pairs old whole) (given_kept old new keeps (page_pairs old whole) t.given) in
+    let b = key_at-bounds 15 low high (page_pairs old whole) (omega arith) t.0.rises in
+    let g = given_take new 15 (page_pairs old whole) (given_kept old new keeps (page_pairs old whole) (slots_seen old whole (page_pairs old whole) t.1)) in
     record {
       left_tree = leaf_half old new whole left (take 15 (page_pairs old whole)) cut.left_is low (middle old whole) low high t (length-take-le 15 (page_pairs old whole) (omega arith))
-          (take_rises 15 low high (page_pairs old whole) (omega arith) t.rises) g.0;
+          (take_rises 15 low high (page_pairs old whole) (omega arith) t.0.rises) g.0;
       right_tree = leaf_half old new whole right (drop 15 (page_pairs old whole)) cut.right_is (middle old whole) high low high t (omega (arith, length-drop 15 (page_pairs old whole)))
-          (drop_rises 15 low high (page_pairs old whole) (omega arith) t.rises) g.1;
+          (drop_rises 15 low high (page_pairs old whole) (omega arith) t.0.rises) g.1;
       pairs_are = ap (λ (l : List Pair). l ++ page_pairs new right) cut.left_is.pairs_are ∙ ap (λ (l : List Pair). take 15 (page_pairs old whole) ++ l) cut.right_is.pairs_are
           ∙ take-append-drop 15 (page_pairs old whole);
       above = omega arith;
@@ -117,8 +119,8 @@ halves old new keeps (suc l) whole left right low high t cut kept =
     let sub = sub_below l old x (sub_of l old x) (page_pairs old whole) high t.0.children t.1 u in
     omega (arith, ap (λ (y : ℕ). level_of old y) e, tree_level sub.m old x sub.from sub.to sub.tree, sub.most, t.0.level_is)) in
     let below = below_kept old new keeps l (tree_kept old new keeps l) (page_pairs old whole) high t.1 same in
-    let s = sound_take (IsTree l new) 15 high (page_pairs old whole) (omega arith) below.0 in
-    let s' = sound_take (IsTree l old) 15 high (page_pairs old whole) (omega arith) t.1 in
+    let s = sound_take (tree_from l new) 15 high (page_pairs old whole) (omega arith) below.0 in
+    let s' = sound_take (tree_from l old) 15 high (page_pairs old whole) (omega arith) t.1 in
     let are = children_take new 15 (page_pairs old whole) (children_kept old new keeps (page_pairs old whole) t.0.children) in
     let are' = children_take old 15 (page_pairs old whole) t.0.children in
     let b = key_at-bounds 15 low key_end (page_pairs old whole) (omega arith) t.0.rises in
@@ -134,13 +136,13 @@ halves old new keeps (suc l) whole left right low high t cut kept =
         inner_half old new whole left (take 15 (page_pairs old whole)) cut.left_is (suc l) low low t.0 long
             (next_low-first low (middle old whole) (take 15 (page_pairs old whole)) start' (omega arith))
             (rise_to_more low (middle old whole) key_end (take 15 (page_pairs old whole)) (omega (arith, b.1)) (take_rises 15 low key_end (page_pairs old whole) (omega arith) t.0.rises)) are.0,
-        subst (λ (ps : List Pair). AreSound (IsTree l new) ps (middle old whole)) (sym cut.left_is.pairs_are) s.0,
+        subst (λ (ps : List Pair). AreSound (tree_from l new) ps (middle old whole)) (sym cut.left_is.pairs_are) s.0,
       );
       right_tree = (
         inner_half old new whole right (drop 15 (page_pairs old whole)) cut.right_is (suc l) (middle old whole) low t.0 long'
             (next_low-drop 15 (middle old whole) (page_pairs old whole) (omega arith))
             (drop_rises 15 low key_end (page_pairs old whole) (omega arith) t.0.rises) are.1,
-        subst (λ (ps : List Pair). AreSound (IsTree l new) ps high) (sym cut.right_is.pairs_are) s.1,
+        subst (λ (ps : List Pair). AreSound (tree_from l new) ps high) (sym cut.right_is.pairs_are) s.1,
       );
       pairs_are =
           ap (λ (ps : List Pair). joined (pieces_with f ps) ++ joined (pieces_with f (page_pairs new right))) cut.left_is.pairs_are
@@ -184,7 +186,7 @@ children_with bytes (e ∷ f ∷ es) key p two given are =
 
 -- what a split does to the entries of the parent
 pub record Splits (old new : List ℕ) (l key : ℕ) (entry : Pair) (es : List Pair) (high : ℕ) : Type 0 where
-  pub sound : AreSound (IsTree l new) (with_entry es key entry) high
+  pub sound : AreSound (tree_from l new) (with_entry es key entry) high
   pub pairs : joined (pieces_with (pairs_under l new) (with_entry es key entry)) ≡ joined (pieces_with (pairs_under l old) es)
   pub rises : (low : ℕ) → Rise low key_end es → Rise low key_end (with_entry es key entry)
 
@@ -209,7 +211,7 @@ child_two bytes (e ∷ f ∷ es) key some are =
     ]
 
 module _ (old new : List ℕ) (keeps : Keeps old new) (l c right key : ℕ) (cut : IsCut old new c c right) where
-  pub split_below : (es : List Pair) (high : ℕ) → 1 ≤ length es → high ≤ key_end → c ≡ child_for es key → AreChildren (next_page old) es → AreSound (IsTree l old) es high
+  pub split_below : (es : List Pair) (high : ℕ) → 1 ≤ length es → high ≤ key_end → c ≡ child_for es key → AreChildren (next_page old) es → AreSound (tree_from l old) es high
       → ((x : ℕ) → IsUnderSome (IsUnder l old x) es → x ≢ c → page_bytes new x ≡ page_bytes old x)
       → Splits old new l key (middle old c, right) es high
   split_below [] high some small is are sound kept = absurd (omega arith)
@@ -288,7 +290,7 @@ parent_splits old new keeps l parent key right low high t small splits kept =
           children = subst (λ (ps : List Pair). AreChildren (next_page new) ps) (sym splits.pairs)
               (children_with new (page_pairs old parent) key p splits.two splits.given (children_kept old new keeps (page_pairs old parent) t.0.children));
         },
-        subst (λ (ps : List Pair). AreSound (IsTree l new) ps high) (sym splits.pairs) s.sound,
+        subst (λ (ps : List Pair). AreSound (tree_from l new) ps high) (sym splits.pairs) s.sound,
       ),
       ap (λ (ps : List Pair). joined (pieces_with (pairs_under l new) ps)) splits.pairs ∙ s.pairs,
     )
@@ -301,7 +303,7 @@ pub sound_tree_splits : (old new : List ℕ) (d l key right : ℕ) → IsSoundTr
 unfolding pairs_of_tree
 sound_tree_splits old new d l key right sound keeps front lt e splits kept =
     let own : IsOwn old 1 = (omega arith, omega (arith, sound.0.some_pages)) in
-    let t : IsTree (above d (suc l)) old 1 0 key_end = subst (λ (n : ℕ). IsTree n old 1 0 key_end) e (tree_of_sound old sound) in
+    let t : IsTree (above d (suc l)) old 1 0 key_end = subst (λ (n : ℕ). IsTree n old 1 0 key_end) e sound.1.1 in
     let q : ℕ = page_for d old 1 key in
     let own_q = way_own d (suc l) old key 1 0 key_end own t (omega arith) lt in
     let r = graft old new keeps (λ ps. ps) key (same_local key) (suc l) (page_for d old 1 key) key_end
@@ -316,7 +318,7 @@ sound_tree_splits old new d l key right sound keeps front lt e splits kept =
     (λ same. out (inr (subst (λ (y : ℕ). IsUnderSome (IsUnder l old y) (page_pairs old (page_for d old 1 key))) (sym same)
     (child_under l old (page_pairs old (page_for d old 1 key)) key (omega (arith, w.tree.0.some, length-page_pairs old (page_for d old 1 key)))))))) in
     let same : level_of new 1 ≡ level_of old 1 = tree_level (above d (suc l)) new 1 0 key_end r.0 ∙ sym e in (
-      sound_by_tree new front (omega (arith, sound.1.0)) (subst (λ (n : ℕ). IsTree n new 1 0 key_end) (sym (same ∙ e)) r.0),
+      (front, (omega (arith, sound.1.0), subst (λ (n : ℕ). IsTree n new 1 0 key_end) (sym (same ∙ e)) r.0)),
       ap (λ (n : ℕ). pairs_under n new 1) (same ∙ e) ∙ r.1 ∙ ap (λ (n : ℕ). pairs_under n old 1) (sym e),
     )
 
@@ -329,8 +331,8 @@ unfolding pairs_of_tree
 sound_tree_grows old new left right sound keeps front less splits kept =
     let own : IsOwn old 1 = (omega arith, omega (arith, sound.0.some_pages)) in
     let l : ℕ = level_of old 1 in
-    let h = halves old new keeps (level_of old 1) 1 left right 0 key_end (tree_of_sound old sound) splits.cut
-    (λ x u other. let o = under_own (level_of old 1) old x 1 0 key_end own (tree_of_sound old sound) u in kept x (omega (arith, o.0, other)) o.1) in
+    let h = halves old new keeps (level_of old 1) 1 left right 0 key_end sound.1.1 splits.cut
+    (λ x u other. let o = under_own (level_of old 1) old x 1 0 key_end own sound.1.1 u in kept x (omega (arith, o.0, other)) o.1) in
     let count : count_of new 1 ≡ 2 = sym (length-page_pairs new 1) ∙ ap (λ (ps : List Pair). length ps) splits.pairs in
     let small = h.below in
     let wide = h.above in
@@ -345,9 +347,9 @@ sound_tree_grows old new left right sound keeps front less splits kept =
         rises = subst (λ (ps : List Pair). Rise 0 key_end ps) (sym splits.pairs) (omega arith, (omega arith, omega arith));
         children = subst (λ (ps : List Pair). AreChildren (next_page new) ps) (sym splits.pairs) (splits.two, splits.left_given, (splits.two', splits.right_given, tt));
       },
-      subst (λ (ps : List Pair). AreSound (IsTree (level_of old 1) new) ps key_end) (sym splits.pairs) (h.left_tree, (h.right_tree, tt)),
+      subst (λ (ps : List Pair). AreSound (tree_from (level_of old 1) new) ps key_end) (sym splits.pairs) (h.left_tree, (h.right_tree, tt)),
     ) in (
-      sound_by_tree new front (omega (arith, splits.level)) (subst (λ (n : ℕ). IsTree n new 1 0 key_end) (sym splits.level) tree),
+      (front, (omega (arith, splits.level), subst (λ (n : ℕ). IsTree n new 1 0 key_end) (sym splits.level) tree)),
       ap (λ (n : ℕ). pairs_under n new 1) splits.level
           ∙ ap (λ (ps : List Pair). joined (pieces_with (pairs_under (level_of old 1) new) ps)) splits.pairs
           ∙ joined_two (pairs_under (level_of old 1) new left) (pairs_under (level_of old 1) new right) [] (pairs_under (level_of old 1) old 1) h.pairs_are

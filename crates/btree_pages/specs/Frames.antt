@@ -1,7 +1,7 @@
 -- Trees on data of which some pages have changed.
 use Rattle.std.proofs.Common.{◌≡◌, ℕ, zero, suc, ◌≤◌, inl, inr, List, [], ◌∷◌, refl, sym, ◌∙◌, ap, subst, arith}
-use Rattle.btree_pages.specs.Tree.{AreChildren, next_low, IsInner, pieces_with, pairs_under, IsUnder, IsUnderSome}
-use Rattle.btree_pages.specs.Seen.{IsTreeLeaf, AreSound, IsTree}
+use Rattle.btree_pages.specs.Tree.{AreChildren, next_low, IsInner, pieces_with, pairs_under, IsUnder, IsUnderSome, tree_from}
+use Rattle.btree_pages.specs.Sound.{AreSound, IsTree, slots_seen, slots_pass}
 use Rattle.index_pages.specs.Keys.{key_end}
 use Rattle.index_pages.specs.Page.{page_pairs, pairs_said, kind_said, level_said, link_said, count_said}
 use Rattle.index_pages.specs.Pieces.{joined}
@@ -15,16 +15,19 @@ module _ (old new : List ℕ) (keeps : Keeps old new) where
   children_kept [] are = tt
   children_kept (e ∷ es) are = (are.0, omega (arith, are.1, keeps.pages), children_kept es are.2)
 
-  pub leaf_kept : (page low high : ℕ) → page_bytes new page ≡ page_bytes old page → IsTreeLeaf old page low high → IsTreeLeaf new page low high
-  leaf_kept page low high e t = record {
-    kind = ap kind_said e ∙ t.kind;
-    level = ap level_said e ∙ t.level;
-    link = ap link_said e ∙ t.link;
-    most = subst (λ (b : List ℕ). count_said b ≤ 30) (sym e) t.most;
-    some = λ other. subst (λ (b : List ℕ). 1 ≤ count_said b) (sym e) (t.some other);
-    rises = subst (λ (b : List ℕ). Rise low high (pairs_said b)) (sym e) t.rises;
-    given = subst (λ (b : List ℕ). AreGiven new (pairs_said b)) (sym e) (given_kept old new keeps (page_pairs old page) t.given);
-  }
+  pub leaf_kept : (page low high : ℕ) → page_bytes new page ≡ page_bytes old page → IsTree 0 old page low high → IsTree 0 new page low high
+  leaf_kept page low high e t =
+      let given = given_kept old new keeps (page_pairs old page) (slots_seen old page (page_pairs old page) t.1) in (
+        record {
+          kind = ap kind_said e ∙ t.0.kind;
+          level = ap level_said e ∙ t.0.level;
+          link = ap link_said e ∙ t.0.link;
+          most = subst (λ (b : List ℕ). count_said b ≤ 30) (sym e) t.0.most;
+          some = λ other. subst (λ (b : List ℕ). 1 ≤ count_said b) (sym e) (t.0.some other);
+          rises = subst (λ (b : List ℕ). Rise low high (pairs_said b)) (sym e) t.0.rises;
+        },
+        slots_pass new page (page_pairs new page) (subst (λ (b : List ℕ). AreGiven new (pairs_said b)) (sym e) given),
+      )
 
   pub inner_kept : (level page low : ℕ) → page_bytes new page ≡ page_bytes old page → IsInner old level page low → IsInner new level page low
   inner_kept level page low e t = record {
@@ -47,8 +50,8 @@ module _ (old new : List ℕ) (keeps : Keeps old new) where
 
   pub below_kept : (l : ℕ) → ((page low high : ℕ) → IsTree l old page low high → ((q : ℕ) → IsUnder l old q page → page_bytes new q ≡ page_bytes old q)
       → IsTree l new page low high × (pairs_under l new page ≡ pairs_under l old page))
-      → (es : List Pair) (high : ℕ) → AreSound (IsTree l old) es high → ((q : ℕ) → IsUnderSome (IsUnder l old q) es → page_bytes new q ≡ page_bytes old q)
-      → AreSound (IsTree l new) es high × (joined (pieces_with (pairs_under l new) es) ≡ joined (pieces_with (pairs_under l old) es))
+      → (es : List Pair) (high : ℕ) → AreSound (tree_from l old) es high → ((q : ℕ) → IsUnderSome (IsUnder l old q) es → page_bytes new q ≡ page_bytes old q)
+      → AreSound (tree_from l new) es high × (joined (pieces_with (pairs_under l new) es) ≡ joined (pieces_with (pairs_under l old) es))
   below_kept l ih [] high sound same = (tt, refl)
   below_kept l ih (e ∷ es) high sound same =
       let h = ih e.1 e.0 (next_low es high) sound.0 (λ q u. same q (inl u)) in
@@ -64,6 +67,6 @@ module _ (old new : List ℕ) (keeps : Keeps old new) where
   tree_kept (suc l) page low high t same =
       let here = same page (inl refl) in
       let below = below_kept l (tree_kept l) (page_pairs old page) high t.1 (λ q u. same q (inr u)) in (
-        (inner_kept (suc l) page low here t.0, subst (λ (b : List ℕ). AreSound (IsTree l new) (pairs_said b) high) (sym here) below.0),
+        (inner_kept (suc l) page low here t.0, subst (λ (b : List ℕ). AreSound (tree_from l new) (pairs_said b) high) (sym here) below.0),
         ap (λ (b : List ℕ). joined (pieces_with (pairs_under l new) (pairs_said b))) here ∙ below.1,
       )

@@ -8,7 +8,7 @@ pub mod Writes
 pub mod Checked
 pub mod Index
 -- lemmas that the laws of the index cite
-pub mod Seen
+pub mod Sound
 pub mod Props
 pub mod TreeFacts
 pub mod Frames

@@ -1,8 +1,9 @@
 -- What the pairs of a sound tree are like.
-use Rattle.std.proofs.Common.{◌≡◌, ◌≢◌, ℕ, zero, suc, ◌<◌, ◌≤◌, inl, inr, List, [], ◌∷◌, length, refl, ap, subst, arith}
+use Rattle.std.proofs.Common.{◌≡◌, ◌≢◌, ℕ, zero, suc, ◌<◌, ◌≤◌, inl, inr, List, [], ◌∷◌, length, refl, ap, subst, arith, None}
+use Rattle.mars_base.specs.Check.{Check}
 use Rattle.record_slots.specs.Places.{next_page}
-use Rattle.btree_pages.specs.Tree.{AreChildren, next_low, pieces_with, pairs_under, pieces_under, IsSoundTree, pairs_of_tree, IsUnder, IsUnderSome}
-use Rattle.btree_pages.specs.Seen.{tree_of_sound, AreSound, IsTree}
+use Rattle.btree_pages.specs.Tree.{AreChildren, next_low, pieces_with, pairs_under, pieces_under, IsSoundTree, pairs_of_tree, IsUnder, IsUnderSome, tree_from}
+use Rattle.btree_pages.specs.Sound.{AreSound, IsTree}
 use Rattle.index_pages.proofs.Tiling.{tile_bounds, joined_rises}
 use Rattle.index_pages.specs.Keys.{key_end}
 use Rattle.index_pages.specs.Page.{page_pairs, level_of}
@@ -15,13 +16,13 @@ pub low_of-pieces : (f : ℕ → List Pair) (es : List Pair) (high : ℕ) → lo
 low_of-pieces f [] high = refl
 low_of-pieces f (e ∷ es) high = refl
 
-pub children_tile : (f : ℕ → List Pair) (P : ℕ → ℕ → ℕ → Type 0)
-    → ((page low high : ℕ) → 2 ≤ page → P page low high → Rise low high (f page) × (low < high))
-    → (bytes : List ℕ) (es : List Pair) (high : ℕ) → AreChildren (next_page bytes) es → AreSound P es high → Tile (next_low es high) high (pieces_with f es)
-children_tile f P fact bytes [] high are sound = refl
-children_tile f P fact bytes (e ∷ es) high are sound =
+pub children_tile : (f : ℕ → List Pair) (check : ℕ → ℕ → ℕ → Check ℕ)
+    → ((page low high : ℕ) → 2 ≤ page → check page low high None → Rise low high (f page) × (low < high))
+    → (bytes : List ℕ) (es : List Pair) (high : ℕ) → AreChildren (next_page bytes) es → AreSound check es high → Tile (next_low es high) high (pieces_with f es)
+children_tile f check fact bytes [] high are sound = refl
+children_tile f check fact bytes (e ∷ es) high are sound =
     let here = fact e.1 e.0 (next_low es high) are.0 sound.0 in
-    let rest = children_tile f P fact bytes es high are.2 sound.1 in
+    let rest = children_tile f check fact bytes es high are.2 sound.1 in
     rw (low_of-pieces f es high) (refl, here.1, here.0, rest)
 
 pub tile_wide : (low high : ℕ) (pieces : List Piece) → 1 ≤ length pieces → Tile low high pieces → low < high
@@ -44,7 +45,7 @@ inner_tiles : (l : ℕ) (bytes : List ℕ) → Facts l bytes → (page low high 
 inner_tiles l bytes facts page low high t =
     let len = length-page_pairs bytes page in
     let start = first_low low high (page_pairs bytes page) (omega (arith, t.0.some)) t.0.first in
-    let tile = children_tile (pairs_under l bytes) (IsTree l bytes)
+    let tile = children_tile (pairs_under l bytes) (tree_from l bytes)
     (λ (q low' high' : ℕ) (two : 2 ≤ q) (sub : IsTree l bytes q low' high'). let h = facts q low' high' sub in (h.0, h.1 (omega arith)))
     bytes (page_pairs bytes page) high t.0.children t.1 in
     subst (λ (x : ℕ). Tile x high (pieces_under l bytes page)) start tile
@@ -52,7 +53,7 @@ inner_tiles l bytes facts page low high t =
 tree_facts : (l : ℕ) (bytes : List ℕ) → Facts l bytes
 tree_facts zero bytes page low high t =
     let len = length-page_pairs bytes page in
-    (t.rises, λ (other : page ≢ 1). rise_wide low high (page_pairs bytes page) (omega (arith, t.some other)) t.rises)
+    (t.0.rises, λ (other : page ≢ 1). rise_wide low high (page_pairs bytes page) (omega (arith, t.0.some other)) t.0.rises)
 tree_facts (suc l) bytes page low high t =
     let tile = inner_tiles l bytes (tree_facts l bytes) page low high t in
     let len = length-page_pairs bytes page in
@@ -73,16 +74,16 @@ tree_wide l bytes page low high t = (tree_facts l bytes page low high t).1
 
 pub sound_tree_rises : (bytes : List ℕ) → IsSoundTree bytes → Rise 0 key_end (pairs_of_tree bytes)
 unfolding pairs_of_tree
-sound_tree_rises bytes sound = tree_rises _ bytes 1 0 key_end (tree_of_sound bytes sound)
+sound_tree_rises bytes sound = tree_rises _ bytes 1 0 key_end sound.1.1
 
 -- the root of a tree has the tree's level
 pub tree_level : (m : ℕ) (bytes : List ℕ) (q low high : ℕ) → IsTree m bytes q low high → level_of bytes q ≡ m
-tree_level zero bytes q low high t = t.level
+tree_level zero bytes q low high t = t.0.level
 tree_level (suc m) bytes q low high t = t.0.level_is
 
 -- its pages are given out, or page 1
 under_some_own : (l : ℕ) (bytes : List ℕ) (q : ℕ) → ((page low high : ℕ) → IsOwn bytes page → IsTree l bytes page low high → IsUnder l bytes q page → IsOwn bytes q)
-    → (es : List Pair) (high : ℕ) → AreChildren (next_page bytes) es → AreSound (IsTree l bytes) es high → IsUnderSome (IsUnder l bytes q) es → IsOwn bytes q
+    → (es : List Pair) (high : ℕ) → AreChildren (next_page bytes) es → AreSound (tree_from l bytes) es high → IsUnderSome (IsUnder l bytes q) es → IsOwn bytes q
 under_some_own l bytes q ih [] high are sound u = absurd u
 under_some_own l bytes q ih (e ∷ es) high are sound (inl u) = ih e.1 e.0 (next_low es high) (omega (arith, are.0), are.1) sound.0 u
 under_some_own l bytes q ih (e ∷ es) high are sound (inr u) = under_some_own l bytes q ih es high are.2 sound.1 u

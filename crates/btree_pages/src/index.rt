@@ -1,6 +1,6 @@
 ghost use Rattle.btree_pages.specs.Props.{IsSoundTree-prop};
 ghost use Rattle.btree_pages.specs.TreeFacts.{sound_tree_rises};
-ghost use Rattle.btree_pages.specs.Seen.{tree_excludes, tree_first};
+ghost use Rattle.btree_pages.specs.Sound.{tree_excludes, tree_first};
 ghost use Rattle.btree_pages.specs.Resting.{sound_tree_given, sound_tree_counts, sound_tree_rests};
 ghost use Rattle.btree_pages.specs.Index.{tree};
 

@@ -1,8 +1,11 @@
 -- What a slot says of a pair.
-use Rattle.std.proofs.Common.{◌≡◌, ℕ, List, Option, sym, subst}
-use Rattle.record_slots.specs.Slots.{slot_said}
+use Rattle.std.proofs.Common.{◌≡◌, ℕ, ◌^◌, ◌<◌, List, Option, refl, sym, ◌∙◌, ap, subst}
+use Rattle.record_slots.specs.Slots.{slot_said, slot_bytes}
 use Rattle.record_slots.specs.Places.{slot_of, IsOfKey, Carries}
 use Rattle.record_slots.specs.declared.slot.Slot.{Slot}
+use Rattle.record_slots.specs.declared.slot.Slot.TheVariants.{Absent}
+use Rattle.record_slots.proofs.SlotLemmas.{slot_said-slot_bytes}
+use Rattle.page_store.specs.Pairs.{Pair}
 
 pub carries_said : (bytes : List ℕ) (key slot : ℕ) (said : Option Slot) → said ≡ slot_said (slot_of bytes slot) → IsOfKey key said → Carries bytes (key, slot)
 unfolding Carries
@@ -11,3 +14,13 @@ carries_said bytes key slot said is of_key = subst (λ (o : Option Slot). IsOfKe
 pub carries_not : (bytes : List ℕ) (key slot : ℕ) (said : Option Slot) → said ≡ slot_said (slot_of bytes slot) → (IsOfKey key said → ⊥) → ¬ Carries bytes (key, slot)
 unfolding Carries
 carries_not bytes key slot said is other carries = other (subst (λ (o : Option Slot). IsOfKey key o) (sym is) carries)
+
+-- it carries its key if it is as it was
+pub carries_on : (old new : List ℕ) (p : Pair) → slot_of new p.1 ≡ slot_of old p.1 → Carries old p → Carries new p
+unfolding Carries
+carries_on old new p same carries = subst (λ (b : List ℕ). IsOfKey p.0 (slot_said b)) (sym same) carries
+
+-- a fresh slot carries its key
+pub carries_absent : (new : List ℕ) (key slot : ℕ) → key < 2 ^ 64 → slot_of new slot ≡ slot_bytes (Absent key) → Carries new (key, slot)
+unfolding Carries
+carries_absent new key slot fits is = subst (λ (o : Option Slot). IsOfKey key o) (sym (ap slot_said is ∙ slot_said-slot_bytes (Absent key) fits)) refl

@@ -11,3 +11,7 @@ given_take bytes (suc n) (p ∷ ps) g = let h = given_take bytes n ps g.2 in ((g
 
 pub joined_two : (a b rest whole : List Pair) → a ++ b ≡ whole → a ++ (b ++ rest) ≡ whole ++ rest
 joined_two a b rest whole e = sym (append_assoc a b rest) ∙ ap (λ (l : List Pair). l ++ rest) e
+
+pub given_append : (bytes : List ℕ) (xs ys : List Pair) → AreGiven bytes xs → AreGiven bytes ys → AreGiven bytes (xs ++ ys)
+given_append bytes [] ys a b = b
+given_append bytes (x ∷ xs) ys a b = (a.0, a.1, given_append bytes xs ys a.2 b)

@@ -1,5 +1,5 @@
 -- The check of a slot.
-use Rattle.std.proofs.Common.{ℕ, ◌<◌, List, inl, inr}
+use Rattle.std.proofs.Common.{ℕ, ◌<◌, List}
 use Rattle.mars_base.specs.Check.{test, IsSingle}
 use Rattle.mars_base.proofs.Checks.{test_single, both_single}
 use Rattle.record_slots.specs.Places.{next_slot, Carries, slot_page}

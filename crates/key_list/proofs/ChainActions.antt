@@ -15,7 +15,7 @@ use Rattle.key_list.specs.Seen.{IsChainPage, IsChain, pages_of_sound, sound_by_p
 use Rattle.key_list.specs.Resting.{page_kept, joined_from}
 use Rattle.key_list.specs.Changes.{TakesPairInChain, SplitsPage}
 use Rattle.index_pages.specs.Keys.{key_at, key_end}
-use Rattle.index_pages.specs.Page.{kind_said, level_said, count_said, link_said, pairs_said, count_of, link_of, page_pairs}
+use Rattle.index_pages.specs.Page.{link_said, pairs_said, count_of, link_of, page_pairs}
 use Rattle.index_pages.specs.Pieces.{joined}
 use Rattle.index_pages.specs.Ways.{Keeps, IsLocal, IsOwn, above}
 use Rattle.page_store.specs.Pairs.{Pair, Rise, found, inserted}

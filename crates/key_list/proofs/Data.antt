@@ -25,7 +25,8 @@ use Rattle.index_pages.specs.Page.{page_pairs, pairs_said, kind_said, level_said
 use Rattle.index_pages.specs.Ways.{Keeps}
 use Rattle.index_pages.specs.Written.{AreSmall, written_page}
 use Rattle.index_pages.proofs.Ranges.{Apart, three_long, three_away, three_first, three_second, three_third}
-use Rattle.index_pages.proofs.Fronts.{length-count_bytes, slot_written, page_written, mark_kept, form_kept}
+use Rattle.index_pages.proofs.Fronts.{length-count_bytes, super_written}
+use Rattle.index_pages.proofs.Carrying.{carries_on, carries_absent}
 use Rattle.index_pages.proofs.Writing.{small_take, small_inserted, written_kind, written_level, written_link, written_pairs, length-written_page}
 use Rattle.index_pages.proofs.Rising.{length-inserted}
 use Rattle.index_pages.proofs.PageFacts.{length-page_pairs}
@@ -34,15 +35,6 @@ use Rattle.key_list.specs.Index.{chain, IsPageOfChain, half_for}
 use Rattle.key_list.specs.Located.{IsLocated, Locates, cutting_parts}
 use Rattle.index_pages.specs.Adding.{adding_parts}
 use Rattle.key_list.proofs.Chains.{key_page_own, pages_same, cut_keeps, cut_names, half_after}
-
--- the slot of a pair carries its key if it is as it was
-carries_on : (old new : List ℕ) (p : Pair) → slot_of new p.1 ≡ slot_of old p.1 → Carries old p → Carries new p
-unfolding Carries
-carries_on old new p same carries = subst (λ (b : List ℕ). IsOfKey p.0 (slot_said b)) (sym same) carries
-
-carries_absent : (new : List ℕ) (key slot : ℕ) → key < 2 ^ 64 → slot_of new slot ≡ slot_bytes (Absent key) → Carries new (key, slot)
-unfolding Carries
-carries_absent new key slot fits is = subst (λ (o : Option Slot). IsOfKey key o) (sym (ap slot_said is ∙ slot_said-slot_bytes (Absent key) fits)) refl
 
 module _ (shape : Shape) (old : List ℕ) (half : ℕ) (long : length old ≡ data_len shape) (half_is : half ≡ index_pages_of shape) (all : half + half ≡ array.page_count shape) (few : half ≤ 16384)
     (front : Super) (page link : ℕ) (pairs : List Pair) (key : ℕ) (fits : key < 2 ^ 64) (loc : IsLocated shape front page link pairs) (sound : IsSoundChain old) (says : Locates old key front page link pairs) where
@@ -178,28 +170,16 @@ module _ (shape : Shape) (old : List ℕ) (half : ℕ) (long : length old ≡ da
         ] in
         ap (λ (x : ℕ). range added x 64) place ∙ away (512 * half + 64 * j) 64 apart (inr (omega (arith, len2, page_below))) (inr (omega (arith, len3, page_below))) ∙ ap (λ (x : ℕ). range old x 64) (sym place')
 
-    slot_now : next_slot added ≡ front.next_slot + 1
-    slot_now = slot_written added (front.next_slot + 1) front.next_page (omega (arith, eight)) (omega (arith, loc.front_is.pages, half_is)) counts_new
-
-    page_now : next_page added ≡ front.next_page
-    page_now = page_written added (front.next_slot + 1) front.next_page (omega (arith, eight)) (omega (arith, loc.front_is.pages, half_is)) counts_new
-
-    front_now : IsSuper 0 added
-    front_now = record {
-      has_mark = mark_kept old added zero_new sound.0.has_mark;
-      form_is = form_kept old added zero_new ∙ sound.0.form_is;
-      slots = omega (arith, slot_now, added_count, eight);
-      some_pages = omega (arith, page_now, loc.front_is.some);
-      pages = omega (arith, page_now, added_count, loc.front_is.pages, half_is);
-    }
+    counted : (next_slot added ≡ front.next_slot + 1) × (next_page added ≡ front.next_page) × IsSuper 0 added
+    counted = super_written 0 old added half (front.next_slot + 1) front.next_page added_count few zero_new counts_new (omega (arith, eight)) loc.front_is.some (omega (arith, loc.front_is.pages, half_is)) sound.0
 
     slots_stay : (j : ℕ) → j < next_slot old → slot_of added j ≡ slot_of old j
     slots_stay j lt = slot_old j (omega (arith, eight, says.slot_is)) (λ e. omega (arith, says.slot_is))
 
     keeps : Keeps old added
     keeps = record {
-      pages = omega (arith, page_now, says.next_is);
-      slots = omega (arith, slot_now, says.slot_is);
+      pages = omega (arith, counted.1, says.next_is);
+      slots = omega (arith, counted.0, says.slot_is);
       carried = λ p lt carries. carries_on old added p (slots_stay p.1 lt) carries;
     }
 
@@ -213,7 +193,7 @@ module _ (shape : Shape) (old : List ℕ) (half : ℕ) (long : length old ≡ da
       level = ap level_said page_new ∙ written_level 0 link (inserted pairs key front.next_slot) many link_fits;
       link = ap link_said page_new ∙ written_link 0 link (inserted pairs key front.next_slot) many link_fits ∙ says.link_is;
       pairs = ap pairs_said page_new ∙ written_pairs 0 link (inserted pairs key front.next_slot) many link_fits small ∙ ap (λ (ps : List Pair). inserted ps key front.next_slot) says.pairs_are;
-      given = omega (arith, slot_now);
+      given = omega (arith, counted.0);
       carries = carries_absent added key front.next_slot fits slot_new;
     }
 
@@ -221,7 +201,7 @@ module _ (shape : Shape) (old : List ℕ) (half : ℕ) (long : length old ≡ da
     pages_stay x some lt other = page_old x some (omega (arith, sound.0.pages, first)) other
 
     adds : IsSoundChain added × (pairs_of_chain added ≡ inserted (pairs_of_chain old) key front.next_slot)
-    adds = sound_chain_takes old added key front.next_slot sound keeps front_now (page_now ∙ says.next_is) fits none
+    adds = sound_chain_takes old added key front.next_slot sound keeps counted.2 (counted.1 ∙ says.next_is) fits none
         (subst (λ (x : ℕ). TakesPairInChain old added x key front.next_slot) says.page_is takes)
         (subst (λ (x : ℕ). (y : ℕ) → 1 ≤ y → y < next_page old → y ≢ x → page_bytes added y ≡ page_bytes old y) says.page_is pages_stay)
 
@@ -240,18 +220,18 @@ module _ (shape : Shape) (old : List ℕ) (half : ℕ) (long : length old ≡ da
         sound = adds.0;
         size = added_long;
         slots = slots_stay;
-        later = omega (arith, page_now, says.next_is);
-        few = omega (arith, page_now, says.next_is);
-        named = λ x from to. absurd (omega (arith, page_now, says.next_is));
-        kept = pages_same old added sound (page_now ∙ says.next_is) links_stay;
+        later = omega (arith, counted.1, says.next_is);
+        few = omega (arith, counted.1, says.next_is);
+        named = λ x from to. absurd (omega (arith, counted.1, says.next_is));
+        kept = pages_same old added sound (counted.1 ∙ says.next_is) links_stay;
         levels = omega arith;
       },
       record {
         pairs = adds.1 ∙ ap (λ (s : ℕ). inserted (pairs_of_chain old) key s) says.slot_is;
-        slots = slot_now ∙ (let e : front.next_slot + 1 ≡ suc (next_slot old) = omega (arith, says.slot_is) in e);
+        slots = counted.0 ∙ (let e : front.next_slot + 1 ≡ suc (next_slot old) = omega (arith, says.slot_is) in e);
         fresh = subst (λ (s : ℕ). slot_of added s ≡ slot_bytes (Absent key)) says.slot_is slot_new;
       },
-      page_now ∙ says.next_is,
+      counted.1 ∙ says.next_is,
     )
 
   -- a full page is cut
@@ -364,25 +344,13 @@ module _ (shape : Shape) (old : List ℕ) (half : ℕ) (long : length old ≡ da
         ∙ caway (512 * half + 64 * j) 64 (inr (omega (arith, clen1, page_first, next_below))) (inr (omega (arith, clen2, next_below))) (inr (omega (arith, clen3, next_below)))
         ∙ ap (λ (x : ℕ). range old x 64) (sym place')
 
-    slot_cut : next_slot cut ≡ front.next_slot
-    slot_cut = slot_written cut front.next_slot (front.next_page + 1) (omega (arith, loc.front_is.slots, all)) (omega (arith, next_below)) counts_cut
-
-    page_cut : next_page cut ≡ front.next_page + 1
-    page_cut = page_written cut front.next_slot (front.next_page + 1) (omega (arith, loc.front_is.slots, all)) (omega (arith, next_below)) counts_cut
-
-    front_cut : IsSuper 0 cut
-    front_cut = record {
-      has_mark = mark_kept old cut zero_cut sound.0.has_mark;
-      form_is = form_kept old cut zero_cut ∙ sound.0.form_is;
-      slots = omega (arith, slot_cut, cut_count, loc.front_is.slots, all);
-      some_pages = omega (arith, page_cut);
-      pages = omega (arith, page_cut, cut_count, next_below);
-    }
+    cut_counted : (next_slot cut ≡ front.next_slot) × (next_page cut ≡ front.next_page + 1) × IsSuper 0 cut
+    cut_counted = super_written 0 old cut half front.next_slot (front.next_page + 1) cut_count few zero_cut counts_cut (omega (arith, loc.front_is.slots, all)) (omega (arith, loc.front_is.some)) (omega (arith, next_below)) sound.0
 
     keeps_cut : Keeps old cut
     keeps_cut = record {
-      pages = omega (arith, page_cut, says.next_is);
-      slots = omega (arith, slot_cut, says.slot_is);
+      pages = omega (arith, cut_counted.1, says.next_is);
+      slots = omega (arith, cut_counted.0, says.slot_is);
       carried = λ p lt carries. carries_on old cut p (slots_cut p.1) carries;
     }
 
@@ -400,11 +368,11 @@ module _ (shape : Shape) (old : List ℕ) (half : ℕ) (long : length old ≡ da
           level' = ap level_said there ∙ written_level 0 link (drop 15 pairs) upper_many link_fits';
           link' = ap link_said there ∙ written_link 0 link (drop 15 pairs) upper_many link_fits' ∙ says.link_is;
           pairs' = ap pairs_said there ∙ written_pairs 0 link (drop 15 pairs) upper_many link_fits' (small_take 15 pairs loc.small).1 ∙ ap (drop 15) says.pairs_are;
-          one_more = page_cut ∙ (let e : front.next_page + 1 ≡ suc (next_page old) = omega (arith, says.next_is) in e);
+          one_more = cut_counted.1 ∙ (let e : front.next_page + 1 ≡ suc (next_page old) = omega (arith, says.next_is) in e);
         }
 
     cuts : IsSoundChain cut × (pairs_of_chain cut ≡ pairs_of_chain old)
-    cuts = sound_chain_splits old cut key sound keeps_cut front_cut fits
+    cuts = sound_chain_splits old cut key sound keeps_cut cut_counted.2 fits
         (subst (λ (x : ℕ). SplitsPage old cut x) says.page_is splits)
         (subst (λ (x : ℕ). (y : ℕ) → 1 ≤ y → y < next_page old → y ≢ x → page_bytes cut y ≡ page_bytes old y) says.page_is others_cut)
 
@@ -419,14 +387,14 @@ module _ (shape : Shape) (old : List ℕ) (half : ℕ) (long : length old ≡ da
             sound = cuts.0;
             size = cut_long;
             slots = λ j lt. slots_cut j;
-            later = omega (arith, page_cut, says.next_is);
-            few = omega (arith, page_cut, says.next_is);
-            named = λ x from to. subst (λ (y : ℕ). IsPageOfChain cut y) (let e : next_page old ≡ x = omega (arith, page_cut, says.next_is) in e)
+            later = omega (arith, cut_counted.1, says.next_is);
+            few = omega (arith, cut_counted.1, says.next_is);
+            named = λ x from to. subst (λ (y : ℕ). IsPageOfChain cut y) (let e : next_page old ≡ x = omega (arith, cut_counted.1, says.next_is) in e)
                 (cut_names old cut page splits sound.0.some_pages others_cut sound on);
             kept = cut_keeps old cut page splits sound.0.some_pages others_cut sound;
             levels = omega arith;
           },
-          record { pairs = cuts.1; slots = slot_cut ∙ says.slot_is },
+          record { pairs = cuts.1; slots = cut_counted.0 ∙ says.slot_is },
           splits.one_more,
           half_after old cut page splits sound.0.some_pages others_cut key sound says.page_is,
         )

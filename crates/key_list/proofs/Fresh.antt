@@ -5,10 +5,10 @@ use Rattle.index_pages.proofs.PageFacts.{no_pairs}
 use Rattle.index_pages.specs.Keys.{key_end}
 use Rattle.key_list.specs.Seen.{IsChainPage, IsChain, sound_by_pages}
 use Rattle.key_list.specs.Chain.{chain_pieces, IsSoundChain, pairs_of_chain}
-use Rattle.index_pages.specs.Page.{pairs_from, pairs_said, kind_of, level_of, count_of, link_of, page_pairs}
+use Rattle.index_pages.specs.Page.{kind_of, level_of, count_of, link_of, page_pairs}
 use Rattle.index_pages.specs.Pieces.{joined}
 use Rattle.page_store.specs.Pairs.{Pair, Rise}
-use Rattle.record_slots.specs.Places.{page_bytes, next_page, IsSuper, AreGiven}
+use Rattle.record_slots.specs.Places.{next_page, IsSuper, AreGiven}
 
 chain_of_one : (n : ℕ) (bytes : List ℕ) → 1 ≤ n → IsChainPage bytes 1 0 → link_of bytes 1 ≡ 0 → page_pairs bytes 1 ≡ [] → IsChain n bytes 1 0 × (joined (chain_pieces n bytes 1 0) ≡ [])
 chain_of_one zero bytes some page link no_ones = absurd (omega arith)

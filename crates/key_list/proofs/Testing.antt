@@ -1,8 +1,8 @@
 -- Tests of a chain, step by step.
-use Rattle.std.proofs.Common.{◌≡◌, ◌≢◌, ℕ, zero, suc, ◌<◌, ◌≤◌, Bool, true, false, nat_eq, inl, inr, List, [], ◌∷◌, Option, Some, None, Result, Ok, Err, refl, sym, ◌∙◌, ap, subst, arith}
+use Rattle.std.proofs.Common.{◌≡◌, ◌≢◌, ℕ, suc, ◌<◌, ◌≤◌, Bool, true, false, nat_eq, inl, inr, List, ◌∷◌, Option, Some, None, Result, Ok, Err, refl, sym, ◌∙◌, ap, subst, arith}
 use Rattle.std.specs.Prelude.{IsTrue, IsErrOf}
 use Rattle.std.proofs.lemmas.Bool.Decides.{nat_tests}
-use Rattle.mars_base.specs.Check.{Check, unless}
+use Rattle.mars_base.specs.Check.{unless}
 use Rattle.mars_base.proofs.Checks.{both_on}
 use Rattle.eaw_face.specs.StoreView.{StoreView}
 use Rattle.eaw_face.specs.Causes.{IsAlive}
@@ -11,7 +11,6 @@ use Rattle.page_store.specs.Looks.{CheckCause}
 use Rattle.page_store.specs.Pairs.{Pair}
 use Rattle.page_store.specs.declared.index_fault.CheckFault.{CheckFault}
 use Rattle.page_store.specs.declared.index_fault.CheckFault.TheVariants.{Damaged, Media, Dead}
-use Rattle.index_pages.specs.Keys.{key_end}
 use Rattle.index_pages.specs.Page.{page_pairs, pairs_said, link_of, link_said}
 use Rattle.index_pages.specs.Slots.{slot_check, IsVerdict}
 use Rattle.key_list.specs.Chain.{behind, IsChainHead, pair_check, pairs_check, chain_from, chain_check, IsSoundChain, IsFirstDamagedOfChain}

@@ -1,7 +1,6 @@
 -- A chain whose pages are as they were, and whose slots still carry their keys.
 use Rattle.std.proofs.Common.{◌≡◌, ◌≢◌, ℕ, zero, suc, ◌<◌, ◌≤◌, true, false, nat_eq, inl, inr, List, [], ◌∷◌, ◌++◌, refl, sym, ◌∙◌, ap, subst, arith}
 use Rattle.std.proofs.lemmas.Bool.Decides.{eqb_tells}
-use Rattle.record_slots.specs.Super.{HasSuperMark, form_said, next_slot_said, next_page_said}
 use Rattle.record_slots.specs.Places.{page_bytes, next_slot, next_page, AreGiven, page_count}
 use Rattle.page_store.specs.Index.{KeepsIndex, HasCounts}
 use Rattle.page_store.specs.Pairs.{Pair, Rise}
@@ -12,6 +11,8 @@ use Rattle.key_list.specs.Chain.{behind, chain_pieces, first_key, IsSoundChain, 
 use Rattle.key_list.specs.Seen.{IsChainPage, IsChain, pages_of_sound, sound_by_pages}
 use Rattle.index_pages.specs.Ways.{Keeps, IsOwn}
 use Rattle.index_pages.proofs.Kept.{given_kept}
+use Rattle.index_pages.proofs.Fronts.{super_rests}
+use Rattle.index_pages.proofs.Halves.{given_append}
 
 pub joined_from : (n : ℕ) (bytes : List ℕ) (page a b : ℕ) → joined (chain_pieces n bytes page a) ≡ joined (chain_pieces n bytes page b)
 joined_from zero bytes page a b = refl
@@ -61,28 +62,12 @@ module _ (old new : List ℕ) (keeps : Keeps old new) (same : (x : ℕ) → 1 �
 pub sound_chain_rests : (old new : List ℕ) → IsSoundChain old → KeepsIndex old new → IsSoundChain new × (pairs_of_chain new ≡ pairs_of_chain old)
 unfolding pairs_of_chain
 sound_chain_rests old new sound keeps =
-    let front = sound.0 in
-    let zero_page : page_bytes new 0 ≡ page_bytes old 0 = keeps.pages 0 (omega (arith, front.some_pages, front.pages)) in
-    let slot : next_slot new ≡ next_slot old = ap next_slot_said zero_page in
-    let page : next_page new ≡ next_page old = ap next_page_said zero_page in
-    let count : page_count new ≡ page_count old = omega (arith, keeps.size) in
-    let keep : Keeps old new = record { pages = omega arith; slots = omega arith; carried = keeps.carried } in
-    let r = chain_rests old new keep (λ x some lt. keeps.pages x (omega (arith, front.pages))) (next_page old) 1 0 (omega arith, omega (arith, front.some_pages)) (pages_of_sound old sound) in (
-      sound_by_pages new
-          (record {
-            has_mark = subst (λ (b : List ℕ). HasSuperMark b) (sym zero_page) front.has_mark;
-            form_is = ap form_said zero_page ∙ front.form_is;
-            slots = omega (arith, front.slots);
-            some_pages = omega (arith, front.some_pages);
-            pages = omega (arith, front.pages);
-          })
-          (subst (λ (n : ℕ). IsChain n new 1 0) (sym page) r.0),
-      ap (λ (n : ℕ). joined (chain_pieces n new 1 0)) page ∙ r.1 0,
+    let front = super_rests 0 old new sound.0 keeps in
+    let pages = sound.0 in
+    let r = chain_rests old new front.1 (λ x some lt. keeps.pages x (omega (arith, pages.pages))) (next_page old) 1 0 (omega arith, omega (arith, pages.some_pages)) (pages_of_sound old sound) in (
+      sound_by_pages new front.0 (subst (λ (n : ℕ). IsChain n new 1 0) (sym front.2) r.0),
+      ap (λ (n : ℕ). joined (chain_pieces n new 1 0)) front.2 ∙ r.1 0,
     )
-
-given_append : (bytes : List ℕ) (xs ys : List Pair) → AreGiven bytes xs → AreGiven bytes ys → AreGiven bytes (xs ++ ys)
-given_append bytes [] ys a b = b
-given_append bytes (x ∷ xs) ys a b = (a.0, a.1, given_append bytes xs ys a.2 b)
 
 chain_given : (n : ℕ) (bytes : List ℕ) (page low from : ℕ) → IsChain n bytes page low → AreGiven bytes (joined (chain_pieces n bytes page from))
 chain_given zero bytes page low from c = absurd c

@@ -1,5 +1,5 @@
 -- A chain that passes its check, page by page, as the lemmas of the chain speak of it.
-use Rattle.std.proofs.Common.{◌≡◌, ◌≢◌, ℕ, zero, suc, ◌<◌, ◌≤◌, true, false, nat_eq, inl, inr, List, [], ◌∷◌, Some, None}
+use Rattle.std.proofs.Common.{◌≡◌, ◌≢◌, ℕ, zero, suc, ◌<◌, ◌≤◌, true, false, nat_eq, inl, inr, List, [], ◌∷◌, None}
 use Rattle.std.proofs.lemmas.Bool.Decides.{eqb_tells}
 use Rattle.mars_base.specs.Check.{Check, test, both, unless, IsSingle}
 use Rattle.mars_base.proofs.Checks.{test_single, both_single, unless_single, excludes, one_bad}

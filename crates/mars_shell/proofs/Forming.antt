@@ -9,7 +9,7 @@ use Rattle.record_slots.specs.Places.{IsSuper, page_bytes}
 use Rattle.record_slots.specs.Super.{form_said}
 use Rattle.page_store.specs.Index.{Index}
 use Rattle.key_list.specs.Seen.{chain_excludes}
-use Rattle.btree_pages.specs.Seen.{tree_excludes}
+use Rattle.btree_pages.specs.Sound.{tree_excludes}
 use Rattle.record_table.specs.Shown.{table_of}
 use Rattle.caller_steps.specs.State as face
 use Rattle.caller_steps.specs.Room.{Limits}

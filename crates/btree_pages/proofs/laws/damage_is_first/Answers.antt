@@ -1,4 +1,4 @@
-use Rattle.btree_pages.specs.Seen.{tree_excludes, tree_first}
+use Rattle.btree_pages.specs.Sound.{tree_excludes, tree_first}
 use Rattle.btree_pages.proofs.laws.damage_is_first.Goals as goal
 
 pub returns-clause-sound : goal.returns-clause-sound

@@ -1,4 +1,4 @@
-use Rattle.std.proofs.Common.{refl, sym, ◌∙◌, arith}
+use Rattle.std.proofs.Common.{refl, arith}
 use Rattle.std.proofs.lemmas.Bool.{false≢true}
 use Rattle.index_pages.proofs.Reading.{says_head, other_kind, too_many}
 use Rattle.index_pages.proofs.page.read_head.Goals as goal

@@ -8,7 +8,7 @@ use Rattle.index_pages.specs.Page.{pairs_from, pair_said, pairs_said, count_said
 use Rattle.index_pages.proofs.Looking.{looks_none, looks_next}
 use Rattle.index_pages.proofs.Reading.{from_first, from_step, from_end}
 use Rattle.index_pages.specs.Slots.{IsVerdict}
-use Rattle.key_list.specs.Chain.{behind, pair_check, pairs_check}
+use Rattle.key_list.specs.Chain.{behind, pair_check}
 use Rattle.key_list.specs.Checked.{low_of}
 use Rattle.key_list.proofs.Testing.{PairsLeft, left_step, left_fails}
 use Rattle.key_list.proofs.checking.check_pairs.Goals as goal
