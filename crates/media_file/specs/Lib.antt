@@ -3,4 +3,5 @@ pub mod Counted
 pub mod Transfer
 pub mod Shown
 pub mod Honest
+pub mod AsListed
 pub mod InMemory

@@ -1,5 +1,5 @@
 // A file of the system.
-ghost use Rattle.std.specs.Prelude.{◌≡◌, true, IfOk, IfSome, IsSome};
+ghost use Rattle.std.specs.Prelude.{◌≡◌, ◌≤◌, IfOk, IfSome, IsNone, IsSome};
 
 use crate::{CallFault, Calls, Tally};
 use mars_base::Failed;
@@ -21,20 +21,20 @@ pub struct FileCalls {
 impl FileCalls {
     ghost use Rattle.media_file.specs.Counted.{no_faults};
 
-    /// Opens the file at `path` and locks it. If there is none and `makes` is true, one is made, and is durable in its folder
-    /// before this returns. If there is none and `makes` is false, the answer is None.
+    /// Opens the file at `path` and locks it. If there is none and a byte at least is asked for, one is made, and is durable in
+    /// its folder before this returns. If there is none and `least` is 0, the answer is None.
     ///
     /// Fails if the system refuses one of these calls or another program holds the lock. The file is then as it was, or one that
     /// was made here.
     pub fn open<R: Files<File = File>>(
         rt: &R,
         path: &str,
-        makes: bool,
+        least: u64,
     ) -> Result<Option<FileCalls>, Failed>
-        ensures there { makes ≡ true → IfOk result IsSome }
+        ensures there { 1 ≤ least → IfOk result IsSome }
         ensures anew { IfOk result (λ found. IfSome found (λ file. file.tally ≡ no_faults)) }
     {
-        match open_or_make(rt, path, makes) {
+        match open_or_make(rt, path, least) {
             Ok(Some(file)) => Ok(Some(FileCalls {
                 file,
                 tally: Tally::new(),
@@ -46,14 +46,16 @@ impl FileCalls {
 }
 
 // The file, locked. Nothing of it is changed before the lock is held.
-fn open_or_make<R: Files<File = File>>(rt: &R, path: &str, makes: bool) -> io::Result<Option<File>>
-    ensures there { makes ≡ true → IfOk result IsSome }
+fn open_or_make<R: Files<File = File>>(rt: &R, path: &str, least: u64) -> io::Result<Option<File>>
+    ensures there { 1 ≤ least → IfOk result IsSome }
 {
     let file = match options().open(rt, path) {
         Ok(file) => file,
         Err(error) if error.kind() != ErrorKind::NotFound => return Err(error),
-        Err(_) if makes => make(rt, path)?,
-        Err(_) => return Ok(None),
+        Err(_) => match make(rt, path, least)? {
+            Some(file) => file,
+            None => return Ok(None),
+        },
     };
     file.try_lock()?;
     Ok(Some(file))
@@ -65,15 +67,21 @@ fn options() -> OpenOptions {
     options
 }
 
-// A new empty file. Its folder is synced, so that a loss of power leaves it there.
-fn make<R: Files<File = File>>(rt: &R, path: &str) -> io::Result<File> {
+// A new empty file, unless no byte is asked for. Its folder is synced, so that a loss of power leaves it there.
+fn make<R: Files<File = File>>(rt: &R, path: &str, least: u64) -> io::Result<Option<File>>
+    ensures none { least ≡ 0 → IfOk result IsNone }
+    ensures there { 1 ≤ least → IfOk result IsSome }
+{
+    if least == 0 {
+        return Ok(None);
+    }
     let file = options().create(true).open(rt, path)?;
     let folder = match Path::new(path).parent() {
         Some(folder) if !folder.as_str().is_empty() => folder,
         _ => Path::new("."),
     };
     File::open(rt, folder)?.sync_all()?;
-    Ok(file)
+    Ok(Some(file))
 }
 
 fn fault_of(error: io::Error) -> CallFault {

@@ -76,7 +76,7 @@ impl FileMedia<FileCalls> {
         ensures long { IfOk result (λ media. IfSome media (λ m. least ≤ (shown m).size)) }
         ensures anew { IfOk result (λ media. IfSome media (λ m. ((shown m).moment ≡ 0) × ((shown m).faults ≡ 0))) }
     {
-        match FileCalls::open(rt, path, least > 0)? {
+        match FileCalls::open(rt, path, least)? {
             Some(calls) => Ok(Some(FileMedia::over(calls, least)?)),
             None => Ok(None),
         }

@@ -2,6 +2,7 @@
 #![tactic(auto)]
 
 mod again;
+mod answer_list;
 mod calls;
 mod file_calls;
 mod file_media;
