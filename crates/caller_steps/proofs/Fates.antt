@@ -4,6 +4,7 @@ use Rattle.std.specs.Map.{update}
 use Rattle.std.specs.FinMap.{get}
 use Rattle.std.proofs.lemmas.Map.{update_here, update_apart}
 use Rattle.std.proofs.lemmas.Bool.{true≢false, cond-true, cond-false}
+use Rattle.history.specs.Key.{Key}
 use Rattle.history.specs.Table.{Granted, Work, found, removed, Answers}
 use Rattle.history.specs.declared.call.Call.{Call}
 use Rattle.history.specs.declared.call.Call.TheVariants.{Begin, Get, Put, Del, Scan, Save, Back, Commit, Abort}
@@ -30,7 +31,7 @@ pub data Fate (old : State) (caller : ℕ) (call : Call) (reply : Reply) (new : 
   aborted : call ≡ Abort → reply ≡ Fine → new ≡ with_live old caller None → Fate old caller call reply new
 
 -- a refusal for lack of room is a reply of the array
-pub lacks_at_of_array : (limits : Limits) (old : State) (caller key : ℕ) (slot : Option ℕ) (reply : Reply) → LacksAt limits old caller key slot reply → is_of_array reply ≡ true
+pub lacks_at_of_array : (limits : Limits) (old : State) (caller : ℕ) (key : Key) (slot : Option ℕ) (reply : Reply) → LacksAt limits old caller key slot reply → is_of_array reply ≡ true
 lacks_at_of_array limits old caller key (Some slot) (LogFull g h n) lacks = refl
 lacks_at_of_array limits old caller key None (SlotsFull n) lacks = refl
 lacks_at_of_array limits old caller key None (PagesFull n) lacks = refl
@@ -42,7 +43,7 @@ lacks_of_array limits old caller (Put key value) reply lacks = lacks_at_of_array
 lacks_of_array limits old caller (Del key) reply lacks = lacks_at_of_array limits old caller key (Some lacks.1) reply lacks.3
 lacks_of_array limits old caller _ reply lacks = absurd lacks
 
-lacks_at_refusal : (limits : Limits) (old : State) (caller key : ℕ) (slot : Option ℕ) (reply : Reply) → LacksAt limits old caller key slot reply → (is_refusal reply ≡ true) × (is_media reply ≡ false)
+lacks_at_refusal : (limits : Limits) (old : State) (caller : ℕ) (key : Key) (slot : Option ℕ) (reply : Reply) → LacksAt limits old caller key slot reply → (is_refusal reply ≡ true) × (is_media reply ≡ false)
 lacks_at_refusal limits old caller key (Some slot) (LogFull g h n) lacks = (refl, refl)
 lacks_at_refusal limits old caller key None (SlotsFull n) lacks = (refl, refl)
 lacks_at_refusal limits old caller key None (PagesFull n) lacks = (refl, refl)

@@ -1,10 +1,11 @@
 -- How many entries of the loggers callers hold when the index gains a key.
-use Rattle.std.proofs.Common.{◌≡◌, ℕ, false, cond, nat_eq, List, [], ◌∷◌, length, filter, Option, Some, None, refl, sym, ap, subst, ◌∙◌}
+use Rattle.std.proofs.Common.{◌≡◌, ℕ, false, cond, List, [], ◌∷◌, length, filter, Option, Some, None, refl, sym, ap, subst, ◌∙◌}
 use Rattle.std.specs.Prelude.{IsSome}
 use Rattle.std.specs.List.{list_any}
 use Rattle.std.specs.Map.{update}
 use Rattle.std.proofs.lemmas.Map.{update_apart}
 use Rattle.std.proofs.lemmas.Bool.{false_from_ne_true, true≢false, false≢true, eq-eqb, eqb-true, or_parts, or_from}
+use Rattle.history.specs.Key.{Key, is_same_key}
 use Rattle.history.specs.Writes.{Write, is_of}
 use Rattle.history.specs.Log.{log_of}
 use Rattle.caller_steps.specs.State.{State, Index, calls_of}
@@ -12,7 +13,7 @@ use Rattle.caller_steps.specs.Room.{Limits, is_slot_on, is_write_on, held_on, Ga
 
 module _ (limits : Limits) (g : ℕ) where
   -- If a key that no write names gains a slot, the writes on a logger stay the same.
-  writes_apart : (old new : Index) (key slot : ℕ) → new.slot_of ≡ update nat_eq old.slot_of key (Some slot) → (writes : List Write) → list_any (is_of key) writes ≡ false
+  writes_apart : (old new : Index) (key : Key) (slot : ℕ) → new.slot_of ≡ update is_same_key old.slot_of key (Some slot) → (writes : List Write) → list_any (is_of key) writes ≡ false
       → filter (is_write_on limits new g) writes ≡ filter (is_write_on limits old g) writes
   writes_apart old new key slot gains [] none = refl
   writes_apart old new key slot gains (write ∷ writes) none =
@@ -23,7 +24,7 @@ module _ (limits : Limits) (g : ℕ) where
       ∙ ap (λ (l : List Write). cond (is_write_on limits old g write) (write ∷ l) l) (writes_apart old new key slot gains writes parts.1)
 
   -- So what a caller holds stays the same,
-  pub held_apart : (old new : State) (caller key : ℕ) → new.live ≡ old.live → GainsKey limits key old.index new.index
+  pub held_apart : (old new : State) (caller : ℕ) (key : Key) → new.live ≡ old.live → GainsKey limits key old.index new.index
       → list_any (is_of key) (log_of (calls_of old caller)).writes ≡ false → held_on limits new caller g ≡ held_on limits old caller g
   held_apart old new caller key live gains none =
       ap (λ (f : ℕ → Option _). length (filter (is_write_on limits new.index g) (log_of (calls_of (record old { live = f }) caller)).writes)) live
@@ -35,7 +36,7 @@ AreNamed index [] = Unit {0}
 AreNamed index (write ∷ writes) = IsSome (index.slot_of write.0) × AreNamed index writes
 
 -- as when the index has the key of each write but had none for this one.
-pub unnamed : (index : Index) (key : ℕ) → index.slot_of key ≡ None → (writes : List Write) → AreNamed index writes → list_any (is_of key) writes ≡ false
+pub unnamed : (index : Index) (key : Key) → index.slot_of key ≡ None → (writes : List Write) → AreNamed index writes → list_any (is_of key) writes ≡ false
 unnamed index key none [] named = refl
 unnamed index key none (write ∷ writes) named = or_from (is_of key write) (list_any (is_of key) writes)
     (false_from_ne_true (is_of key write) (λ is. subst (λ (o : Option ℕ). IsSome o → ⊥) (sym none) (λ some. false≢true some) (subst (λ k. IsSome (index.slot_of k)) (eqb-true write.0 key is) named.0)))

@@ -4,7 +4,7 @@ use Rattle.std.specs.Prelude.{IsTrue, All, nat_eq, unwrap_or, if◌then◌else�
 use Rattle.std.specs.List.{fold}
 use mathlib.Core.Logic.{dite}
 use native.Mathlib.Decide.{ℕ_discrete, dec_le}
-use Rattle.std.proofs.lemmas.Bool.{true≢false, cond-true, cond-false}
+use Rattle.std.proofs.lemmas.Bool.{true≢false, or_parts, cond-true, cond-false}
 use Rattle.std.proofs.lemmas.Map.{update_here}
 use Rattle.std.proofs.lemmas.List.Elements.{All-nil, All-cons}
 use Rattle.history.specs.Table.{Granted}
@@ -22,10 +22,6 @@ use Rattle.caller_steps.specs.Own.{is_commit, number_of, Own, nothing_own, live_
 use Rattle.caller_steps.proofs.Fates.{Fate, step_fate, refusal_none, answer_plain}
 use Rattle.caller_steps.proofs.Fates.Fate.{refused, failed, began, granted, committed, doubted, aborted}
 use Rattle.caller_steps.proofs.Running.{line_here, line_apart, none_beyond, own_commits, other_commits, turns_dead}
-
-or_false : (a b : Bool) → (a || b) ≡ false → (a ≡ false) × (b ≡ false)
-or_false true b e = absurd (true≢false e)
-or_false false b e = (refl, e)
 
 module _ (limits : Limits) (old : State) (caller : ℕ) (new : State) where
   -- a commit that meets a fault of the medium leaves its transaction in doubt
@@ -80,7 +76,7 @@ module _ (limits : Limits) (old : State) (caller : ℕ) (new : State) where
   live_at : (tells : Bool) (call : Call) (reply : Reply) (b : Bool) → is_media reply ≡ b → Goes tells limits old caller call reply new → IsTrue tells ⊎ (new.is_dead ≡ false)
       → new.live caller ≡ (if b then (if is_commit call then None else old.live caller) else (if is_refusal reply then old.live caller else live_with (calls_of old caller) call reply))
   live_at tells call reply true is goes (inl told) = live_faulted call reply (is_commit call) refl is (goes.step told)
-  live_at tells call reply true is goes (inr alive) = absurd (true≢false (sym is ∙ (or_false old.is_dead (is_media reply) (sym goes.moves.dead ∙ alive)).1))
+  live_at tells call reply true is goes (inr alive) = absurd (true≢false (sym is ∙ (or_parts old.is_dead (is_media reply) (sym goes.moves.dead ∙ alive)).1))
   live_at tells call reply false is goes sure = live_sure call reply (is_refusal reply) refl is goes.moves
 
   pub live_goes : (tells : Bool) (call : Call) (reply : Reply) → Goes tells limits old caller call reply new → IsTrue tells ⊎ (new.is_dead ≡ false) → new.live caller ≡ live_after (old.live caller) call reply
@@ -121,7 +117,7 @@ module _ (tells : Bool) (limits : Limits) (caller : ℕ) where
   other_line own turn turns ne = ap (λ (l : Granted). fold (own_after caller) own l) (line_apart caller turn turns ne)
 
   alive_before : (first now : State) (turns : List Turn) → GoesAlong tells limits first turns now → now.is_dead ≡ false → first.is_dead ≡ false
-  alive_before first now turns a alive = (or_false first.is_dead _ (sym (turns_dead tells limits first now turns a) ∙ alive)).0
+  alive_before first now turns a alive = (or_parts first.is_dead _ (sym (turns_dead tells limits first now turns a) ∙ alive)).0
 
   sure_before : (first now : State) (turns : List Turn) → GoesAlong tells limits first turns now → IsTrue tells ⊎ (now.is_dead ≡ false) → IsTrue tells ⊎ (first.is_dead ≡ false)
   sure_before first now turns a (inl told) = inl told
@@ -186,7 +182,7 @@ module _ (limits : Limits) (old : State) (caller : ℕ) (new : State) (call : Ca
 module _ (limits : Limits) (caller : ℕ) where
   certain_goes : (old new : State) (turn : Turn) → Goes true limits old turn.0 turn.1 turn.2 new → (old.is_dead ≡ false → old.doubt ≡ []) → new.is_dead ≡ false → new.doubt ≡ []
   certain_goes old new turn goes certain alive =
-      let both = or_false old.is_dead (is_media turn.2) (sym goes.moves.dead ∙ alive) in
+      let both = or_parts old.is_dead (is_media turn.2) (sym goes.moves.dead ∙ alive) in
       sure_same limits old turn.0 new turn.1 turn.2 both.1 (step_fate limits old turn.0 new turn.1 turn.2 (goes.step refl)) ∙ certain both.0
 
   -- a dead core stays as it is, and its replies say nothing of a transaction

@@ -3,8 +3,9 @@ use Rattle.std.proofs.Common.{◌≡◌, ◌⊎◌, ◌||◌, ℕ, ◌-◌, ◌�
 use Rattle.std.specs.Prelude.{IsTrue, IsFalse, unwrap_or}
 use Rattle.std.specs.List.{list_any}
 use Rattle.std.specs.FinMap.{get}
-use Rattle.std.proofs.lemmas.Bool.{true≢false}
+use Rattle.std.proofs.lemmas.Bool.{true≢false, or_left, or_right, or_parts}
 use Rattle.std.proofs.lemmas.List.Folds.{list_any-append}
+use Rattle.history.specs.Key.{Key}
 use Rattle.history.specs.Table.{Granted, Work, Answers, found, removed}
 use Rattle.history.specs.Locks.{touches, touched, clash}
 use Rattle.history.specs.declared.call.Call.{Call}
@@ -27,7 +28,7 @@ use Rattle.caller_steps.proofs.Fates.{step_moves}
 pub record IndexMoves (limits : Limits) (call : Call) (old new : Index) : Type 0 where
   pub pages : old.next_page ≤ new.next_page
   pub levels : old.level ≤ new.level
-  pub keys : KeepsKeys old new ⊎ ((key : ℕ) × IsTrue (is_put key call) × (old.slot_of key ≡ None) × GainsKey limits key old new)
+  pub keys : KeepsKeys old new ⊎ ((key : Key) × IsTrue (is_put key call) × (old.slot_of key ≡ None) × GainsKey limits key old new)
 
 same_index : (limits : Limits) (call : Call) (old new : Index) → new ≡ old → IndexMoves limits call old new
 same_index limits call old new e = record {
@@ -36,13 +37,13 @@ same_index limits call old new e = record {
   keys = inl (record { slot_of = ap (λ (i : Index). i.slot_of) e; slots = ap (λ (i : Index). i.next_slot) e });
 }
 
-inserts : (limits : Limits) (key : ℕ) (reply : Reply) (old new : Index) → Inserts limits key reply old new → TakesPages limits old new × (KeepsKeys old new ⊎ GainsKey limits key old new)
+inserts : (limits : Limits) (key : Key) (reply : Reply) (old new : Index) → Inserts limits key reply old new → TakesPages limits old new × (KeepsKeys old new ⊎ GainsKey limits key old new)
 inserts limits key Fine old new i = (i.0, inr i.1)
 inserts limits key (LogFull g h n) old new i = (i.0, i.1)
 inserts limits key (PagesFull n) old new i = (i.0, inl i.1)
 inserts limits key _ old new i = (i.0, inl i.1)
 
-index_at : (limits : Limits) (key : ℕ) (value : List ℕ) (slot : Option ℕ) (reply : Reply) (old new : Index) → old.slot_of key ≡ slot → IndexesAt limits key slot reply old new → IndexMoves limits (Put key value) old new
+index_at : (limits : Limits) (key : Key) (value : List ℕ) (slot : Option ℕ) (reply : Reply) (old new : Index) → old.slot_of key ≡ slot → IndexesAt limits key slot reply old new → IndexMoves limits (Put key value) old new
 index_at limits key value (Some slot) reply old new is e = same_index limits (Put key value) old new e
 index_at limits key value None reply old new is i =
     let both = inserts limits key reply old new i in record {
@@ -77,7 +78,7 @@ pages_stay limits (Back m) call n old new moves lacks = tt
 pages_stay limits Commit call n old new moves lacks = tt
 pages_stay limits Abort call n old new moves lacks = tt
 
-gained_same : (first : Index) (keys : List ℕ) (old new : Index) → KeepsKeys old new → Gained first keys old → Gained first keys new
+gained_same : (first : Index) (keys : List Key) (old new : Index) → KeepsKeys old new → Gained first keys old → Gained first keys new
 gained_same first [] old new keeps g = (keeps.slot_of ∙ g.0, keeps.slots ∙ g.1)
 gained_same first (key ∷ keys) old new keeps g = (g.0, g.1, g.2, keeps.slot_of ∙ g.3, keeps.slots ∙ g.4)
 
@@ -124,7 +125,7 @@ module _ (limits : Limits) (old : State) (caller : ℕ) (new : State) where
   plain work (Back n) reply answers = subst (λ r. Told limits old caller new (Back n) r) (sym answers.1) tt
   plain work _ reply answers = absurd answers
 
-  put_lacks : (key : ℕ) (value : List ℕ) (slot : Option ℕ) (reply : Reply) → LacksAt limits old caller key slot reply → IndexesAt limits key slot reply old.index new.index → T (Put key value) reply
+  put_lacks : (key : Key) (value : List ℕ) (slot : Option ℕ) (reply : Reply) → LacksAt limits old caller key slot reply → IndexesAt limits key slot reply old.index new.index → T (Put key value) reply
   unfolding T
   put_lacks key value (Some slot) (LogFull g h n) lacks index = tt
   put_lacks key value None (SlotsFull n) lacks index = (lacks.1, index.1.slots ∙ lacks.0)
@@ -132,7 +133,7 @@ module _ (limits : Limits) (old : State) (caller : ℕ) (new : State) where
   put_lacks key value None (LogFull g h n) lacks index = tt
   put_lacks key value _ _ lacks index = absurd lacks
 
-  del_lacks : (key slot : ℕ) (reply : Reply) → LacksAt limits old caller key (Some slot) reply → T (Del key) reply
+  del_lacks : (key : Key) (slot : ℕ) (reply : Reply) → LacksAt limits old caller key (Some slot) reply → T (Del key) reply
   unfolding T
   del_lacks key slot (LogFull g h n) lacks = tt
   del_lacks key slot _ lacks = absurd lacks
@@ -190,18 +191,6 @@ module _ (limits : Limits) (old : State) (caller : ℕ) (new : State) where
   pub step_left : (call : Call) (reply : Reply) → Step limits old caller call reply new → Left limits old caller new call reply
   step_left call reply step = left_if old.is_dead call reply refl step
 
-or_left : (a b : Bool) → a ≡ true → (a || b) ≡ true
-or_left true b e = refl
-or_left false b e = absurd (true≢false (sym e))
-
-or_right : (a b : Bool) → b ≡ true → (a || b) ≡ true
-or_right true b e = refl
-or_right false b e = e
-
-or_none : (a b : Bool) → (a || b) ≡ false → a ≡ false
-or_none true b e = absurd (true≢false e)
-or_none false b e = refl
-
 any_left : {X : Type 0} (p : X → Bool) (xs ys : List X) → list_any p xs ≡ true → list_any p (xs ++ ys) ≡ true
 any_left p xs ys e = list_any-append p xs ys ∙ or_left (list_any p xs) (list_any p ys) e
 
@@ -210,13 +199,13 @@ any_last p xs x e = list_any-append p xs (x ∷ []) ∙ or_right (list_any p xs)
 
 module _ (limits : Limits) where
   alive_before : (old new : State) (turn : Turn) → Goes true limits old turn.0 turn.1 turn.2 new → new.is_dead ≡ false → old.is_dead ≡ false
-  alive_before old new turn goes alive = or_none old.is_dead (is_media turn.2) (sym goes.moves.dead ∙ alive)
+  alive_before old new turn goes alive = (or_parts old.is_dead (is_media turn.2) (sym goes.moves.dead ∙ alive)).0
 
   index_goes : (old new : State) (turn : Turn) → Goes true limits old turn.0 turn.1 turn.2 new → new.is_dead ≡ false → IndexMoves limits turn.1 old.index new.index
   index_goes old new turn goes alive = (step_left limits old turn.0 new turn.1 turn.2 (goes.step refl)).index alive
 
   alive_first : (first now : State) (turns : List Turn) → GoesAlong true limits first turns now → now.is_dead ≡ false → first.is_dead ≡ false
-  alive_first first now turns a alive = or_none first.is_dead (has_fault turns) (sym (turns_dead true limits first now turns a) ∙ alive)
+  alive_first first now turns a alive = (or_parts first.is_dead (has_fault turns) (sym (turns_dead true limits first now turns a) ∙ alive)).0
 
   -- What was lacking stays so.
   slots_on : (first now : State) (turns : List Turn) → GoesAlong true limits first turns now → now.is_dead ≡ false → first.index.next_slot ≡ limits.slots → now.index.next_slot ≡ limits.slots
@@ -230,13 +219,13 @@ module _ (limits : Limits) where
       pages_on made n a.0 now turns a.2 alive (pages_stay limits made turn.1 n first.index a.0.index (index_goes first a.0 turn a.1 (alive_first a.0 now turns a.2 alive)) lacks)
 
   -- the keys that are asked for
-  more_keys : (turns : List Turn) (turn : Turn) (keys : List ℕ) → AreAsked turns keys → AreAsked (turns ++ turn ∷ []) keys
+  more_keys : (turns : List Turn) (turn : Turn) (keys : List Key) → AreAsked turns keys → AreAsked (turns ++ turn ∷ []) keys
   more_keys turns turn [] a = tt
   more_keys turns turn (key ∷ keys) a = (any_left (λ (l : Turn). is_put key l.1) turns (turn ∷ []) a.0, more_keys turns turn keys a.1)
 
   module _ (first : State) where
     abbrev Keys : List Turn → State → Type 0
-    Keys turns now = IsFalse now.is_dead → (keys : List ℕ) × Gained first.index keys now.index × AreAsked turns keys
+    Keys turns now = IsFalse now.is_dead → (keys : List Key) × Gained first.index keys now.index × AreAsked turns keys
 
     keys_goes : (turns : List Turn) (turn : Turn) (old new : State) → Keys turns old → Goes true limits old turn.0 turn.1 turn.2 new → Keys (turns ++ turn ∷ []) new
     keys_goes turns turn old new was goes alive =
@@ -247,7 +236,7 @@ module _ (limits : Limits) where
         (index_goes old new turn goes alive).keys
 
     -- Unless the medium fails, the index gains only keys that are asked for.
-    pub keys_gained : (now : State) (turns : List Turn) → Runs limits first turns now → IsFalse now.is_dead → (keys : List ℕ) × Gained first.index keys now.index × AreAsked turns keys
+    pub keys_gained : (now : State) (turns : List Turn) → Runs limits first turns now → IsFalse now.is_dead → (keys : List Key) × Gained first.index keys now.index × AreAsked turns keys
     keys_gained now turns runs = turns_keep true limits Keys keys_goes [] turns first now (λ alive. ([], (refl, refl), tt)) (turns_of_runs limits first now turns runs)
 
   -- Each turn of a run is a step.

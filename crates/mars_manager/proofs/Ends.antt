@@ -25,7 +25,7 @@ use Rattle.mars_manager.specs.Seat.{TableOf, SeatOf, view, shared_view, opener, 
 use Rattle.mars_manager.specs.Rule.{Face, count, IsFree, IsHeld, IsKept, IsFresh, IsOpening, Rule, began, gives_turn}
 use Rattle.mars_manager.proofs.Past.{since_shared}
 use Rattle.mars_manager.proofs.Seats.{times_append, at_only, each_set, total_set, total_two, total_snoc, total_has}
-use Rattle.mars_manager.proofs.Turns.{out, some_same, some≢none, is_open, vacant≢shared, opening≢shared, vacant≢opening}
+use Rattle.mars_manager.proofs.Turns.{same_run, out, some_same, some≢none, is_open, vacant≢shared, opening≢shared, vacant≢opening}
 
 only_zero : {A : Type 0} (x : A) (i : ℕ) (a : A) → get_elem? (x ∷ []) i ≡ some a → i ≡ 0
 only_zero x zero a e = refl
@@ -164,35 +164,22 @@ module _ {C : Type 0} (f : Face C) (setup : Setup C) where
       let a = total_set (λ (v : View C). times n v.passes) s.views id v left at in
       let b = total_snoc (λ (v : View C). times n v.passes) (set s.views id left) right in
       let c = times_append n (k ∷ []) ks in
-      omega arith) in record {
-        core = h.core;
-        turns = h.turns;
-        two = h.two;
-        one = h.one;
-        told = h.told;
-        place = ⊎_elim
-            (λ (x : IsFree h.core s). inl (record { turn = x.turn; home = x.home; nobody = after_deal (λ _ u. u.held ≡ None) s.views id left right refl (λ _. refl) x.nobody }))
-            (λ (x : IsHeld h.core s). let ne = not_holder s h.core x id v at refl in inr (record {
-              number = x.number;
-              seat = x.seat;
-              holder = x.holder;
-              turn = x.turn;
-              there = at_longer (set s.views id left) (right ∷ []) x.seat x.holder (set_else s.views id x.seat left ne ∙ x.there);
-              holds = x.holds;
-              has = x.has;
-              others = λ i u apart e. after_deal (λ i u. i ≢ x.seat → u.held ≡ None) s.views id left right (λ _. refl) (λ _ _. refl) (λ i u e apart. x.others i u apart e) i u e apart;
-            }))
-            h.place;
-        staged = after_deal (λ _ u. u.stage ≡ Shared) s.views id left right refl (λ _. refl) h.staged;
-        fit = after_deal (λ _ u. AllFit f.tells f.show setup h.turns (f.show h.core).state u.passes) s.views id left right fit.1 (λ _. (fit.0, tt)) h.fit;
-        once = λ n. (let t = counts n in let o = h.once n in omega arith);
-        below = λ n b. counts n ∙ h.below n b;
-        few = h.few;
-        ready = h.ready;
-        since = h.since;
-        run = h.run;
-        whose = h.whose;
-      }
+      omega arith) in
+      same_run f setup s h s.words s.homes vs h.two h.one h.told
+      (⊎_elim
+      (λ (x : IsFree h.core s). inl (record { turn = x.turn; home = x.home; nobody = after_deal (λ _ u. u.held ≡ None) s.views id left right refl (λ _. refl) x.nobody }))
+      (λ (x : IsHeld h.core s). let ne = not_holder s h.core x id v at refl in inr (record {
+        number = x.number;
+        seat = x.seat;
+        holder = x.holder;
+        turn = x.turn;
+        there = at_longer (set s.views id left) (right ∷ []) x.seat x.holder (set_else s.views id x.seat left ne ∙ x.there);
+        holds = x.holds;
+        has = x.has;
+        others = λ i u apart e. after_deal (λ i u. i ≢ x.seat → u.held ≡ None) s.views id left right (λ _. refl) (λ _ _. refl) (λ i u e apart. x.others i u apart e) i u e apart;
+      }))
+      h.place)
+      (after_deal (λ _ u. u.stage ≡ Shared) s.views id left right refl (λ _. refl) h.staged) (after_deal (λ _ u. AllFit f.tells f.show setup h.turns (f.show h.core).state u.passes) s.views id left right fit.1 (λ _. (fit.0, tt)) h.fit) counts
 
   pub deals_keeps : (id : ℕ) (k : Known C) (ks : List (Known C)) → Splits (Rule f setup) id (shared_view (k ∷ ks) None) (shared_view ks None) (shared_view (k ∷ []) None)
   deals_keeps id k ks s rule at = inr (inr (dealt_by s id k ks (is_open f setup s id (shared_view (k ∷ ks) None) rule at refl) at))
@@ -217,35 +204,22 @@ module _ {C : Type 0} (f : Face C) (setup : Setup C) where
       let a = total_set (λ (v : View C). times n v.passes) s.views id v both at in
       let b = total_set (λ (v : View C). times n v.passes) (set s.views id both) other w rest still in
       let c = times_append n ks ls in
-      omega arith) in record {
-        core = h.core;
-        turns = h.turns;
-        two = h.two;
-        one = h.one;
-        told = h.told;
-        place = ⊎_elim
-            (λ (x : IsFree h.core s). inl (record { turn = x.turn; home = x.home; nobody = after_join (λ _ u. u.held ≡ None) s.views id other both rest refl refl x.nobody }))
-            (λ (x : IsHeld h.core s). inr (record {
-              number = x.number;
-              seat = x.seat;
-              holder = x.holder;
-              turn = x.turn;
-              there = set_else (set s.views id both) other x.seat rest (not_holder s h.core x other w there refl) ∙ (set_else s.views id x.seat both (not_holder s h.core x id v at refl) ∙ x.there);
-              holds = x.holds;
-              has = x.has;
-              others = λ i u ne e. after_join (λ i u. i ≢ x.seat → u.held ≡ None) s.views id other both rest (λ _. refl) (λ _. refl) (λ i u e ne. x.others i u ne e) i u e ne;
-            }))
-            h.place;
-        staged = after_join (λ _ u. u.stage ≡ Shared) s.views id other both rest refl refl h.staged;
-        fit = after_join (λ _ u. AllFit f.tells f.show setup h.turns (f.show h.core).state u.passes) s.views id other both rest (all_append h.turns (f.show h.core).state ks ls (h.fit id v at) (h.fit other w there)) tt h.fit;
-        once = λ n. (let t = counts n in let o = h.once n in omega arith);
-        below = λ n b. counts n ∙ h.below n b;
-        few = h.few;
-        ready = h.ready;
-        since = h.since;
-        run = h.run;
-        whose = h.whose;
-      }
+      omega arith) in
+      same_run f setup s h s.words s.homes vs h.two h.one h.told
+      (⊎_elim
+      (λ (x : IsFree h.core s). inl (record { turn = x.turn; home = x.home; nobody = after_join (λ _ u. u.held ≡ None) s.views id other both rest refl refl x.nobody }))
+      (λ (x : IsHeld h.core s). inr (record {
+        number = x.number;
+        seat = x.seat;
+        holder = x.holder;
+        turn = x.turn;
+        there = set_else (set s.views id both) other x.seat rest (not_holder s h.core x other w there refl) ∙ (set_else s.views id x.seat both (not_holder s h.core x id v at refl) ∙ x.there);
+        holds = x.holds;
+        has = x.has;
+        others = λ i u ne e. after_join (λ i u. i ≢ x.seat → u.held ≡ None) s.views id other both rest (λ _. refl) (λ _. refl) (λ i u e ne. x.others i u ne e) i u e ne;
+      }))
+      h.place)
+      (after_join (λ _ u. u.stage ≡ Shared) s.views id other both rest refl refl h.staged) (after_join (λ _ u. AllFit f.tells f.show setup h.turns (f.show h.core).state u.passes) s.views id other both rest (all_append h.turns (f.show h.core).state ks ls (h.fit id v at) (h.fit other w there)) tt h.fit) counts
 
   pub gathers_keeps : (id other : ℕ) (ks ls : List (Known C)) → Joins (Rule f setup) id (shared_view ks None) other (shared_view ls None) (shared_view (ks ++ ls) None) (shared_view [] None)
   gathers_keeps id other ks ls s rule at apart there =

@@ -1,7 +1,7 @@
 -- Each step keeps the rule.
 use Rattle.std.proofs.Common.{◌≡◌, ◌≢◌, ◌⊎◌, ℕ, ◌+◌, ◌<◌, ◌≤◌, eqb, List, [], ◌∷◌, ◌++◌, length, set, get_or, Option, Some, None, refl, sym, ap, ◌∙◌, subst, inl, inr, ⊎_elim, arith, length-set, get_or-set_same, get_or-set_other}
 use mathlib.Core.Logic.{dite}
-use mathlib.Core.Option.{some, none, some-injective}
+use mathlib.Core.Option.{Option as Home, some, none, some-injective}
 use native.Mathlib.Decide.{dec_le, ℕ_discrete}
 use lib.ListN.{get_elem?}
 use prog.Atomic.{either}
@@ -101,37 +101,59 @@ module _ {C : Type 0} (f : Face C) (setup : Setup C) where
   pub found_fit : (turns : List Turn) (core : C) (n : ℕ) (k : Known C) → Fits f.tells f.show setup turns (f.show core).state k → Fits f.tells f.show setup turns (f.show core).state (finds n k)
   found_fit turns core n k h = record { setup_is = h.setup_is; last = h.last; heard = h.heard }
 
+  -- The rule holds again if the core and its run stay as they were, and as many passes of each number are there.
+  pub same_run : (s : TableOf C) (h : IsKept f setup s) (words : List ℕ) (homes : List (Home (Option C))) (views : List (View C)) → length words ≡ 2 → length homes ≡ 1
+      → get_or words 1 0 ≡ length (f.show h.core).state.history
+      → (let new : TableOf C = record { words = words; homes = homes; views = views } in IsFree h.core new ⊎ IsHeld h.core new
+      → ((i : ℕ) (v : View C) → get_elem? views i ≡ some v → v.stage ≡ Shared)
+      → ((i : ℕ) (v : View C) → get_elem? views i ≡ some v → AllFit f.tells f.show setup h.turns (f.show h.core).state v.passes)
+      → ((n : ℕ) → count n views ≡ count n s.views) → IsKept f setup new)
+  same_run s h words homes views two one told place staged fit counts = record {
+    core = h.core;
+    turns = h.turns;
+    two = two;
+    one = one;
+    told = told;
+    place = place;
+    staged = staged;
+    fit = fit;
+    once = λ n. (let t = counts n in let o = h.once n in omega arith);
+    below = λ n b. counts n ∙ h.below n b;
+    few = h.few;
+    ready = h.ready;
+    since = h.since;
+    run = h.run;
+    whose = h.whose;
+  }
+
+  -- A step of one seat keeps the rule if it leaves the core, the seat's passes and the number of words and homes, and what it changes is right.
+  same_core : (s : TableOf C) (h : IsKept f setup s) (id : ℕ) (v w : View C) (words : List ℕ) (homes : List (Home (Option C))) → get_elem? s.views id ≡ some v
+      → w.stage ≡ Shared → ((n : ℕ) → times n w.passes ≡ times n v.passes) → AllFit f.tells f.show setup h.turns (f.show h.core).state w.passes
+      → length words ≡ 2 → length homes ≡ 1 → get_or words 1 0 ≡ length (f.show h.core).state.history
+      → (let new : TableOf C = record { words = words; homes = homes; views = set s.views id w } in IsFree h.core new ⊎ IsHeld h.core new → IsKept f setup new)
+  same_core s h id v w words homes at stage same fit two one told place = same_run s h words homes (set s.views id w) two one told place
+      (each_set (λ i u. u.stage ≡ Shared) s.views id w stage (λ j u _ e. h.staged j u e))
+      (each_set (λ i u. AllFit f.tells f.show setup h.turns (f.show h.core).state u.passes) s.views id w fit (λ j u _ e. h.fit j u e))
+      (λ n. same_count n s.views id v w at (same n))
+
   turn_taken : (s : TableOf C) (id turn : ℕ) (k : Known C) (h : IsKept f setup s) → turn ≡ k.number + 1 → get_elem? s.views id ≡ some (shared_view (k ∷ []) None)
       → (x : IsFree h.core s) → IsKept f setup (stepped s 0 turn id [] (shared_view (finds 0 k ∷ []) (Some h.core)) (takes 0 (Some h.core)))
   turn_taken s id turn k h is at x =
       let v : View C = shared_view (k ∷ []) None in
       let w : View C = shared_view (finds 0 k ∷ []) (Some h.core) in
-      let long : 0 < length s.words = (let t = h.two in omega arith) in record {
-        core = h.core;
-        turns = h.turns;
-        two = length-set s.words 0 turn ∙ h.two;
-        one = length-set s.homes 0 none ∙ h.one;
-        told = get_or-set_other s.words 0 1 turn 0 (λ e. omega arith) ∙ h.told;
-        place = inr (record {
-          number = k.number;
-          seat = id;
-          holder = w;
-          turn = get_or-set_same s.words 0 turn 0 long ∙ is;
-          there = set_here s.views id w (inside s.views id v at);
-          holds = refl;
-          has = times_first (finds 0 k) [];
-          others = λ i u ne e. x.nobody i u (sym (set_else s.views id i w ne) ∙ e);
-        });
-        staged = each_set (λ i u. u.stage ≡ Shared) s.views id w refl (λ j u _ e. h.staged j u e);
-        fit = each_set (λ i u. AllFit f.tells f.show setup h.turns (f.show h.core).state u.passes) s.views id w (found_fit h.turns h.core 0 k (h.fit id v at).0, tt) (λ j u _ e. h.fit j u e);
-        once = λ n. (let t = same_count n s.views id v w at refl in let o = h.once n in omega arith);
-        below = λ n b. same_count n s.views id v w at refl ∙ h.below n b;
-        few = h.few;
-        ready = h.ready;
-        since = h.since;
-        run = h.run;
-        whose = h.whose;
-      }
+      let long : 0 < length s.words = (let t = h.two in omega arith) in
+      same_core s h id v w (set s.words 0 turn) (set s.homes 0 none) at refl (λ _. refl) (found_fit h.turns h.core 0 k (h.fit id v at).0, tt)
+      (length-set s.words 0 turn ∙ h.two) (length-set s.homes 0 none ∙ h.one) (get_or-set_other s.words 0 1 turn 0 (λ e. omega arith) ∙ h.told)
+      (inr (record {
+        number = k.number;
+        seat = id;
+        holder = w;
+        turn = get_or-set_same s.words 0 turn 0 long ∙ is;
+        there = set_here s.views id w (inside s.views id v at);
+        holds = refl;
+        has = times_first (finds 0 k) [];
+        others = λ i u ne e. x.nobody i u (sym (set_else s.views id i w ne) ∙ e);
+      }))
 
   Taking : (s : TableOf C) (slots id turn : ℕ) (k : Known C) → ℕ → Type 0
   Taking s slots id turn k x = (w : View C) × (a : Act (Option C)) × Valid s.homes [] a × Rule f setup (stepped s 0 x id [] w a) × takes_turn f (step slots 0 0 turn none) (shared_view (k ∷ []) None, []) (get_or s.words 0 0) (w, carried_after [] a)
@@ -164,32 +186,19 @@ module _ {C : Type 0} (f : Face C) (setup : Setup C) where
       let v : View C = shared_view (k ∷ []) None in
       let w : View C = shared_view (finds n k ∷ []) None in
       let long : 0 < length s.words = (let t = h.two in omega arith) in
-      let ne : x.seat ≢ id = (λ e. some≢none h.core (sym x.holds ∙ ap (λ (u : View C). u.held) (same_at s.views id x.holder v (subst (λ i. get_elem? s.views i ≡ some x.holder) e x.there) at))) in record {
-        core = h.core;
-        turns = h.turns;
-        two = length-set s.words 0 n ∙ h.two;
-        one = h.one;
-        told = get_or-set_other s.words 0 1 n 0 (λ e. omega arith) ∙ h.told;
-        place = inr (record {
-          number = x.number;
-          seat = x.seat;
-          holder = x.holder;
-          turn = get_or-set_same s.words 0 n 0 long ∙ is ∙ x.turn;
-          there = set_else s.views id x.seat w ne ∙ x.there;
-          holds = x.holds;
-          has = x.has;
-          others = λ i u apart e. each_set (λ i u. i ≢ x.seat → u.held ≡ None) s.views id w (λ _. refl) (λ j u _ e apart. x.others j u apart e) i u e apart;
-        });
-        staged = each_set (λ i u. u.stage ≡ Shared) s.views id w refl (λ j u _ e. h.staged j u e);
-        fit = each_set (λ i u. AllFit f.tells f.show setup h.turns (f.show h.core).state u.passes) s.views id w (found_fit h.turns h.core n k (h.fit id v at).0, tt) (λ j u _ e. h.fit j u e);
-        once = λ n. (let t = same_count n s.views id v w at refl in let o = h.once n in omega arith);
-        below = λ n b. same_count n s.views id v w at refl ∙ h.below n b;
-        few = h.few;
-        ready = h.ready;
-        since = h.since;
-        run = h.run;
-        whose = h.whose;
-      }
+      let ne : x.seat ≢ id = (λ e. some≢none h.core (sym x.holds ∙ ap (λ (u : View C). u.held) (same_at s.views id x.holder v (subst (λ i. get_elem? s.views i ≡ some x.holder) e x.there) at))) in
+      same_core s h id v w (set s.words 0 n) s.homes at refl (λ _. refl) (found_fit h.turns h.core n k (h.fit id v at).0, tt)
+      (length-set s.words 0 n ∙ h.two) (h.one) (get_or-set_other s.words 0 1 n 0 (λ e. omega arith) ∙ h.told)
+      (inr (record {
+        number = x.number;
+        seat = x.seat;
+        holder = x.holder;
+        turn = get_or-set_same s.words 0 n 0 long ∙ is ∙ x.turn;
+        there = set_else s.views id x.seat w ne ∙ x.there;
+        holds = x.holds;
+        has = x.has;
+        others = λ i u apart e. each_set (λ i u. i ≢ x.seat → u.held ≡ None) s.views id w (λ _. refl) (λ j u _ e apart. x.others j u apart e) i u e apart;
+      }))
 
   miss : (s : TableOf C) (slots id turn : ℕ) (k : Known C) (h : IsKept f setup s) → get_elem? s.views id ≡ some (shared_view (k ∷ []) None) → get_or s.words 0 0 ≢ 0 → Taking s slots id turn k (get_or s.words 0 0)
   unfolding Taking
@@ -318,27 +327,14 @@ module _ {C : Type 0} (f : Face C) (setup : Setup C) where
   given_by s id k core h same at x seat =
       let v : View C = shared_view (k ∷ []) (Some core) in
       let w : View C = shared_view (k ∷ []) None in
-      let long : 0 < length s.words = (let t = h.two in omega arith) in record {
-        core = h.core;
-        turns = h.turns;
-        two = length-set s.words 0 0 ∙ h.two;
-        one = length-set s.homes 0 (some (Some core)) ∙ h.one;
-        told = get_or-set_other s.words 0 1 0 0 (λ e. omega arith) ∙ h.told;
-        place = inl (record {
-          turn = get_or-set_same s.words 0 0 0 long;
-          home = set_here s.homes 0 (some (Some core)) (let o = h.one in omega arith) ∙ ap (λ (c : C). some (some (Some c))) (sym same);
-          nobody = each_set (λ i u. u.held ≡ None) s.views id w refl (λ j u ne e. x.others j u (λ z. ne (z ∙ seat)) e);
-        });
-        staged = each_set (λ i u. u.stage ≡ Shared) s.views id w refl (λ j u _ e. h.staged j u e);
-        fit = each_set (λ i u. AllFit f.tells f.show setup h.turns (f.show h.core).state u.passes) s.views id w (h.fit id v at) (λ j u _ e. h.fit j u e);
-        once = λ n. (let t = same_count n s.views id v w at refl in let o = h.once n in omega arith);
-        below = λ n b. same_count n s.views id v w at refl ∙ h.below n b;
-        few = h.few;
-        ready = h.ready;
-        since = h.since;
-        run = h.run;
-        whose = h.whose;
-      }
+      let long : 0 < length s.words = (let t = h.two in omega arith) in
+      same_core s h id v w (set s.words 0 0) (set s.homes 0 (some (Some core))) at refl (λ _. refl) (h.fit id v at)
+      (length-set s.words 0 0 ∙ h.two) (length-set s.homes 0 (some (Some core)) ∙ h.one) (get_or-set_other s.words 0 1 0 0 (λ e. omega arith) ∙ h.told)
+      (inl (record {
+        turn = get_or-set_same s.words 0 0 0 long;
+        home = set_here s.homes 0 (some (Some core)) (let o = h.one in omega arith) ∙ ap (λ (c : C). some (some (Some c))) (sym same);
+        nobody = each_set (λ i u. u.held ≡ None) s.views id w refl (λ j u ne e. x.others j u (λ z. ne (z ∙ seat)) e);
+      }))
 
   pub gives_keeps : (slots id : ℕ) (k : Known C) (core : C)
       → Allows (Rule f setup) slots id (shared_view (k ∷ []) (Some core), (0, Some core) ∷ []) 0 (λ _. 0) (λ _. gives_turn (step slots 0 0 0 none) (shared_view (k ∷ []) (Some core), (0, Some core) ∷ []) 0)
@@ -355,41 +351,26 @@ module _ {C : Type 0} (f : Face C) (setup : Setup C) where
       let v : View C = shared_view (k ∷ []) None in
       let w : View C = shared_view (hears n k ∷ []) None in
       let mine : Fits f.tells f.show setup h.turns (f.show h.core).state k = (h.fit id v at).0 in
-      let long : 1 < length s.words = (let t = h.two in omega arith) in record {
-        core = h.core;
-        turns = h.turns;
-        two = length-set s.words 1 n ∙ h.two;
-        one = h.one;
-        told = get_or-set_same s.words 1 n 0 long ∙ h.told;
-        place = ⊎_elim
-            (λ (x : IsFree h.core s). inl (record {
-              turn = get_or-set_other s.words 1 0 n 0 (λ e. omega arith) ∙ x.turn;
-              home = x.home;
-              nobody = each_set (λ i u. u.held ≡ None) s.views id w refl (λ j u _ e. x.nobody j u e);
-            }))
-            (λ (x : IsHeld h.core s). let ne : x.seat ≢ id = (λ e. some≢none h.core (sym x.holds ∙ ap (λ (u : View C). u.held) (same_at s.views id x.holder v (subst (λ i. get_elem? s.views i ≡ some x.holder) e x.there) at))) in inr (record {
-              number = x.number;
-              seat = x.seat;
-              holder = x.holder;
-              turn = get_or-set_other s.words 1 0 n 0 (λ e. omega arith) ∙ x.turn;
-              there = set_else s.views id x.seat w ne ∙ x.there;
-              holds = x.holds;
-              has = x.has;
-              others = λ i u apart e. each_set (λ i u. i ≢ x.seat → u.held ≡ None) s.views id w (λ _. refl) (λ j u _ e apart. x.others j u apart e) i u e apart;
-            }))
-            h.place;
-        staged = each_set (λ i u. u.stage ≡ Shared) s.views id w refl (λ j u _ e. h.staged j u e);
-        fit = each_set (λ i u. AllFit f.tells f.show setup h.turns (f.show h.core).state u.passes) s.views id w
-            (record { setup_is = mine.setup_is; last = mine.last; heard = (let e = h.told in omega arith) }, tt)
-            (λ j u _ e. h.fit j u e);
-        once = λ n. (let t = same_count n s.views id v w at refl in let o = h.once n in omega arith);
-        below = λ n b. same_count n s.views id v w at refl ∙ h.below n b;
-        few = h.few;
-        ready = h.ready;
-        since = h.since;
-        run = h.run;
-        whose = h.whose;
-      }
+      let long : 1 < length s.words = (let t = h.two in omega arith) in
+      same_core s h id v w (set s.words 1 n) s.homes at refl (λ _. refl) (record { setup_is = mine.setup_is; last = mine.last; heard = (let e = h.told in omega arith) }, tt)
+      (length-set s.words 1 n ∙ h.two) (h.one) (get_or-set_same s.words 1 n 0 long ∙ h.told)
+      (⊎_elim
+      (λ (x : IsFree h.core s). inl (record {
+        turn = get_or-set_other s.words 1 0 n 0 (λ e. omega arith) ∙ x.turn;
+        home = x.home;
+        nobody = each_set (λ i u. u.held ≡ None) s.views id w refl (λ j u _ e. x.nobody j u e);
+      }))
+      (λ (x : IsHeld h.core s). let ne : x.seat ≢ id = (λ e. some≢none h.core (sym x.holds ∙ ap (λ (u : View C). u.held) (same_at s.views id x.holder v (subst (λ i. get_elem? s.views i ≡ some x.holder) e x.there) at))) in inr (record {
+        number = x.number;
+        seat = x.seat;
+        holder = x.holder;
+        turn = get_or-set_other s.words 1 0 n 0 (λ e. omega arith) ∙ x.turn;
+        there = set_else s.views id x.seat w ne ∙ x.there;
+        holds = x.holds;
+        has = x.has;
+        others = λ i u apart e. each_set (λ i u. i ≢ x.seat → u.held ≡ None) s.views id w (λ _. refl) (λ j u _ e apart. x.others j u apart e) i u e apart;
+      }))
+      h.place)
 
   pub looks_keeps : (slots id : ℕ) (k : Known C)
       → Allows (Rule f setup) slots id (shared_view (k ∷ []) None, []) 1 (λ n. n) (looks (step slots 1 0 0 none) (shared_view (k ∷ []) None, []))
