@@ -6,7 +6,7 @@ use Rattle.script_run.specs.Counts.{Counts}
 use Rattle.script_run.specs.Script.{Script}
 use Rattle.script_run.specs.Transcript.{Ends, Answered}
 use Rattle.script_run.specs.declared.ended.Ended.{Ended}
-use Rattle.script_run.specs.declared.ended.Ended.TheVariants.{All, WriteFault, MediaFault, NoMemory}
+use Rattle.script_run.specs.declared.ended.Ended.TheVariants.{All}
 
 -- one answer more
 pub concat-push : (answers : List (List ℕ)) (answer : List ℕ) → concat (answers ++ answer ∷ []) ≡ concat answers ++ answer

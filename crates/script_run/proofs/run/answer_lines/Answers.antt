@@ -4,8 +4,6 @@ use Rattle.std.specs.List.{concat}
 use Rattle.mars_base.specs.Causes.{Rose}
 use Rattle.std.proofs.lemmas.List.{append_assoc, append-nil}
 use Rattle.script_run.specs.Lines.{lines_of}
-use Rattle.script_run.specs.Counts.{Counts}
-use Rattle.script_run.specs.Transcript.{Answered}
 use Rattle.script_run.specs.declared.ended.Ended.TheVariants.{All}
 use Rattle.script_run.proofs.Running.{concat-push, counts_on, Answered-end, Answered-more, Answered-all}
 use Rattle.script_run.proofs.run.answer_lines.Goals as goal

@@ -1,10 +1,9 @@
-use Rattle.std.proofs.Common.{refl, sym, ap, ◌∙◌, ◌∷◌, [], ◌++◌, List, ℕ}
+use Rattle.std.proofs.Common.{refl, sym, ap, ◌∙◌, ◌∷◌, [], ◌++◌}
 use Rattle.std.specs.Prelude.{codes}
 use Rattle.std.specs.Fmt.{decimal}
-use Rattle.script_text.specs.HexText.{hex_of}
 use Rattle.script_text.specs.declared.answer.Answer.TheVariants.{Data}
 use Rattle.script_text.proofs.ReplyLemmas.{log_full_text}
-use Rattle.script_text.proofs.AnswerLemmas.{answer_appended, part_text, part_appended, data_appended}
+use Rattle.script_text.proofs.AnswerLemmas.{answer_appended, part_appended, data_appended}
 use Rattle.script_text.proofs.answer.write_answer.Goals as goal
 
 pub returns-in-Logged-clause-ok : goal.returns-in-Logged-clause-ok

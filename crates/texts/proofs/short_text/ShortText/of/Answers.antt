@@ -1,4 +1,3 @@
-use Rattle.std.proofs.Common.{arith}
 use Rattle.texts.specs.Pieces.{piece_text, most_bytes}
 use Rattle.texts.proofs.Rooms.{room_at, room_behind, text_more}
 use Rattle.texts.proofs.short_text.ShortText.of.Goals as goal
