@@ -1,5 +1,5 @@
-use Rattle.std.proofs.Common.{ap, ◌∙◌, arith}
-use Rattle.mars_shell.proofs.Lining.{begun, stands, by_turns}
+use Rattle.std.proofs.Common.{arith}
+use Rattle.mars_shell.proofs.Lining.{stands, by_turns}
 use Rattle.mars_shell.proofs.lines.ByTurnsCoreWork.work_on.Goals as goal
 
 pub answer_lines-ended-requires : goal.answer_lines-ended-requires
