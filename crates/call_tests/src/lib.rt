@@ -3,14 +3,4 @@
 #![tactic(auto)]
 
 #[cfg(test)]
-mod accounts;
-#[cfg(test)]
-mod arrays;
-#[cfg(test)]
-mod counting;
-#[cfg(test)]
-mod histories;
-#[cfg(test)]
-mod opening;
-#[cfg(test)]
-mod texts;
+mod tests;
