@@ -13,4 +13,7 @@ pub use laws::{addresses_are_apart, areas_are_apart, parts_are_the_write};
 pub use part::Part;
 pub use parts::Parts;
 pub use place::Place;
-pub use shape::{CELL_LEN, HEAD_LEN, HEADER_LEN, PAGE_LEN, ROW_LEN, Shape};
+pub use shape::{
+    CELL_LEN, ENTRIES_MAX, ENTRIES_MIN, HEAD_LEN, HEADER_LEN, LOGGERS_MAX, NUMBERS_MAX, PAGE_LEN,
+    PAGES_MAX, PAGES_MIN, ROW_LEN, Shape,
+};

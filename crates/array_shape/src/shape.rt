@@ -20,6 +20,24 @@ pub const CELL_LEN: u64 = HEAD_LEN + PAGE_LEN;
 /// Bytes of a page.
 pub const PAGE_LEN: u64 = 512;
 
+/// The most loggers of an array.
+pub const LOGGERS_MAX: u8 = 8;
+
+/// The most transaction numbers of an array.
+pub const NUMBERS_MAX: u8 = 64;
+
+/// The fewest log entries per transaction number and logger.
+pub const ENTRIES_MIN: u16 = 8;
+
+/// The most log entries per transaction number and logger.
+pub const ENTRIES_MAX: u16 = 64;
+
+/// The fewest pages per logger.
+pub const PAGES_MIN: u32 = 4;
+
+/// The most pages per logger.
+pub const PAGES_MAX: u32 = 4096;
+
 /// The four numbers of an array. Every value of the type has them in range.
 #[derive(Clone, Copy, Debug, PartialEq, Eq)]
 pub struct Shape {
@@ -35,7 +53,7 @@ pub struct Shape {
 }
 
 impl Shape {
-    ghost use Rattle.std.specs.Prelude.{◌≡◌, ◌↔◌, ◌+◌, ◌*◌, ◌≤◌, ◌<◌, IsOk, IfOk, IfErr, All};
+    ghost use Rattle.std.specs.Prelude.{◌≡◌, ◌↔◌, ◌+◌, ◌*◌, ◌/◌, ◌≤◌, ◌<◌, IsOk, IfOk, IfErr, All};
     ghost use Rattle.array_shape.specs.Numbers.{AreInRange, IsFirstBad};
     ghost use Rattle.array_shape.specs.Places.{HasNumbers, data_len, media_len, page_count, row_at, cell_at, data_at, region_len, region_at, logger_of, offset_of, place_of, IsPlaced};
     ghost use Rattle.array_shape.specs.Parts.{parts_of, Tile, AreCutAtPages, IsPartOf};
@@ -46,25 +64,25 @@ impl Shape {
         ensures shape { IfOk result (HasNumbers loggers numbers entries pages) }
         ensures bad { IfErr result (λ bad. IsFirstBad loggers numbers entries pages bad.which bad.given) }
     {
-        if loggers < 1 || loggers > 8 {
+        if loggers < 1 || loggers > LOGGERS_MAX {
             return Err(BadShape {
                 which: ShapeNumber::Loggers,
                 given: u64::from(loggers),
             });
         }
-        if numbers < 1 || numbers > 64 {
+        if numbers < 1 || numbers > NUMBERS_MAX {
             return Err(BadShape {
                 which: ShapeNumber::Numbers,
                 given: u64::from(numbers),
             });
         }
-        if entries < 8 || entries > 64 {
+        if entries < ENTRIES_MIN || entries > ENTRIES_MAX {
             return Err(BadShape {
                 which: ShapeNumber::Entries,
                 given: u64::from(entries),
             });
         }
-        if pages < 4 || pages > 4096 || pages % 2 != 0 {
+        if pages < PAGES_MIN || pages > PAGES_MAX || pages % 2 != 0 {
             return Err(BadShape {
                 which: ShapeNumber::Pages,
                 given: u64::from(pages),
@@ -83,6 +101,16 @@ impl Shape {
         ensures { result ≡ page_count self.now }
     {
         u64::from(self.loggers) * u64::from(self.pages)
+    }
+
+    /// How many pages half of the data has.
+    pub fn half_page_count(&self) -> u32
+        ensures half { result ≡ page_count self.now / 2 }
+        ensures whole { result + result ≡ page_count self.now }
+        ensures some { 2 ≤ result }
+        ensures most { result ≤ 16384 }
+    {
+        (self.page_count() / 2) as u32
     }
 
     /// The length of the data in bytes.

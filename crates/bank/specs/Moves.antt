@@ -1,7 +1,6 @@
 -- What a transfer does to a core.
 use Rattle.std.specs.Prelude.{ℕ, ◌≡◌, ◌+◌, ◌^◌, ◌<◌, ◌≤◌, ◌⊎◌, false, List, [], ◌∷◌, ◌++◌, Some, None}
 use Rattle.history.specs.Table.{Granted, left_by}
-use Rattle.history.specs.Legal.{with_doubt}
 use Rattle.history.specs.declared.call.Call.{Call}
 use Rattle.history.specs.declared.call.Reply.{Reply}
 use Rattle.history.specs.declared.call.Reply.TheVariants.{Media}
@@ -14,9 +13,9 @@ use Rattle.bank.specs.Accounts.{worth, KeepsSum, Transfers}
 use Rattle.bank.specs.declared.accounts.Refusal.{Refusal}
 use Rattle.bank.specs.declared.accounts.Refusal.TheVariants.{NoAccount, Insufficient, TooMuch, Core}
 
--- each prefix of the history keeps the sum, also with the transaction in doubt
+-- each prefix of the history keeps the sum, also with what is in doubt
 abbrev pub IsBalanced : State → Type 0
-IsBalanced state = KeepsSum state.base (with_doubt state.history state.doubt)
+IsBalanced state = KeepsSum state.base (state.history ++ state.doubt)
 
 -- nothing was committed, and nothing came to be in doubt
 pub record Stays (old new : CoreView) : Type 0 where
@@ -48,7 +47,7 @@ IsEnded caller old new = old.state.live caller ≡ None → new.state.is_dead �
 -- a transaction is in doubt, and it transfers the amount
 pub record IsInDoubt (from to amount : ℕ) (old new : CoreView) : Type 0 where
   pub done : Done
-  pub doubt : new.state.doubt ≡ Some done
+  pub doubt : new.state.doubt ≡ done ∷ []
   pub transfers : Transfers from to amount (records_of old.state) (left_by (records_of old.state) done.calls)
 
 -- no transaction came to be in doubt, or, after `Media`, one did that transfers the amount
@@ -58,13 +57,13 @@ MayDoubt from to amount old new refusal = (new.state.doubt ≡ old.state.doubt) 
 -- the same of a commit, with the caller's transaction
 abbrev pub MayDoubtOwn : ℕ → CoreView → CoreView → Refusal → Type 0
 MayDoubtOwn caller old new refusal =
-    (new.state.doubt ≡ old.state.doubt) ⊎ ((refusal ≡ Core Media) × (new.state.doubt ≡ Some (done_by old.state caller (calls_of old.state caller))))
+    (new.state.doubt ≡ old.state.doubt) ⊎ ((refusal ≡ Core Media) × (new.state.doubt ≡ done_by old.state caller (calls_of old.state caller) ∷ []))
 
 -- nothing was added to the history, or the caller's transaction was, committed or in doubt
 abbrev pub MayGrow : ℕ → CoreView → CoreView → Type 0
 MayGrow caller old new =
-    (with_doubt new.state.history new.state.doubt ≡ with_doubt old.state.history old.state.doubt)
-    ⊎ ((old.state.doubt ≡ None) × (with_doubt new.state.history new.state.doubt ≡ old.state.history ++ done_by old.state caller (calls_of old.state caller) ∷ []))
+    (new.state.history ++ new.state.doubt ≡ old.state.history ++ old.state.doubt)
+    ⊎ ((old.state.doubt ≡ []) × (new.state.history ++ new.state.doubt ≡ old.state.history ++ done_by old.state caller (calls_of old.state caller) ∷ []))
 
 -- Why a transfer is refused, given the records before it.
 abbrev pub IsRefused : Table → ℕ → ℕ → ℕ → Refusal → Type 0

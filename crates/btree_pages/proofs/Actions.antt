@@ -5,8 +5,7 @@ use Rattle.std.proofs.lemmas.Bool.Decides.{nat_tests, leb_tells}
 use Rattle.record_slots.specs.Places.{page_bytes, next_slot, slot_page}
 use Rattle.page_store.specs.Index.{Action}
 use Rattle.page_store.specs.Pairs.{Pair, Rise}
-use Rattle.index_pages.specs.Chain.{key_end}
-use Rattle.index_pages.specs.Keys.{key_at}
+use Rattle.index_pages.specs.Keys.{key_at, key_end}
 use Rattle.index_pages.specs.Page.{page_pairs, pairs_said, count_said, count_of, level_of}
 use Rattle.index_pages.specs.Ways.{above, IsOwn}
 use Rattle.index_pages.proofs.PageFacts.{length-page_pairs}
@@ -14,7 +13,8 @@ use Rattle.index_pages.proofs.Rising.{key_at-bounds}
 use Rattle.btree_pages.specs.Changes.{IsCut}
 use Rattle.btree_pages.specs.Descent.{child_for, page_for}
 use Rattle.btree_pages.specs.Index.{adding, cutting, half_for, actions_below}
-use Rattle.btree_pages.specs.Tree.{IsTree, IsUnder, IsUnderSome}
+use Rattle.btree_pages.specs.Tree.{IsUnder, IsUnderSome}
+use Rattle.btree_pages.specs.Seen.{IsTree}
 use Rattle.btree_pages.proofs.Apart.{sub_of, start_of}
 use Rattle.btree_pages.proofs.Descending.{child_step}
 use Rattle.btree_pages.proofs.Ways.{above-le, child_given}

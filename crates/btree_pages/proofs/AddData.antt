@@ -14,7 +14,7 @@ use Rattle.record_slots.specs.Places.{page_bytes, page_count, first_slot_page, s
 use Rattle.page_store.specs.Index.{slots_of, index_pages_of, Grows}
 use Rattle.page_store.specs.Pairs.{Pair, inserted}
 use Rattle.page_store.specs.Shown.{address}
-use Rattle.index_pages.specs.Chain.{key_end}
+use Rattle.index_pages.specs.Keys.{key_end}
 use Rattle.index_pages.specs.Fetched.{IsFront}
 use Rattle.index_pages.specs.Page.{pairs_said, kind_said, level_said, link_said, level_of}
 use Rattle.index_pages.specs.Ways.{above, Keeps, IsOwn}
@@ -22,15 +22,15 @@ use Rattle.index_pages.proofs.Fronts.{length-count_bytes, slot_written, page_wri
 use Rattle.index_pages.proofs.PageFacts.{length-page_pairs}
 use Rattle.index_pages.proofs.Ranges.{Apart}
 use Rattle.index_pages.proofs.Rising.{length-inserted}
-use Rattle.index_pages.proofs.Writing.{small_inserted}
+use Rattle.index_pages.proofs.Writing.{small_inserted, written_kind, written_level, written_link, written_pairs, length-written_page}
 use Rattle.btree_pages.specs.Checked.{IsFrontOf}
 use Rattle.btree_pages.specs.Descent.{page_for}
-use Rattle.btree_pages.specs.Node.{node_bytes}
+use Rattle.index_pages.specs.Written.{written_page}
 use Rattle.btree_pages.specs.OnWay.{IsOnWay}
-use Rattle.btree_pages.specs.Tree.{IsTree, IsUnder, IsSoundTree, pairs_of_tree}
+use Rattle.btree_pages.specs.Tree.{IsUnder, IsSoundTree, pairs_of_tree}
+use Rattle.btree_pages.specs.Seen.{tree_of_sound, IsTree}
 use Rattle.btree_pages.specs.Writes.{IsRead}
 use Rattle.btree_pages.specs.Index.{tree}
-use Rattle.btree_pages.proofs.NodeBytes.{node_kind, node_level, node_link, node_pairs, length-node_bytes}
 use Rattle.btree_pages.proofs.Puts.{AllApart, Stand, applied_long, applied_away, applied_stand}
 use Rattle.btree_pages.proofs.Ways.{Way, way_of, way_own}
 use Rattle.std.specs.Prelude.{None}
@@ -42,7 +42,7 @@ use Rattle.page_store.specs.Index.{Gains}
 use Rattle.page_store.specs.Pairs.{found}
 use Rattle.index_pages.proofs.Given.{above_zero}
 use Rattle.btree_pages.specs.Changes.{TakesPair}
-use Rattle.btree_pages.specs.Writes.{adding_parts}
+use Rattle.index_pages.specs.Adding.{adding_parts}
 use Rattle.btree_pages.proofs.Belonging.{inner_stays}
 use Rattle.btree_pages.proofs.CutData.{carries_on}
 use Rattle.btree_pages.proofs.Taking.{sound_tree_takes}
@@ -77,7 +77,7 @@ module _ (shape : Shape) (old : List ℕ) (half : ℕ) (long : length old ≡ da
   record_bytes = slot_bytes (Absent key)
 
   leaf_new : List ℕ
-  leaf_new = node_bytes 0 (inserted pairs key front.next_slot)
+  leaf_new = written_page 0 0 (inserted pairs key front.next_slot)
 
   counts : List ℕ
   counts = count_bytes (front.next_slot + 1) front.next_page
@@ -91,17 +91,17 @@ module _ (shape : Shape) (old : List ℕ) (half : ℕ) (long : length old ≡ da
 
   len2 : length leaf_new ≡ 512
   unfolding leaf_new
-  len2 = length-node_bytes 0 (inserted pairs key front.next_slot) leaf_few
+  len2 = length-written_page 0 0 (inserted pairs key front.next_slot) leaf_few (omega arith)
 
   len3 : length counts ≡ 8
   unfolding counts
   len3 = length-count_bytes (front.next_slot + 1) front.next_page
 
   own_root : IsOwn old 1
-  own_root = (omega arith, omega (arith, sound.front.some_pages))
+  own_root = (omega arith, omega (arith, sound.0.some_pages))
 
   root_tree : IsTree (above d 0) old 1 0 key_end
-  root_tree = subst (λ (n : ℕ). IsTree n old 1 0 key_end) way.level_is sound.pages
+  root_tree = subst (λ (n : ℕ). IsTree n old 1 0 key_end) way.level_is (tree_of_sound old sound)
 
   own_leaf : IsOwn old leaf
   own_leaf = subst (λ (x : ℕ). IsOwn old x) (sym way.page_is) (way_own d 0 old key 1 0 key_end own_root root_tree (omega arith) (omega arith))
@@ -113,13 +113,13 @@ module _ (shape : Shape) (old : List ℕ) (half : ℕ) (long : length old ≡ da
   bottom = leaf_way.tree.level
 
   leaf_below : leaf < half
-  leaf_below = omega (arith, own_leaf, sound.front.pages, first)
+  leaf_below = omega (arith, own_leaf, sound.0.pages, first)
 
   parts : List Part
-  parts = adding_parts half front leaf pairs key
+  parts = adding_parts half front leaf 0 pairs key
 
   added : List ℕ
-  added = applied (adding_parts half front leaf pairs key) old
+  added = applied (adding_parts half front leaf 0 pairs key) old
 
   fit : AllFit (length old) parts
   unfolding parts place record_bytes leaf_new counts
@@ -164,7 +164,7 @@ module _ (shape : Shape) (old : List ℕ) (half : ℕ) (long : length old ≡ da
   page_old : (x : ℕ) → 1 ≤ x → x < next_page old → x ≢ leaf → page_bytes added x ≡ page_bytes old x
   unfolding page_bytes
   page_old x some lt other =
-      let below : x < half = omega (arith, sound.front.pages, first) in
+      let below : x < half = omega (arith, sound.0.pages, first) in
       let apart_leaf : Apart (512 * x) 512 (address leaf 0) (length leaf_new) = elim (cases_lt x leaf) [ inl a ↦ inl (omega arith) | inr a ↦ (let ne : x ≡ leaf → ⊥ = other in inr (omega (arith, len2))) ] in
       away (512 * x) 512 (inl (omega (arith, place_is))) apart_leaf (inr (omega (arith, len3)))
 
@@ -187,8 +187,8 @@ module _ (shape : Shape) (old : List ℕ) (half : ℕ) (long : length old ≡ da
 
   front_now : IsSuper 1 added
   front_now = record {
-    has_mark = mark_kept old added zero_new sound.front.has_mark;
-    form_is = form_kept old added zero_new ∙ sound.front.form_is;
+    has_mark = mark_kept old added zero_new sound.0.has_mark;
+    form_is = form_kept old added zero_new ∙ sound.0.form_is;
     slots = omega (arith, slot_now, added_count, eight);
     some_pages = omega (arith, page_now, front_is.some);
     pages = omega (arith, page_now, added_count, front_is.pages, half_is);
@@ -205,10 +205,10 @@ module _ (shape : Shape) (old : List ℕ) (half : ℕ) (long : length old ≡ da
   unfolding leaf_new
   takes = record {
     room = omega (arith, room, ap (λ (ps : List Pair). length ps) way.pairs_are, length-page_pairs old leaf);
-    kind = ap kind_said page_new ∙ node_kind 0 (inserted pairs key front.next_slot) leaf_few;
-    level = ap level_said page_new ∙ node_level 0 (inserted pairs key front.next_slot) leaf_few;
-    link = ap link_said page_new ∙ node_link 0 (inserted pairs key front.next_slot) leaf_few;
-    pairs = ap pairs_said page_new ∙ node_pairs 0 (inserted pairs key front.next_slot) leaf_few (small_inserted key front.next_slot pairs read.small fits (omega (arith, eight)))
+    kind = ap kind_said page_new ∙ written_kind 0 0 (inserted pairs key front.next_slot) leaf_few (omega arith);
+    level = ap level_said page_new ∙ written_level 0 0 (inserted pairs key front.next_slot) leaf_few (omega arith);
+    link = ap link_said page_new ∙ written_link 0 0 (inserted pairs key front.next_slot) leaf_few (omega arith);
+    pairs = ap pairs_said page_new ∙ written_pairs 0 0 (inserted pairs key front.next_slot) leaf_few (omega arith) (small_inserted key front.next_slot pairs read.small fits (omega (arith, eight)))
         ∙ ap (λ (ps : List Pair). inserted ps key front.next_slot) way.pairs_are;
     given = omega (arith, slot_now);
     carries = carries_absent added key front.next_slot fits slot_new;
@@ -229,7 +229,7 @@ module _ (shape : Shape) (old : List ℕ) (half : ℕ) (long : length old ≡ da
   ]
 
   -- what adding a pair does to the data
-  pub adding_grows : Grows tree old (applied (adding_parts half front leaf pairs key) old) × Gains tree key old (applied (adding_parts half front leaf pairs key) old)
+  pub adding_grows : Grows tree old (applied (adding_parts half front leaf 0 pairs key) old) × Gains tree key old (applied (adding_parts half front leaf 0 pairs key) old)
   unfolding added
   adding_grows = (
     record {
@@ -239,7 +239,7 @@ module _ (shape : Shape) (old : List ℕ) (half : ℕ) (long : length old ≡ da
       later = omega (arith, page_now, says.pages);
       few = omega (arith, page_now, says.pages);
       named = λ x from to. absurd (omega (arith, page_now, says.pages));
-      kept = λ x u. subst (λ (n : ℕ). IsUnder n added x 1) (sym added_level) (inner_stays old added leaf x bottom (λ q own other. page_old q own.0 own.1 other) (level_of old 1) 1 0 key_end own_root sound.pages u);
+      kept = λ x u. subst (λ (n : ℕ). IsUnder n added x 1) (sym added_level) (inner_stays old added leaf x bottom (λ q own other. page_old q own.0 own.1 other) (level_of old 1) 1 0 key_end own_root (tree_of_sound old sound) u);
       levels = omega (arith, added_level);
     },
     record {
@@ -249,6 +249,6 @@ module _ (shape : Shape) (old : List ℕ) (half : ℕ) (long : length old ≡ da
     },
   )
 
-  pub adding_takes_none : next_page (applied (adding_parts half front leaf pairs key) old) ≡ next_page old
+  pub adding_takes_none : next_page (applied (adding_parts half front leaf 0 pairs key) old) ≡ next_page old
   unfolding added
   adding_takes_none = page_now ∙ says.pages

@@ -1,7 +1,9 @@
 -- No page occurs twice in a sound tree.
 use Rattle.std.proofs.Common.{◌≡◌, ◌≢◌, ℕ, zero, suc, ◌<◌, ◌≤◌, inl, inr, List, [], ◌∷◌, length, length-append, sym, ◌∙◌, subst, arith}
+use Rattle.record_slots.specs.Places.{next_page}
 use Rattle.btree_pages.specs.TreeFacts.{children_tile, tree_rises, tree_wide, tree_level}
-use Rattle.btree_pages.specs.Tree.{IsTreeLeaf, AreChildren, next_low, AreSound, IsTree, pieces_with, pairs_under, IsUnder, IsUnderSome}
+use Rattle.btree_pages.specs.Tree.{AreChildren, next_low, pieces_with, pairs_under, IsUnder, IsUnderSome}
+use Rattle.btree_pages.specs.Seen.{IsTreeLeaf, AreSound, IsTree}
 use Rattle.index_pages.proofs.PageFacts.{length-page_pairs}
 use Rattle.index_pages.proofs.Rising.{key_at-bounds}
 use Rattle.index_pages.proofs.Tiling.{tile_bounds}
@@ -20,7 +22,7 @@ pub record Sub (bytes : List ℕ) (q l low high : ℕ) : Type 0 where
   pub most : m ≤ l
 
 first_some : (f : ℕ → List Pair) (P : ℕ → ℕ → ℕ → Type 0) → ((page low high : ℕ) → 2 ≤ page → P page low high → 1 ≤ length (f page))
-    → (bytes : List ℕ) (es : List Pair) (high : ℕ) → 1 ≤ length es → AreChildren bytes es → AreSound P es high → 1 ≤ length (joined (pieces_with f es))
+    → (bytes : List ℕ) (es : List Pair) (high : ℕ) → 1 ≤ length es → AreChildren (next_page bytes) es → AreSound P es high → 1 ≤ length (joined (pieces_with f es))
 first_some f P fact bytes [] high some are sound = absurd (omega arith)
 first_some f P fact bytes (e ∷ es) high some are sound =
     let h = fact e.1 e.0 (next_low es high) are.0 sound.0 in
@@ -36,14 +38,14 @@ tree_some (suc m) bytes q low high t other =
 pub child_facts : (l : ℕ) (bytes : List ℕ) (page low high : ℕ) → 2 ≤ page → IsTree l bytes page low high → Rise low high (pairs_under l bytes page) × (low < high)
 child_facts l bytes page low high two t = (tree_rises l bytes page low high t, tree_wide l bytes page low high t (omega arith))
 
-pub entries_tile : (l : ℕ) (bytes : List ℕ) (es : List Pair) (high : ℕ) → AreChildren bytes es → AreSound (IsTree l bytes) es high → Tile (next_low es high) high (pieces_with (pairs_under l bytes) es)
+pub entries_tile : (l : ℕ) (bytes : List ℕ) (es : List Pair) (high : ℕ) → AreChildren (next_page bytes) es → AreSound (IsTree l bytes) es high → Tile (next_low es high) high (pieces_with (pairs_under l bytes) es)
 entries_tile l bytes es high are sound = children_tile (pairs_under l bytes) (IsTree l bytes) (child_facts l bytes) bytes es high are sound
 
 wider : (bytes : List ℕ) (q l l' low low' high high' : ℕ) → low' ≤ low → high ≤ high' → l ≤ l' → Sub bytes q l low high → Sub bytes q l' low' high'
 wider bytes q l l' low low' high high' a b c s = record { m = s.m; from = s.from; to = s.to; tree = s.tree; above = omega (arith, s.above); below = omega (arith, s.below); most = omega (arith, s.most) }
 
 pub sub_below : (l : ℕ) (bytes : List ℕ) (q : ℕ) → ((page low high : ℕ) → IsTree l bytes page low high → IsUnder l bytes q page → Sub bytes q l low high)
-    → (es : List Pair) (high : ℕ) → AreChildren bytes es → AreSound (IsTree l bytes) es high → IsUnderSome (IsUnder l bytes q) es → Sub bytes q l (next_low es high) high
+    → (es : List Pair) (high : ℕ) → AreChildren (next_page bytes) es → AreSound (IsTree l bytes) es high → IsUnderSome (IsUnder l bytes q) es → Sub bytes q l (next_low es high) high
 sub_below l bytes q ih [] high are sound u = absurd u
 sub_below l bytes q ih (e ∷ es) high are sound (inl u) =
     let rest = tile_bounds (next_low es high) high (pieces_with (pairs_under l bytes) es) (entries_tile l bytes es high are.2 sound.1) in

@@ -1,14 +1,15 @@
 -- The pages of a tree after a split: none is lost, and the new one belongs to it.
 use Rattle.std.proofs.Common.{◌≡◌, ◌≢◌, ℕ, zero, suc, ◌<◌, ◌≤◌, ◌⊎◌, true, false, nat_lt, inl, inr, List, [], ◌∷◌, length, take, drop, refl, sym, ◌∙◌, ap, subst, arith}
 use Rattle.std.proofs.lemmas.Bool.Decides.{leb_tells, eqb_tells}
-use Rattle.record_slots.specs.Places.{page_bytes}
+use Rattle.record_slots.specs.Places.{page_bytes, next_page}
 use Rattle.page_store.specs.Pairs.{Pair}
 use Rattle.index_pages.specs.Page.{page_pairs, pairs_said, level_of}
 use Rattle.index_pages.specs.Ways.{above, IsOwn}
 use Rattle.index_pages.proofs.PageFacts.{length-page_pairs}
 use Rattle.btree_pages.specs.Changes.{middle, with_entry, SplitsChild, SplitsRoot}
 use Rattle.btree_pages.specs.Descent.{child_for, page_for}
-use Rattle.btree_pages.specs.Tree.{AreChildren, AreSound, next_low, IsTree, IsUnder, IsUnderSome}
+use Rattle.btree_pages.specs.Tree.{AreChildren, next_low, IsUnder, IsUnderSome}
+use Rattle.btree_pages.specs.Seen.{AreSound, IsTree}
 use Rattle.btree_pages.proofs.Actions.{child_some, under_self}
 use Rattle.btree_pages.proofs.Apart.{sub_of, sub_below, start_of}
 use Rattle.btree_pages.proofs.Descending.{child_step}
@@ -52,7 +53,7 @@ under_way (suc d) l bytes key p low high x t le lt u =
 module _ (old new : List ℕ) (l parent key right : ℕ) (splits : SplitsChild old new parent key right) (parent_level : level_of old parent ≡ suc l) (child_level : level_of old (child_for (page_pairs old parent) key) ≡ l)
     (kept : (x : ℕ) → IsOwn old x → x ≢ parent → x ≢ child_for (page_pairs old parent) key → page_bytes new x ≡ page_bytes old x) where
   below_stays : (n x : ℕ) → ((p low high : ℕ) → IsOwn old p → IsTree n old p low high → IsUnder n old x p → IsUnder n new x p ⊎ IsUnder l new x right)
-      → (es : List Pair) (high : ℕ) → AreChildren old es → AreSound (IsTree n old) es high → IsUnderSome (IsUnder n old x) es → IsUnderSome (IsUnder n new x) es ⊎ IsUnder l new x right
+      → (es : List Pair) (high : ℕ) → AreChildren (next_page old) es → AreSound (IsTree n old) es high → IsUnderSome (IsUnder n old x) es → IsUnderSome (IsUnder n new x) es ⊎ IsUnder l new x right
   below_stays n x ih [] high are sound u = absurd u
   below_stays n x ih (e ∷ es) high are sound (inl u) = elim (ih e.1 e.0 (next_low es high) (omega (arith, are.0), are.1) sound.0 u) [ inl a ↦ inl (inl a) | inr a ↦ inr a ]
   below_stays n x ih (e ∷ es) high are sound (inr u) = elim (below_stays n x ih es high are.2 sound.1 u) [ inl a ↦ inl (inr a) | inr a ↦ inr a ]
@@ -131,7 +132,7 @@ module _ (old new : List ℕ) (left right : ℕ) (splits : SplitsRoot old new le
 -- only a leaf has changed
 module _ (old new : List ℕ) (leaf x : ℕ) (bottom : level_of old leaf ≡ 0) (kept : (q : ℕ) → IsOwn old q → q ≢ leaf → page_bytes new q ≡ page_bytes old q) where
   inner_some : (l : ℕ) → ((p low high : ℕ) → IsOwn old p → IsTree l old p low high → IsUnder l old x p → IsUnder l new x p)
-      → (es : List Pair) (high : ℕ) → AreChildren old es → AreSound (IsTree l old) es high → IsUnderSome (IsUnder l old x) es → IsUnderSome (IsUnder l new x) es
+      → (es : List Pair) (high : ℕ) → AreChildren (next_page old) es → AreSound (IsTree l old) es high → IsUnderSome (IsUnder l old x) es → IsUnderSome (IsUnder l new x) es
   inner_some l ih [] high are sound u = absurd u
   inner_some l ih (e ∷ es) high are sound (inl u) = inl (ih e.1 e.0 (next_low es high) (omega (arith, are.0), are.1) sound.0 u)
   inner_some l ih (e ∷ es) high are sound (inr u) = inr (inner_some l ih es high are.2 sound.1 u)

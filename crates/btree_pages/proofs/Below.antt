@@ -34,7 +34,8 @@ use Rattle.btree_pages.specs.Descent.{child_for}
 use Rattle.btree_pages.specs.Index.{tree, tree_below, adding, cutting, half_for, half_pairs, actions_below}
 use Rattle.btree_pages.specs.OnWay.{IsOnWay, IsReached}
 use Rattle.btree_pages.specs.Tree.{IsSoundTree, pairs_of_tree}
-use Rattle.btree_pages.specs.Writes.{IsRead, adding_pages, adding_parts, cutting_pages, cutting_parts}
+use Rattle.btree_pages.specs.Writes.{IsRead, cutting_pages, cutting_parts}
+use Rattle.index_pages.specs.Adding.{adding_pages, adding_parts}
 use Rattle.btree_pages.specs.declared.node.Node.{Node}
 use Rattle.btree_pages.proofs.AddData.{adding_grows, adding_takes_none}
 use Rattle.btree_pages.proofs.CutData.{cutting_grows, cut_counts, cut_level, half_there, half_says, half_left}
@@ -352,25 +353,25 @@ module _ (tells : Bool) (E : Shape → List ℕ → List ℕ → Type 0) (t key 
         none_now : IsTrue tells → found (pairs_of_tree v.store.state.bytes) key ≡ None
         none_now told = ap (λ (ps : List Pair). found ps key) (s.going.made told alive).1.pairs ∙ absent told
 
-        add_grown : IsTrue tells → Grows (tree_below page0 level0 most) v0.store.state.bytes (applied (adding_parts half front page pairs key) v.store.state.bytes)
-            × Gains (tree_below page0 level0 most) key v0.store.state.bytes (applied (adding_parts half front page pairs key) v.store.state.bytes)
+        add_grown : IsTrue tells → Grows (tree_below page0 level0 most) v0.store.state.bytes (applied (adding_parts half front page 0 pairs key) v.store.state.bytes)
+            × Gains (tree_below page0 level0 most) key v0.store.state.bytes (applied (adding_parts half front page 0 pairs key) v.store.state.bytes)
         add_grown told =
             let made = s.going.made told alive in
             let w = leaf_walks told in
             let d = adding_grows v0.store.shape v.store.state.bytes half (long_now told) half_is all few front key w.d page pairs fits s.front_is leaf_read (sound_now told) (s.counts told) w.way s.room slot_now (none_now told) in
             let takes = adding_takes_none v0.store.shape v.store.state.bytes half (long_now told) half_is all few front key w.d page pairs fits s.front_is leaf_read (sound_now told) (s.counts told) w.way s.room slot_now (none_now told) in (
-              grows_more page0 level0 most v0.store.state.bytes v.store.state.bytes (applied (adding_parts half front page pairs key) v.store.state.bytes) (limit told) made.0 made.1 d.0 (omega (arith, takes, w.few)),
-              gains_more page0 level0 most v0.store.state.bytes v.store.state.bytes (applied (adding_parts half front page pairs key) v.store.state.bytes) (limit told) key made.1 d.1,
+              grows_more page0 level0 most v0.store.state.bytes v.store.state.bytes (applied (adding_parts half front page 0 pairs key) v.store.state.bytes) (limit told) made.0 made.1 d.0 (omega (arith, takes, w.few)),
+              gains_more page0 level0 most v0.store.state.bytes v.store.state.bytes (applied (adding_parts half front page 0 pairs key) v.store.state.bytes) (limit told) key made.1 d.1,
             )
 
-        add_may : IsTrue tells → IsAlive v0.store → MayBecome (tree_below page0 level0 most) key v0.store.state.bytes (applied (adding_parts half front page pairs key) v.store.state.bytes)
+        add_may : IsTrue tells → IsAlive v0.store → MayBecome (tree_below page0 level0 most) key v0.store.state.bytes (applied (adding_parts half front page 0 pairs key) v.store.state.bytes)
         add_may told running = let d = add_grown told in (d.0, inr d.1)
 
-        add_start : (v' : PagesView) (r : Result (Unit {0}) PageFault) → Acts tells (E v.store.shape) t (adding_pages (index_pages_of v.store.shape) front page) (adding_parts (index_pages_of v.store.shape) front page pairs key) v v' r
-            → Acts tells (E v0.store.shape) t (adding_pages half front page) (adding_parts half front page pairs key) v v' r
+        add_start : (v' : PagesView) (r : Result (Unit {0}) PageFault) → Acts tells (E v.store.shape) t (adding_pages (index_pages_of v.store.shape) front page) (adding_parts (index_pages_of v.store.shape) front page 0 pairs key) v v' r
+            → Acts tells (E v0.store.shape) t (adding_pages half front page) (adding_parts half front page 0 pairs key) v v' r
         add_start v' r acts =
-            subst (λ (n : ℕ). Acts tells (E v0.store.shape) t (adding_pages n front page) (adding_parts n front page pairs key) v v' r) (sym half_is)
-            (subst (λ (sh : Shape). Acts tells (E sh) t (adding_pages (index_pages_of sh) front page) (adding_parts (index_pages_of sh) front page pairs key) v v' r) s.going.shape acts)
+            subst (λ (n : ℕ). Acts tells (E v0.store.shape) t (adding_pages n front page) (adding_parts n front page 0 pairs key) v v' r) (sym half_is)
+            (subst (λ (sh : Shape). Acts tells (E sh) t (adding_pages (index_pages_of sh) front page) (adding_parts (index_pages_of sh) front page 0 pairs key) v v' r) s.going.shape acts)
 
         add_pages : IsTrue tells → adding_pages half front page ≡ (adding v.store.state.bytes page).pages
         add_pages told = adding_at v0.store.shape v.store.state.bytes (long_now told) half all front (s.counts told) page
@@ -385,12 +386,12 @@ module _ (tells : Bool) (E : Shape → List ℕ → List ℕ → Type 0) (t key 
             (actions_below level0 v0.store.state.bytes page0 page0 (next_page v0.store.state.bytes) key) most v.store.state.bytes page pairs (leaf_walks told)
 
         pub add_done : (v' : PagesView) → (let r : Result (Unit {0}) PageFault = Ok tt in
-            Acts tells (E v.store.shape) t (adding_pages (index_pages_of v.store.shape) front page) (adding_parts (index_pages_of v.store.shape) front page pairs key) v v' r)
+            Acts tells (E v.store.shape) t (adding_pages (index_pages_of v.store.shape) front page) (adding_parts (index_pages_of v.store.shape) front page 0 pairs key) v v' r)
             → (let r : Result ℕ IndexFault = Ok front.next_slot in Inserts tells (E v0.store.shape) (tree_below page0 level0 most) t key v0 v' r)
         add_done v' acts' =
             let r : Result (Unit {0}) PageFault = Ok tt in
             let acts = add_start v' r acts' in
-            inserts_done (tree_below page0 level0 most) tells (E v0.store.shape) t key v0 v v' s.going (adding_pages half front page) (adding_parts half front page pairs key) add_may front.next_slot acts
+            inserts_done (tree_below page0 level0 most) tells (E v0.store.shape) t key v0 v v' s.going (adding_pages half front page) (adding_parts half front page 0 pairs key) add_may front.next_slot acts
             (λ told running. let d = add_grown told in ((s.counts told).slots ∙ (s.going.made told alive).1.slots, d.0, d.1)) (
               alive,
               slot_now,
@@ -401,11 +402,11 @@ module _ (tells : Bool) (E : Shape → List ℕ → List ℕ → Type 0) (t key 
             )
 
         pub add_err : (v' : PagesView) (fault : PageFault) → (let r : Result (Unit {0}) PageFault = Err fault in
-            Acts tells (E v.store.shape) t (adding_pages (index_pages_of v.store.shape) front page) (adding_parts (index_pages_of v.store.shape) front page pairs key) v v' r)
+            Acts tells (E v.store.shape) t (adding_pages (index_pages_of v.store.shape) front page) (adding_parts (index_pages_of v.store.shape) front page 0 pairs key) v v' r)
             → (let r : Result ℕ IndexFault = Err (as_index fault) in Inserts tells (E v0.store.shape) (tree_below page0 level0 most) t key v0 v' r)
         add_err v' fault acts' =
             let r : Result (Unit {0}) PageFault = Err fault in
-            inserts_act_err (tree_below page0 level0 most) tells (E v0.store.shape) t key v0 v v' s.going (adding_pages half front page) (adding_parts half front page pairs key) add_may alive
+            inserts_act_err (tree_below page0 level0 most) tells (E v0.store.shape) t key v0 v v' s.going (adding_pages half front page) (adding_parts half front page 0 pairs key) add_may alive
             (λ g h n lacks. let lacks' = lacks_same v0.store v.store t s.going.shape (s.going.logs.ranges t) (adding_pages half front page) g h n lacks in (
               alive,
               (adding_pages half front page, omega arith, lacks'),

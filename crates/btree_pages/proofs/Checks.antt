@@ -1,17 +1,17 @@
 -- The tests of a tree, step by step.
-use Rattle.std.proofs.Common.{◌≡◌, ◌≢◌, ◌↔◌, ℕ, zero, suc, ◌+◌, ◌-◌, ◌<◌, ◌≤◌, inl, inr, List, [], ◌∷◌, Result, Ok, Err, refl, sym, ◌∙◌, ap, subst, arith}
-use Rattle.record_slots.specs.Places.{next_page, AreGiven, page_bytes}
+use Rattle.std.proofs.Common.{◌≡◌, ◌≢◌, ◌↔◌, ℕ, zero, suc, ◌+◌, ◌-◌, ◌<◌, ◌≤◌, inl, inr, List, ◌∷◌, Option, Some, None, Result, Ok, Err, refl, sym, ◌∙◌, ap, subst, arith}
+use Rattle.record_slots.specs.Places.{next_page, page_bytes}
 use Rattle.page_store.specs.Pairs.{Pair, Rise}
 use Rattle.page_store.specs.declared.index_fault.CheckFault.{CheckFault}
 use Rattle.page_store.specs.declared.index_fault.CheckFault.TheVariants.{Damaged, Media, Dead}
-use Rattle.index_pages.specs.Chain.{key_end}
+use Rattle.index_pages.specs.Keys.{key_end}
 use Rattle.index_pages.specs.Page.{pairs_from, pair_said, pairs_said, page_pairs, kind_said, level_said, count_said, link_said}
 use Rattle.index_pages.proofs.Reading.{from_first, from_step, from_end}
-use Rattle.index_pages.specs.Checked.{SlotCause}
-use Rattle.btree_pages.specs.Checked.{AreNamed, SlotsCause, ChildrenCause, TreeCause}
-use Rattle.btree_pages.specs.Failing.{SlotsFail, IsTreeLeafHead, ChildFails, TreeFails}
+use Rattle.index_pages.specs.Slots.{slot_check, IsVerdict}
+use Rattle.mars_base.specs.Check.{each}
+use Rattle.mars_base.proofs.Checks.{both_on, each_on}
 use Rattle.btree_pages.specs.Node.{IsNode}
-use Rattle.btree_pages.specs.Tree.{AreChildren, next_low, IsInner, AreSound, IsTree}
+use Rattle.btree_pages.specs.Tree.{IsLeafPage, AreChildren, next_low, IsInner, children_check, tree_from}
 
 -- at first all pairs are left
 pub whole_left : (page : List ℕ) (n : ℕ) → n ≡ count_said page → pairs_said page ≡ pairs_from page 0 (n - 0)
@@ -41,67 +41,53 @@ module _ (page : List ℕ) (i n : ℕ) (All : Type 0) where
       λ all. subst (λ (ps : List Pair). Rise least high ps) (from_end page i n le) (left.1 all),
     )
 
-  module _ (pages : ℕ) (left : AreNamed pages (pairs_from page i (n - i)) ↔ All) where
-    pub named_step : i < n → 2 ≤ (pair_said page i).1 → (pair_said page i).1 < pages → AreNamed pages (pairs_from page (i + 1) (n - (i + 1))) ↔ All
+  module _ (pages : ℕ) (left : AreChildren pages (pairs_from page i (n - i)) ↔ All) where
+    pub named_step : i < n → 2 ≤ (pair_said page i).1 → (pair_said page i).1 < pages → AreChildren pages (pairs_from page (i + 1) (n - (i + 1))) ↔ All
     named_step lt two given = (
-      λ r. left.0 (subst (λ (ps : List Pair). AreNamed pages ps) (sym (next_left lt)) (two, given, r)),
-      λ all. (subst (λ (ps : List Pair). AreNamed pages ps) (next_left lt) (left.1 all)).2,
+      λ r. left.0 (subst (λ (ps : List Pair). AreChildren pages ps) (sym (next_left lt)) (two, given, r)),
+      λ all. (subst (λ (ps : List Pair). AreChildren pages ps) (next_left lt) (left.1 all)).2,
     )
 
     pub named_here : i < n → All → (2 ≤ (pair_said page i).1) × ((pair_said page i).1 < pages)
-    named_here lt all = let h = subst (λ (ps : List Pair). AreNamed pages ps) (next_left lt) (left.1 all) in (h.0, h.1)
+    named_here lt all = let h = subst (λ (ps : List Pair). AreChildren pages ps) (next_left lt) (left.1 all) in (h.0, h.1)
 
     pub named_end : n ≤ i → All
-    named_end le = left.0 (subst (λ (ps : List Pair). AreNamed pages ps) (sym (from_end page i n le)) tt)
+    named_end le = left.0 (subst (λ (ps : List Pair). AreChildren pages ps) (sym (from_end page i n le)) tt)
 
 -- the children are named exactly when they are below the next page
-pub named_children : (bytes : List ℕ) (pages : ℕ) (es : List Pair) → pages ≡ next_page bytes → AreNamed pages es ↔ AreChildren bytes es
-named_children bytes pages [] is = (λ a. tt, λ a. tt)
-named_children bytes pages (e ∷ es) is = let h = named_children bytes pages es is in (
-  λ a. (a.0, omega (arith, a.1, is), h.0 a.2),
-  λ a. (a.0, omega (arith, a.1, is), h.1 a.2),
-)
+named_children : (bytes : List ℕ) (pages : ℕ) (es : List Pair) → pages ≡ next_page bytes → AreChildren pages es ↔ AreChildren (next_page bytes) es
+named_children bytes pages es is = (λ are. subst (λ (n : ℕ). AreChildren n es) is are, λ are. subst (λ (n : ℕ). AreChildren n es) (sym is) are)
 
--- Of all pairs of a leaf these are left: if they are sound, so are all, and the page that is damaged because of one of them is the leaf's
--- answer.
-pub record SlotsLeft (bytes : List ℕ) (page : ℕ) (pairs left : List Pair) : Type 0 where
-  pub fails : (bad : ℕ) → SlotsFail bytes page left bad → SlotsFail bytes page pairs bad
-  pub given : AreGiven bytes left → AreGiven bytes pairs
-
-pub slots_all : (bytes : List ℕ) (page : ℕ) (pairs : List Pair) → SlotsLeft bytes page pairs pairs
-slots_all bytes page pairs = record { fails = λ bad f. f; given = λ g. g }
+-- Of all pairs of a leaf these are left: their verdict is that of all.
+abbrev pub SlotsLeft : List ℕ → ℕ → List Pair → List Pair → Type 0
+SlotsLeft bytes page pairs left = (verdict : Option ℕ) → each (slot_check bytes page) left verdict → each (slot_check bytes page) pairs verdict
 
 module _ (bytes : List ℕ) (page : ℕ) (pairs : List Pair) (p : Pair) (rest : List Pair) (left : SlotsLeft bytes page pairs (p ∷ rest)) where
-  pub slots_step : (let r : Result (Unit {0}) CheckFault = Ok tt in SlotCause bytes page p r) → SlotsLeft bytes page pairs rest
-  slots_step well = record { fails = λ bad f. left.fails bad (inr (inr (well.0, well.1, f))); given = λ g. left.given (well.0, well.1, g) }
+  pub slots_step : (let r : Result (Unit {0}) CheckFault = Ok tt in IsVerdict (slot_check bytes page p) r) → SlotsLeft bytes page pairs rest
+  slots_step well = λ verdict told. left verdict (each_on (slot_check bytes page) p rest well verdict told)
 
-  pub slots_fail : (fault : CheckFault) → (let r : Result (Unit {0}) CheckFault = Err fault in SlotCause bytes page p r) → (let s : Result (Unit {0}) CheckFault = Err fault in SlotsCause bytes page pairs s)
-  slots_fail (Damaged bad) (inl f) = left.fails bad (inl f)
-  slots_fail (Damaged bad) (inr f) = left.fails bad (inr (inl f))
+  pub slots_fail : (fault : CheckFault) → (let r : Result (Unit {0}) CheckFault = Err fault in IsVerdict (slot_check bytes page p) r) → (let s : Result (Unit {0}) CheckFault = Err fault in IsVerdict (each (slot_check bytes page) pairs) s)
+  slots_fail (Damaged bad) f = left (Some bad) (inl f)
   slots_fail Media f = tt
   slots_fail Dead f = tt
 
 -- the same for the children of a page
-pub record ChildrenLeft (l : ℕ) (bytes : List ℕ) (all left : List Pair) (high : ℕ) : Type 0 where
-  pub fails : (bad : ℕ) → ChildFails (IsTree l bytes) (TreeFails l bytes) left high bad → ChildFails (IsTree l bytes) (TreeFails l bytes) all high bad
-  pub sound : AreSound (IsTree l bytes) left high → AreSound (IsTree l bytes) all high
-
-pub children_all : (l : ℕ) (bytes : List ℕ) (all : List Pair) (high : ℕ) → ChildrenLeft l bytes all all high
-children_all l bytes all high = record { fails = λ bad f. f; sound = λ s. s }
+abbrev pub ChildrenLeft : ℕ → List ℕ → List Pair → List Pair → ℕ → Type 0
+ChildrenLeft l bytes all left high = (verdict : Option ℕ) → children_check (tree_from l bytes) left high verdict → children_check (tree_from l bytes) all high verdict
 
 module _ (l : ℕ) (bytes : List ℕ) (all : List Pair) (e : Pair) (rest : List Pair) (high : ℕ) (left : ChildrenLeft l bytes all (e ∷ rest) high) where
-  pub children_step : (let r : Result (Unit {0}) CheckFault = Ok tt in TreeCause l bytes e.1 e.0 (next_low rest high) r) → ChildrenLeft l bytes all rest high
-  children_step well = record { fails = λ bad f. left.fails bad (inr (well, f)); sound = λ s. left.sound (well, s) }
+  pub children_step : (let r : Result (Unit {0}) CheckFault = Ok tt in IsVerdict (tree_from l bytes e.1 e.0 (next_low rest high)) r) → ChildrenLeft l bytes all rest high
+  children_step well = λ verdict told. left verdict (both_on (tree_from l bytes e.1 e.0 (next_low rest high)) (children_check (tree_from l bytes) rest high) well verdict told)
 
-  pub children_fail : (fault : CheckFault) → (let r : Result (Unit {0}) CheckFault = Err fault in TreeCause l bytes e.1 e.0 (next_low rest high) r)
-      → (let s : Result (Unit {0}) CheckFault = Err fault in ChildrenCause l bytes all high s)
-  children_fail (Damaged bad) f = left.fails bad (inl f)
+  pub children_fail : (fault : CheckFault) → (let r : Result (Unit {0}) CheckFault = Err fault in IsVerdict (tree_from l bytes e.1 e.0 (next_low rest high)) r)
+      → (let s : Result (Unit {0}) CheckFault = Err fault in IsVerdict (children_check (tree_from l bytes) all high) s)
+  children_fail (Damaged bad) f = left (Some bad) (inl f)
   children_fail Media f = tt
   children_fail Dead f = tt
 
 -- a page's own tests, once its bytes were read
 module _ (bytes buf : List ℕ) (page low high : ℕ) (is : buf ≡ page_bytes bytes page) where
-  leaf_node : IsTreeLeafHead bytes page low high → IsNode buf
+  leaf_node : IsLeafPage bytes page low high → IsNode buf
   leaf_node t = subst (λ (b : List ℕ). IsNode b) (sym is) (record { form = inl (t.kind, t.level); link = t.link; most = t.most })
 
   inner_node : (l : ℕ) → suc l ≤ 7 → IsInner bytes (suc l) page low → IsNode buf
@@ -112,17 +98,17 @@ module _ (bytes buf : List ℕ) (page low high : ℕ) (is : buf ≡ page_bytes b
   })
 
   -- it is not a page of the tree
-  pub other_page : (l : ℕ) → l ≤ 7 → ¬ IsNode buf → TreeFails l bytes page low high page
+  pub other_page : (l : ℕ) → l ≤ 7 → ¬ IsNode buf → tree_from l bytes page low high (Some page)
   other_page zero most other = inl ((λ t. other (leaf_node t)), refl)
   other_page (suc l) most other = inl ((λ t. other (inner_node l most t)), refl)
 
   -- it has another level
-  pub other_level : (l : ℕ) → level_said buf ≢ l → TreeFails l bytes page low high page
+  pub other_level : (l : ℕ) → level_said buf ≢ l → tree_from l bytes page low high (Some page)
   other_level zero other = inl ((λ t. other (ap level_said is ∙ t.level)), refl)
   other_level (suc l) other = inl ((λ t. other (ap level_said is ∙ t.level_is)), refl)
 
   module _ (node : IsNode buf) where
-    leaf_tests : level_said buf ≡ 0 → (page ≢ 1 → 1 ≤ count_said buf) × Rise low high (pairs_said buf) → IsTreeLeafHead bytes page low high
+    leaf_tests : level_said buf ≡ 0 → (page ≢ 1 → 1 ≤ count_said buf) × Rise low high (pairs_said buf) → IsLeafPage bytes page low high
     leaf_tests level tests =
         let kind : kind_said buf ≡ 1 = elim node.form [ inl f ↦ f.0 | inr f ↦ absurd (omega (arith, f.1, level)) ] in
         record {
@@ -134,23 +120,21 @@ module _ (bytes buf : List ℕ) (page low high : ℕ) (is : buf ≡ page_bytes b
           rises = subst (λ (b : List ℕ). Rise low high (pairs_said b)) is tests.1;
         }
 
-    pub leaf_fails : (l : ℕ) → l ≡ 0 → ¬ ((page ≢ 1 → 1 ≤ count_said buf) × Rise low high (pairs_said buf)) → TreeFails l bytes page low high page
+    pub leaf_fails : (l : ℕ) → l ≡ 0 → ¬ ((page ≢ 1 → 1 ≤ count_said buf) × Rise low high (pairs_said buf)) → tree_from l bytes page low high (Some page)
     leaf_fails (suc l) none other = absurd (omega arith)
     leaf_fails zero none other =
         inl ((λ t. other (subst (λ (b : List ℕ). (page ≢ 1 → 1 ≤ count_said b) × Rise low high (pairs_said b)) (sym is) (t.some, t.rises))), refl)
 
-    pub leaf_slots : (l : ℕ) → l ≡ 0 → level_said buf ≡ 0 → (page ≢ 1 → 1 ≤ count_said buf) × Rise low high (pairs_said buf) → (r : Result (Unit {0}) CheckFault) → SlotsCause bytes page (pairs_said buf) r
-        → TreeCause l bytes page low high r
+    pub leaf_slots : (l : ℕ) → l ≡ 0 → level_said buf ≡ 0 → (page ≢ 1 → 1 ≤ count_said buf) × Rise low high (pairs_said buf) → (r : Result (Unit {0}) CheckFault) → IsVerdict (each (slot_check bytes page) (pairs_said buf)) r
+        → IsVerdict (tree_from l bytes page low high) r
     leaf_slots (suc l) none level tests r cause = absurd (omega arith)
-    leaf_slots zero none level tests (Ok tt) cause =
-        let t = leaf_tests level tests in
-        record { kind = t.kind; level = t.level; link = t.link; most = t.most; some = t.some; rises = t.rises; given = subst (λ (b : List ℕ). AreGiven bytes (pairs_said b)) is cause }
-    leaf_slots zero none level tests (Err (Damaged bad)) cause = inr (leaf_tests level tests, subst (λ (b : List ℕ). SlotsFail bytes page (pairs_said b) bad) is cause)
+    leaf_slots zero none level tests (Ok tt) cause = (leaf_tests level tests, subst (λ (b : List ℕ). each (slot_check bytes page) (pairs_said b) None) is cause)
+    leaf_slots zero none level tests (Err (Damaged bad)) cause = inr (leaf_tests level tests, subst (λ (b : List ℕ). each (slot_check bytes page) (pairs_said b) (Some bad)) is cause)
     leaf_slots zero none level tests (Err Media) cause = tt
     leaf_slots zero none level tests (Err Dead) cause = tt
 
     module _ (pages : ℕ) (pages_is : pages ≡ next_page bytes) where
-      inner_tests : (l : ℕ) → level_said buf ≡ suc l → (next_low (pairs_said buf) low ≡ low) × Rise low key_end (pairs_said buf) × AreNamed pages (pairs_said buf) → IsInner bytes (suc l) page low
+      inner_tests : (l : ℕ) → level_said buf ≡ suc l → (next_low (pairs_said buf) low ≡ low) × Rise low key_end (pairs_said buf) × AreChildren pages (pairs_said buf) → IsInner bytes (suc l) page low
       inner_tests l level tests =
           let form : (kind_said buf ≡ 2) × (1 ≤ count_said buf) = elim node.form [ inl f ↦ absurd (omega (arith, f.1, level)) | inr f ↦ (f.0, f.3) ] in
           record {
@@ -161,25 +145,25 @@ module _ (bytes buf : List ℕ) (page low high : ℕ) (is : buf ≡ page_bytes b
             most = subst (λ (b : List ℕ). count_said b ≤ 30) is node.most;
             first = subst (λ (b : List ℕ). next_low (pairs_said b) low ≡ low) is tests.0;
             rises = subst (λ (b : List ℕ). Rise low key_end (pairs_said b)) is tests.1;
-            children = subst (λ (b : List ℕ). AreChildren bytes (pairs_said b)) is ((named_children bytes pages (pairs_said buf) pages_is).0 tests.2);
+            children = subst (λ (b : List ℕ). AreChildren (next_page bytes) (pairs_said b)) is ((named_children bytes pages (pairs_said buf) pages_is).0 tests.2);
           }
 
-      pub inner_fails : (l : ℕ) → l ≢ 0 → ¬ ((next_low (pairs_said buf) low ≡ low) × Rise low key_end (pairs_said buf) × AreNamed pages (pairs_said buf)) → TreeFails l bytes page low high page
+      pub inner_fails : (l : ℕ) → l ≢ 0 → ¬ ((next_low (pairs_said buf) low ≡ low) × Rise low key_end (pairs_said buf) × AreChildren pages (pairs_said buf)) → tree_from l bytes page low high (Some page)
       inner_fails zero some other = absurd (some refl)
       inner_fails (suc l) some other =
           inl (
-            (λ t. other (subst (λ (b : List ℕ). (next_low (pairs_said b) low ≡ low) × Rise low key_end (pairs_said b) × AreNamed pages (pairs_said b)) (sym is)
+            (λ t. other (subst (λ (b : List ℕ). (next_low (pairs_said b) low ≡ low) × Rise low key_end (pairs_said b) × AreChildren pages (pairs_said b)) (sym is)
                 (t.first, t.rises, (named_children bytes pages (page_pairs bytes page) pages_is).1 t.children))),
             refl,
           )
 
-      pub inner_children : (l : ℕ) → l ≢ 0 → level_said buf ≡ l → (next_low (pairs_said buf) low ≡ low) × Rise low key_end (pairs_said buf) × AreNamed pages (pairs_said buf)
-          → (r : Result (Unit {0}) CheckFault) → ChildrenCause (l - 1) bytes (pairs_said buf) high r → TreeCause l bytes page low high r
+      pub inner_children : (l : ℕ) → l ≢ 0 → level_said buf ≡ l → (next_low (pairs_said buf) low ≡ low) × Rise low key_end (pairs_said buf) × AreChildren pages (pairs_said buf)
+          → (r : Result (Unit {0}) CheckFault) → IsVerdict (children_check (tree_from (l - 1) bytes) (pairs_said buf) high) r → IsVerdict (tree_from l bytes page low high) r
       inner_children zero some level tests r cause = absurd (some refl)
-      inner_children (suc l) some level tests r cause = go r (subst (λ (n : ℕ). ChildrenCause n bytes (pairs_said buf) high r) (let e : suc l - 1 ≡ l = omega arith in e) cause)
+      inner_children (suc l) some level tests r cause = go r (subst (λ (n : ℕ). IsVerdict (children_check (tree_from n bytes) (pairs_said buf) high) r) (let e : suc l - 1 ≡ l = omega arith in e) cause)
         where
-          go : (r : Result (Unit {0}) CheckFault) → ChildrenCause l bytes (pairs_said buf) high r → TreeCause (suc l) bytes page low high r
-          go (Ok tt) c = (inner_tests l level tests, subst (λ (b : List ℕ). AreSound (IsTree l bytes) (pairs_said b) high) is c)
-          go (Err (Damaged bad)) c = inr (inner_tests l level tests, subst (λ (b : List ℕ). ChildFails (IsTree l bytes) (TreeFails l bytes) (pairs_said b) high bad) is c)
+          go : (r : Result (Unit {0}) CheckFault) → IsVerdict (children_check (tree_from l bytes) (pairs_said buf) high) r → IsVerdict (tree_from (suc l) bytes page low high) r
+          go (Ok tt) c = (inner_tests l level tests, subst (λ (b : List ℕ). children_check (tree_from l bytes) (pairs_said b) high None) is c)
+          go (Err (Damaged bad)) c = inr (inner_tests l level tests, subst (λ (b : List ℕ). children_check (tree_from l bytes) (pairs_said b) high (Some bad)) is c)
           go (Err Media) c = tt
           go (Err Dead) c = tt

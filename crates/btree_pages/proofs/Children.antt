@@ -2,14 +2,15 @@
 use Rattle.std.proofs.Common.{◌≡◌, ◌≢◌, ℕ, zero, suc, ◌+◌, ◌<◌, ◌≤◌, List, length, sym, ap, subst, arith}
 use Rattle.record_slots.specs.Places.{page_bytes, next_page}
 use Rattle.page_store.specs.Pairs.{Pair}
-use Rattle.index_pages.specs.Chain.{key_end}
+use Rattle.index_pages.specs.Keys.{key_end}
 use Rattle.index_pages.specs.Page.{page_pairs, level_of}
 use Rattle.index_pages.specs.Ways.{above}
 use Rattle.index_pages.proofs.PageFacts.{length-page_pairs}
 use Rattle.btree_pages.specs.Descent.{child_for}
 use Rattle.btree_pages.specs.Node.{IsNode}
 use Rattle.btree_pages.specs.OnWay.{IsReached}
-use Rattle.btree_pages.specs.Tree.{IsTree, IsSoundTree, next_low}
+use Rattle.btree_pages.specs.Tree.{IsSoundTree, next_low}
+use Rattle.btree_pages.specs.Seen.{tree_of_sound, IsTree}
 use Rattle.btree_pages.proofs.Apart.{start_of}
 use Rattle.btree_pages.proofs.Descending.{child_step, node_of}
 use Rattle.btree_pages.proofs.Ways.{Way, way_of, child_given, above-le}
@@ -27,14 +28,14 @@ reached_child bytes key page zero pairs sound lt reached inner = absurd (omega a
 reached_child bytes key page (suc m) pairs sound lt reached inner =
     let d : ℕ = reached.0 in
     let way = reached.1 in
-    let root : IsTree (above reached.0 (suc m)) bytes 1 0 key_end = subst (λ (n : ℕ). IsTree n bytes 1 0 key_end) way.level_is sound.pages in
+    let root : IsTree (above reached.0 (suc m)) bytes 1 0 key_end = subst (λ (n : ℕ). IsTree n bytes 1 0 key_end) way.level_is (tree_of_sound bytes sound) in
     let here : Way bytes (suc m) page key 0 key_end = subst (λ (x : ℕ). Way bytes (suc m) x key 0 key_end) (sym way.page_is) (way_of reached.0 (suc m) bytes key 1 0 key_end root (omega arith) lt) in
     let some : 1 ≤ length (page_pairs bytes page) = omega (arith, here.tree.0.some, length-page_pairs bytes page) in
     let there : child_for pairs key ≡ child_for (page_pairs bytes page) key = ap (λ (ps : List Pair). child_for ps key) way.pairs_are in
     let own = child_given bytes (page_pairs bytes page) key some here.tree.0.children in
     let start : next_low (page_pairs bytes page) here.to ≡ here.from = start_of here.from here.to (page_pairs bytes page) some here.tree.0.first in
     let child = child_step m bytes (page_pairs bytes page) here.to key some here.tree.0.children here.tree.1 (omega (arith, start, here.from_key)) here.key_to in
-    let most : m ≤ 7 = omega (arith, sound.level, way.level_is, above-le reached.0 (suc m)) in
+    let most : m ≤ 7 = omega (arith, sound.1.0, way.level_is, above-le reached.0 (suc m)) in
     subst (λ (c : ℕ). IsChild bytes c (suc m)) (sym there) (record {
       two = own.0;
       given = own.1;

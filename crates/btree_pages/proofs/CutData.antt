@@ -16,23 +16,22 @@ use Rattle.record_slots.specs.Places.{page_bytes, page_count, first_slot_page, s
 use Rattle.page_store.specs.Index.{index_pages_of, Grows, Rests}
 use Rattle.page_store.specs.Pairs.{Pair, inserted}
 use Rattle.page_store.specs.Shown.{address}
-use Rattle.index_pages.specs.Chain.{key_end}
 use Rattle.index_pages.specs.Fetched.{IsFront}
-use Rattle.index_pages.specs.Keys.{key_at}
+use Rattle.index_pages.specs.Keys.{key_at, key_end}
 use Rattle.index_pages.specs.Page.{page_pairs, pairs_said, kind_said, level_said, link_said, kind_of, level_of, count_of}
 use Rattle.index_pages.specs.Ways.{above, Keeps, IsOwn}
-use Rattle.index_pages.specs.Written.{AreSmall}
+use Rattle.index_pages.specs.Written.{AreSmall, kind_for, written_page}
 use Rattle.index_pages.proofs.Fronts.{length-count_bytes, slot_written, page_written, mark_kept, form_kept}
 use Rattle.index_pages.proofs.PageFacts.{length-page_pairs}
 use Rattle.index_pages.proofs.Ranges.{Apart}
 use Rattle.index_pages.proofs.Rising.{length-inserted}
-use Rattle.index_pages.proofs.Writing.{small_take, small_inserted}
+use Rattle.index_pages.proofs.Writing.{small_take, small_inserted, written_kind, written_level, written_link, written_pairs, length-written_page}
 use Rattle.btree_pages.specs.Changes.{IsHalf, IsCut, middle, with_entry, SplitsChild}
 use Rattle.btree_pages.specs.Checked.{IsFrontOf}
 use Rattle.btree_pages.specs.Descent.{child_for, page_for}
-use Rattle.btree_pages.specs.Node.{kind_for, node_bytes}
 use Rattle.btree_pages.specs.OnWay.{IsOnWay}
-use Rattle.btree_pages.specs.Tree.{IsTree, IsUnder, IsSoundTree, pairs_of_tree, next_low}
+use Rattle.btree_pages.specs.Tree.{IsUnder, IsSoundTree, pairs_of_tree, next_low}
+use Rattle.btree_pages.specs.Seen.{tree_of_sound, IsTree}
 use Rattle.btree_pages.specs.Writes.{IsRead, cutting_parts}
 use Rattle.btree_pages.specs.Index.{tree, half_for, half_pairs, actions_below}
 use Rattle.btree_pages.proofs.Actions.{under_self, way_same, half_actions}
@@ -40,7 +39,6 @@ use Rattle.btree_pages.proofs.Belonging.{split_stays, half_named, under_way}
 use Rattle.btree_pages.proofs.Apart.{start_of, sub_of}
 use Rattle.btree_pages.proofs.Descending.{Child, child_step}
 use Rattle.btree_pages.proofs.Entries.{with_inserted, entry_child, page_for_last}
-use Rattle.btree_pages.proofs.NodeBytes.{node_kind, node_level, node_link, node_pairs, length-node_bytes}
 use Rattle.btree_pages.proofs.Puts.{AllApart, Stand, applied_long, applied_away, applied_stand}
 use Rattle.btree_pages.proofs.Splitting.{halves, sound_tree_splits}
 use Rattle.btree_pages.proofs.Ways.{Way, way_of, way_own, child_given}
@@ -75,13 +73,13 @@ module _ (shape : Shape) (old : List ℕ) (half : ℕ) (long : length old ≡ da
   first = omega (arith, count)
 
   lower : List ℕ
-  lower = node_bytes level (take 15 pairs)
+  lower = written_page level 0 (take 15 pairs)
 
   upper : List ℕ
-  upper = node_bytes level (drop 15 pairs)
+  upper = written_page level 0 (drop 15 pairs)
 
   named : List ℕ
-  named = node_bytes (level + 1) (inserted entries (key_at pairs 15) front.next_page)
+  named = written_page (level + 1) 0 (inserted entries (key_at pairs 15) front.next_page)
 
   counts : List ℕ
   counts = count_bytes front.next_slot (front.next_page + 1)
@@ -97,25 +95,25 @@ module _ (shape : Shape) (old : List ℕ) (half : ℕ) (long : length old ≡ da
 
   len1 : length lower ≡ 512
   unfolding lower
-  len1 = length-node_bytes level (take 15 pairs) lower_few
+  len1 = length-written_page level 0 (take 15 pairs) lower_few (omega arith)
 
   len2 : length upper ≡ 512
   unfolding upper
-  len2 = length-node_bytes level (drop 15 pairs) upper_few
+  len2 = length-written_page level 0 (drop 15 pairs) upper_few (omega arith)
 
   len3 : length named ≡ 512
   unfolding named
-  len3 = length-node_bytes (level + 1) (inserted entries (key_at pairs 15) front.next_page) named_few
+  len3 = length-written_page (level + 1) 0 (inserted entries (key_at pairs 15) front.next_page) named_few (omega arith)
 
   len4 : length counts ≡ 8
   unfolding counts
   len4 = length-count_bytes front.next_slot (front.next_page + 1)
 
   own_root : IsOwn old 1
-  own_root = (omega arith, omega (arith, sound.front.some_pages))
+  own_root = (omega arith, omega (arith, sound.0.some_pages))
 
   root_tree : IsTree (above d (suc level)) old 1 0 key_end
-  root_tree = subst (λ (n : ℕ). IsTree n old 1 0 key_end) way.level_is sound.pages
+  root_tree = subst (λ (n : ℕ). IsTree n old 1 0 key_end) way.level_is (tree_of_sound old sound)
 
   parent_way : Way old (suc level) parent key 0 key_end
   parent_way = subst (λ (x : ℕ). Way old (suc level) x key 0 key_end) (sym way.page_is) (way_of d (suc level) old key 1 0 key_end root_tree (omega arith) (omega arith))
@@ -249,8 +247,8 @@ module _ (shape : Shape) (old : List ℕ) (half : ℕ) (long : length old ≡ da
 
   front_now : IsSuper 1 cut
   front_now = record {
-    has_mark = mark_kept old cut zero_new sound.front.has_mark;
-    form_is = form_kept old cut zero_new ∙ sound.front.form_is;
+    has_mark = mark_kept old cut zero_new sound.0.has_mark;
+    form_is = form_kept old cut zero_new ∙ sound.0.form_is;
     slots = omega (arith, slot_now, cut_count, front_is.slots, all);
     some_pages = omega (arith, page_now);
     pages = omega (arith, page_now, cut_count, next_below);
@@ -270,19 +268,19 @@ module _ (shape : Shape) (old : List ℕ) (half : ℕ) (long : length old ≡ da
   lower_half : IsHalf old cut page page (take 15 (page_pairs old page))
   unfolding lower
   lower_half = record {
-    kind = ap kind_said lower_new ∙ node_kind level (take 15 pairs) lower_few ∙ sym (tree_kind level old page child.from child.to page_tree);
-    level = ap level_said lower_new ∙ node_level level (take 15 pairs) lower_few ∙ sym level_page;
-    link = ap link_said lower_new ∙ node_link level (take 15 pairs) lower_few;
-    pairs_are = ap pairs_said lower_new ∙ node_pairs level (take 15 pairs) lower_few (small_take 15 pairs read.small).0 ∙ ap (take 15) pairs_are;
+    kind = ap kind_said lower_new ∙ written_kind level 0 (take 15 pairs) lower_few (omega arith) ∙ sym (tree_kind level old page child.from child.to page_tree);
+    level = ap level_said lower_new ∙ written_level level 0 (take 15 pairs) lower_few (omega arith) ∙ sym level_page;
+    link = ap link_said lower_new ∙ written_link level 0 (take 15 pairs) lower_few (omega arith);
+    pairs_are = ap pairs_said lower_new ∙ written_pairs level 0 (take 15 pairs) lower_few (omega arith) (small_take 15 pairs read.small).0 ∙ ap (take 15) pairs_are;
   }
 
   upper_half : IsHalf old cut page front.next_page (drop 15 (page_pairs old page))
   unfolding upper
   upper_half = record {
-    kind = ap kind_said upper_new ∙ node_kind level (drop 15 pairs) upper_few ∙ sym (tree_kind level old page child.from child.to page_tree);
-    level = ap level_said upper_new ∙ node_level level (drop 15 pairs) upper_few ∙ sym level_page;
-    link = ap link_said upper_new ∙ node_link level (drop 15 pairs) upper_few;
-    pairs_are = ap pairs_said upper_new ∙ node_pairs level (drop 15 pairs) upper_few (small_take 15 pairs read.small).1 ∙ ap (drop 15) pairs_are;
+    kind = ap kind_said upper_new ∙ written_kind level 0 (drop 15 pairs) upper_few (omega arith) ∙ sym (tree_kind level old page child.from child.to page_tree);
+    level = ap level_said upper_new ∙ written_level level 0 (drop 15 pairs) upper_few (omega arith) ∙ sym level_page;
+    link = ap link_said upper_new ∙ written_link level 0 (drop 15 pairs) upper_few (omega arith);
+    pairs_are = ap pairs_said upper_new ∙ written_pairs level 0 (drop 15 pairs) upper_few (omega arith) (small_take 15 pairs read.small).1 ∙ ap (drop 15) pairs_are;
   }
 
   is_cut : IsCut old cut page page front.next_page
@@ -307,7 +305,7 @@ module _ (shape : Shape) (old : List ℕ) (half : ℕ) (long : length old ≡ da
   named_pairs : page_pairs cut parent ≡ with_entry (page_pairs old parent) key (middle old page, front.next_page)
   unfolding named
   named_pairs =
-      ap pairs_said named_new ∙ node_pairs (level + 1) (inserted entries (key_at pairs 15) front.next_page) named_few named_small
+      ap pairs_said named_new ∙ written_pairs (level + 1) 0 (inserted entries (key_at pairs 15) front.next_page) named_few (omega arith) named_small
       ∙ ap (λ (ps : List Pair). inserted entries (key_at ps 15) front.next_page) pairs_are ∙ ap (λ (ps : List Pair). inserted ps (key_at (page_pairs old page) 15) front.next_page) way.pairs_are
       ∙ with_inserted level old (page_pairs old parent) parent_way.to key (key_at (page_pairs old page) 15) front.next_page entries_some parent_way.tree.0.children parent_way.tree.1 (omega (arith, start, parent_way.from_key)) parent_way.key_to
       (λ a b t. within a b (subst (λ (x : ℕ). IsTree level old x a b) (sym page_there) t))
@@ -316,9 +314,9 @@ module _ (shape : Shape) (old : List ℕ) (half : ℕ) (long : length old ≡ da
   unfolding cut named
   cut_splits = record {
     room = omega (arith, room, ap (λ (ps : List Pair). length ps) way.pairs_are, length-page_pairs old parent);
-    kind = ap kind_said named_new ∙ node_kind (level + 1) (inserted entries (key_at pairs 15) front.next_page) named_few ∙ ap kind_for one_more;
-    level = ap level_said named_new ∙ node_level (level + 1) (inserted entries (key_at pairs 15) front.next_page) named_few ∙ one_more ∙ sym level_parent;
-    link = ap link_said named_new ∙ node_link (level + 1) (inserted entries (key_at pairs 15) front.next_page) named_few;
+    kind = ap kind_said named_new ∙ written_kind (level + 1) 0 (inserted entries (key_at pairs 15) front.next_page) named_few (omega arith) ∙ ap kind_for one_more;
+    level = ap level_said named_new ∙ written_level (level + 1) 0 (inserted entries (key_at pairs 15) front.next_page) named_few (omega arith) ∙ one_more ∙ sym level_parent;
+    link = ap link_said named_new ∙ written_link (level + 1) 0 (inserted entries (key_at pairs 15) front.next_page) named_few (omega arith);
     pairs = named_pairs ∙ ap (λ (x : ℕ). with_entry (page_pairs old parent) key (middle old x, front.next_page)) page_there;
     cut = subst (λ (x : ℕ). IsCut old cut x x front.next_page) page_there is_cut;
     two = front_is.some;
@@ -362,7 +360,7 @@ module _ (shape : Shape) (old : List ℕ) (half : ℕ) (long : length old ≡ da
 
   cut_tree : IsTree (above d (suc level)) cut 1 0 key_end
   unfolding cut
-  cut_tree = subst (λ (n : ℕ). IsTree n cut 1 0 key_end) (cut_level ∙ way.level_is) cut_sound.0.pages
+  cut_tree = subst (λ (n : ℕ). IsTree n cut 1 0 key_end) (cut_level ∙ way.level_is) (tree_of_sound cut cut_sound.0)
 
   below_half : (x : ℕ) → IsUnder level cut x front.next_page → IsUnder (level_of cut 1) cut x 1
   unfolding cut
@@ -376,7 +374,7 @@ module _ (shape : Shape) (old : List ℕ) (half : ℕ) (long : length old ≡ da
   unfolding cut
   cut_stays x u =
       let level_child : level_of old (child_for (page_pairs old parent) key) ≡ level = ap (λ (q : ℕ). level_of old q) (sym page_there) ∙ level_page in
-      elim (split_stays old cut level parent key front.next_page cut_splits level_parent level_child (λ q own no_parent no_child. others_there q own.0 own.1 no_parent no_child) (level_of old 1) 1 0 key_end x own_root sound.pages u) [
+      elim (split_stays old cut level parent key front.next_page cut_splits level_parent level_child (λ q own no_parent no_child. others_there q own.0 own.1 no_parent no_child) (level_of old 1) 1 0 key_end x own_root (tree_of_sound old sound) u) [
         | inl a ↦ subst (λ (n : ℕ). IsUnder n cut x 1) (sym cut_level) a
         | inr a ↦ below_half x a
       ]

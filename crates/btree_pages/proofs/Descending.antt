@@ -5,8 +5,7 @@ use Rattle.std.proofs.lemmas.List.{append-nil}
 use Rattle.std.specs.Option.{option_or}
 use Rattle.record_slots.specs.Places.{page_bytes, next_page}
 use Rattle.page_store.specs.Pairs.{Pair, found, next}
-use Rattle.index_pages.specs.Chain.{key_end}
-use Rattle.index_pages.specs.Keys.{or_else, head}
+use Rattle.index_pages.specs.Keys.{or_else, head, key_end}
 use Rattle.index_pages.specs.Page.{page_pairs, level_of}
 use Rattle.index_pages.specs.Pieces.{joined}
 use Rattle.index_pages.proofs.PageFacts.{length-page_pairs}
@@ -15,7 +14,8 @@ use Rattle.index_pages.proofs.Tiling.{tile_bounds, joined_rises}
 use Rattle.btree_pages.specs.Descent.{child_for, page_for, leaf_for}
 use Rattle.btree_pages.specs.Leaf.{bound_in, from_bound, IsBegin, AtLeaf}
 use Rattle.btree_pages.specs.Node.{IsNode}
-use Rattle.btree_pages.specs.Tree.{AreChildren, next_low, AreSound, IsTree, pieces_with, pairs_under, IsSoundTree, pairs_of_tree}
+use Rattle.btree_pages.specs.Tree.{AreChildren, next_low, pieces_with, pairs_under, IsSoundTree, pairs_of_tree}
+use Rattle.btree_pages.specs.Seen.{tree_of_sound, AreSound, IsTree}
 use Rattle.btree_pages.proofs.Apart.{tree_some, child_facts, entries_tile, start_of}
 use Rattle.btree_pages.proofs.Ways.{found_on_way, child_given}
 use Rattle.btree_pages.specs.TreeFacts.{tree_level}
@@ -55,7 +55,7 @@ first_child : (e : Pair) (es : List Pair) (high : ℕ) → e.0 < next_low es hig
 first_child e [] high lt = refl
 first_child e (f ∷ es) high lt = let b : nat_lt e.0 f.0 ≡ true = grind (arith, nat_tests) in rw b refl
 
-pub child_step : (l : ℕ) (bytes : List ℕ) (es : List Pair) (high key : ℕ) → 1 ≤ length es → AreChildren bytes es → AreSound (IsTree l bytes) es high → next_low es high ≤ key → key < high → Child l bytes es high key
+pub child_step : (l : ℕ) (bytes : List ℕ) (es : List Pair) (high key : ℕ) → 1 ≤ length es → AreChildren (next_page bytes) es → AreSound (IsTree l bytes) es high → next_low es high ≤ key → key < high → Child l bytes es high key
 child_step l bytes [] high key some are sound le lt = absurd (omega arith)
 child_step l bytes (e ∷ []) high key some are sound le lt = record {
   from = e.0;
@@ -152,7 +152,7 @@ child_step l bytes (e ∷ f ∷ es) high key some are sound le lt =
 
 -- the way to the lower bound of a page ends at a leaf that begins there
 first_begins : (m : ℕ) (bytes : List ℕ) → ((q low high : ℕ) → 2 ≤ q → IsTree m bytes q low high → next (page_pairs bytes (page_for m bytes q low)) low ≢ None)
-    → (es : List Pair) (low high : ℕ) → 1 ≤ length es → next_low es high ≡ low → AreChildren bytes es → AreSound (IsTree m bytes) es high → next (page_pairs bytes (page_for m bytes (child_for es low) low)) low ≢ None
+    → (es : List Pair) (low high : ℕ) → 1 ≤ length es → next_low es high ≡ low → AreChildren (next_page bytes) es → AreSound (IsTree m bytes) es high → next (page_pairs bytes (page_for m bytes (child_for es low) low)) low ≢ None
 first_begins m bytes ih [] low high some start are sound none = absurd (omega arith)
 first_begins m bytes ih (e ∷ es) low high some start are sound none =
     let wide = child_facts m bytes e.1 e.0 (next_low es high) are.0 sound.0 in
@@ -198,11 +198,11 @@ down_first bytes key sound lt = record {
   m = level_of bytes 1;
   low = 0;
   high = key_end;
-  tree = sound.pages;
+  tree = (tree_of_sound bytes sound);
   from = omega arith;
   to = lt;
-  left = omega (arith, sound.level);
-  inside = omega (arith, sound.front.some_pages);
+  left = omega (arith, sound.1.0);
+  inside = omega (arith, sound.0.some_pages);
   way = λ k a b. refl;
   finds = λ k a b. refl;
   nexts = λ k a b. sym (or_none (next (pairs_under (level_of bytes 1) bytes 1) k));

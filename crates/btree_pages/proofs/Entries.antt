@@ -1,18 +1,20 @@
 -- One more entry of an inner page.
 use Rattle.std.proofs.Common.{◌≡◌, ℕ, zero, suc, ◌<◌, ◌≤◌, true, false, nat_lt, inl, inr, List, [], ◌∷◌, length, refl, sym, ◌∙◌, ap, subst, arith}
+use Rattle.record_slots.specs.Places.{next_page}
 use Rattle.std.specs.Prelude.{if◌then◌else◌}
 use Rattle.std.proofs.lemmas.Bool.Decides.{nat_tests, leb_tells}
 use Rattle.page_store.specs.Pairs.{Pair, inserted}
 use Rattle.index_pages.specs.Page.{page_pairs}
 use Rattle.btree_pages.specs.Changes.{with_entry}
 use Rattle.btree_pages.specs.Descent.{child_for, page_for}
-use Rattle.btree_pages.specs.Tree.{AreChildren, AreSound, next_low, IsTree}
+use Rattle.btree_pages.specs.Tree.{AreChildren, next_low}
+use Rattle.btree_pages.specs.Seen.{AreSound, IsTree}
 use Rattle.btree_pages.proofs.Apart.{child_facts}
 use Rattle.btree_pages.proofs.Descending.{child_step}
 use Rattle.btree_pages.proofs.Splitting.{length-with, next_low-with}
 
 -- the place of a key in the range of key's child is right after that child's entry
-pub with_inserted : (l : ℕ) (bytes : List ℕ) (es : List Pair) (high key mid to : ℕ) → 1 ≤ length es → AreChildren bytes es → AreSound (IsTree l bytes) es high → next_low es high ≤ key → key < high
+pub with_inserted : (l : ℕ) (bytes : List ℕ) (es : List Pair) (high key mid to : ℕ) → 1 ≤ length es → AreChildren (next_page bytes) es → AreSound (IsTree l bytes) es high → next_low es high ≤ key → key < high
     → ((a b : ℕ) → IsTree l bytes (child_for es key) a b → (a ≤ mid) × (mid < b)) → inserted es mid to ≡ with_entry es key (mid, to)
 with_inserted l bytes [] high key mid to some are sound le lt within = absurd (omega arith)
 with_inserted l bytes (e ∷ []) high key mid to some are sound le lt within =

@@ -13,27 +13,25 @@ use Rattle.record_slots.specs.Places.{page_bytes, page_count, slot_at, slot_of, 
 use Rattle.page_store.specs.Index.{index_pages_of, Grows, Rests}
 use Rattle.page_store.specs.Pairs.{Pair}
 use Rattle.page_store.specs.Shown.{address}
-use Rattle.index_pages.specs.Chain.{key_end}
 use Rattle.index_pages.specs.Fetched.{IsFront}
-use Rattle.index_pages.specs.Keys.{key_at}
+use Rattle.index_pages.specs.Keys.{key_at, key_end}
 use Rattle.index_pages.specs.Page.{page_pairs, pairs_said, kind_said, level_said, link_said, level_of, count_of}
 use Rattle.index_pages.specs.Ways.{Keeps, IsOwn}
-use Rattle.index_pages.specs.Written.{AreSmall}
+use Rattle.index_pages.specs.Written.{AreSmall, kind_for, written_page}
 use Rattle.index_pages.proofs.Fronts.{length-count_bytes, slot_written, page_written, mark_kept, form_kept}
 use Rattle.index_pages.proofs.PageFacts.{length-page_pairs}
 use Rattle.index_pages.proofs.Ranges.{Apart}
-use Rattle.index_pages.proofs.Writing.{small_take}
+use Rattle.index_pages.proofs.Writing.{small_take, written_kind, written_level, written_link, written_pairs, length-written_page}
 use Rattle.btree_pages.specs.Changes.{IsHalf, IsCut, middle, SplitsRoot}
 use Rattle.btree_pages.specs.Checked.{IsFrontOf}
 use Rattle.btree_pages.specs.Descent.{child_for, page_for}
 use Rattle.btree_pages.specs.Index.{tree, half_for, half_pairs, actions_below}
-use Rattle.btree_pages.specs.Node.{kind_for, node_bytes}
-use Rattle.btree_pages.specs.Tree.{IsTree, IsUnder, IsSoundTree, pairs_of_tree}
+use Rattle.btree_pages.specs.Tree.{IsUnder, IsSoundTree, pairs_of_tree}
+use Rattle.btree_pages.specs.Seen.{tree_of_sound, IsTree}
 use Rattle.btree_pages.specs.Writes.{IsRead, growing_parts}
 use Rattle.btree_pages.proofs.Actions.{half_actions}
 use Rattle.btree_pages.proofs.Belonging.{grown_stays, left_named, right_named}
 use Rattle.btree_pages.proofs.CutData.{carries_on, small_at, tree_kind}
-use Rattle.btree_pages.proofs.NodeBytes.{node_kind, node_level, node_link, node_pairs, length-node_bytes}
 use Rattle.btree_pages.proofs.Puts.{AllApart, Stand, applied_long, applied_away, applied_stand}
 use Rattle.btree_pages.proofs.Splitting.{sound_tree_grows}
 use Rattle.btree_pages.specs.TreeFacts.{under_own}
@@ -48,13 +46,13 @@ module _ (shape : Shape) (old : List ℕ) (half : ℕ) (long : length old ≡ da
   count = omega (arith, size)
 
   lower : List ℕ
-  lower = node_bytes level (take 15 pairs)
+  lower = written_page level 0 (take 15 pairs)
 
   upper : List ℕ
-  upper = node_bytes level (drop 15 pairs)
+  upper = written_page level 0 (drop 15 pairs)
 
   named : List ℕ
-  named = node_bytes (level + 1) ((0, front.next_page) ∷ (key_at pairs 15, front.next_page + 1) ∷ [])
+  named = written_page (level + 1) 0 ((0, front.next_page) ∷ (key_at pairs 15, front.next_page + 1) ∷ [])
 
   counts : List ℕ
   counts = count_bytes front.next_slot (front.next_page + 2)
@@ -70,25 +68,25 @@ module _ (shape : Shape) (old : List ℕ) (half : ℕ) (long : length old ≡ da
 
   len1 : length lower ≡ 512
   unfolding lower
-  len1 = length-node_bytes level (take 15 pairs) lower_few
+  len1 = length-written_page level 0 (take 15 pairs) lower_few (omega arith)
 
   len2 : length upper ≡ 512
   unfolding upper
-  len2 = length-node_bytes level (drop 15 pairs) upper_few
+  len2 = length-written_page level 0 (drop 15 pairs) upper_few (omega arith)
 
   len3 : length named ≡ 512
   unfolding named
-  len3 = length-node_bytes (level + 1) ((0, front.next_page) ∷ (key_at pairs 15, front.next_page + 1) ∷ []) named_few
+  len3 = length-written_page (level + 1) 0 ((0, front.next_page) ∷ (key_at pairs 15, front.next_page + 1) ∷ []) named_few (omega arith)
 
   len4 : length counts ≡ 8
   unfolding counts
   len4 = length-count_bytes front.next_slot (front.next_page + 2)
 
   own_root : IsOwn old 1
-  own_root = (omega arith, omega (arith, sound.front.some_pages))
+  own_root = (omega arith, omega (arith, sound.0.some_pages))
 
   root_tree : IsTree level old 1 0 key_end
-  root_tree = subst (λ (n : ℕ). IsTree n old 1 0 key_end) level_is sound.pages
+  root_tree = subst (λ (n : ℕ). IsTree n old 1 0 key_end) level_is (tree_of_sound old sound)
 
   next_is : front.next_page ≡ next_page old
   next_is = says.pages
@@ -177,8 +175,8 @@ module _ (shape : Shape) (old : List ℕ) (half : ℕ) (long : length old ≡ da
 
   front_now : IsSuper 1 grown
   front_now = record {
-    has_mark = mark_kept old grown zero_new sound.front.has_mark;
-    form_is = form_kept old grown zero_new ∙ sound.front.form_is;
+    has_mark = mark_kept old grown zero_new sound.0.has_mark;
+    form_is = form_kept old grown zero_new ∙ sound.0.form_is;
     slots = omega (arith, slot_now, grown_count, front_is.slots, all);
     some_pages = omega (arith, page_now);
     pages = omega (arith, page_now, grown_count, next_below);
@@ -194,19 +192,19 @@ module _ (shape : Shape) (old : List ℕ) (half : ℕ) (long : length old ≡ da
   lower_half : IsHalf old grown 1 front.next_page (take 15 (page_pairs old 1))
   unfolding lower
   lower_half = record {
-    kind = ap kind_said lower_new ∙ node_kind level (take 15 pairs) lower_few ∙ sym (tree_kind level old 1 0 key_end root_tree);
-    level = ap level_said lower_new ∙ node_level level (take 15 pairs) lower_few ∙ sym level_is;
-    link = ap link_said lower_new ∙ node_link level (take 15 pairs) lower_few;
-    pairs_are = ap pairs_said lower_new ∙ node_pairs level (take 15 pairs) lower_few (small_take 15 pairs read.small).0 ∙ ap (take 15) pairs_are;
+    kind = ap kind_said lower_new ∙ written_kind level 0 (take 15 pairs) lower_few (omega arith) ∙ sym (tree_kind level old 1 0 key_end root_tree);
+    level = ap level_said lower_new ∙ written_level level 0 (take 15 pairs) lower_few (omega arith) ∙ sym level_is;
+    link = ap link_said lower_new ∙ written_link level 0 (take 15 pairs) lower_few (omega arith);
+    pairs_are = ap pairs_said lower_new ∙ written_pairs level 0 (take 15 pairs) lower_few (omega arith) (small_take 15 pairs read.small).0 ∙ ap (take 15) pairs_are;
   }
 
   upper_half : IsHalf old grown 1 (front.next_page + 1) (drop 15 (page_pairs old 1))
   unfolding upper
   upper_half = record {
-    kind = ap kind_said upper_new ∙ node_kind level (drop 15 pairs) upper_few ∙ sym (tree_kind level old 1 0 key_end root_tree);
-    level = ap level_said upper_new ∙ node_level level (drop 15 pairs) upper_few ∙ sym level_is;
-    link = ap link_said upper_new ∙ node_link level (drop 15 pairs) upper_few;
-    pairs_are = ap pairs_said upper_new ∙ node_pairs level (drop 15 pairs) upper_few (small_take 15 pairs read.small).1 ∙ ap (drop 15) pairs_are;
+    kind = ap kind_said upper_new ∙ written_kind level 0 (drop 15 pairs) upper_few (omega arith) ∙ sym (tree_kind level old 1 0 key_end root_tree);
+    level = ap level_said upper_new ∙ written_level level 0 (drop 15 pairs) upper_few (omega arith) ∙ sym level_is;
+    link = ap link_said upper_new ∙ written_link level 0 (drop 15 pairs) upper_few (omega arith);
+    pairs_are = ap pairs_said upper_new ∙ written_pairs level 0 (drop 15 pairs) upper_few (omega arith) (small_take 15 pairs read.small).1 ∙ ap (drop 15) pairs_are;
   }
 
   is_cut : IsCut old grown 1 front.next_page (front.next_page + 1)
@@ -221,15 +219,15 @@ module _ (shape : Shape) (old : List ℕ) (half : ℕ) (long : length old ≡ da
   named_pairs : page_pairs grown 1 ≡ (0, front.next_page) ∷ (middle old 1, front.next_page + 1) ∷ []
   unfolding named
   named_pairs =
-      ap pairs_said named_new ∙ node_pairs (level + 1) ((0, front.next_page) ∷ (key_at pairs 15, front.next_page + 1) ∷ []) named_few named_small
+      ap pairs_said named_new ∙ written_pairs (level + 1) 0 ((0, front.next_page) ∷ (key_at pairs 15, front.next_page + 1) ∷ []) named_few (omega arith) named_small
       ∙ ap (λ (ps : List Pair). (0, front.next_page) ∷ (key_at ps 15, front.next_page + 1) ∷ []) pairs_are
 
   splits : SplitsRoot old grown front.next_page (front.next_page + 1)
   unfolding named
   splits = record {
-    kind = ap kind_said named_new ∙ node_kind (level + 1) ((0, front.next_page) ∷ (key_at pairs 15, front.next_page + 1) ∷ []) named_few ∙ ap kind_for one_more;
-    level = ap level_said named_new ∙ node_level (level + 1) ((0, front.next_page) ∷ (key_at pairs 15, front.next_page + 1) ∷ []) named_few ∙ one_more ∙ ap suc (sym level_is);
-    link = ap link_said named_new ∙ node_link (level + 1) ((0, front.next_page) ∷ (key_at pairs 15, front.next_page + 1) ∷ []) named_few;
+    kind = ap kind_said named_new ∙ written_kind (level + 1) 0 ((0, front.next_page) ∷ (key_at pairs 15, front.next_page + 1) ∷ []) named_few (omega arith) ∙ ap kind_for one_more;
+    level = ap level_said named_new ∙ written_level (level + 1) 0 ((0, front.next_page) ∷ (key_at pairs 15, front.next_page + 1) ∷ []) named_few (omega arith) ∙ one_more ∙ ap suc (sym level_is);
+    link = ap link_said named_new ∙ written_link (level + 1) 0 ((0, front.next_page) ∷ (key_at pairs 15, front.next_page + 1) ∷ []) named_few (omega arith);
     pairs = named_pairs;
     cut = is_cut;
     two = two;

@@ -4,7 +4,7 @@ use Rattle.std.specs.Prelude.{filter}
 use Rattle.eaw_face.specs.State.{listed, count_on}
 use Rattle.eaw_face.specs.StoreView.{StoreView}
 use Rattle.array_shape.specs.declared.shape.Shape.{Shape}
-use Rattle.page_store.specs.Fits.{FitAll, IsFirstLacking, held_with, is_page_on}
+use Rattle.page_store.specs.Fits.{FitAll, IsFirstLacking, held_on, needed_on, is_page_on}
 use Rattle.page_store.specs.Index.{Action}
 use Rattle.page_store.specs.Inserts.{ActionFits, AllFit, LackPages, LackRoom}
 
@@ -36,7 +36,7 @@ room_lacks store t pages all left action rest g h n decides enough lacking = dec
 
 -- room stays the same if numbers have the same in their logs
 module _ (old now : StoreView) (t : ℕ) (shape : now.shape ≡ old.shape) (ranges : listed (now.ranges t) ≡ listed (old.ranges t)) where
-  held_same : (pages : List ℕ) (g : ℕ) → held_with now t pages g ≡ held_with old t pages g
+  held_same : (pages : List ℕ) (g : ℕ) → held_on now t g + needed_on now pages g ≡ held_on old t g + needed_on old pages g
   held_same pages g = ap (λ (s : Shape). count_on s g (listed (now.ranges t)) + length (filter (is_page_on s.loggers g) pages)) shape ∙ ap (λ (l : List (ℕ × ℕ)). count_on old.shape g l + length (filter (is_page_on old.shape.loggers g) pages)) ranges
 
   pub fits_same : (pages : List ℕ) → FitAll now t pages → FitAll old t pages

@@ -7,7 +7,6 @@ pub mod Nodes
 pub mod Descending
 pub mod Given
 pub mod Checks
-pub mod NodeBytes
 pub mod Cutting
 pub mod Actions
 pub mod Belonging
@@ -24,6 +23,5 @@ pub mod Below
 pub mod Lifting
 pub mod Whole
 pub mod Rooted
-pub mod Parting
 pub mod Telling
 pub mod Nexting

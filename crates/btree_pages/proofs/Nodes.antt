@@ -1,41 +1,48 @@
 -- A page of the tree, pair by pair.
 use Rattle.std.proofs.Common.{◌≡◌, ◌≢◌, ℕ, zero, suc, ◌-◌, ◌<◌, ◌≤◌, true, false, nat_eq, nat_lt, inl, inr, List, [], ◌∷◌, length, take, drop, Some, None, refl, sym, ◌∙◌, ap, arith}
-use Rattle.std.specs.Prelude.{slice_index}
 use Rattle.std.proofs.lemmas.Bool.Decides.{nat_tests}
-use Rattle.byteorder.specs.Endian.{little_from}
 use Rattle.page_store.specs.Pairs.{Pair, found}
 use Rattle.index_pages.specs.Page.{kind_said, level_said, count_said, link_said, pair_said, pairs_from, pairs_said}
-use Rattle.index_pages.proofs.Reading.{piece, from_step, from_end}
+use Rattle.index_pages.specs.Written.{IsPage, SaysHead}
+use Rattle.index_pages.specs.declared.page.Head.{Head}
+use Rattle.index_pages.proofs.Reading.{from_step, from_end}
 use Rattle.btree_pages.specs.Descent.{child_for}
 use Rattle.btree_pages.specs.Leaf.{bound_in}
-use Rattle.btree_pages.specs.Node.{IsForm, IsNode, SaysNode}
+use Rattle.btree_pages.specs.Node.{IsNode, SaysNode}
 
--- the head of a page, and a page that is not one of the tree
+-- the head of a page of the tree, and a page that is not one
 module _ (page : List ℕ) where
-  pub says_node : (count link : ℕ) → link ≡ 0 → count ≤ 30 → IsForm (slice_index page 0) (slice_index page 1) count
-      → count ≡ little_from 0 2 (take 510 (drop 2 page)) → link ≡ little_from 0 4 (take 508 (drop 4 page)) → SaysNode page (record { level = slice_index page 1; count = count })
-  unfolding kind_said level_said count_said link_said
-  says_node count link none most form c l =
-      let count_e : count ≡ little_from 2 2 page = c ∙ piece 2 2 510 page (omega arith) in
-      record {
-        node = record { form = rw (sym count_e) form; link = sym (piece 4 4 508 page (omega arith)) ∙ sym l ∙ none; most = omega (arith, count_e) };
-        level = refl;
-        count = count_e;
-      }
+  pub page_of : IsNode page → IsPage page
+  page_of node = record { kind_is = elim node.form [ inl f ↦ inl f | inr f ↦ inr (f.0, f.1, f.2) ]; most = node.most }
 
-  pub other_link : (link : ℕ) → link ≢ 0 → link ≡ little_from 0 4 (take 508 (drop 4 page)) → ¬ IsNode page
-  unfolding link_said
-  other_link link some l node = some (l ∙ piece 4 4 508 page (omega arith) ∙ node.link)
+  module _ (head : Head) (says : SaysHead page head) where
+    pub other_link : head.link ≢ 0 → ¬ IsNode page
+    other_link some node = some (says.link ∙ node.link)
 
-  pub too_many : (count : ℕ) → 30 < count → count ≡ little_from 0 2 (take 510 (drop 2 page)) → ¬ IsNode page
-  unfolding count_said
-  too_many count many c node = let e : count ≡ little_from 2 2 page = c ∙ piece 2 2 510 page (omega arith) in omega (arith, node.most, e)
+    pub other_count : head.level ≢ 0 → head.count ≡ 0 → ¬ IsNode page
+    other_count inner none node = elim node.form [ inl f ↦ inner (says.level ∙ f.1) | inr f ↦ omega (arith, f.3, says.count, none) ]
 
-  pub other_form : (count : ℕ) → ¬ IsForm (slice_index page 0) (slice_index page 1) count → count ≡ little_from 0 2 (take 510 (drop 2 page)) → ¬ IsNode page
-  unfolding kind_said level_said count_said
-  other_form count other c node =
-      let e : count ≡ little_from 2 2 page = c ∙ piece 2 2 510 page (omega arith) in
-      other (rw e node.form)
+    pub says_leaf : head.link ≡ 0 → head.level ≡ 0 → SaysNode page head
+    says_leaf none leaf = record {
+      node = record {
+        form = elim says.page.kind_is [ inl f ↦ inl f | inr f ↦ absurd (omega (arith, f.1, says.level, leaf)) ];
+        link = sym says.link ∙ none;
+        most = says.page.most;
+      };
+      level = says.level;
+      count = says.count;
+    }
+
+    pub says_inner : head.link ≡ 0 → head.level ≢ 0 → head.count ≢ 0 → SaysNode page head
+    says_inner none inner some = record {
+      node = record {
+        form = elim says.page.kind_is [ inl f ↦ absurd (inner (says.level ∙ f.1)) | inr f ↦ inr (f.0, f.1, f.2, omega (arith, says.count, some)) ];
+        link = sym says.link ∙ none;
+        most = says.page.most;
+      };
+      level = says.level;
+      count = says.count;
+    }
 
   pub found_here : (i n key : ℕ) → i < n → (pair_said page i).0 ≡ key → found (pairs_from page i (n - i)) key ≡ Some (pair_said page i).1
   found_here i n key lt e = let b : nat_eq (pair_said page i).0 key ≡ true = grind (arith, nat_tests) in ap (λ (ps : List Pair). found ps key) (from_step page i n lt) ∙ (rw b refl)

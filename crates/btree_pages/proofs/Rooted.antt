@@ -124,7 +124,7 @@ module _ (tells : Bool) (E : Shape → List ℕ → List ℕ → Type 0) (t key 
       → (let r : Result ℕ IndexFault = Err (as_index fault) in Inserts tells (E v0.store.shape) tree t key v0 v1 r)
   super_err v1 fault looks cause =
       inserts_look_err tree tells (E v0.store.shape) t key Super v0 v0 v1 (going_looks tree tells (E v0.store.shape) t key v0 v0 sound (looks_none tells (E v0.store.shape) v0)) fault
-      (looks, look_cause Super Super tells v0.store v0.store (IsSuper 1 v0.store.state.bytes) 0 fault (still_same tells v0.store) (λ told alive. (sound told alive).front) cause)
+      (looks, look_cause Super Super tells v0.store v0.store (IsSuper 1 v0.store.state.bytes) 0 fault (still_same tells v0.store) (λ told alive. (sound told alive).0) cause)
 
   -- no slot is left
   pub slots_full : (v1 : PagesView) → Looks tells (E v0.store.shape) false v0 v1 → IsAlive v0.store → (half n : ℕ) → half + half ≡ page_count v0.store.shape → n ≡ 8 * half → (IsTrue tells → n ≡ next_slot v0.store.state.bytes)

@@ -8,13 +8,13 @@ use Rattle.btree_pages.specs.TreeFacts.{length-pieces, tile_wide, tree_level, un
 use Rattle.btree_pages.proofs.Ways.{graft, way_own, way_of}
 use Rattle.btree_pages.specs.Changes.{IsHalf, IsCut, middle, with_entry, SplitsChild, SplitsRoot}
 use Rattle.btree_pages.specs.Descent.{page_for, child_for}
-use Rattle.btree_pages.specs.Tree.{IsTreeLeaf, IsInner, AreChildren, AreSound, next_low, IsTree, pieces_with, pairs_under, IsUnder, IsUnderSome, IsSoundTree, pairs_of_tree}
+use Rattle.btree_pages.specs.Tree.{IsInner, AreChildren, next_low, pieces_with, pairs_under, IsUnder, IsUnderSome, IsSoundTree, pairs_of_tree}
+use Rattle.btree_pages.specs.Seen.{tree_of_sound, sound_by_tree, IsTreeLeaf, AreSound, IsTree}
 use Rattle.index_pages.proofs.Given.{same_local}
 use Rattle.index_pages.proofs.Kept.{given_kept}
 use Rattle.index_pages.proofs.PageFacts.{length-page_pairs}
 use Rattle.index_pages.proofs.Rising.{rise_to_more, take_rises, drop_rises, key_at-bounds}
-use Rattle.index_pages.specs.Chain.{key_end}
-use Rattle.index_pages.specs.Keys.{key_at}
+use Rattle.index_pages.specs.Keys.{key_at, key_end}
 use Rattle.index_pages.specs.Page.{page_pairs, level_of, count_of}
 use Rattle.index_pages.specs.Pieces.{joined}
 use Rattle.index_pages.specs.Ways.{above, Keeps, IsOwn}
@@ -22,7 +22,7 @@ use Rattle.page_store.specs.Pairs.{Pair, Rise}
 use Rattle.record_slots.specs.Places.{page_bytes, AreGiven, next_page, IsSuper}
 use Rattle.index_pages.proofs.Halves.{given_take, joined_two}
 
-children_take : (bytes : List ℕ) (n : ℕ) (es : List Pair) → AreChildren bytes es → AreChildren bytes (take n es) × AreChildren bytes (drop n es)
+children_take : (bytes : List ℕ) (n : ℕ) (es : List Pair) → AreChildren (next_page bytes) es → AreChildren (next_page bytes) (take n es) × AreChildren (next_page bytes) (drop n es)
 children_take bytes zero es g = (tt, g)
 children_take bytes (suc n) [] g = (tt, tt)
 children_take bytes (suc n) (p ∷ ps) g = let h = children_take bytes n ps g.2 in ((g.0, g.1, h.0), h.1)
@@ -76,7 +76,7 @@ leaf_half old new whole half ps is low high low' high' t long r g =
     }
 
 pub inner_half : (old new : List ℕ) (whole half : ℕ) (ps : List Pair) → IsHalf old new whole half ps → (level low low' : ℕ) → IsInner old level whole low'
-    → length ps ≡ 15 → next_low ps low ≡ low → Rise low key_end ps → AreChildren new ps → IsInner new level half low
+    → length ps ≡ 15 → next_low ps low ≡ low → Rise low key_end ps → AreChildren (next_page new) ps → IsInner new level half low
 inner_half old new whole half ps is level low low' t long first r are =
     let count : count_of new half ≡ 15 = sym (length-page_pairs new half) ∙ ap (λ (l : List Pair). length l) is.pairs_are ∙ long in
     record {
@@ -87,7 +87,7 @@ inner_half old new whole half ps is level low low' t long first r are =
       most = omega arith;
       first = subst (λ (l : List Pair). next_low l low ≡ low) (sym is.pairs_are) first;
       rises = subst (λ (l : List Pair). Rise low key_end l) (sym is.pairs_are) r;
-      children = subst (λ (l : List Pair). AreChildren new l) (sym is.pairs_are) are;
+      children = subst (λ (l : List Pair). AreChildren (next_page new) l) (sym is.pairs_are) are;
     }
 
 -- a page that was split, with the pages below it as they were
@@ -173,7 +173,7 @@ length-with (e ∷ f ∷ es) key p some =
       | inr h ↦ let b : nat_lt key f.0 ≡ false = h.0 in rw b (ap suc (length-with (f ∷ es) key p (omega arith)))
     ]
 
-children_with : (bytes : List ℕ) (es : List Pair) (key : ℕ) (p : Pair) → 2 ≤ p.1 → p.1 < next_page bytes → AreChildren bytes es → AreChildren bytes (with_entry es key p)
+children_with : (bytes : List ℕ) (es : List Pair) (key : ℕ) (p : Pair) → 2 ≤ p.1 → p.1 < next_page bytes → AreChildren (next_page bytes) es → AreChildren (next_page bytes) (with_entry es key p)
 children_with bytes [] key p two given are = tt
 children_with bytes (e ∷ []) key p two given are = (are.0, are.1, (two, given, tt))
 children_with bytes (e ∷ f ∷ es) key p two given are =
@@ -199,7 +199,7 @@ child_under l bytes (e ∷ f ∷ es) key some =
           subst (λ (y : ℕ). IsUnderSome (IsUnder l bytes y) (e ∷ f ∷ es)) (sym is) (inr (child_under l bytes (f ∷ es) key (omega arith)))
     ]
 
-child_two : (bytes : List ℕ) (es : List Pair) (key : ℕ) → 1 ≤ length es → AreChildren bytes es → 2 ≤ child_for es key
+child_two : (bytes : List ℕ) (es : List Pair) (key : ℕ) → 1 ≤ length es → AreChildren (next_page bytes) es → 2 ≤ child_for es key
 child_two bytes [] key some are = absurd (omega arith)
 child_two bytes (e ∷ []) key some are = are.0
 child_two bytes (e ∷ f ∷ es) key some are =
@@ -209,7 +209,7 @@ child_two bytes (e ∷ f ∷ es) key some are =
     ]
 
 module _ (old new : List ℕ) (keeps : Keeps old new) (l c right key : ℕ) (cut : IsCut old new c c right) where
-  pub split_below : (es : List Pair) (high : ℕ) → 1 ≤ length es → high ≤ key_end → c ≡ child_for es key → AreChildren old es → AreSound (IsTree l old) es high
+  pub split_below : (es : List Pair) (high : ℕ) → 1 ≤ length es → high ≤ key_end → c ≡ child_for es key → AreChildren (next_page old) es → AreSound (IsTree l old) es high
       → ((x : ℕ) → IsUnderSome (IsUnder l old x) es → x ≢ c → page_bytes new x ≡ page_bytes old x)
       → Splits old new l key (middle old c, right) es high
   split_below [] high some small is are sound kept = absurd (omega arith)
@@ -285,7 +285,7 @@ parent_splits old new keeps l parent key right low high t small splits kept =
           most = omega (arith, splits.room);
           first = subst (λ (ps : List Pair). next_low ps low ≡ low) (sym splits.pairs) (next_low-with (page_pairs old parent) key low p ∙ t.0.first);
           rises = subst (λ (ps : List Pair). Rise low key_end ps) (sym splits.pairs) (s.rises low t.0.rises);
-          children = subst (λ (ps : List Pair). AreChildren new ps) (sym splits.pairs)
+          children = subst (λ (ps : List Pair). AreChildren (next_page new) ps) (sym splits.pairs)
               (children_with new (page_pairs old parent) key p splits.two splits.given (children_kept old new keeps (page_pairs old parent) t.0.children));
         },
         subst (λ (ps : List Pair). AreSound (IsTree l new) ps high) (sym splits.pairs) s.sound,
@@ -300,8 +300,8 @@ pub sound_tree_splits : (old new : List ℕ) (d l key right : ℕ) → IsSoundTr
     → IsSoundTree new × (pairs_of_tree new ≡ pairs_of_tree old)
 unfolding pairs_of_tree
 sound_tree_splits old new d l key right sound keeps front lt e splits kept =
-    let own : IsOwn old 1 = (omega arith, omega (arith, sound.front.some_pages)) in
-    let t : IsTree (above d (suc l)) old 1 0 key_end = subst (λ (n : ℕ). IsTree n old 1 0 key_end) e sound.pages in
+    let own : IsOwn old 1 = (omega arith, omega (arith, sound.0.some_pages)) in
+    let t : IsTree (above d (suc l)) old 1 0 key_end = subst (λ (n : ℕ). IsTree n old 1 0 key_end) e (tree_of_sound old sound) in
     let q : ℕ = page_for d old 1 key in
     let own_q = way_own d (suc l) old key 1 0 key_end own t (omega arith) lt in
     let r = graft old new keeps (λ ps. ps) key (same_local key) (suc l) (page_for d old 1 key) key_end
@@ -316,7 +316,7 @@ sound_tree_splits old new d l key right sound keeps front lt e splits kept =
     (λ same. out (inr (subst (λ (y : ℕ). IsUnderSome (IsUnder l old y) (page_pairs old (page_for d old 1 key))) (sym same)
     (child_under l old (page_pairs old (page_for d old 1 key)) key (omega (arith, w.tree.0.some, length-page_pairs old (page_for d old 1 key)))))))) in
     let same : level_of new 1 ≡ level_of old 1 = tree_level (above d (suc l)) new 1 0 key_end r.0 ∙ sym e in (
-      record { front = front; level = omega (arith, sound.level); pages = subst (λ (n : ℕ). IsTree n new 1 0 key_end) (sym (same ∙ e)) r.0 },
+      sound_by_tree new front (omega (arith, sound.1.0)) (subst (λ (n : ℕ). IsTree n new 1 0 key_end) (sym (same ∙ e)) r.0),
       ap (λ (n : ℕ). pairs_under n new 1) (same ∙ e) ∙ r.1 ∙ ap (λ (n : ℕ). pairs_under n old 1) (sym e),
     )
 
@@ -327,10 +327,10 @@ pub sound_tree_grows : (old new : List ℕ) (left right : ℕ) → IsSoundTree o
     → IsSoundTree new × (pairs_of_tree new ≡ pairs_of_tree old)
 unfolding pairs_of_tree
 sound_tree_grows old new left right sound keeps front less splits kept =
-    let own : IsOwn old 1 = (omega arith, omega (arith, sound.front.some_pages)) in
+    let own : IsOwn old 1 = (omega arith, omega (arith, sound.0.some_pages)) in
     let l : ℕ = level_of old 1 in
-    let h = halves old new keeps (level_of old 1) 1 left right 0 key_end sound.pages splits.cut
-    (λ x u other. let o = under_own (level_of old 1) old x 1 0 key_end own sound.pages u in kept x (omega (arith, o.0, other)) o.1) in
+    let h = halves old new keeps (level_of old 1) 1 left right 0 key_end (tree_of_sound old sound) splits.cut
+    (λ x u other. let o = under_own (level_of old 1) old x 1 0 key_end own (tree_of_sound old sound) u in kept x (omega (arith, o.0, other)) o.1) in
     let count : count_of new 1 ≡ 2 = sym (length-page_pairs new 1) ∙ ap (λ (ps : List Pair). length ps) splits.pairs in
     let small = h.below in
     let wide = h.above in
@@ -343,11 +343,11 @@ sound_tree_grows old new left right sound keeps front less splits kept =
         most = omega arith;
         first = subst (λ (ps : List Pair). next_low ps 0 ≡ 0) (sym splits.pairs) refl;
         rises = subst (λ (ps : List Pair). Rise 0 key_end ps) (sym splits.pairs) (omega arith, (omega arith, omega arith));
-        children = subst (λ (ps : List Pair). AreChildren new ps) (sym splits.pairs) (splits.two, splits.left_given, (splits.two', splits.right_given, tt));
+        children = subst (λ (ps : List Pair). AreChildren (next_page new) ps) (sym splits.pairs) (splits.two, splits.left_given, (splits.two', splits.right_given, tt));
       },
       subst (λ (ps : List Pair). AreSound (IsTree (level_of old 1) new) ps key_end) (sym splits.pairs) (h.left_tree, (h.right_tree, tt)),
     ) in (
-      record { front = front; level = omega (arith, splits.level); pages = subst (λ (n : ℕ). IsTree n new 1 0 key_end) (sym splits.level) tree },
+      sound_by_tree new front (omega (arith, splits.level)) (subst (λ (n : ℕ). IsTree n new 1 0 key_end) (sym splits.level) tree),
       ap (λ (n : ℕ). pairs_under n new 1) splits.level
           ∙ ap (λ (ps : List Pair). joined (pieces_with (pairs_under (level_of old 1) new) ps)) splits.pairs
           ∙ joined_two (pairs_under (level_of old 1) new left) (pairs_under (level_of old 1) new right) [] (pairs_under (level_of old 1) old 1) h.pairs_are

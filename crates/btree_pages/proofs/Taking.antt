@@ -3,11 +3,12 @@ use Rattle.std.proofs.Common.{◌≡◌, ◌≢◌, ℕ, suc, ◌<◌, ◌≤◌
 use Rattle.btree_pages.proofs.Ways.{graft, found_on_way}
 use Rattle.btree_pages.specs.Changes.{TakesPair}
 use Rattle.btree_pages.specs.Descent.{page_for}
-use Rattle.btree_pages.specs.Tree.{IsTreeLeaf, IsTree, pairs_under, IsUnder, IsSoundTree, pairs_of_tree}
+use Rattle.btree_pages.specs.Tree.{pairs_under, IsUnder, IsSoundTree, pairs_of_tree}
+use Rattle.btree_pages.specs.Seen.{tree_of_sound, sound_by_tree, IsTreeLeaf, IsTree}
 use Rattle.index_pages.proofs.Kept.{given_kept}
 use Rattle.index_pages.proofs.PageFacts.{length-page_pairs}
 use Rattle.index_pages.proofs.Rising.{inserted-rises, length-inserted}
-use Rattle.index_pages.specs.Chain.{key_end}
+use Rattle.index_pages.specs.Keys.{key_end}
 use Rattle.index_pages.specs.Page.{page_pairs, level_of, count_of}
 use Rattle.index_pages.specs.Ways.{above, Keeps}
 use Rattle.page_store.specs.Pairs.{Pair, Rise, found, inserted}
@@ -52,9 +53,9 @@ pub sound_tree_takes : (old new : List ℕ) (key to : ℕ) → IsSoundTree old �
     → IsSoundTree new × (pairs_of_tree new ≡ inserted (pairs_of_tree old) key to)
 unfolding pairs_of_tree
 sound_tree_takes old new key to sound keeps front lt none takes kept =
-    let r = tree_takes old new keeps (level_of old 1) key to 0 key_end sound.pages (omega arith) lt none takes
-    (λ x u other. let own = under_own (level_of old 1) old x 1 0 key_end (omega arith, omega (arith, sound.front.some_pages)) sound.pages u in kept x own.0 own.1 other) in
+    let r = tree_takes old new keeps (level_of old 1) key to 0 key_end (tree_of_sound old sound) (omega arith) lt none takes
+    (λ x u other. let own = under_own (level_of old 1) old x 1 0 key_end (omega arith, omega (arith, sound.0.some_pages)) (tree_of_sound old sound) u in kept x own.0 own.1 other) in
     let e : level_of new 1 ≡ level_of old 1 = tree_level (level_of old 1) new 1 0 key_end r.0 in (
-      record { front = front; level = omega (arith, sound.level); pages = subst (λ (n : ℕ). IsTree n new 1 0 key_end) (sym e) r.0 },
+      sound_by_tree new front (omega (arith, sound.1.0)) (subst (λ (n : ℕ). IsTree n new 1 0 key_end) (sym e) r.0),
       ap (λ (n : ℕ). pairs_under n new 1) e ∙ r.1,
     )

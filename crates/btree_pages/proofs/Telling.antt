@@ -11,8 +11,8 @@ use Rattle.page_store.specs.declared.index_fault.CheckFault.{CheckFault}
 use Rattle.page_store.specs.declared.index_fault.CheckFault.TheVariants as check
 use Rattle.index_pages.specs.Faults.{as_check}
 use Rattle.index_pages.specs.Fetched.{ReadCause, TestCause}
-use Rattle.index_pages.specs.Checked.{is_media}
-use Rattle.btree_pages.specs.Checked.{TreeCause}
+use Rattle.index_pages.specs.Slots.{IsVerdict}
+use Rattle.btree_pages.specs.Tree.{tree_from}
 
 -- the medium failed in what is told exactly if it did in the read
 pub failed_same : (T : Type 0) (fault : PageFault) → (let r : Result T PageFault = Err fault in let s : Result (Unit {0}) CheckFault = Err (as_check fault) in is_failed r ≡ is_check_failed s)
@@ -21,12 +21,6 @@ failed_same T page.Dead = refl
 failed_same T (page.Damaged bad) = refl
 failed_same T (page.LogFull g h n) = refl
 failed_same T page.SavesFull = refl
-
-pub media_same : (r : Result (Unit {0}) CheckFault) → is_media r ≡ is_check_failed r
-media_same (Ok answer) = refl
-media_same (Err check.Media) = refl
-media_same (Err check.Dead) = refl
-media_same (Err (check.Damaged bad)) = refl
 
 pub check_looks : (T : Type 0) (tells : Bool) (Opens : List ℕ → List ℕ → Type 0) (old new : PagesView) (fault : PageFault) (told : CheckFault) → told ≡ as_check fault
     → (let r : Result T PageFault = Err fault in Looks tells Opens (is_failed r) old new) → (let s : Result (Unit {0}) CheckFault = Err told in Looks tells Opens (is_check_failed s) old new)
@@ -63,12 +57,12 @@ module _ (tells : Bool) (Opens : List ℕ → List ℕ → Type 0) (old new : Pa
   pub told_media : (told : CheckFault) → told ≡ as_check fault → told ≡ check.Media
   told_media told is = is ∙ subst (λ (f : PageFault). as_check f ≡ check.Media) (sym only_media) (cc)
 
-  pub told_looks : (told : CheckFault) → told ≡ as_check fault → (let r : Result (Unit {0}) PageFault = Err fault in Looks tells Opens (is_failed r) old new) → (let r : Result (Unit {0}) CheckFault = Err told in Looks tells Opens (is_media r) old new)
-  told_looks told is looks = subst (λ (f : CheckFault). (let r : Result (Unit {0}) CheckFault = Err f in Looks tells Opens (is_media r) old new)) (sym (told_media told is))
+  pub told_looks : (told : CheckFault) → told ≡ as_check fault → (let r : Result (Unit {0}) PageFault = Err fault in Looks tells Opens (is_failed r) old new) → (let r : Result (Unit {0}) CheckFault = Err told in Looks tells Opens (is_check_failed r) old new)
+  told_looks told is looks = subst (λ (f : CheckFault). (let r : Result (Unit {0}) CheckFault = Err f in Looks tells Opens (is_check_failed r) old new)) (sym (told_media told is))
       (subst (λ (f : PageFault). (let r : Result (Unit {0}) PageFault = Err f in Looks tells Opens (is_failed r) old new)) only_media looks)
 
-  pub told_cause : (told : CheckFault) → told ≡ as_check fault → (l : ℕ) (bytes : List ℕ) (at low high : ℕ) → (let r : Result (Unit {0}) CheckFault = Err told in TreeCause l bytes at low high r)
-  told_cause told is l bytes at low high = subst (λ (f : CheckFault). (let r : Result (Unit {0}) CheckFault = Err f in TreeCause l bytes at low high r)) (sym (told_media told is)) tt
+  pub told_cause : (told : CheckFault) → told ≡ as_check fault → (l : ℕ) (bytes : List ℕ) (at low high : ℕ) → (let r : Result (Unit {0}) CheckFault = Err told in IsVerdict (tree_from l bytes at low high) r)
+  told_cause told is l bytes at low high = subst (λ (f : CheckFault). (let r : Result (Unit {0}) CheckFault = Err f in IsVerdict (tree_from l bytes at low high) r)) (sym (told_media told is)) tt
 
   pub told_dead : {P : Type 0} (told : CheckFault) → told ≡ as_check fault → (let r : Result (Unit {0}) CheckFault = Err told in r ≡ Err check.Dead) → P
   told_dead told is e = (let media = told_media told is in absurd (cc))

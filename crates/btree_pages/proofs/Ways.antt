@@ -5,12 +5,13 @@ use Rattle.std.proofs.lemmas.List.{append-nil}
 use Rattle.btree_pages.proofs.Apart.{child_facts, entries_tile, sub_below, sub_of, subs_apart, start_of}
 use Rattle.btree_pages.specs.Frames.{inner_kept, tree_kept, below_kept}
 use Rattle.btree_pages.specs.Descent.{child_for, page_for, leaf_for}
-use Rattle.btree_pages.specs.Tree.{AreChildren, next_low, AreSound, IsTree, pieces_with, pairs_under, IsUnder, IsUnderSome, IsSoundTree, pairs_of_tree}
+use Rattle.btree_pages.specs.Tree.{AreChildren, next_low, pieces_with, pairs_under, IsUnder, IsUnderSome, IsSoundTree, pairs_of_tree}
+use Rattle.btree_pages.specs.Seen.{tree_of_sound, AreSound, IsTree}
 use Rattle.index_pages.proofs.Given.{above_zero}
 use Rattle.index_pages.proofs.PageFacts.{length-page_pairs}
 use Rattle.index_pages.proofs.Rising.{found-left, found-right}
 use Rattle.index_pages.proofs.Tiling.{tile_bounds, joined_rises}
-use Rattle.index_pages.specs.Chain.{key_end}
+use Rattle.index_pages.specs.Keys.{key_end}
 use Rattle.index_pages.specs.Page.{page_pairs, pairs_said, level_of}
 use Rattle.index_pages.specs.Pieces.{joined, Tile}
 use Rattle.index_pages.specs.Ways.{above, Keeps, IsLocal, IsOwn}
@@ -37,7 +38,7 @@ above-le (suc d) m = let h = above-le d m in omega arith
 
 pub way_below : (d m : ℕ) (bytes : List ℕ) (key : ℕ)
     → ((page low high : ℕ) → IsTree (above d m) bytes page low high → low ≤ key → key < high → Way bytes m (page_for d bytes page key) key low high)
-    → (es : List Pair) (high : ℕ) → 1 ≤ length es → AreChildren bytes es → AreSound (IsTree (above d m) bytes) es high → next_low es high ≤ key → key < high
+    → (es : List Pair) (high : ℕ) → 1 ≤ length es → AreChildren (next_page bytes) es → AreSound (IsTree (above d m) bytes) es high → next_low es high ≤ key → key < high
     → Way bytes m (page_for d bytes (child_for es key) key) key (next_low es high) high
 way_below d m bytes key ih [] high some are sound le lt = absurd (omega arith)
 way_below d m bytes key ih (e ∷ []) high some are sound le lt = ih e.1 e.0 high sound.0 le lt
@@ -88,7 +89,7 @@ found_on_way (suc d) m bytes key page low high t le lt =
 
 -- the children of a page are not the root, nor are the pages below them
 under_some_two : (l : ℕ) (bytes : List ℕ) (q : ℕ) → ((page low high : ℕ) → 2 ≤ page → IsTree l bytes page low high → IsUnder l bytes q page → 2 ≤ q)
-    → (es : List Pair) (high : ℕ) → AreChildren bytes es → AreSound (IsTree l bytes) es high → IsUnderSome (IsUnder l bytes q) es → 2 ≤ q
+    → (es : List Pair) (high : ℕ) → AreChildren (next_page bytes) es → AreSound (IsTree l bytes) es high → IsUnderSome (IsUnder l bytes q) es → 2 ≤ q
 under_some_two l bytes q ih [] high are sound u = absurd u
 under_some_two l bytes q ih (e ∷ es) high are sound (inl u) = ih e.1 e.0 (next_low es high) are.0 sound.0 u
 under_some_two l bytes q ih (e ∷ es) high are sound (inr u) = under_some_two l bytes q ih es high are.2 sound.1 u
@@ -104,7 +105,7 @@ module _ (old new : List ℕ) (keeps : Keeps old new) (change : List Pair → Li
       → ((x : ℕ) → IsUnder l old x c → (IsUnder m old x q → ⊥) → page_bytes new x ≡ page_bytes old x)
       → IsTree l new c low high × (pairs_under l new c ≡ change (pairs_under l old c)))
       → ((low high : ℕ) → IsTree l old c low high → low ≤ key → key < high → Way old m q key low high)
-      → (es : List Pair) (high : ℕ) → 1 ≤ length es → c ≡ child_for es key → AreChildren old es → AreSound (IsTree l old) es high → next_low es high ≤ key → key < high → high ≤ bound
+      → (es : List Pair) (high : ℕ) → 1 ≤ length es → c ≡ child_for es key → AreChildren (next_page old) es → AreSound (IsTree l old) es high → next_low es high ≤ key → key < high → high ≤ bound
       → ((x : ℕ) → IsUnderSome (IsUnder l old x) es → (IsUnder m old x q → ⊥) → page_bytes new x ≡ page_bytes old x)
       → AreSound (IsTree l new) es high × (joined (pieces_with (pairs_under l new) es) ≡ change (joined (pieces_with (pairs_under l old) es)))
   graft_below l c ih in_c [] high some is are sound le lt small kept = absurd (omega arith)
@@ -174,7 +175,7 @@ module _ (old new : List ℕ) (keeps : Keeps old new) (change : List Pair → Li
       )
 
 -- the child that a page names is given out
-pub child_given : (bytes : List ℕ) (es : List Pair) (key : ℕ) → 1 ≤ length es → AreChildren bytes es → (2 ≤ child_for es key) × (child_for es key < next_page bytes)
+pub child_given : (bytes : List ℕ) (es : List Pair) (key : ℕ) → 1 ≤ length es → AreChildren (next_page bytes) es → (2 ≤ child_for es key) × (child_for es key < next_page bytes)
 child_given bytes [] key some are = absurd (omega arith)
 child_given bytes (e ∷ []) key some are = (are.0, are.1)
 child_given bytes (e ∷ f ∷ es) key some are =
@@ -198,4 +199,4 @@ unfolding pairs_of_tree
 sound_tree_finds bytes key sound lt =
     let e = above_zero (level_of bytes 1) in
     ap (λ (n : ℕ). found (pairs_under n bytes 1) key) (sym e)
-    ∙ found_on_way (level_of bytes 1) 0 bytes key 1 0 key_end (subst (λ (n : ℕ). IsTree n bytes 1 0 key_end) (sym e) sound.pages) (omega arith) lt
+    ∙ found_on_way (level_of bytes 1) 0 bytes key 1 0 key_end (subst (λ (n : ℕ). IsTree n bytes 1 0 key_end) (sym e) (tree_of_sound bytes sound)) (omega arith) lt

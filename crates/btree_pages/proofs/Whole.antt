@@ -113,7 +113,7 @@ module _ (tells : Bool) (E : Shape → List ℕ → List ℕ → Type 0) (t key 
     root_high high = refused
         (λ told. let stops = growing_stops v0.store t (index_pages_of v0.store.shape) key v0.store.state.bytes (many told) (omega (arith, high, level_is told)) in
         growing_lacks v0.store t (index_pages_of v0.store.shape) key v0.store.state.bytes (many told)
-        (omega (arith, stops, index_pages_are v0.store.shape v0.store.state.bytes (long told), (sound told alive).front.some_pages, half_is, two)))
+        (omega (arith, stops, index_pages_are v0.store.shape v0.store.state.bytes (long told), (sound told alive).0.some_pages, half_is, two)))
         (λ told. inr (omega (arith, high, level_is told, ap (λ (b : List ℕ). level_of b 1) (same1 told))))
 
     module _ (low : level ≢ 7) where

@@ -1,16 +1,17 @@
 -- Trees on data of which some pages have changed.
 use Rattle.std.proofs.Common.{◌≡◌, ℕ, zero, suc, ◌≤◌, inl, inr, List, [], ◌∷◌, refl, sym, ◌∙◌, ap, subst, arith}
-use Rattle.btree_pages.specs.Tree.{IsTreeLeaf, AreChildren, next_low, IsInner, AreSound, IsTree, pieces_with, pairs_under, IsUnder, IsUnderSome}
-use Rattle.index_pages.specs.Chain.{key_end}
+use Rattle.btree_pages.specs.Tree.{AreChildren, next_low, IsInner, pieces_with, pairs_under, IsUnder, IsUnderSome}
+use Rattle.btree_pages.specs.Seen.{IsTreeLeaf, AreSound, IsTree}
+use Rattle.index_pages.specs.Keys.{key_end}
 use Rattle.index_pages.specs.Page.{page_pairs, pairs_said, kind_said, level_said, link_said, count_said}
 use Rattle.index_pages.specs.Pieces.{joined}
 use Rattle.index_pages.proofs.Kept.{given_kept}
 use Rattle.index_pages.specs.Ways.{Keeps}
 use Rattle.page_store.specs.Pairs.{Pair, Rise}
-use Rattle.record_slots.specs.Places.{page_bytes, AreGiven}
+use Rattle.record_slots.specs.Places.{page_bytes, AreGiven, next_page}
 
 module _ (old new : List ℕ) (keeps : Keeps old new) where
-  pub children_kept : (es : List Pair) → AreChildren old es → AreChildren new es
+  pub children_kept : (es : List Pair) → AreChildren (next_page old) es → AreChildren (next_page new) es
   children_kept [] are = tt
   children_kept (e ∷ es) are = (are.0, omega (arith, are.1, keeps.pages), children_kept es are.2)
 
@@ -34,7 +35,7 @@ module _ (old new : List ℕ) (keeps : Keeps old new) where
     most = subst (λ (b : List ℕ). count_said b ≤ 30) (sym e) t.most;
     first = ap (λ (b : List ℕ). next_low (pairs_said b) low) e ∙ t.first;
     rises = subst (λ (b : List ℕ). Rise low key_end (pairs_said b)) (sym e) t.rises;
-    children = subst (λ (b : List ℕ). AreChildren new (pairs_said b)) (sym e) (children_kept (page_pairs old page) t.children);
+    children = subst (λ (b : List ℕ). AreChildren (next_page new) (pairs_said b)) (sym e) (children_kept (page_pairs old page) t.children);
   }
 
   IsSame : ℕ → Type 0

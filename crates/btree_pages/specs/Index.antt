@@ -1,13 +1,12 @@
 -- The tree as an index: its pages, and the actions of an insertion.
-use Rattle.std.specs.Prelude.{ℕ, zero, suc, ◌≤◌, nat_lt, if◌then◌else◌, List, [], ◌∷◌, take, drop}
+use Rattle.std.specs.Prelude.{ℕ, zero, suc, ◌≤◌, nat_lt, if◌then◌else◌, List, [], ◌∷◌, take, drop, Some, None}
 use Rattle.record_slots.specs.Places.{next_slot, next_page, first_slot_page, slot_page}
 use Rattle.page_store.specs.Index.{Action, Index}
 use Rattle.page_store.specs.Pairs.{Pair}
 use Rattle.index_pages.specs.Keys.{key_at}
 use Rattle.index_pages.specs.Page.{level_of, count_of, page_pairs}
 use Rattle.btree_pages.specs.Descent.{child_for}
-use Rattle.btree_pages.specs.Failing.{IsFirstDamagedOfTree}
-use Rattle.btree_pages.specs.Tree.{IsUnder, IsSoundTree, pairs_of_tree}
+use Rattle.btree_pages.specs.Tree.{IsUnder, IsSoundTree, IsFirstDamagedOfTree, tree_check, pairs_of_tree}
 
 -- adding a pair: the next slot, the leaf, the super page
 abbrev pub adding : List ℕ → ℕ → Action
@@ -57,7 +56,7 @@ abbrev pub IsPageOfTree : List ℕ → ℕ → Type 0
 IsPageOfTree bytes page = IsUnder (level_of bytes 1) bytes page 1
 
 abbrev pub tree : Index
-tree = record { sound = IsSoundTree; fails = IsFirstDamagedOfTree; pairs = pairs_of_tree; level = λ bytes. level_of bytes 1; has_page = IsPageOfTree; actions = tree_actions }
+tree = record { sound = λ bytes. tree_check bytes None; fails = λ bytes page. tree_check bytes (Some page); pairs = pairs_of_tree; level = λ bytes. level_of bytes 1; has_page = IsPageOfTree; actions = tree_actions }
 
 -- The index for the rest of an insertion, from a page on its way that has room and is this many levels above the leaves. Its actions are
 -- those from there on, and sound data has at most this many pages given out.

@@ -1,9 +1,7 @@
 -- A page of a tree.
-use Rattle.std.specs.Prelude.{ℕ, zero, suc, ◌≡◌, ◌≤◌, ◌⊎◌, List, ◌∷◌, drop}
-use Rattle.page_store.specs.Pairs.{Pair}
+use Rattle.std.specs.Prelude.{ℕ, ◌≡◌, ◌≤◌, ◌⊎◌, List}
 use Rattle.index_pages.specs.Page.{kind_said, level_said, count_said, link_said}
-use Rattle.index_pages.specs.Written.{leaf_bytes}
-use Rattle.btree_pages.specs.declared.page.Head.{Head}
+use Rattle.index_pages.specs.declared.page.Head.{Head}
 
 -- a leaf, or an inner page of level 1 to 7 with a child
 abbrev pub IsForm : ℕ → ℕ → ℕ → Type 0
@@ -20,12 +18,3 @@ pub record SaysNode (bytes : List ℕ) (head : Head) : Type 0 where
   pub node : IsNode bytes
   pub level : head.level ≡ level_said bytes
   pub count : head.count ≡ count_said bytes
-
--- leaves have kind 1, inner pages kind 2
-abbrev pub kind_for : ℕ → ℕ
-kind_for zero = 1
-kind_for (suc level) = 2
-
--- a page of this level with these pairs: after kind and level it is like a leaf without a link
-unfoldable pub node_bytes : ℕ → List Pair → List ℕ
-node_bytes level pairs = kind_for level ∷ level ∷ drop 2 (leaf_bytes 0 pairs)

@@ -1,25 +1,26 @@
 -- The tree, whose root is page 1. An inner page has pairs of a low key and a child, a leaf has pairs of a key and a slot.
-use Rattle.std.specs.Prelude.{ℕ, zero, suc, ◌≡◌, ◌≢◌, ◌<◌, ◌≤◌, ◌⊎◌, List, [], ◌∷◌}
-use Rattle.index_pages.specs.Chain.{key_end}
+use Rattle.std.specs.Prelude.{ℕ, zero, suc, ◌≡◌, ◌≢◌, ◌<◌, ◌≤◌, ◌⊎◌, List, [], ◌∷◌, Some, None}
+use Rattle.mars_base.specs.Check.{Check, pass, test, both, each}
+use Rattle.index_pages.specs.Keys.{key_end}
 use Rattle.index_pages.specs.Page.{kind_of, level_of, count_of, link_of, page_pairs}
 use Rattle.index_pages.specs.Pieces.{Piece, joined}
+use Rattle.index_pages.specs.Slots.{slot_check}
 use Rattle.page_store.specs.Pairs.{Pair, Rise}
-use Rattle.record_slots.specs.Places.{next_page, IsSuper, AreGiven}
+use Rattle.record_slots.specs.Places.{next_page, IsSuper}
 
 -- a leaf with keys from the lower bound on and below the upper bound; only the root may be empty
-pub record IsTreeLeaf (bytes : List ℕ) (page low high : ℕ) : Type 0 where
+pub record IsLeafPage (bytes : List ℕ) (page low high : ℕ) : Type 0 where
   pub kind : kind_of bytes page ≡ 1
   pub level : level_of bytes page ≡ 0
   pub link : link_of bytes page ≡ 0
   pub most : count_of bytes page ≤ 30
   pub some : page ≢ 1 → 1 ≤ count_of bytes page
   pub rises : Rise low high (page_pairs bytes page)
-  pub given : AreGiven bytes (page_pairs bytes page)
 
--- the children of these entries are pages that are given out
-abbrev pub AreChildren : List ℕ → List Pair → Type 0
-AreChildren bytes [] = Unit {0}
-AreChildren bytes (e ∷ es) = (2 ≤ e.1) × (e.1 < next_page bytes) × AreChildren bytes es
+-- the children of these entries are among so many given pages
+abbrev pub AreChildren : ℕ → List Pair → Type 0
+AreChildren pages [] = Unit {0}
+AreChildren pages (e ∷ es) = (2 ≤ e.1) × (e.1 < pages) × AreChildren pages es
 
 -- the low key of the next entry, or the upper bound if there is none
 abbrev pub next_low : List Pair → ℕ → ℕ
@@ -35,17 +36,28 @@ pub record IsInner (bytes : List ℕ) (level page low : ℕ) : Type 0 where
   pub most : count_of bytes page ≤ 30
   pub first : next_low (page_pairs bytes page) low ≡ low
   pub rises : Rise low key_end (page_pairs bytes page)
-  pub children : AreChildren bytes (page_pairs bytes page)
+  pub children : AreChildren (next_page bytes) (page_pairs bytes page)
 
--- each child is sound from its own low key up to the next one
-abbrev pub AreSound : (ℕ → ℕ → ℕ → Type 0) → List Pair → ℕ → Type 0
-AreSound P [] high = Unit {0}
-AreSound P (e ∷ es) high = P e.1 e.0 (next_low es high) × AreSound P es high
+-- the children of a page from left to right, each from its own low key up to the next one
+abbrev pub children_check : (ℕ → ℕ → ℕ → Check ℕ) → List Pair → ℕ → Check ℕ
+children_check check [] high = pass
+children_check check (e ∷ es) high = both (check e.1 e.0 (next_low es high)) (children_check check es high)
 
--- a tree of this level under a page, with the keys between these bounds
-abbrev pub IsTree : ℕ → List ℕ → ℕ → ℕ → ℕ → Type 0
-IsTree zero bytes page low high = IsTreeLeaf bytes page low high
-IsTree (suc l) bytes page low high = IsInner bytes (suc l) page low × AreSound (IsTree l bytes) (page_pairs bytes page) high
+-- a tree of this level under a page, with the keys between these bounds: the page itself, and then its slots or its children
+abbrev pub tree_from : ℕ → List ℕ → ℕ → ℕ → ℕ → Check ℕ
+tree_from zero bytes page low high = both (test (IsLeafPage bytes page low high) page) (each (slot_check bytes page) (page_pairs bytes page))
+tree_from (suc l) bytes page low high = both (test (IsInner bytes (suc l) page low) page) (children_check (tree_from l bytes) (page_pairs bytes page) high)
+
+-- the whole tree: the super page first, then the pages from the root down
+abbrev pub tree_check : List ℕ → Check ℕ
+tree_check bytes = both (test (IsSuper 1 bytes) 0) (both (test (level_of bytes 1 ≤ 7) 1) (tree_from (level_of bytes 1) bytes 1 0 key_end))
+
+-- data that is a sound tree; and the page that fails first
+abbrev pub IsSoundTree : List ℕ → Type 0
+IsSoundTree bytes = tree_check bytes None
+
+abbrev pub IsFirstDamagedOfTree : List ℕ → ℕ → Type 0
+IsFirstDamagedOfTree bytes page = tree_check bytes (Some page)
 
 -- the pairs under each child, with its low key
 abbrev pub pieces_with : (ℕ → List Pair) → List Pair → List Piece
@@ -59,12 +71,6 @@ pairs_under (suc l) bytes page = joined (pieces_with (pairs_under l bytes) (page
 
 abbrev pub pieces_under : ℕ → List ℕ → ℕ → List Piece
 pieces_under l bytes page = pieces_with (pairs_under l bytes) (page_pairs bytes page)
-
--- data with a sound tree
-pub record IsSoundTree (bytes : List ℕ) : Type 0 where
-  pub front : IsSuper 1 bytes
-  pub level : level_of bytes 1 ≤ 7
-  pub pages : IsTree (level_of bytes 1) bytes 1 0 key_end
 
 unfoldable pub pairs_of_tree : List ℕ → List Pair
 pairs_of_tree bytes = pairs_under (level_of bytes 1) bytes 1

@@ -1,8 +1,10 @@
 -- What the pairs of a sound tree are like.
 use Rattle.std.proofs.Common.{◌≡◌, ◌≢◌, ℕ, zero, suc, ◌<◌, ◌≤◌, inl, inr, List, [], ◌∷◌, length, refl, ap, subst, arith}
-use Rattle.btree_pages.specs.Tree.{AreChildren, next_low, AreSound, IsTree, pieces_with, pairs_under, pieces_under, IsSoundTree, pairs_of_tree, IsUnder, IsUnderSome}
+use Rattle.record_slots.specs.Places.{next_page}
+use Rattle.btree_pages.specs.Tree.{AreChildren, next_low, pieces_with, pairs_under, pieces_under, IsSoundTree, pairs_of_tree, IsUnder, IsUnderSome}
+use Rattle.btree_pages.specs.Seen.{tree_of_sound, AreSound, IsTree}
 use Rattle.index_pages.proofs.Tiling.{tile_bounds, joined_rises}
-use Rattle.index_pages.specs.Chain.{key_end}
+use Rattle.index_pages.specs.Keys.{key_end}
 use Rattle.index_pages.specs.Page.{page_pairs, level_of}
 use Rattle.index_pages.specs.Pieces.{Piece, low_of, Tile}
 use Rattle.index_pages.specs.Ways.{IsOwn}
@@ -15,7 +17,7 @@ low_of-pieces f (e ∷ es) high = refl
 
 pub children_tile : (f : ℕ → List Pair) (P : ℕ → ℕ → ℕ → Type 0)
     → ((page low high : ℕ) → 2 ≤ page → P page low high → Rise low high (f page) × (low < high))
-    → (bytes : List ℕ) (es : List Pair) (high : ℕ) → AreChildren bytes es → AreSound P es high → Tile (next_low es high) high (pieces_with f es)
+    → (bytes : List ℕ) (es : List Pair) (high : ℕ) → AreChildren (next_page bytes) es → AreSound P es high → Tile (next_low es high) high (pieces_with f es)
 children_tile f P fact bytes [] high are sound = refl
 children_tile f P fact bytes (e ∷ es) high are sound =
     let here = fact e.1 e.0 (next_low es high) are.0 sound.0 in
@@ -71,7 +73,7 @@ tree_wide l bytes page low high t = (tree_facts l bytes page low high t).1
 
 pub sound_tree_rises : (bytes : List ℕ) → IsSoundTree bytes → Rise 0 key_end (pairs_of_tree bytes)
 unfolding pairs_of_tree
-sound_tree_rises bytes sound = tree_rises _ bytes 1 0 key_end sound.pages
+sound_tree_rises bytes sound = tree_rises _ bytes 1 0 key_end (tree_of_sound bytes sound)
 
 -- the root of a tree has the tree's level
 pub tree_level : (m : ℕ) (bytes : List ℕ) (q low high : ℕ) → IsTree m bytes q low high → level_of bytes q ≡ m
@@ -80,7 +82,7 @@ tree_level (suc m) bytes q low high t = t.0.level_is
 
 -- its pages are given out, or page 1
 under_some_own : (l : ℕ) (bytes : List ℕ) (q : ℕ) → ((page low high : ℕ) → IsOwn bytes page → IsTree l bytes page low high → IsUnder l bytes q page → IsOwn bytes q)
-    → (es : List Pair) (high : ℕ) → AreChildren bytes es → AreSound (IsTree l bytes) es high → IsUnderSome (IsUnder l bytes q) es → IsOwn bytes q
+    → (es : List Pair) (high : ℕ) → AreChildren (next_page bytes) es → AreSound (IsTree l bytes) es high → IsUnderSome (IsUnder l bytes q) es → IsOwn bytes q
 under_some_own l bytes q ih [] high are sound u = absurd u
 under_some_own l bytes q ih (e ∷ es) high are sound (inl u) = ih e.1 e.0 (next_low es high) (omega (arith, are.0), are.1) sound.0 u
 under_some_own l bytes q ih (e ∷ es) high are sound (inr u) = under_some_own l bytes q ih es high are.2 sound.1 u

@@ -10,8 +10,7 @@ use Rattle.page_store.specs.Index.{index_pages_of}
 use Rattle.page_store.specs.Pairs.{Pair, inserted}
 use Rattle.page_store.specs.Shown.{address}
 use Rattle.index_pages.specs.Keys.{key_at}
-use Rattle.index_pages.specs.Written.{AreSmall}
-use Rattle.btree_pages.specs.Node.{node_bytes}
+use Rattle.index_pages.specs.Written.{AreSmall, written_page}
 
 -- a page of the index with at most 30 pairs
 pub record IsRead (shape : Shape) (page level : ℕ) (pairs : List Pair) : Type 0 where
@@ -21,25 +20,15 @@ pub record IsRead (shape : Shape) (page level : ℕ) (pairs : List Pair) : Type 
   pub most : length pairs ≤ 30
   pub small : AreSmall pairs
 
--- adding a pair: the slot, absent with the key; the leaf with the pair; the counts
-abbrev pub adding_pages : ℕ → Super → ℕ → List ℕ
-adding_pages half front leaf = (half + front.next_slot / 8) ∷ leaf ∷ 0 ∷ []
-
-abbrev pub adding_parts : ℕ → Super → ℕ → List Pair → ℕ → List Part
-adding_parts half front leaf pairs key =
-    (address (half + front.next_slot / 8) (front.next_slot % 8 * 64), slot_bytes (Absent key))
-    ∷ (address leaf 0, node_bytes 0 (inserted pairs key front.next_slot))
-    ∷ (address 0 8, count_bytes (front.next_slot + 1) front.next_page) ∷ []
-
 -- splitting a full page: the page, which keeps the lower half; the next page with the upper half; the parent, which names that; the counts
 abbrev pub cutting_pages : ℕ → ℕ → ℕ → List ℕ
 cutting_pages page next parent = page ∷ next ∷ parent ∷ 0 ∷ []
 
 abbrev pub cutting_parts : Super → ℕ → ℕ → List Pair → ℕ → List Pair → List Part
 cutting_parts front page level pairs parent above =
-    (address page 0, node_bytes level (take 15 pairs))
-    ∷ (address front.next_page 0, node_bytes level (drop 15 pairs))
-    ∷ (address parent 0, node_bytes (level + 1) (inserted above (key_at pairs 15) front.next_page))
+    (address page 0, written_page level 0 (take 15 pairs))
+    ∷ (address front.next_page 0, written_page level 0 (drop 15 pairs))
+    ∷ (address parent 0, written_page (level + 1) 0 (inserted above (key_at pairs 15) front.next_page))
     ∷ (address 0 8, count_bytes front.next_slot (front.next_page + 1)) ∷ []
 
 -- splitting the root: two new pages with its halves; the root, one level up, which names both; the counts
@@ -48,7 +37,7 @@ growing_pages next = next ∷ (next + 1) ∷ 1 ∷ 0 ∷ []
 
 abbrev pub growing_parts : Super → ℕ → List Pair → List Part
 growing_parts front level pairs =
-    (address front.next_page 0, node_bytes level (take 15 pairs))
-    ∷ (address (front.next_page + 1) 0, node_bytes level (drop 15 pairs))
-    ∷ (address 1 0, node_bytes (level + 1) ((0, front.next_page) ∷ (key_at pairs 15, front.next_page + 1) ∷ []))
+    (address front.next_page 0, written_page level 0 (take 15 pairs))
+    ∷ (address (front.next_page + 1) 0, written_page level 0 (drop 15 pairs))
+    ∷ (address 1 0, written_page (level + 1) 0 ((0, front.next_page) ∷ (key_at pairs 15, front.next_page + 1) ∷ []))
     ∷ (address 0 8, count_bytes front.next_slot (front.next_page + 2)) ∷ []

@@ -1,5 +1,6 @@
 // Tests the whole tree.
 ghost use Rattle.std.specs.Prelude.{◌≡◌, ◌≢◌, ◌<◌, ◌≤◌, ◌-◌, ◌^◌, ◌↔◌, suc, IsErrOf, IsTrue};
+ghost use Rattle.mars_base.specs.Check.{each};
 ghost use Rattle.eaw_face.specs.Causes.{IsAlive};
 ghost use Rattle.record_slots.specs.Places.{next_slot, page_bytes};
 ghost use Rattle.page_store.specs.Index.{slots_of, index_pages_of};
@@ -8,17 +9,18 @@ ghost use Rattle.page_store.specs.Shown.{pages_of};
 ghost use Rattle.page_store.specs.Pairs.{Rise};
 ghost use Rattle.index_pages.specs.Fetched.{IsFront};
 ghost use Rattle.index_pages.specs.Page.{count_said, level_said, pairs_said, pairs_from};
-ghost use Rattle.btree_pages.specs.Checked.{high_of, least_of, AreNamed, IsFrontOf, SlotsCause, ChildrenCause, TreeCause};
-ghost use Rattle.index_pages.specs.Chain.{key_end};
-ghost use Rattle.index_pages.specs.Checked.{is_media};
+ghost use Rattle.btree_pages.specs.Checked.{high_of, least_of, IsFrontOf};
+ghost use Rattle.index_pages.specs.Keys.{key_end};
+ghost use Rattle.index_pages.specs.Slots.{slot_check, IsVerdict};
 ghost use Rattle.btree_pages.specs.Index.{tree};
-ghost use Rattle.btree_pages.specs.Tree.{next_low};
+ghost use Rattle.btree_pages.specs.Tree.{AreChildren, next_low, children_check, tree_from};
 
 use crate::look::ROOT;
-use crate::page::{LEVEL_MAX, read_head};
+use crate::page::read_node_head;
 use eaw_face::EawStore;
 use index_pages::{
-    PAGE_LEN, check_fault, check_slot, fetch_page, fetch_super, index_page_count, read_pair,
+    LEVEL_MAX, PAGE_LEN, check_fault, check_slot, fetch_page, fetch_super, index_page_count,
+    read_pair,
 };
 use page_store::{CheckFault, Pages};
 use record_slots::Super;
@@ -83,10 +85,10 @@ fn check_under<S: EawStore>(
     requires front { IsFront (S.view pages.old.store).shape front.now }
     requires page { spot.page < index_pages_of (S.view pages.old.store).shape }
     requires level { level ≤ 7 }
-    ensures looks { Looks S.tells (S.opens (S.view pages.old.store).shape) (is_media result)
+    ensures looks { Looks S.tells (S.opens (S.view pages.old.store).shape) (is_check_failed result)
         (pages_of (S.view pages.old.store) pages.old) (pages_of (S.view pages.new.store) pages.new) }
     ensures cause { IsTrue S.tells → IsFrontOf (S.view pages.old.store).state.bytes front.now
-        → TreeCause level (S.view pages.old.store).state.bytes spot.page spot.low (high_of spot.high) result }
+        → IsVerdict (tree_from level (S.view pages.old.store).state.bytes spot.page spot.low (high_of spot.high)) result }
     ensures dead { IsErrOf result CheckFault.Dead → ⊥ }
 {
     let mut bytes = [0; PAGE_LEN];
@@ -109,14 +111,14 @@ fn check_page<S: EawStore>(
     requires alive { IsAlive (S.view pages.old.store) }
     requires front { IsFront (S.view pages.old.store).shape front.now }
     requires level { level ≤ 7 }
-    ensures looks { Looks S.tells (S.opens (S.view pages.old.store).shape) (is_media result)
+    ensures looks { Looks S.tells (S.opens (S.view pages.old.store).shape) (is_check_failed result)
         (pages_of (S.view pages.old.store) pages.old) (pages_of (S.view pages.new.store) pages.new) }
     ensures cause { IsTrue S.tells → IsFrontOf (S.view pages.old.store).state.bytes front.now → bytes.now ≡ page_bytes (S.view pages.old.store).state.bytes spot.page
-        → TreeCause level (S.view pages.old.store).state.bytes spot.page spot.low (high_of spot.high) result }
+        → IsVerdict (tree_from level (S.view pages.old.store).state.bytes spot.page spot.low (high_of spot.high)) result }
     ensures dead { IsErrOf result CheckFault.Dead → ⊥ }
 {
     let page = spot.page;
-    let Some(head) = read_head(bytes) else {
+    let Some(head) = read_node_head(bytes) else {
         return Err(CheckFault::Damaged { page });
     };
     if head.level != level {
@@ -150,11 +152,11 @@ fn check_children<S: EawStore>(
     requires inner { 1 ≤ level }
     requires count { count ≡ count_said bytes.now }
     requires most { count ≤ 30 }
-    requires named { AreNamed front.now.next_page (pairs_said bytes.now) }
-    ensures looks { Looks S.tells (S.opens (S.view pages.old.store).shape) (is_media result)
+    requires named { AreChildren front.now.next_page (pairs_said bytes.now) }
+    ensures looks { Looks S.tells (S.opens (S.view pages.old.store).shape) (is_check_failed result)
         (pages_of (S.view pages.old.store) pages.old) (pages_of (S.view pages.new.store) pages.new) }
     ensures cause { IsTrue S.tells → IsFrontOf (S.view pages.old.store).state.bytes front.now
-        → ChildrenCause (level - 1) (S.view pages.old.store).state.bytes (pairs_said bytes.now) (high_of high) result }
+        → IsVerdict (children_check (tree_from (level - 1) (S.view pages.old.store).state.bytes) (pairs_said bytes.now) (high_of high)) result }
     ensures dead { IsErrOf result CheckFault.Dead → ⊥ }
 {
     let _most = index_page_count(pages);
@@ -204,7 +206,7 @@ fn is_inner(bytes: &[u8; PAGE_LEN], count: u16, low: u64, pages: u32) -> bool
     requires count { count ≡ count_said bytes.now }
     requires some { 1 ≤ count }
     requires most { count ≤ 30 }
-    ensures { IsTrue result ↔ (next_low (pairs_said bytes.now) low ≡ low) × Rise low key_end (pairs_said bytes.now) × AreNamed pages (pairs_said bytes.now) }
+    ensures { IsTrue result ↔ (next_low (pairs_said bytes.now) low ≡ low) × Rise low key_end (pairs_said bytes.now) × AreChildren pages (pairs_said bytes.now) }
 {
     if read_pair(bytes, 0).0 != low {
         return false;
@@ -258,7 +260,7 @@ fn is_below(low: u64, last: Option<u64>, high: Option<u64>) -> bool
 fn are_named(bytes: &[u8; PAGE_LEN], count: u16, pages: u32) -> bool
     requires count { count ≡ count_said bytes.now }
     requires most { count ≤ 30 }
-    ensures { IsTrue result ↔ AreNamed pages (pairs_said bytes.now) }
+    ensures { IsTrue result ↔ AreChildren pages (pairs_said bytes.now) }
 {
     for i in 0..count {
         let child = read_pair(bytes, i).1;
@@ -284,10 +286,10 @@ fn check_slots<S: EawStore>(
     requires count { count ≡ count_said bytes.now }
     requires most { count ≤ 30 }
     requires slots { slots ≤ slots_of (S.view pages.old.store).shape }
-    ensures looks { Looks S.tells (S.opens (S.view pages.old.store).shape) (is_media result)
+    ensures looks { Looks S.tells (S.opens (S.view pages.old.store).shape) (is_check_failed result)
         (pages_of (S.view pages.old.store) pages.old) (pages_of (S.view pages.new.store) pages.new) }
     ensures cause { IsTrue S.tells → slots ≡ next_slot (S.view pages.old.store).state.bytes
-        → SlotsCause (S.view pages.old.store).state.bytes page (pairs_said bytes.now) result }
+        → IsVerdict (each (slot_check (S.view pages.old.store).state.bytes page) (pairs_said bytes.now)) result }
     ensures dead { IsErrOf result CheckFault.Dead → ⊥ }
 {
     for i in 0..count {

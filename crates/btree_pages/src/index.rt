@@ -1,6 +1,6 @@
 ghost use Rattle.btree_pages.specs.Props.{IsSoundTree-prop};
 ghost use Rattle.btree_pages.specs.TreeFacts.{sound_tree_rises};
-ghost use Rattle.btree_pages.specs.FailingFacts.{damaged_tree_is_not_sound, one_damaged_of_tree};
+ghost use Rattle.btree_pages.specs.Seen.{tree_excludes, tree_first};
 ghost use Rattle.btree_pages.specs.Resting.{sound_tree_given, sound_tree_counts, sound_tree_rests};
 ghost use Rattle.btree_pages.specs.Index.{tree};
 
@@ -47,7 +47,7 @@ impl KeyIndex for BTreePages {
 
     ghost rests = { sound_tree_rests };
 
-    ghost excluded = { damaged_tree_is_not_sound };
+    ghost excluded = { tree_excludes };
 
-    ghost first = { one_damaged_of_tree };
+    ghost first = { tree_first };
 }

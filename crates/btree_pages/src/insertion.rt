@@ -15,10 +15,11 @@ ghost use Rattle.btree_pages.specs.Writes.{IsRead};
 use crate::checking::FORM;
 use crate::look::ROOT;
 use crate::node::{Node, fetch_child, fetch_node};
-use crate::page::LEVEL_MAX;
 use crate::write::{add_pair, cut_page, grow_root, half_of};
 use eaw_face::EawStore;
-use index_pages::{PAIRS_MAX, fetch_super, index_fault, index_page_count};
+use index_pages::{
+    LEVEL_MAX, PAIRS_MAX, SLOTS_IN_PAGE, fetch_super, index_fault, index_page_count,
+};
 use page_store::{IndexFault, Pages};
 use record_slots::Super;
 
@@ -37,7 +38,7 @@ pub fn insert<S: EawStore>(pages: &mut Pages<S>, tid: u8, key: u64) -> Result<u3
         Ok(front) => front,
         Err(fault) => return Err(index_fault(fault)),
     };
-    if front.next_slot == 8 * count {
+    if front.next_slot == SLOTS_IN_PAGE * count {
         return Err(IndexFault::SlotsFull {
             slots: front.next_slot,
         });

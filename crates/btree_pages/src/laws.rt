@@ -3,18 +3,17 @@ ghost use Rattle.std.specs.Prelude.{◌≡◌, ◌≢◌, ◌<◌, ◌≤◌, �
 ghost use Rattle.record_slots.specs.Places.{page_bytes, next_page, IsSuper, AreGiven};
 ghost use Rattle.page_store.specs.Index.{KeepsIndex};
 ghost use Rattle.page_store.specs.Pairs.{Rise, found, inserted};
-ghost use Rattle.index_pages.specs.Chain.{key_end};
+ghost use Rattle.index_pages.specs.Keys.{key_end};
 ghost use Rattle.index_pages.specs.Page.{kind_of, level_of, count_of, link_of, page_pairs};
 ghost use Rattle.index_pages.specs.Pieces.{Tile};
 ghost use Rattle.index_pages.specs.Ways.{above, Keeps};
 ghost use Rattle.btree_pages.specs.Changes.{TakesPair, SplitsChild, SplitsRoot};
 ghost use Rattle.btree_pages.specs.Descent.{child_for, page_for, leaf_for};
-ghost use Rattle.btree_pages.specs.Failing.{IsFirstDamagedOfTree};
-ghost use Rattle.btree_pages.specs.Tree.{IsTree, pairs_under, pieces_under, IsSoundTree, pairs_of_tree};
+ghost use Rattle.btree_pages.specs.Tree.{tree_from, pairs_under, pieces_under, IsSoundTree, IsFirstDamagedOfTree, pairs_of_tree};
 
 /// The children of an inner page tile its range. The pairs of a sound tree rise strictly, and their slots are given out and carry the keys.
 pub fn tree_rises()
-    ensures tiles { (l : ℕ) (bytes : List ℕ) (page low high : ℕ) → IsTree (suc l) bytes page low high → Tile low high (pieces_under l bytes page) }
+    ensures tiles { (l : ℕ) (bytes : List ℕ) (page low high : ℕ) → tree_from (suc l) bytes page low high None → Tile low high (pieces_under l bytes page) }
     ensures rises { (bytes : List ℕ) → IsSoundTree bytes → Rise 0 key_end (pairs_of_tree bytes) }
     ensures given { (bytes : List ℕ) → IsSoundTree bytes → AreGiven bytes (pairs_of_tree bytes) }
 {}
@@ -22,7 +21,7 @@ pub fn tree_rises()
 /// A look-up goes down from the root to the leaf of the key.
 pub fn descent_finds()
     ensures leaf { (bytes : List ℕ) (key : ℕ) → IsSoundTree bytes → key < key_end → found (pairs_of_tree bytes) key ≡ found (page_pairs bytes (leaf_for bytes key)) key }
-    ensures step { (d m : ℕ) (bytes : List ℕ) (key page low high : ℕ) → IsTree (above d m) bytes page low high → low ≤ key → key < high →
+    ensures step { (d m : ℕ) (bytes : List ℕ) (key page low high : ℕ) → tree_from (above d m) bytes page low high None → low ≤ key → key < high →
         found (pairs_under (above d m) bytes page) key ≡ found (pairs_under m bytes (page_for d bytes page key)) key }
 {}
 

@@ -12,15 +12,17 @@ ghost use Rattle.btree_pages.specs.Leaf.{AtLeaf, Reaches};
 ghost use Rattle.btree_pages.specs.Node.{IsNode, SaysNode};
 ghost use Rattle.btree_pages.specs.Tree.{IsSoundTree, pairs_of_tree};
 
-use crate::page::{Head, child_in, read_head, slot_in};
+use crate::page::{child_in, read_node_head, slot_in};
 use eaw_face::EawStore;
-use index_pages::{PAGE_LEN, fetch_page, index_page_count, next_pair};
+use index_pages::{
+    Head, LEVEL_MAX, PAGE_LEN, SLOTS_IN_PAGE, fetch_page, index_page_count, next_pair,
+};
 use page_store::{PageFault, Pages};
 
 pub const ROOT: u32 = 1;
 
 // The most pages on the way from the root to a leaf.
-pub const WAY_MAX: u32 = 8;
+pub const WAY_MAX: u32 = LEVEL_MAX as u32 + 1;
 
 /// A leaf on the way to a key.
 #[derive(Clone, Copy, Debug)]
@@ -47,7 +49,7 @@ pub fn read_node<S: EawStore>(
 {
     let _count = index_page_count(pages);
     fetch_page(pages, page, bytes)?;
-    let Some(head) = read_head(bytes) else {
+    let Some(head) = read_node_head(bytes) else {
         return Err(PageFault::Damaged { page });
     };
     Ok(head)
@@ -112,7 +114,7 @@ pub fn find<S: EawStore>(pages: &mut Pages<S>, key: u64) -> Result<Option<u32>, 
     let Some(slot) = slot_in(&bytes, leaf.count, key) else {
         return Ok(None);
     };
-    if slot >= u64::from(8 * count) {
+    if slot >= u64::from(SLOTS_IN_PAGE * count) {
         return Err(PageFault::Damaged { page: leaf.page });
     }
     Ok(Some(slot as u32))
@@ -150,7 +152,7 @@ fn reach<S: EawStore>(pages: &mut Pages<S>, from: u64) -> Result<Reached, PageFa
             bound,
         });
     };
-    if slot >= u64::from(8 * count) {
+    if slot >= u64::from(SLOTS_IN_PAGE * count) {
         return Err(PageFault::Damaged { page });
     }
     Ok(Reached {

@@ -2,51 +2,25 @@
 ghost use Rattle.std.specs.Prelude.{◌≡◌, ◌+◌, ◌<◌, ◌≤◌, None, IsErrOf, length};
 ghost use Rattle.eaw_face.specs.Causes.{IsAlive};
 ghost use Rattle.page_store.specs.Index.{slots_of, index_pages_of};
-ghost use Rattle.page_store.specs.Pairs.{inserted};
 ghost use Rattle.page_store.specs.Shown.{pages_of, top_in};
 ghost use Rattle.index_pages.specs.Acts.{Acts};
 ghost use Rattle.index_pages.specs.Fetched.{IsFront};
 ghost use Rattle.index_pages.specs.Keys.{key_at};
 ghost use Rattle.btree_pages.specs.Index.{half_for, half_pairs};
-ghost use Rattle.btree_pages.specs.Node.{node_bytes};
-ghost use Rattle.btree_pages.specs.Writes.{IsRead, adding_pages, adding_parts, cutting_pages, cutting_parts, growing_pages, growing_parts};
+ghost use Rattle.btree_pages.specs.Writes.{IsRead, cutting_pages, cutting_parts, growing_pages, growing_parts};
+ghost use Rattle.index_pages.specs.Adding.{adding_pages, adding_parts};
 
 use crate::look::ROOT;
 use crate::node::Node;
 use eaw_face::EawStore;
-use index_pages::{PAGE_LEN, PagePart, Pairs, act_all, index_page_count, place_of, write_leaf};
+use index_pages::{
+    HALF, LeafPage, PAGE_LEN, Pairs, act_all, front_part, whole_page, with_pair, write_page,
+};
 use page_store::{PageFault, Pages};
-use record_slots::{COUNTS_AT, COUNTS_LEN, SLOT_LEN, Slot, Super, write_slot, write_super_counts};
+use record_slots::{COUNTS_LEN, Super, write_super_counts};
 
-const SLOTS_IN_PAGE: u32 = 8;
-
-const INNER: u8 = 2;
-
-// How many of 30 pairs go to the lower half.
-const HALF: usize = 15;
-
-// Writes a page of this level with these pairs.
-fn write_node(level: u8, pairs: &[(u64, u64)], out: &mut [u8; PAGE_LEN])
-    requires { length pairs.now ≤ 30 }
-    ensures { out.new ≡ node_bytes level pairs.now }
-{
-    write_leaf(0, pairs, out);
-    if level > 0 {
-        out[0] = INNER;
-        out[1] = level;
-    }
-}
-
-// The pairs of a page that has room, with one more in its place.
-fn with_pair(node: Node, key: u64, to: u32) -> Pairs
-    requires { length node.pairs.items < 30 }
-    ensures { result.items ≡ inserted node.pairs.items key to }
-{
-    let Node { mut pairs, .. } = node;
-    let place = place_of(pairs.as_slice(), key);
-    pairs.insert(place, (key, u64::from(to)));
-    pairs
-}
+// A page of the tree has no link.
+const NO_LINK: u32 = 0;
 
 // The first key of the upper half of 30 pairs.
 fn middle_of(pairs: &Pairs) -> u64
@@ -71,42 +45,17 @@ pub fn add_pair<S: EawStore>(
     requires room { length leaf.pairs.items < 30 }
     requires slot { front.now.next_slot < slots_of (S.view pages.old.store).shape }
     ensures acts { Acts S.tells (S.opens (S.view pages.old.store).shape) tid (adding_pages (index_pages_of (S.view pages.old.store).shape) front.now leaf.page)
-        (adding_parts (index_pages_of (S.view pages.old.store).shape) front.now leaf.page leaf.pairs.items key)
+        (adding_parts (index_pages_of (S.view pages.old.store).shape) front.now leaf.page 0 leaf.pairs.items key)
         (pages_of (S.view pages.old.store) pages.old) (pages_of (S.view pages.new.store) pages.new) result }
     ensures dead { IsErrOf result PageFault.Dead → pages.new ≡ pages.old }
 {
-    let page = leaf.page;
-    let pairs = with_pair(leaf, key, front.next_slot);
-    let mut slot = [0; SLOT_LEN];
-    write_slot(&Slot::Absent { key }, &mut slot);
-    let mut bytes = [0; PAGE_LEN];
-    write_node(0, pairs.as_slice(), &mut bytes);
-    let mut counts = [0; COUNTS_LEN];
-    write_super_counts(front.next_slot + 1, front.next_page, &mut counts);
-    let slot_part = PagePart {
-        page: index_page_count(pages) + front.next_slot / SLOTS_IN_PAGE,
-        at: front.next_slot % SLOTS_IN_PAGE * 64,
-        bytes: &slot,
-    };
-    let leaf_part = PagePart {
+    let Node { page, pairs, .. } = leaf;
+    let leaf = LeafPage {
         page,
-        at: 0,
-        bytes: &bytes,
+        link: NO_LINK,
+        pairs,
     };
-    act_all(pages, tid, &[slot_part, leaf_part, front_part(&counts)])
-}
-
-// The part of the super page that has the counts.
-fn front_part(counts: &[u8; COUNTS_LEN]) -> PagePart<'_>
-    ensures page { result.page ≡ 0 }
-    ensures at { result.at ≡ 8 }
-    ensures bytes { result.bytes.now ≡ counts.now }
-{
-    PagePart {
-        page: 0,
-        at: COUNTS_AT as u32,
-        bytes: counts,
-    }
+    index_pages::add_pair(pages, tid, key, front, leaf)
 }
 
 // Splits a full page below a parent that has room. Its upper half goes to the next page, which the parent names with the first key of that
@@ -134,13 +83,17 @@ pub fn cut_page<S: EawStore>(
 {
     let pairs = node.pairs.as_slice();
     let mut lower = [0; PAGE_LEN];
-    write_node(node.level, &pairs[..HALF], &mut lower);
+    write_page(node.level, NO_LINK, &pairs[..HALF], &mut lower);
     let mut upper = [0; PAGE_LEN];
-    write_node(node.level, &pairs[HALF..], &mut upper);
-    let page = parent.page;
-    let above = with_pair(parent, middle_of(&node.pairs), front.next_page);
+    write_page(node.level, NO_LINK, &pairs[HALF..], &mut upper);
+    let Node {
+        page,
+        pairs: above,
+        ..
+    } = parent;
+    let above = with_pair(above, middle_of(&node.pairs), front.next_page);
     let mut named = [0; PAGE_LEN];
-    write_node(node.level + 1, above.as_slice(), &mut named);
+    write_page(node.level + 1, NO_LINK, above.as_slice(), &mut named);
     let mut counts = [0; COUNTS_LEN];
     write_super_counts(front.next_slot, front.next_page + 1, &mut counts);
     let parts = [
@@ -150,15 +103,6 @@ pub fn cut_page<S: EawStore>(
         front_part(&counts),
     ];
     act_all(pages, tid, &parts)
-}
-
-// A whole page as a part.
-fn whole_page(page: u32, bytes: &[u8; PAGE_LEN]) -> PagePart<'_>
-    ensures page { result.page ≡ page }
-    ensures at { result.at ≡ 0 }
-    ensures bytes { result.bytes.now ≡ bytes.now }
-{
-    PagePart { page, at: 0, bytes }
 }
 
 // Splits a full root. Its halves go to the next two pages, which it then names from one level up.
@@ -185,12 +129,12 @@ pub fn grow_root<S: EawStore>(
     let left = front.next_page;
     let right = left + 1;
     let mut lower = [0; PAGE_LEN];
-    write_node(level, &pairs[..HALF], &mut lower);
+    write_page(level, NO_LINK, &pairs[..HALF], &mut lower);
     let mut upper = [0; PAGE_LEN];
-    write_node(level, &pairs[HALF..], &mut upper);
+    write_page(level, NO_LINK, &pairs[HALF..], &mut upper);
     let mut named = [0; PAGE_LEN];
     let both = [(0, u64::from(left)), (middle_of(root), u64::from(right))];
-    write_node(level + 1, &both, &mut named);
+    write_page(level + 1, NO_LINK, &both, &mut named);
     let mut counts = [0; COUNTS_LEN];
     write_super_counts(front.next_slot, right + 1, &mut counts);
     let parts = [

@@ -1,10 +1,10 @@
 -- The prefix law along steps.
-use Rattle.std.proofs.Common.{◌≡◌, ℕ, ◌≤◌, Bool, true, false, ⊎_elim, List, [], ◌∷◌, ◌++◌, length, take, Option, Some, None, refl, sym, ap, subst, ◌∙◌, arith, length-append}
+use Rattle.std.proofs.Common.{◌≡◌, ℕ, ◌≤◌, Bool, true, false, ⊎_elim, List, [], ◌∷◌, ◌++◌, length, take, refl, sym, ap, subst, ◌∙◌, arith, length-append}
 use Rattle.std.specs.Prelude.{IsTrue, if◌then◌else◌}
 use Rattle.std.proofs.lemmas.List.{take-append-le, append_assoc, append-nil}
 use Rattle.mars_base.proofs.Going as going
 use Rattle.history.specs.Writes.{Table}
-use Rattle.history.specs.Legal.{records, with_doubt}
+use Rattle.history.specs.Legal.{records}
 use Rattle.history.specs.declared.call.Call.{Call}
 use Rattle.history.specs.declared.call.Reply.{Reply}
 use Rattle.history.specs.declared.transaction.Done.{Done}
@@ -28,10 +28,9 @@ grows_longer old new grows = omega (arith, ap length grows.is, length-append old
 pub grows_same : (old new : List Done) → new ≡ old → Grows old new
 grows_same old new e = record { more = []; is = e ∙ sym (append-nil old) }
 
--- the transaction in doubt comes after the others
-pub grows_doubt : (history : List Done) (doubt : Option Done) → Grows history (with_doubt history doubt)
-grows_doubt history None = grows_none history
-grows_doubt history (Some done) = record { more = done ∷ []; is = refl }
+-- what is in doubt comes after the others
+grows_doubt : (history doubt : List Done) → Grows history (history ++ doubt)
+grows_doubt history doubt = record { more = doubt; is = refl }
 
 -- The first transactions of a history are the first ones of a history that extends it,
 pub prefix_on : (Old New : List ℕ → Table → Type 0) (base after : Table) (old new : List Done) (least fewer : ℕ) (image : List ℕ)
@@ -48,7 +47,7 @@ prefix_on Old New base after old new least fewer image opens same grows le has =
 -- also for a state that continues another.
 prefix_of : (mid new : CoreView) (least fewer : ℕ) (image : List ℕ) → Continues mid new → fewer ≤ least → HasPrefixOf mid.opens mid.state least image → HasPrefixOf new.opens new.state fewer image
 prefix_of mid new least fewer image on le has =
-    prefix_on mid.opens new.opens mid.state.base new.state.base (with_doubt mid.state.history mid.state.doubt) (with_doubt new.state.history new.state.doubt)
+    prefix_on mid.opens new.opens mid.state.base new.state.base (mid.state.history ++ mid.state.doubt) (new.state.history ++ new.state.doubt)
     least fewer image (on.opens image) on.base on.doubtful le has
 
 -- A core continues itself,
@@ -58,7 +57,7 @@ continues_none core sound safe = record {
   base = refl;
   opens = λ image table opens. opens;
   grows = grows_none core.state.history;
-  doubtful = grows_none (with_doubt core.state.history core.state.doubt);
+  doubtful = grows_none (core.state.history ++ core.state.doubt);
   sound = sound;
   time = going.stays core.moment core.left_since (HasPrefixOf core.opens core.state (length core.state.history));
   now = safe;
@@ -71,12 +70,12 @@ continues_on old mid new a b = record {
   base = b.base ∙ a.base;
   opens = λ image table opens. b.opens image table (a.opens image table opens);
   grows = grows_on old.state.history mid.state.history new.state.history a.grows b.grows;
-  doubtful = grows_on (with_doubt old.state.history old.state.doubt) (with_doubt mid.state.history mid.state.doubt) (with_doubt new.state.history new.state.doubt) a.doubtful b.doubtful;
+  doubtful = grows_on (old.state.history ++ old.state.doubt) (mid.state.history ++ mid.state.doubt) (new.state.history ++ new.state.doubt) a.doubtful b.doubtful;
   sound = b.sound;
   time = going.then
       (going.weaker (λ image has. prefix_of mid new (length old.state.history) (length old.state.history) image b (omega arith) has) a.time)
-      (going.weaker (λ image has. prefix_on new.opens new.opens new.state.base new.state.base (with_doubt new.state.history new.state.doubt) (with_doubt new.state.history new.state.doubt)
-      (length mid.state.history) (length old.state.history) image (λ table opens. opens) refl (grows_none (with_doubt new.state.history new.state.doubt))
+      (going.weaker (λ image has. prefix_on new.opens new.opens new.state.base new.state.base (new.state.history ++ new.state.doubt) (new.state.history ++ new.state.doubt)
+      (length mid.state.history) (length old.state.history) image (λ table opens. opens) refl (grows_none (new.state.history ++ new.state.doubt))
       (grows_longer old.state.history mid.state.history a.grows) has) b.time);
   now = b.now;
 }
@@ -95,10 +94,10 @@ module _ (tells : Bool) (caller : ℕ) (call : Call) (old new : CoreView) (reply
 
   -- If the medium has not failed before, nothing was in doubt; else nothing changes.
   doubt_if : (dead : Bool) → old.state.is_dead ≡ dead → StepIf old.limits dead old.state caller call reply new.state
-      → Grows (with_doubt old.state.history old.state.doubt) (with_doubt new.state.history new.state.doubt)
-  doubt_if true dead step = grows_same (with_doubt old.state.history old.state.doubt) (with_doubt new.state.history new.state.doubt) (ap (λ (s : State). with_doubt s.history s.doubt) step.1)
-  doubt_if false alive step = subst (λ d. Grows (with_doubt old.state.history d) (with_doubt new.state.history new.state.doubt)) (sym (sound.certain alive))
-      (grows_on old.state.history new.state.history (with_doubt new.state.history new.state.doubt) step_grows (grows_doubt new.state.history new.state.doubt))
+      → Grows (old.state.history ++ old.state.doubt) (new.state.history ++ new.state.doubt)
+  doubt_if true dead step = grows_same (old.state.history ++ old.state.doubt) (new.state.history ++ new.state.doubt) (ap (λ (s : State). s.history ++ s.doubt) step.1)
+  doubt_if false alive step = subst (λ d. Grows (old.state.history ++ d) (new.state.history ++ new.state.doubt)) (sym (sound.certain alive))
+      (subst (λ h. Grows h (new.state.history ++ new.state.doubt)) (sym (append-nil old.state.history)) (grows_on old.state.history new.state.history (new.state.history ++ new.state.doubt) step_grows (grows_doubt new.state.history new.state.doubt)))
 
   -- A step continues the core.
   pub continues_step : Continues old new
@@ -117,8 +116,8 @@ module _ (tells : Bool) (caller : ℕ) (call : Call) (old new : CoreView) (reply
 pub safe_on : (old new : CoreView) (since least : ℕ) → Continues old new → since ≤ old.moment → least ≤ length old.state.history → IsSafe old since least → IsSafe new since least
 safe_on old new since least on le few safe image left = ⊎_elim
     (λ was. prefix_of old new least least image on (omega arith) (safe image was))
-    (λ anew. prefix_on new.opens new.opens new.state.base new.state.base (with_doubt new.state.history new.state.doubt) (with_doubt new.state.history new.state.doubt)
-    (length old.state.history) least image (λ table opens. opens) refl (grows_none (with_doubt new.state.history new.state.doubt)) few anew)
+    (λ anew. prefix_on new.opens new.opens new.state.base new.state.base (new.state.history ++ new.state.doubt) (new.state.history ++ new.state.doubt)
+    (length old.state.history) least image (λ table opens. opens) refl (grows_none (new.state.history ++ new.state.doubt)) few anew)
     (on.time.only since image le left)
 
 -- So all that was committed at some moment is kept whenever power is lost from then on.

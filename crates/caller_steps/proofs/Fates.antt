@@ -26,7 +26,7 @@ pub data Fate (old : State) (caller : ℕ) (call : Call) (reply : Reply) (new : 
   committed : (calls : Granted) → call ≡ Commit → reply ≡ Committed (length old.history + 1) → old.live caller ≡ Some calls
       → new ≡ record (with_live old caller None) { history = old.history ++ done_by old caller calls ∷ [] } → Fate old caller call reply new
   doubted : (calls : Granted) → call ≡ Commit → reply ≡ Media → old.live caller ≡ Some calls → (index : Index)
-      → new ≡ record (with_live old caller None) { doubt = Some (done_by old caller calls); index = index; is_dead = true } → Fate old caller call reply new
+      → new ≡ record (with_live old caller None) { doubt = done_by old caller calls ∷ []; index = index; is_dead = true } → Fate old caller call reply new
   aborted : call ≡ Abort → reply ≡ Fine → new ≡ with_live old caller None → Fate old caller call reply new
 
 -- a refusal for lack of room is a reply of the array

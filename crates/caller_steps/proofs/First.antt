@@ -25,7 +25,7 @@ module _ (limits : Limits) (old : State) (caller : ℕ) (new : State) (holder : 
   at_held calls (Put key value) reply blocks s = asks_held calls (Put key value) reply blocks s
   at_held calls (Del key) reply blocks s = asks_held calls (Del key) reply blocks s
   at_held calls (Scan low high) reply blocks s = asks_held calls (Scan low high) reply blocks s
-  at_held calls _ reply blocks s = absurd (false≢true blocks.2)
+  at_held calls _ reply blocks s = absurd (false≢true blocks.1.1)
 
   held_if : (dead : Bool) (calls : Granted) (call : Call) (reply : Reply) → old.live caller ≡ Some calls → Blocks old caller call holder → StepIf limits dead old caller call reply new → IsLeft reply
   held_if true calls call reply is blocks s = (ap may_come_held s.0, s.1)

@@ -1,11 +1,12 @@
 -- What a caller's own turns say of its transactions is true at the end of the run.
 use Rattle.std.proofs.Common.{◌≡◌, ◌≢◌, ◌||◌, ◌⊎◌, ℕ, ◌+◌, ◌<◌, ◌≤◌, inl, inr, ⊎_elim, Bool, true, false, List, [], ◌∷◌, ◌++◌, length, Option, Some, None, refl, sym, ap, ◌∙◌, subst, arith, eq-eqb, ne_eqb}
-use Rattle.std.specs.Prelude.{IsTrue, unwrap_or, if◌then◌else◌}
+use Rattle.std.specs.Prelude.{IsTrue, All, nat_eq, unwrap_or, if◌then◌else◌}
 use Rattle.std.specs.List.{fold}
 use mathlib.Core.Logic.{dite}
 use native.Mathlib.Decide.{ℕ_discrete, dec_le}
 use Rattle.std.proofs.lemmas.Bool.{true≢false, cond-true, cond-false}
 use Rattle.std.proofs.lemmas.Map.{update_here}
+use Rattle.std.proofs.lemmas.List.Elements.{All-nil, All-cons}
 use Rattle.history.specs.Table.{Granted}
 use Rattle.history.specs.declared.call.Call.{Call}
 use Rattle.history.specs.declared.call.Call.TheVariants.{Commit}
@@ -17,7 +18,7 @@ use Rattle.caller_steps.specs.Room.{Limits}
 use Rattle.caller_steps.specs.Step.{Step, StepIf, StepAt, Doubts}
 use Rattle.caller_steps.specs.Fate.{is_refusal, is_media, is_committed, live_with, Moves}
 use Rattle.caller_steps.specs.Run.{Turn, Goes, GoesAlong, AreOf, turns_of, commits_of}
-use Rattle.caller_steps.specs.Own.{is_commit, number_of, Own, nothing_own, live_after, mine_after, doubt_after, own_after, doubt_of, doubtful}
+use Rattle.caller_steps.specs.Own.{is_commit, number_of, Own, nothing_own, live_after, mine_after, doubt_after, own_after, doubtful}
 use Rattle.caller_steps.proofs.Fates.{Fate, step_fate, refusal_none, answer_plain}
 use Rattle.caller_steps.proofs.Fates.Fate.{refused, failed, began, granted, committed, doubted, aborted}
 use Rattle.caller_steps.proofs.Running.{line_here, line_apart, none_beyond, own_commits, other_commits, turns_dead}
@@ -152,34 +153,22 @@ module _ (tells : Bool) (limits : Limits) (caller : ℕ) where
       turns_mine a.0 now turns own a.2 told (a.1.moves.others caller apart ∙ live) (ap (commits_of caller) a.1.moves.history ∙ other_commits first turn.0 caller turn.2 apart ∙ mine)
       ∙ ap (λ (o : Own). o.mine) (sym (other_line own turn turns ne)))
 
-some_none : {X : Type 0} (x : Done) → Some x ≡ None → X
-some_none x e = absurd (cc)
-
 -- nothing is in doubt if no transaction is
-nothing_doubtful : (caller n : ℕ) (o : Option Granted) → doubtful caller n o ≡ None → o ≡ None
+nothing_doubtful : (caller n : ℕ) (o : Option Granted) → doubtful caller n o ≡ [] → o ≡ None
 nothing_doubtful caller n None e = refl
-nothing_doubtful caller n (Some calls) e = some_none (record { caller = caller; calls = calls; at = n + 1 }) e
+nothing_doubtful caller n (Some calls) e = absurd (cc)
 
--- the calls of the transaction in doubt
-pub doubtful_calls : (caller n : ℕ) (o : Option Granted) (done : Done) → doubtful caller n o ≡ Some done → o ≡ Some done.calls
-doubtful_calls caller n None done e = absurd (cc)
-doubtful_calls caller n (Some calls) done e = ap (λ (d : Option Done). calls_of_done d) e
-  where
-    calls_of_done : Option Done → Option Granted
-    calls_of_done None = None
-    calls_of_done (Some done) = Some done.calls
+doubt_mine : (caller : ℕ) (done : Done) → done.caller ≡ caller → commits_of caller (done ∷ []) ≡ done ∷ []
+doubt_mine caller done is = ap (λ (b : Bool). if b then done ∷ [] else []) (eq-eqb done.caller caller is)
 
-pub doubt_mine : (caller : ℕ) (done : Done) → done.caller ≡ caller → doubt_of caller (Some done) ≡ Some done
-doubt_mine caller done is = ap (λ (b : Bool). if b then Some done else None) (eq-eqb done.caller caller is)
-
-doubt_theirs : (caller : ℕ) (done : Done) → done.caller ≢ caller → doubt_of caller (Some done) ≡ None
-doubt_theirs caller done ne = ap (λ (b : Bool). if b then Some done else None) (ne_eqb done.caller caller ne)
+doubt_theirs : (caller : ℕ) (done : Done) → done.caller ≢ caller → commits_of caller (done ∷ []) ≡ []
+doubt_theirs caller done ne = ap (λ (b : Bool). if b then done ∷ [] else []) (ne_eqb done.caller caller ne)
 
 module _ (limits : Limits) (old : State) (caller : ℕ) (new : State) (call : Call) (reply : Reply) (step : Step limits old caller call reply new) where
   -- In a step of a core that is not dead, either nothing more is in doubt, or the caller's commit met a fault of the medium.
   doubt_step : (b c : Bool) → is_media reply ≡ b → is_commit call ≡ c
       → ((new.doubt ≡ old.doubt) × ((d : Option Granted) → doubt_after (old.live caller) d call reply ≡ d))
-      ⊎ ((new.doubt ≡ Some (done_by new caller (calls_of old caller))) × ((d : Option Granted) → doubt_after (old.live caller) d call reply ≡ Some (calls_of old caller)))
+      ⊎ ((new.doubt ≡ done_by new caller (calls_of old caller) ∷ []) × ((d : Option Granted) → doubt_after (old.live caller) d call reply ≡ Some (calls_of old caller)))
   doubt_step false c media is = inl (sure_same limits old caller new call reply media (step_fate limits old caller new call reply step), λ d. cond-false (is_media reply) (if is_commit call then Some (calls_of old caller) else d) d media)
   doubt_step true false media is = inl (
     (fault_same limits old caller new call reply media is (step_fate limits old caller new call reply step)).1,
@@ -190,54 +179,54 @@ module _ (limits : Limits) (old : State) (caller : ℕ) (new : State) (call : Ca
       let calls : f.0 ≡ calls_of old caller = ap (λ (o : Option Granted). unwrap_or o []) (sym f.1) in
       let same : old.history ≡ new.history = sym (ap (λ (s : State). s.history) f.2.3) in
       inr (
-        ap (λ (s : State). s.doubt) f.2.3 ∙ (λ i. Some (record { caller = caller; calls = calls i; at = length (same i) + 1 })),
+        ap (λ (s : State). s.doubt) f.2.3 ∙ (λ i. record { caller = caller; calls = calls i; at = length (same i) + 1 } ∷ []),
         λ d. cond-true (is_media reply) (if is_commit call then Some (calls_of old caller) else d) d media ∙ cond-true (is_commit call) (Some (calls_of old caller)) d is,
       )
 
 module _ (limits : Limits) (caller : ℕ) where
-  certain_goes : (old new : State) (turn : Turn) → Goes true limits old turn.0 turn.1 turn.2 new → (old.is_dead ≡ false → old.doubt ≡ None) → new.is_dead ≡ false → new.doubt ≡ None
+  certain_goes : (old new : State) (turn : Turn) → Goes true limits old turn.0 turn.1 turn.2 new → (old.is_dead ≡ false → old.doubt ≡ []) → new.is_dead ≡ false → new.doubt ≡ []
   certain_goes old new turn goes certain alive =
       let both = or_false old.is_dead (is_media turn.2) (sym goes.moves.dead ∙ alive) in
       sure_same limits old turn.0 new turn.1 turn.2 both.1 (step_fate limits old turn.0 new turn.1 turn.2 (goes.step refl)) ∙ certain both.0
 
   -- a dead core stays as it is, and its replies say nothing of a transaction
-  doubt_dead : (old new : State) (turn : Turn) (own : Own) → Goes true limits old turn.0 turn.1 turn.2 new → old.is_dead ≡ true → doubt_of caller old.doubt ≡ doubtful caller (length old.history) own.doubt
-      → (doubt_of caller new.doubt ≡ doubtful caller (length new.history) own.doubt) × (doubt_after own.live own.doubt turn.1 turn.2 ≡ own.doubt)
+  doubt_dead : (old new : State) (turn : Turn) (own : Own) → Goes true limits old turn.0 turn.1 turn.2 new → old.is_dead ≡ true → commits_of caller old.doubt ≡ doubtful caller (length old.history) own.doubt
+      → (commits_of caller new.doubt ≡ doubtful caller (length new.history) own.doubt) × (doubt_after own.live own.doubt turn.1 turn.2 ≡ own.doubt)
   doubt_dead old new turn own goes dead was =
       let still = goes.dead dead in (
-        subst (λ (s : State). doubt_of caller s.doubt ≡ doubtful caller (length s.history) own.doubt) (sym still.1) was,
+        subst (λ (s : State). commits_of caller s.doubt ≡ doubtful caller (length s.history) own.doubt) (sym still.1) was,
         cond-false (is_media turn.2) (if is_commit turn.1 then Some (unwrap_or own.live []) else own.doubt) own.doubt (ap is_media still.0),
       )
 
-  own_none : (old : State) (own : Own) → old.doubt ≡ None → doubt_of caller old.doubt ≡ doubtful caller (length old.history) own.doubt → own.doubt ≡ None
-  own_none old own none was = nothing_doubtful caller (length old.history) own.doubt (sym was ∙ ap (doubt_of caller) none)
+  own_none : (old : State) (own : Own) → old.doubt ≡ [] → commits_of caller old.doubt ≡ doubtful caller (length old.history) own.doubt → own.doubt ≡ None
+  own_none old own none was = nothing_doubtful caller (length old.history) own.doubt (sym was ∙ ap (commits_of caller) none)
 
-  doubt_mine_if : (dead : Bool) (old new : State) (call : Call) (reply : Reply) (own : Own) → old.is_dead ≡ dead → Goes true limits old caller call reply new → (old.is_dead ≡ false → old.doubt ≡ None) → old.live caller ≡ own.live
-      → doubt_of caller old.doubt ≡ doubtful caller (length old.history) own.doubt → doubt_of caller new.doubt ≡ doubtful caller (length new.history) (doubt_after own.live own.doubt call reply)
+  doubt_mine_if : (dead : Bool) (old new : State) (call : Call) (reply : Reply) (own : Own) → old.is_dead ≡ dead → Goes true limits old caller call reply new → (old.is_dead ≡ false → old.doubt ≡ []) → old.live caller ≡ own.live
+      → commits_of caller old.doubt ≡ doubtful caller (length old.history) own.doubt → commits_of caller new.doubt ≡ doubtful caller (length new.history) (doubt_after own.live own.doubt call reply)
   doubt_mine_if true old new call reply own is goes certain live was =
       let d = doubt_dead old new (caller, call, reply) own goes is was in d.0 ∙ ap (doubtful caller (length new.history)) (sym d.1)
   doubt_mine_if false old new call reply own is goes certain live was =
       let none = own_none old own (certain is) was in
       let from : (o : Option Granted) → doubt_after (old.live caller) own.doubt call reply ≡ o → doubt_after own.live own.doubt call reply ≡ o = λ o e. ap (λ (l : Option Granted). doubt_after l own.doubt call reply) (sym live) ∙ e in
       ⊎_elim
-      (λ s. ap (doubt_of caller) (s.0 ∙ certain is) ∙ ap (doubtful caller (length new.history)) (sym (from own.doubt (s.1 own.doubt) ∙ none)))
-      (λ s. ap (doubt_of caller) s.0 ∙ doubt_mine caller (done_by new caller (calls_of old caller)) refl ∙ ap (doubtful caller (length new.history)) (sym (from (Some (calls_of old caller)) (s.1 own.doubt))))
+      (λ s. ap (commits_of caller) (s.0 ∙ certain is) ∙ ap (doubtful caller (length new.history)) (sym (from own.doubt (s.1 own.doubt) ∙ none)))
+      (λ s. ap (commits_of caller) s.0 ∙ doubt_mine caller (done_by new caller (calls_of old caller)) refl ∙ ap (doubtful caller (length new.history)) (sym (from (Some (calls_of old caller)) (s.1 own.doubt))))
       (doubt_step limits old caller new call reply (goes.step refl) (is_media reply) (is_commit call) refl refl)
 
-  doubt_other_if : (dead : Bool) (old new : State) (turn : Turn) (own : Own) → turn.0 ≢ caller → old.is_dead ≡ dead → Goes true limits old turn.0 turn.1 turn.2 new → (old.is_dead ≡ false → old.doubt ≡ None)
-      → doubt_of caller old.doubt ≡ doubtful caller (length old.history) own.doubt → doubt_of caller new.doubt ≡ doubtful caller (length new.history) own.doubt
+  doubt_other_if : (dead : Bool) (old new : State) (turn : Turn) (own : Own) → turn.0 ≢ caller → old.is_dead ≡ dead → Goes true limits old turn.0 turn.1 turn.2 new → (old.is_dead ≡ false → old.doubt ≡ [])
+      → commits_of caller old.doubt ≡ doubtful caller (length old.history) own.doubt → commits_of caller new.doubt ≡ doubtful caller (length new.history) own.doubt
   doubt_other_if true old new turn own ne is goes certain was = (doubt_dead old new turn own goes is was).0
   doubt_other_if false old new turn own ne is goes certain was =
       let none = ap (doubtful caller (length new.history)) (own_none old own (certain is) was) in
       ⊎_elim
-      (λ s. ap (doubt_of caller) (s.0 ∙ certain is) ∙ sym none)
-      (λ s. ap (doubt_of caller) s.0 ∙ doubt_theirs caller (done_by new turn.0 (calls_of old turn.0)) ne ∙ sym none)
+      (λ s. ap (commits_of caller) (s.0 ∙ certain is) ∙ sym none)
+      (λ s. ap (commits_of caller) s.0 ∙ doubt_theirs caller (done_by new turn.0 (calls_of old turn.0)) ne ∙ sym none)
       (doubt_step limits old turn.0 new turn.1 turn.2 (goes.step refl) (is_media turn.2) (is_commit turn.1) refl refl)
 
   -- Its transaction in doubt is the one that its turns say.
-  pub turns_doubt : (first now : State) (turns : List Turn) (own : Own) → GoesAlong true limits first turns now → (first.is_dead ≡ false → first.doubt ≡ None) → first.live caller ≡ own.live
-      → doubt_of caller first.doubt ≡ doubtful caller (length first.history) own.doubt → doubt_of caller now.doubt ≡ doubtful caller (length now.history) (own_from true limits caller own turns).doubt
-  turns_doubt first now [] own a certain live was = subst (λ (s : State). doubt_of caller s.doubt ≡ doubtful caller (length s.history) own.doubt) (sym a) was
+  pub turns_doubt : (first now : State) (turns : List Turn) (own : Own) → GoesAlong true limits first turns now → (first.is_dead ≡ false → first.doubt ≡ []) → first.live caller ≡ own.live
+      → commits_of caller first.doubt ≡ doubtful caller (length first.history) own.doubt → commits_of caller now.doubt ≡ doubtful caller (length now.history) (own_from true limits caller own turns).doubt
+  turns_doubt first now [] own a certain live was = subst (λ (s : State). commits_of caller s.doubt ≡ doubtful caller (length s.history) own.doubt) (sym a) was
   turns_doubt first now (turn ∷ turns) own a certain live was = dite (ℕ_discrete turn.0 caller)
       (λ (same : turn.0 ≡ caller).
       let goes = subst (λ (n : ℕ). Goes true limits first n turn.1 turn.2 a.0) same a.1 in
@@ -248,12 +237,27 @@ module _ (limits : Limits) (caller : ℕ) where
       turns_doubt a.0 now turns own a.2 (certain_goes first a.0 turn a.1 certain) (a.1.moves.others caller (λ e. ne (sym e)) ∙ live) (doubt_other_if first.is_dead first a.0 turn own ne refl a.1 certain was)
       ∙ ap (λ (o : Own). doubtful caller (length now.history) o.doubt) (sym (other_line true limits caller own turn turns ne)))
 
--- The transaction in doubt is one of these callers'.
-pub turns_owner : (limits : Limits) (callers : ℕ) (first now : State) (turns : List Turn) → GoesAlong true limits first turns now → AreOf callers turns → (first.is_dead ≡ false → first.doubt ≡ None) → ((caller : ℕ) → first.live caller ≡ None) → first.doubt ≡ None
-    → (done : Done) → now.doubt ≡ Some done → done.caller < callers
-turns_owner limits callers first now turns a all certain live none done is = dite (dec_le callers done.caller)
-    (λ (le : callers ≤ done.caller).
-    let said = turns_doubt limits done.caller first now turns nothing_own a certain (live done.caller) (ap (doubt_of done.caller) none) in
-    let nobody = ap (λ (l : Granted). doubtful done.caller (length now.history) (fold (own_after done.caller) nothing_own l).doubt) (none_beyond callers done.caller turns all le) in
-    some_none done (sym (doubt_mine done.caller done refl) ∙ ap (doubt_of done.caller) (sym is) ∙ said ∙ nobody))
-    (λ (ge : ¬ (callers ≤ done.caller)). omega arith)
+rest_none : (caller : ℕ) (done : Done) (doubt : List Done) → commits_of caller (done ∷ doubt) ≡ [] → commits_of caller doubt ≡ []
+rest_none caller done doubt none = go (nat_eq done.caller caller) none
+  where
+    go : (b : Bool) → (if b then done ∷ commits_of caller doubt else commits_of caller doubt) ≡ [] → commits_of caller doubt ≡ []
+    go true e = absurd (cc)
+    go false e = e
+
+some_mine : {X : Type 0} (done : Done) (doubt : List Done) → commits_of done.caller (done ∷ doubt) ≡ [] → X
+some_mine done doubt none = (let e : done ∷ commits_of done.caller doubt ≡ [] =
+    sym (ap (λ (b : Bool). if b then done ∷ commits_of done.caller doubt else commits_of done.caller doubt) (eq-eqb done.caller done.caller refl)) ∙ none in absurd (cc))
+
+-- transactions of which no other caller has one are all of these callers
+owners : (callers : ℕ) (doubt : List Done) → ((caller : ℕ) → callers ≤ caller → commits_of caller doubt ≡ []) → All (λ (done : Done). done.caller < callers) doubt
+owners callers [] none = All-nil (λ (done : Done). done.caller < callers)
+owners callers (done ∷ doubt) none = All-cons (λ (done : Done). done.caller < callers) done doubt
+    (dite (dec_le callers done.caller) (λ (le : callers ≤ done.caller). some_mine done doubt (none done.caller le)) (λ (ge : ¬ (callers ≤ done.caller)). omega arith))
+    (owners callers doubt (λ caller le. rest_none caller done doubt (none caller le)))
+
+-- What is in doubt is of these callers.
+pub turns_owner : (limits : Limits) (callers : ℕ) (first now : State) (turns : List Turn) → GoesAlong true limits first turns now → AreOf callers turns → (first.is_dead ≡ false → first.doubt ≡ []) → ((caller : ℕ) → first.live caller ≡ None) → first.doubt ≡ []
+    → All (λ (done : Done). done.caller < callers) now.doubt
+turns_owner limits callers first now turns a all certain live none = owners callers now.doubt (λ caller le.
+    turns_doubt limits caller first now turns nothing_own a certain (live caller) (ap (commits_of caller) none)
+    ∙ ap (λ (l : Granted). doubtful caller (length now.history) (fold (own_after caller) nothing_own l).doubt) (none_beyond callers caller turns all le))

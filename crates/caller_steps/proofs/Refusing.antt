@@ -6,7 +6,7 @@ use Rattle.std.specs.FinMap.{get}
 use Rattle.std.proofs.lemmas.Bool.{true≢false}
 use Rattle.std.proofs.lemmas.List.Folds.{list_any-append}
 use Rattle.history.specs.Table.{Granted, Work, Answers, found, removed}
-use Rattle.history.specs.Locks.{touched}
+use Rattle.history.specs.Locks.{touches, touched, clash}
 use Rattle.history.specs.declared.call.Call.{Call}
 use Rattle.history.specs.declared.call.Call.TheVariants.{Begin, Get, Put, Del, Scan, Save, Back, Commit, Abort}
 use Rattle.history.specs.declared.call.Reply.{Reply}
@@ -268,7 +268,7 @@ module _ (limits : Limits) where
       new_alive alive = alive_first at.new now after at.since alive
 
       shows_at : (told : Reply) → reply ≡ told → Told limits at.old caller at.new call told → Shows limits before now caller call told
-      shows_at (Busy h) is t = (t.0, t.1, t.2, ap (λ (o : Option Granted). touched (unwrap_or o []) t.1) (sym (turns_live true limits h first at.old before nothing_own at.until (inl refl) (none h))) ∙ t.3)
+      shows_at (Busy h) is t = (t.0, (t.1.0, ap (λ (o : Option Granted). clash (touches call t.1.0) (touched (unwrap_or o []) t.1.0)) (sym (turns_live true limits h first at.old before nothing_own at.until (inl refl) (none h))) ∙ t.1.1))
       shows_at (SlotsFull n) is t = (t.0, λ alive. slots_on at.new now after at.since alive t.1)
       shows_at (PagesFull n) is t = (t.0, λ alive. pages_on call n at.new now after at.since alive t.1)
       shows_at Media is t = dead_after (faults is)

@@ -2,14 +2,16 @@
 use Rattle.std.proofs.Common.{◌≡◌, ◌≢◌, ℕ, inl, inr, Bool, true, false, nat_eq, List, [], ◌∷◌, ◌++◌, Option, Some, None, unwrap_or, refl, sym, ap, subst, ◌∙◌}
 use Rattle.std.specs.Map.{update}
 use Rattle.std.proofs.lemmas.Map.{update_here, update_apart}
-use Rattle.std.proofs.lemmas.Bool.{cases_eq, or_cases, false≢true}
+use Rattle.std.proofs.lemmas.Bool.{cases_eq, or_from, false_from_ne_true, false≢true}
+use Rattle.std.proofs.lemmas.List.{append-nil}
 use Rattle.history.specs.Writes.{Table}
 use Rattle.history.specs.Table.{Granted, begun, Answers, worked, IsRight, left_by}
-use Rattle.history.specs.Locks.{touches, touched}
-use Rattle.history.specs.Legal.{IsLegal, with_doubt}
+use Rattle.history.specs.Locks.{Mode, touches, touched, clash, AreApart}
+use Rattle.history.specs.Legal.{IsLegal}
 use Rattle.history.specs.declared.call.Call.{Call}
 use Rattle.history.specs.declared.call.Reply.{Reply}
 use Rattle.history.proofs.OneMore.{IsRight-push, IsLegal-push, records-push, touched-push}
+use Rattle.history.proofs.Modes.{clash_turned, clash_stronger}
 use Rattle.history.proofs.Locking.{right_after}
 use Rattle.caller_steps.specs.State.{State, Index, opened, calls_of, records_of, view_of, with_live, done_by}
 use Rattle.caller_steps.specs.Locked.{IsFree}
@@ -26,28 +28,30 @@ at_update P f k calls q here apart = elim (cases_eq q k) [
   | inr other ↦ subst P (sym (update_apart f k calls q other)) (apart other)
 ]
 
+apart_turned : (one other : Granted) → AreApart one other → AreApart other one
+apart_turned one other apart stripe = clash_turned (touched other stripe) (touched one stripe) ∙ apart stripe
+
+-- one more call clashes nowhere if neither it nor the others do
+apart_more : (calls other : Granted) (call : Call) (reply : Reply) → AreApart calls other → ((stripe : ℕ) → clash (touches call stripe) (touched other stripe) ≡ false)
+    → AreApart (calls ++ (call, reply) ∷ []) other
+apart_more calls other call reply before own stripe =
+    ap (λ (t : Option Mode). clash t (touched other stripe)) (touched-push calls call reply stripe) ∙ clash_stronger (touched calls stripe) (touches call stripe) (touched other stripe)
+    ∙ or_from (clash (touched calls stripe) (touched other stripe)) (clash (touches call stripe) (touched other stripe)) (before stripe) (own stripe)
+
 right-update : (table : Table) (f : ℕ → Option Granted) (caller : ℕ) (calls : Option Granted)
     → ((other : ℕ) → other ≢ caller → IsRight table (unwrap_or (f other) [])) → IsRight table (unwrap_or calls []) → (other : ℕ) → IsRight table (unwrap_or (update nat_eq f caller calls other) [])
 right-update table f caller calls others own other = at_update (λ o. IsRight table (unwrap_or o [])) f caller calls other (λ is. own) (others other)
 
 apart-update : (f : ℕ → Option Granted) (caller : ℕ) (calls : Option Granted)
-    → ((one other stripe : ℕ) → one ≢ other → touched (unwrap_or (f one) []) stripe ≡ true → touched (unwrap_or (f other) []) stripe ≡ true → ⊥)
-    → ((other stripe : ℕ) → other ≢ caller → touched (unwrap_or calls []) stripe ≡ true → touched (unwrap_or (f other) []) stripe ≡ true → ⊥)
-    → (one other stripe : ℕ) → one ≢ other → touched (unwrap_or (update nat_eq f caller calls one) []) stripe ≡ true → touched (unwrap_or (update nat_eq f caller calls other) []) stripe ≡ true → ⊥
-apart-update f caller calls old own one other stripe ne =
-    at_update (λ o. touched (unwrap_or o []) stripe ≡ true → touched (unwrap_or (update nat_eq f caller calls other) []) stripe ≡ true → ⊥) f caller calls one
-    (λ is. at_update (λ o. touched (unwrap_or calls []) stripe ≡ true → touched (unwrap_or o []) stripe ≡ true → ⊥) f caller calls other
-    (λ is'. absurd (ne (is ∙ sym is'))) (λ apart a b. own other stripe apart a b))
-    (λ apart. at_update (λ o. touched (unwrap_or (f one) []) stripe ≡ true → touched (unwrap_or o []) stripe ≡ true → ⊥) f caller calls other
-    (λ is' a b. own one stripe apart b a) (λ apart' a b. old one other stripe ne a b))
-
--- what is touched after one more call
-touched_more : (calls : Granted) (call : Call) (reply : Reply) (stripe : ℕ) (P : Type 0)
-    → (touched calls stripe ≡ true → P) → (touches call stripe ≡ true → P) → touched (calls ++ (call, reply) ∷ []) stripe ≡ true → P
-touched_more calls call reply stripe P before own at = elim (or_cases (touched calls stripe) (touches call stripe) (sym (touched-push calls call reply stripe) ∙ at)) [
-  | inl was ↦ before was
-  | inr is ↦ own is
-]
+    → ((one other : ℕ) → one ≢ other → AreApart (unwrap_or (f one) []) (unwrap_or (f other) []))
+    → ((other : ℕ) → other ≢ caller → AreApart (unwrap_or calls []) (unwrap_or (f other) []))
+    → (one other : ℕ) → one ≢ other → AreApart (unwrap_or (update nat_eq f caller calls one) []) (unwrap_or (update nat_eq f caller calls other) [])
+apart-update f caller calls old own one other ne =
+    at_update (λ o. AreApart (unwrap_or o []) (unwrap_or (update nat_eq f caller calls other) [])) f caller calls one
+    (λ is. at_update (λ o. AreApart (unwrap_or calls []) (unwrap_or o [])) f caller calls other
+    (λ is'. absurd (ne (is ∙ sym is'))) (λ apart. own other apart))
+    (λ apart. at_update (λ o. AreApart (unwrap_or (f one) []) (unwrap_or o [])) f caller calls other
+    (λ is'. apart_turned (unwrap_or calls []) (unwrap_or (f one) []) (own one apart)) (λ apart'. old one other ne))
 
 module _ (old : State) (caller : ℕ) (sound : IsSound old) where
   -- soundness does not depend on the index, nor on whether the core is dead if nothing was in doubt
@@ -61,7 +65,7 @@ module _ (old : State) (caller : ℕ) (sound : IsSound old) where
     certain = sound.certain;
     doubtful = sound.doubtful;
     right = right-update (records_of old) old.live caller (Some []) (λ other ne. sound.right other) tt;
-    apart = apart-update old.live caller (Some []) sound.apart (λ other stripe ne at at'. absurd (false≢true at));
+    apart = apart-update old.live caller (Some []) sound.apart (λ other ne stripe. refl);
   }
 
   -- a caller's transaction ends
@@ -71,15 +75,15 @@ module _ (old : State) (caller : ℕ) (sound : IsSound old) where
     certain = sound.certain;
     doubtful = sound.doubtful;
     right = right-update (records_of old) old.live caller None (λ other ne. sound.right other) tt;
-    apart = apart-update old.live caller None sound.apart (λ other stripe ne at at'. absurd (false≢true at));
+    apart = apart-update old.live caller None sound.apart (λ other ne stripe. refl);
   }
 
   module _ (calls : Granted) (is : calls_of old caller ≡ calls) where
     own_right : IsRight (records_of old) calls
     own_right = subst (λ cs. IsRight (records_of old) cs) is (sound.right caller)
 
-    own_apart : (other stripe : ℕ) → other ≢ caller → touched calls stripe ≡ true → touched (calls_of old other) stripe ≡ true → ⊥
-    own_apart other stripe ne at at' = sound.apart caller other stripe (λ e. ne (sym e)) (subst (λ cs. touched cs stripe ≡ true) (sym is) at) at'
+    own_apart : (other : ℕ) → other ≢ caller → AreApart calls (calls_of old other)
+    own_apart other ne = subst (λ cs. AreApart cs (calls_of old other)) is (sound.apart caller other (λ e. ne (sym e)))
 
     -- a call is granted
     grows : (call : Call) (reply : Reply) (index : Index) → IsFree old caller call → Answers (view_of old caller) call reply
@@ -90,8 +94,9 @@ module _ (old : State) (caller : ℕ) (sound : IsSound old) where
       doubtful = sound.doubtful;
       right = right-update (records_of old) old.live caller (Some (calls ++ (call, reply) ∷ [])) (λ other ne. sound.right other)
           (IsRight-push (records_of old) calls call reply own_right (subst (λ cs. Answers (worked (begun (records_of old)) cs) call reply) is answers));
-      apart = apart-update old.live caller (Some (calls ++ (call, reply) ∷ [])) sound.apart (λ other stripe ne at at'.
-          touched_more calls call reply stripe ⊥ (λ before. own_apart other stripe ne before at') (λ own. free other (ne, stripe, own, at')) at);
+      apart = apart-update old.live caller (Some (calls ++ (call, reply) ∷ [])) sound.apart (λ other ne.
+          apart_more calls (calls_of old other) call reply (own_apart other ne) (λ stripe.
+          false_from_ne_true (clash (touches call stripe) (touched (calls_of old other) stripe)) (λ clashes. free other (ne, (stripe, clashes)))));
     }
 
     longer : IsLegal old.base (old.history ++ done_by old caller calls ∷ [])
@@ -102,15 +107,16 @@ module _ (old : State) (caller : ℕ) (sound : IsSound old) where
     commits alive = record {
       legal = longer;
       certain = sound.certain;
-      doubtful = subst (λ d. IsLegal old.base (with_doubt (old.history ++ done_by old caller calls ∷ []) d)) (sym (sound.certain alive)) longer;
+      doubtful = subst (λ d. IsLegal old.base ((old.history ++ done_by old caller calls ∷ []) ++ d)) (sym (sound.certain alive))
+          (subst (λ h. IsLegal old.base h) (sym (append-nil (old.history ++ done_by old caller calls ∷ []))) longer);
       right = subst (λ table. (other : ℕ) → IsRight table (unwrap_or (update nat_eq old.live caller None other) [])) (sym (records-push old.base old.history (done_by old caller calls)))
           (right-update (left_by (records_of old) calls) old.live caller None
-          (λ other ne. right_after (records_of old) calls (calls_of old other) (λ stripe at at'. own_apart other stripe ne at at') (sound.right other)) tt);
-      apart = apart-update old.live caller None sound.apart (λ other stripe ne at at'. absurd (false≢true at));
+          (λ other ne. right_after (records_of old) calls (calls_of old other) (own_apart other ne) (sound.right other)) tt);
+      apart = apart-update old.live caller None sound.apart (λ other ne stripe. refl);
     }
 
     -- a transaction is in doubt
-    doubts : (index : Index) → IsSound (record (with_live old caller None) { doubt = Some (done_by old caller calls); index = index; is_dead = true })
+    doubts : (index : Index) → IsSound (record (with_live old caller None) { doubt = done_by old caller calls ∷ []; index = index; is_dead = true })
     doubts index = record { legal = ends.legal; certain = λ alive. absurd (false≢true (sym alive)); doubtful = longer; right = ends.right; apart = ends.apart }
 
   -- Each fate but a commit's keeps the state sound, and a commit's does too if the medium has not failed.
@@ -138,4 +144,4 @@ runs_sound limits old (turn ∷ turns) new sound (mid, step, runs) = runs_sound 
 
 -- The state at the opening is sound.
 pub opened_sound : (base : Table) (index : Index) → IsSound (opened base index)
-opened_sound base index = record { legal = tt; certain = λ alive. refl; doubtful = tt; right = λ caller. tt; apart = λ one other stripe ne at at'. false≢true at }
+opened_sound base index = record { legal = tt; certain = λ alive. refl; doubtful = tt; right = λ caller. tt; apart = λ one other ne stripe. refl }

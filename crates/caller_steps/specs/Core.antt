@@ -1,9 +1,8 @@
 -- What a core shows and what a step does.
-use Rattle.std.specs.Prelude.{ℕ, ◌≡◌, Bool, IsTrue, IsFalse, List, length}
+use Rattle.std.specs.Prelude.{ℕ, ◌≡◌, Bool, IsTrue, IsFalse, List, ◌++◌, length}
 use Rattle.mars_base.specs.Causes.{Rose}
 use Rattle.mars_base.specs.Moments.{Elapses}
 use Rattle.history.specs.Writes.{Table}
-use Rattle.history.specs.Legal.{with_doubt}
 use Rattle.history.specs.declared.call.Call.{Call}
 use Rattle.history.specs.declared.call.Reply.{Reply}
 use Rattle.caller_steps.specs.State.{State}
@@ -48,7 +47,7 @@ pub record Continues (old new : CoreView) : Type 0 where
   pub base : new.state.base ≡ old.state.base
   pub opens : (image : List ℕ) (table : Table) → old.opens image table → new.opens image table
   pub grows : Grows old.state.history new.state.history
-  pub doubtful : Grows (with_doubt old.state.history old.state.doubt) (with_doubt new.state.history new.state.doubt)
+  pub doubtful : Grows (old.state.history ++ old.state.doubt) (new.state.history ++ new.state.doubt)
   pub sound : IsSound new.state
   pub time : Elapses old.moment new.moment old.left_since new.left_since (HasPrefixOf new.opens new.state (length old.state.history))
   pub now : IsSafe new new.moment (length new.state.history)

@@ -1,17 +1,17 @@
 -- Which caller's locks a call meets.
-use Rattle.std.specs.Prelude.{ℕ, ◌≢◌, ◌<◌, IsTrue}
-use Rattle.history.specs.Locks.{touches, touched}
+use Rattle.std.specs.Prelude.{ℕ, ◌≢◌, ◌<◌}
+use Rattle.history.specs.Locks.{Meets}
 use Rattle.history.specs.declared.call.Call.{Call}
 use Rattle.caller_steps.specs.State.{State, calls_of}
 
--- another caller's live transaction has touched a stripe of the call
+-- the call clashes with another caller's live transaction at some stripe
 abbrev pub Blocks : State → ℕ → Call → ℕ → Type 0
-Blocks state caller call holder = (holder ≢ caller) × (stripe : ℕ) × IsTrue (touches call stripe) × IsTrue (touched (calls_of state holder) stripe)
+Blocks state caller call holder = (holder ≢ caller) × Meets call (calls_of state holder)
 
--- no other caller's has
+-- it clashes with no other caller's
 abbrev pub IsFree : State → ℕ → Call → Type 0
 IsFree state caller call = (holder : ℕ) → Blocks state caller call holder → ⊥
 
--- the lowest caller whose transaction has
+-- the lowest caller with whose transaction it clashes
 abbrev pub IsBusyWith : State → ℕ → Call → ℕ → Type 0
 IsBusyWith state caller call holder = Blocks state caller call holder × ((lower : ℕ) → lower < holder → Blocks state caller call lower → ⊥)

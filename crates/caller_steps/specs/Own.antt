@@ -1,5 +1,5 @@
 -- What a caller's own calls and replies say of its transactions.
-use Rattle.std.specs.Prelude.{ℕ, ◌+◌, Bool, true, false, nat_eq, if◌then◌else◌, List, [], ◌∷◌, ◌++◌, Option, Some, None, unwrap_or}
+use Rattle.std.specs.Prelude.{ℕ, ◌+◌, Bool, true, false, if◌then◌else◌, List, [], ◌∷◌, ◌++◌, Option, Some, None, unwrap_or}
 use Rattle.std.specs.List.{fold, list_any}
 use Rattle.history.specs.Table.{Granted}
 use Rattle.history.specs.declared.call.Call.{Call}
@@ -54,12 +54,7 @@ own_of caller told = fold (own_after caller) nothing_own told
 abbrev pub live_by : ℕ → Granted → Option Granted
 live_by caller told = (own_of caller told).live
 
--- the transaction in doubt, if it is this caller's
-abbrev pub doubt_of : ℕ → Option Done → Option Done
-doubt_of caller None = None
-doubt_of caller (Some done) = if nat_eq done.caller caller then Some done else None
-
 -- a transaction in doubt would be the next one of a history of this length
-abbrev pub doubtful : ℕ → ℕ → Option Granted → Option Done
-doubtful caller n None = None
-doubtful caller n (Some calls) = Some (record { caller = caller; calls = calls; at = n + 1 })
+abbrev pub doubtful : ℕ → ℕ → Option Granted → List Done
+doubtful caller n None = []
+doubtful caller n (Some calls) = record { caller = caller; calls = calls; at = n + 1 } ∷ []

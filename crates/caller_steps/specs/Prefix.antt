@@ -1,7 +1,7 @@
 -- What a loss of power leaves of a history.
 use Rattle.std.specs.Prelude.{ℕ, ◌≡◌, ◌≤◌, List, ◌++◌, length, take}
 use Rattle.history.specs.Writes.{Table}
-use Rattle.history.specs.Legal.{records, with_doubt}
+use Rattle.history.specs.Legal.{records}
 use Rattle.history.specs.declared.transaction.Done.{Done}
 use Rattle.caller_steps.specs.State.{State}
 
@@ -12,9 +12,9 @@ pub record HasPrefix (Opens : List ℕ → Table → Type 0) (base : Table) (his
   pub at_most : count ≤ length history
   pub opens : Opens image (records base (take count history))
 
--- the same for a state, whose transaction in doubt may be there or not
+-- the same for a state, whose transactions in doubt come last and may be there or not
 abbrev pub HasPrefixOf : (List ℕ → Table → Type 0) → State → ℕ → List ℕ → Type 0
-HasPrefixOf Opens state least image = HasPrefix Opens state.base (with_doubt state.history state.doubt) least image
+HasPrefixOf Opens state least image = HasPrefix Opens state.base (state.history ++ state.doubt) least image
 
 -- the new history extends the old one
 pub record Grows (old new : List Done) : Type 0 where

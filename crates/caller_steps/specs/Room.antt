@@ -2,6 +2,7 @@
 use Rattle.std.specs.Prelude.{ℕ, suc, ◌≡◌, ◌+◌, ◌-◌, ◌<◌, ◌≤◌, ◌⊎◌, Bool, false, nat_eq, length, filter, Option, Some, None, IsSome, unwrap_or}
 use Rattle.std.specs.FinMap.{get}
 use Rattle.std.specs.Map.{update}
+use Rattle.history.specs.Key.{Key, is_same_key}
 use Rattle.history.specs.Log.{log_of, is_rewritten}
 use Rattle.history.specs.Writes.{Write}
 use Rattle.history.specs.declared.call.Call.{Call}
@@ -33,16 +34,16 @@ abbrev pub held_on : Limits → State → ℕ → ℕ → ℕ
 held_on limits state caller g = length (filter (is_write_on limits state.index g) (log_of (calls_of state caller)).writes)
 
 -- a write of a key with this slot reuses the entry of a write since the last save, or finds a free entry
-abbrev pub HasEntry : Limits → State → ℕ → ℕ → ℕ → Type 0
+abbrev pub HasEntry : Limits → State → ℕ → Key → ℕ → Type 0
 HasEntry limits old caller key slot =
     is_rewritten (log_of (calls_of old caller)) key ≡ false → held_on limits old caller (limits.logger_of slot) < limits.entries
 
 -- the slot of a key, or the next free one if the index lacks the key
-abbrev pub slot_for : Index → ℕ → ℕ
+abbrev pub slot_for : Index → Key → ℕ
 slot_for index key = unwrap_or (index.slot_of key) index.next_slot
 
 -- the caller sees a record of the key
-abbrev pub IsSeen : State → ℕ → ℕ → Type 0
+abbrev pub IsSeen : State → ℕ → Key → Type 0
 IsSeen old caller key = IsSome (get (view_of old caller).table key)
 
 -- if the call writes, there is an entry for it
@@ -61,7 +62,7 @@ pub record IsFull (limits : Limits) (old : State) (caller g h n : ℕ) : Type 0 
 
 -- Why a write of a key that has this slot, or none, is refused with this reply. A new key needs a slot, pages for the splits of the index
 -- that are due, and entries for each part of its insertion.
-abbrev pub LacksAt : Limits → State → ℕ → ℕ → Option ℕ → Reply → Type 0
+abbrev pub LacksAt : Limits → State → ℕ → Key → Option ℕ → Reply → Type 0
 LacksAt limits old caller key (Some slot) (LogFull g h n) = (HasEntry limits old caller key slot → ⊥) × (g ≡ limits.logger_of slot) × (n ≡ 1) × IsFull limits old caller g h n
 LacksAt limits old caller key None (SlotsFull n) = (old.index.next_slot ≡ limits.slots) × (n ≡ limits.slots)
 LacksAt limits old caller key None (PagesFull n) = n ≡ limits.index_pages - 1
@@ -75,9 +76,9 @@ Lacks limits old caller (Del key) reply = IsSeen old caller key × (slot : ℕ) 
 Lacks limits old caller _ reply = ⊥
 
 -- the index gains the key with the next slot, if there is one
-pub record GainsKey (limits : Limits) (key : ℕ) (old new : Index) : Type 0 where
+pub record GainsKey (limits : Limits) (key : Key) (old new : Index) : Type 0 where
   pub left : old.next_slot < limits.slots
-  pub slot_of : new.slot_of ≡ update nat_eq old.slot_of key (Some old.next_slot)
+  pub slot_of : new.slot_of ≡ update is_same_key old.slot_of key (Some old.next_slot)
   pub slots : new.next_slot ≡ suc old.next_slot
 
 pub record KeepsKeys (old new : Index) : Type 0 where
@@ -93,13 +94,13 @@ pub record TakesPages (limits : Limits) (old new : Index) : Type 0 where
 
 -- What a put makes of an index that lacks the key. If the log is full after the insertion, the key stays. If pages ran out, at most one is
 -- left, or the index has as many levels as it may.
-abbrev pub Inserts : Limits → ℕ → Reply → Index → Index → Type 0
+abbrev pub Inserts : Limits → Key → Reply → Index → Index → Type 0
 Inserts limits key Fine old new = TakesPages limits old new × GainsKey limits key old new
 Inserts limits key (LogFull g h n) old new = TakesPages limits old new × (KeepsKeys old new ⊎ GainsKey limits key old new)
 Inserts limits key (PagesFull n) old new = TakesPages limits old new × KeepsKeys old new × ((n ≤ new.next_page) ⊎ (7 ≤ new.level))
 Inserts limits key _ old new = TakesPages limits old new × KeepsKeys old new
 
-abbrev pub IndexesAt : Limits → ℕ → Option ℕ → Reply → Index → Index → Type 0
+abbrev pub IndexesAt : Limits → Key → Option ℕ → Reply → Index → Index → Type 0
 IndexesAt limits key None reply old new = Inserts limits key reply old new
 IndexesAt limits key (Some slot) reply old new = new ≡ old
 

@@ -1,9 +1,10 @@
 -- What a refusal within a run shows, and what an index gains in one.
-use Rattle.std.specs.Prelude.{ℕ, suc, ◌≡◌, ◌≢◌, ◌-◌, ◌≤◌, ◌⊎◌, Bool, false, nat_eq, IsTrue, IsFalse, List, [], ◌∷◌, Some, None, unwrap_or}
+use Rattle.std.specs.Prelude.{ℕ, suc, ◌≡◌, ◌≢◌, ◌-◌, ◌≤◌, ◌⊎◌, Bool, false, IsTrue, IsFalse, List, [], ◌∷◌, Some, None, unwrap_or}
 use Rattle.std.specs.List.{list_any}
 use Rattle.std.specs.Map.{update}
+use Rattle.history.specs.Key.{Key, is_same_key}
 use Rattle.history.specs.Table.{Granted}
-use Rattle.history.specs.Locks.{touches, touched}
+use Rattle.history.specs.Locks.{Meets}
 use Rattle.history.specs.declared.call.Call.{Call}
 use Rattle.history.specs.declared.call.Call.TheVariants.{Put}
 use Rattle.history.specs.declared.call.Reply.{Reply}
@@ -14,26 +15,26 @@ use Rattle.caller_steps.specs.Run.{Turn, turns_of, has_fault}
 use Rattle.caller_steps.specs.Own.{live_by}
 
 -- the call puts a value for this key
-abbrev pub is_put : ℕ → Call → Bool
-is_put key (Put other value) = nat_eq other key
+abbrev pub is_put : Key → Call → Bool
+is_put key (Put other value) = is_same_key other key
 is_put key _ = false
 
 -- a turn asks to put a value for this key
-abbrev pub is_asked : List Turn → ℕ → Bool
+abbrev pub is_asked : List Turn → Key → Bool
 is_asked turns key = list_any (λ (turn : Turn). is_put key turn.1) turns
 
 -- a caller has asked to put a value for this key
-abbrev pub asks_put : ℕ → Granted → Bool
+abbrev pub asks_put : Key → Granted → Bool
 asks_put key told = list_any (λ (entry : Call × Reply). is_put key entry.0) told
 
-abbrev pub AreAsked : List Turn → List ℕ → Type 0
+abbrev pub AreAsked : List Turn → List Key → Type 0
 AreAsked turns [] = Unit {0}
 AreAsked turns (key ∷ keys) = IsTrue (is_asked turns key) × AreAsked turns keys
 
 -- an index has gained these keys, the last one first: each was new and got the next slot
-abbrev pub Gained : Index → List ℕ → Index → Type 0
+abbrev pub Gained : Index → List Key → Index → Type 0
 Gained first [] now = (now.slot_of ≡ first.slot_of) × (now.next_slot ≡ first.next_slot)
-Gained first (key ∷ keys) now = (before : Index) × Gained first keys before × (before.slot_of key ≡ None) × (now.slot_of ≡ update nat_eq before.slot_of key (Some before.next_slot)) × (now.next_slot ≡ suc before.next_slot)
+Gained first (key ∷ keys) now = (before : Index) × Gained first keys before × (before.slot_of key ≡ None) × (now.slot_of ≡ update is_same_key before.slot_of key (Some before.next_slot)) × (now.next_slot ≡ suc before.next_slot)
 
 -- a put finds no page for a split, or no further level
 abbrev pub LacksPages : Call → ℕ → Index → Type 0
@@ -41,10 +42,10 @@ LacksPages (Put key value) n index = (n ≤ index.next_page) ⊎ (7 ≤ index.le
 LacksPages _ n index = Unit {0}
 
 -- What a refusal of a call shows, given the turns before it and any later state. The holder of a stripe is another caller, and its own turns
--- say that its live transaction has touched that stripe. Slots and pages had run out, and unless the medium has failed, they still have.
+-- say that the call clashes with its live transaction. Slots and pages had run out, and unless the medium has failed, they still have.
 -- After a fault the core is dead, and `Dead` comes only after a fault.
 abbrev pub Shows : Limits → List Turn → State → ℕ → Call → Reply → Type 0
-Shows limits before now caller call (Busy holder) = (holder ≢ caller) × (stripe : ℕ) × IsTrue (touches call stripe) × IsTrue (touched (unwrap_or (live_by holder (turns_of holder before)) []) stripe)
+Shows limits before now caller call (Busy holder) = (holder ≢ caller) × Meets call (unwrap_or (live_by holder (turns_of holder before)) [])
 Shows limits before now caller call (SlotsFull n) = (n ≡ limits.slots) × (IsFalse now.is_dead → now.index.next_slot ≡ limits.slots)
 Shows limits before now caller call (PagesFull n) = (n ≡ limits.index_pages - 1) × (IsFalse now.is_dead → LacksPages call n now.index)
 Shows limits before now caller call Media = IsTrue now.is_dead

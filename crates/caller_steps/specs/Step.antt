@@ -54,7 +54,7 @@ Commits calls old caller reply new =
 -- the medium failed in a commit of a transaction that has written something, so it is in doubt
 abbrev pub Doubts : Granted → State → ℕ → Reply → State → Type 0
 Doubts calls old caller reply new =
-    (0 < length (log_of calls).writes) × (reply ≡ Media) × (index : Index) × (new ≡ record (with_live old caller None) { doubt = Some (done_by old caller calls); index = index; is_dead = true })
+    (0 < length (log_of calls).writes) × (reply ≡ Media) × (index : Index) × (new ≡ record (with_live old caller None) { doubt = done_by old caller calls ∷ []; index = index; is_dead = true })
 
 -- A step with this as the caller's live transaction, if the medium has not failed before.
 abbrev pub StepAt : Limits → Option Granted → State → ℕ → Call → Reply → State → Type 0

@@ -15,8 +15,8 @@ ghost use Rattle.caller_steps.specs.Core.{IsSafe, Steps, Continues};
 
 use crate::Core;
 
-/// Over the calls of all callers, in any order, the history is legal, each live transaction is right on the records, and no two touch one
-/// stripe.
+/// Over the calls of all callers, in any order, the history is legal, each live transaction is right on the records, and no two clash at
+/// a stripe.
 pub fn steps_keep_all_sound()
     ensures opened { (base : Table) (index : Index) → IsSound (opened base index) }
     ensures step { (limits : Limits) (old new : State) (caller : ℕ) (call : Call) (reply : Reply) → IsSound old → Step limits old caller call reply new → IsSound new }
@@ -34,7 +34,7 @@ pub fn what_a_step_does()
     ensures { (limits : Limits) (old new : State) (caller : ℕ) (call : Call) (reply : Reply) → Step limits old caller call reply new → Moves old caller call reply new }
 {}
 
-/// While another caller's live transaction holds a stripe of a live caller's call, the reply is `Busy`, `Dead` or `NoMemory`, and nothing
+/// While a live caller's call clashes with another caller's live transaction, the reply is `Busy`, `Dead` or `NoMemory`, and nothing
 /// changes.
 pub fn locks_come_first()
     ensures reply { (limits : Limits) (old new : State) (caller holder : ℕ) (calls : Granted) (call : Call) (reply : Reply) → old.live caller ≡ Some calls → Blocks old caller call holder

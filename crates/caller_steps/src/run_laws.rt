@@ -1,6 +1,7 @@
 // Laws of runs, each of which follows from the definitions alone.
 ghost use Rattle.std.specs.Prelude.{◌≡◌, ◌≢◌, ◌≤◌, ◌<◌, ◌+◌, ◌⊎◌, ◌||◌, ◌++◌, ◌∷◌, [], List, Bool, ℕ, Some, None, false, true, All, IsTrue, IsFalse, length};
 ghost use Rattle.std.specs.List.{AllPairs, list_any};
+ghost use Rattle.history.specs.Key.{Key};
 ghost use Rattle.history.specs.Table.{Granted};
 ghost use Rattle.history.specs.declared.call.Call.{Call};
 ghost use Rattle.history.specs.declared.call.Reply.{Reply};
@@ -10,7 +11,7 @@ ghost use Rattle.caller_steps.specs.Room.{Limits};
 ghost use Rattle.caller_steps.specs.Step.{Runs};
 ghost use Rattle.caller_steps.specs.Prefix.{Grows};
 ghost use Rattle.caller_steps.specs.Run.{Turn, GoesAlong, AreOf, turns_of, commits_of, has_fault, HasNoOthers, LastTurn, IsTurn, IsTold};
-ghost use Rattle.caller_steps.specs.Own.{own_of, live_by, doubt_of, doubtful};
+ghost use Rattle.caller_steps.specs.Own.{own_of, live_by, doubtful};
 ghost use Rattle.caller_steps.specs.Shown.{AreAsked, Gained, Shows};
 
 /// One run after another is a run, and a run can be cut at any turn. A run of a core that tells its records is one of steps.
@@ -36,16 +37,16 @@ pub fn what_a_run_leaves()
 {}
 
 /// What a caller was told says what its own transactions are, whatever the others do: the live one, also on a core that does not tell its
-/// records as long as the medium has not failed, the committed ones with their numbers, and the one in doubt.
+/// records as long as the medium has not failed, the committed ones with their numbers, and those in doubt.
 pub fn a_caller_knows_its_own()
     ensures live { (tells : Bool) (limits : Limits) (caller : ℕ) (first now : State) (turns : List Turn) → GoesAlong tells limits first turns now → first.live caller ≡ None
         → IsTrue tells ⊎ IsFalse now.is_dead → now.live caller ≡ live_by caller (turns_of caller turns) }
     ensures mine { (limits : Limits) (caller : ℕ) (first now : State) (turns : List Turn) → Runs limits first turns now → first.live caller ≡ None → commits_of caller first.history ≡ []
         → commits_of caller now.history ≡ (own_of caller (turns_of caller turns)).mine }
-    ensures doubt { (limits : Limits) (caller : ℕ) (first now : State) (turns : List Turn) → Runs limits first turns now → first.live caller ≡ None → first.doubt ≡ None
-        → doubt_of caller now.doubt ≡ doubtful caller (length now.history) (own_of caller (turns_of caller turns)).doubt }
+    ensures doubt { (limits : Limits) (caller : ℕ) (first now : State) (turns : List Turn) → Runs limits first turns now → first.live caller ≡ None → first.doubt ≡ []
+        → commits_of caller now.doubt ≡ doubtful caller (length now.history) (own_of caller (turns_of caller turns)).doubt }
     ensures owner { (limits : Limits) (callers : ℕ) (first now : State) (turns : List Turn) → Runs limits first turns now → AreOf callers turns → ((caller : ℕ) → first.live caller ≡ None)
-        → first.doubt ≡ None → (done : Done) → now.doubt ≡ Some done → done.caller < callers }
+        → first.doubt ≡ [] → All (λ (done : Done). done.caller < callers) now.doubt }
 {}
 
 /// What a caller knows of its last turn: the turns up to it begin the run and have all of its own, and the history then has all of its
@@ -76,8 +77,8 @@ pub fn what_a_refusal_shows()
 /// Unless the medium fails, the index gains only keys that a turn asks to put. The keys that an index has gained were all missing before and
 /// are distinct, so it has given out as many slots.
 pub fn what_an_index_gains()
-    ensures run { (limits : Limits) (first now : State) (turns : List Turn) → Runs limits first turns now → IsFalse now.is_dead → (keys : List ℕ) × Gained first.index keys now.index × AreAsked turns keys }
-    ensures slots { (first now : Index) (keys : List ℕ) → Gained first keys now → now.next_slot ≡ first.next_slot + length keys }
-    ensures missing { (first now : Index) (keys : List ℕ) → Gained first keys now → All (λ key. first.slot_of key ≡ None) keys }
-    ensures apart { (first now : Index) (keys : List ℕ) → Gained first keys now → AllPairs (λ one other. one ≢ other) keys }
+    ensures run { (limits : Limits) (first now : State) (turns : List Turn) → Runs limits first turns now → IsFalse now.is_dead → (keys : List Key) × Gained first.index keys now.index × AreAsked turns keys }
+    ensures slots { (first now : Index) (keys : List Key) → Gained first keys now → now.next_slot ≡ first.next_slot + length keys }
+    ensures missing { (first now : Index) (keys : List Key) → Gained first keys now → All (λ key. first.slot_of key ≡ None) keys }
+    ensures apart { (first now : Index) (keys : List Key) → Gained first keys now → AllPairs (λ one other. one ≢ other) keys }
 {}

@@ -92,7 +92,7 @@ pub fn run_over<R: AllocGlobal + Threads + Wait + Sync, M: Media + Drop + Send>(
             u64::MAX
         }
     };
-    let media = FusedMedia::new(media, passes);
+    let media = FusedMedia::wrap(media, passes);
     let (status, media) = run(rt, &asked.words, &mut source, sink, media, &OpenGate);
     Ok((status, media.into_inner()))
 }

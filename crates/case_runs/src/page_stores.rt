@@ -22,7 +22,7 @@ pub fn device_pages(
     media: MemoryMedia,
     passes: u64,
 ) -> Result<Result<Pages<Device>, MemoryMedia>, CaseFault> {
-    match Eaw::attach(alloc, FusedMedia::new(media, passes)) {
+    match Eaw::attach(alloc, FusedMedia::wrap(media, passes)) {
         Ok(store) => Ok(Ok(over(alloc, store)?)),
         Err((_, media)) => Ok(Err(media.into_inner())),
     }

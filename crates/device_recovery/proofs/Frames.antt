@@ -22,13 +22,6 @@ pub record SameFrame (shape : Shape) (old new : List ℕ) : Type 0 where
   pub rows : (g t : ℕ) → g < shape.loggers → t < shape.numbers → row_of shape new g t ≡ row_of shape old g t
   pub cells : SameCells shape old new
 
-pub frame_then : (shape : Shape) (a b c : List ℕ) → SameFrame shape a b → SameFrame shape b c → SameFrame shape a c
-frame_then shape a b c one two = record {
-  long = two.long ∙ one.long;
-  rows = λ g t lt lt'. two.rows g t lt lt' ∙ one.rows g t lt lt';
-  cells = λ g t e lt lt' lt''. two.cells g t e lt lt' lt'' ∙ one.cells g t e lt lt' lt'';
-}
-
 module _ (shape : Shape) where
   -- the parts of a decided row are its logger's
   pub decided_owned : (image : List ℕ) (g t : ℕ) → length image ≡ media_len shape → g < shape.loggers → t < shape.numbers → (decided shape image g t ≡ true → IsGoodRow shape image g t) → AllOwned shape g (decided_parts shape image g t)
@@ -82,9 +75,6 @@ module _ (shape : Shape) where
 
     pub frame_all : AllGood shape old shape.numbers → all_decided shape new ≡ all_decided shape old
     frame_all good = joined_same (λ t. number_parts shape new t) (λ t. number_parts shape old t) 0 shape.numbers (λ t le lt. frame_number t (omega arith) (λ g below so. good g t below (omega arith) so))
-
-    pub frame_all_good : (n : ℕ) → n ≤ shape.numbers → AllGood shape old n → AllGood shape new n
-    frame_all_good n le good g t lt lt' so = frame_good g t lt (omega arith) (good g t lt lt' (sym (frame_decided g t lt (omega arith)) ∙ so))
 
     pub frame_lawful : IsLawful shape old → IsLawful shape new
     frame_lawful lawful = record {

@@ -1,4 +1,5 @@
 pub mod Done
+pub mod Order
 pub mod Frames
 pub mod Finding
 pub mod Clearing

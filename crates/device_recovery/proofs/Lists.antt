@@ -1,5 +1,5 @@
 -- How many rows pass a test.
-use Rattle.std.proofs.Common.{◌≡◌, ℕ, zero, suc, ◌+◌, ◌<◌, ◌≤◌, Bool, true, false, cond, ⊎_elim, List, [], ◌∷◌, ◌++◌, length, ◌∙◌, ap, arith}
+use Rattle.std.proofs.Common.{◌≡◌, ℕ, zero, suc, ◌+◌, ◌*◌, ◌/◌, ◌%◌, ◌<◌, ◌≤◌, sym, Bool, true, false, cond, ⊎_elim, List, [], ◌∷◌, ◌++◌, length, ◌∙◌, ap, arith}
 use Rattle.std.proofs.lemmas.List.{length-append}
 use Rattle.std.specs.Prelude.{not, ◌&&◌}
 use Rattle.std.proofs.lemmas.Bool.{cases_eq, cases_Bool, and_from, and_left, not_from_false, false_from_ne_true}
@@ -12,6 +12,7 @@ use Rattle.array_image.specs.Decided.{decided}
 use Rattle.array_image.proofs.Deciding.{not_decided}
 use Rattle.device_recovery.specs.Table.{row_in, RowsAre, decided_in}
 use Rattle.device_recovery.specs.Recovered.{row_name, at_number, at_rows, decided_rows, dropped_rows, HasNoVote}
+use Rattle.device_recovery.proofs.Order.{joined_rows}
 use Rattle.device_recovery.proofs.Read.{table_decided}
 
 module _ {A : Type 0} (f : ℕ → List A) where
@@ -35,6 +36,9 @@ chosen_one : (b : Bool) (r : ℕ × ℕ) → b ≡ true → length (cond b (r �
 chosen_one b r so = ap (λ (c : Bool). length (cond c (r ∷ []) [])) so
 
 module _ (shape : Shape) (test : ℕ → ℕ → Bool) where
+  abbrev chosen_row : ℕ → ℕ → List (ℕ × ℕ)
+  chosen_row g t = cond (test g t) (row_name g t ∷ []) []
+
   -- a row that passes is counted
   pub counted_row : (g t : ℕ) → g < shape.loggers → t < shape.numbers → test g t ≡ true → 0 < length (at_rows shape test row_name)
   counted_row g t lt lt' so =
@@ -49,14 +53,24 @@ module _ (shape : Shape) (test : ℕ → ℕ → Bool) where
   none_counted none = ap (λ (l : List (ℕ × ℕ)). length l) (joined_none (λ t. at_number shape test row_name t) 0 shape.numbers (λ t le lt.
       joined_none (λ g. cond (test g t) (row_name g t ∷ []) []) 0 shape.loggers (λ g le' lt'. ap (λ (b : Bool). cond b (row_name g t ∷ []) []) (none g t (omega arith) (omega arith)))))
 
-  -- one more row of a number
-  pub row_counts : (t n : ℕ) → test n t ≡ true → length (joined (λ g. cond (test g t) (row_name g t ∷ []) []) 0 (n + 1)) ≡ length (joined (λ g. cond (test g t) (row_name g t ∷ []) []) 0 n) + 1
-  row_counts t n so = omega (arith, length_more (λ g. cond (test g t) (row_name g t ∷ []) []) n, chosen_one (test n t) (row_name n t) so)
+  -- the rows before row n that pass
+  abbrev pub first_rows : ℕ → List (ℕ × ℕ)
+  first_rows n = joined (λ k. chosen_row (k % shape.loggers) (k / shape.loggers)) 0 n
 
-  pub row_counts_not : (t n : ℕ) → test n t ≡ false → length (joined (λ g. cond (test g t) (row_name g t ∷ []) []) 0 (n + 1)) ≡ length (joined (λ g. cond (test g t) (row_name g t ∷ []) []) 0 n)
-  row_counts_not t n not_so =
-      let none : length (cond (test n t) (row_name n t ∷ []) []) ≡ 0 = ap (λ (c : Bool). length (cond c (row_name n t ∷ []) [])) not_so in
-      omega (arith, length_more (λ g. cond (test g t) (row_name g t ∷ []) []) n, none)
+  -- one more row in order
+  pub row_counts : (n g t : ℕ) → g ≡ n % shape.loggers → t ≡ n / shape.loggers → test g t ≡ true → length (first_rows (n + 1)) ≡ length (first_rows n) + 1
+  row_counts n g t is is' so =
+      let one : length (chosen_row (n % shape.loggers) (n / shape.loggers)) ≡ 1 = (λ i. length (chosen_row (sym is i) (sym is' i))) ∙ chosen_one (test g t) (row_name g t) so in
+      omega (arith, length_more (λ k. chosen_row (k % shape.loggers) (k / shape.loggers)) n, one)
+
+  pub row_counts_not : (n g t : ℕ) → g ≡ n % shape.loggers → t ≡ n / shape.loggers → test g t ≡ false → length (first_rows (n + 1)) ≡ length (first_rows n)
+  row_counts_not n g t is is' not_so =
+      let none : length (chosen_row (n % shape.loggers) (n / shape.loggers)) ≡ 0 = (λ i. length (chosen_row (sym is i) (sym is' i))) ∙ ap (λ (c : Bool). length (cond c (row_name g t ∷ []) [])) not_so in
+      omega (arith, length_more (λ k. chosen_row (k % shape.loggers) (k / shape.loggers)) n, none)
+
+  -- all rows
+  pub rows_counted : (n : ℕ) → n ≡ shape.loggers * shape.numbers → length (first_rows n) ≡ length (at_rows shape test row_name)
+  rows_counted n all = ap (λ (k : ℕ). length (first_rows k)) all ∙ ap (λ (l : List (ℕ × ℕ)). length l) (joined_rows shape.loggers shape.numbers chosen_row)
 
 -- what the table's counts say of the image
 module _ (shape : Shape) (image : List ℕ) (rows : List Row) (are : RowsAre shape image shape.numbers rows) where

@@ -13,13 +13,6 @@ use Rattle.array_image.specs.Standing.{IsGoodRow}
 use Rattle.array_image.proofs.Deciding.{decides_same}
 use Rattle.device_recovery.specs.Table.{row_in, RowsAre, decided_in}
 
-pub head_of_range : (bytes : List ℕ) (at : ℕ) → cell_head (range bytes at 528) ≡ head_said (range bytes at 16)
-head_of_range bytes at = ap head_said (take-take 16 528 (drop at bytes) (omega arith))
-
--- from the rows of one number
-pub number_decided : (shape : Shape) (image : List ℕ) (rows : List Row) (t : ℕ) → ((h : ℕ) → h < shape.loggers → row_in rows h t ≡ row_of shape image h t) → (g : ℕ) → g < shape.loggers → decided_in shape rows g t ≡ decided shape image g t
-number_decided shape image rows t are g lt = decides_same shape.loggers (λ h. row_in rows h t) (λ h. row_of shape image h t) are g lt
-
 module _ (shape : Shape) (image : List ℕ) (rows : List Row) (are : RowsAre shape image shape.numbers rows) (g t : ℕ) (lt : g < shape.loggers) (lt' : t < shape.numbers) where
   pub table_decided : decided_in shape rows g t ≡ decided shape image g t
   table_decided = decides_same shape.loggers (λ h. row_in rows h t) (λ h. row_of shape image h t) (λ h below. are h t below lt') g lt
@@ -40,6 +33,10 @@ module _ (shape : Shape) (image : List ℕ) (rows : List Row) (are : RowsAre sha
       let first = ap (λ (r : Row). r.first) same in
       let count = ap (λ (r : Row). r.count) same in
       bad (good.cells e (omega (arith, first)) (omega (arith, first, count)))
+
+-- the logger that was asked is this one
+pub owned_same : (shape shape' : Shape) (g g' addr len : ℕ) → shape ≡ shape' → g ≡ g' → IsOwned shape g addr len → IsOwned shape' g' addr len
+owned_same shape shape' g g' addr len is is' owned = subst (λ (k : ℕ). IsOwned shape' k addr len) is' (subst (λ (s : Shape). IsOwned s g addr len) is owned)
 
 pub owned_is : (shape : Shape) (g : ℕ) (cell : List ℕ) (head : Head) → head ≡ cell_head cell → IsOwned shape g head.addr head.len → IsGoodCell shape g cell
 owned_is shape g cell head is owned = subst (λ (h : Head). IsOwned shape g h.addr h.len) is owned

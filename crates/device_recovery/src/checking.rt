@@ -2,35 +2,22 @@
 ghost use Rattle.std.specs.Prelude.{◌≡◌, ◌↔◌, ◌+◌, ◌*◌, ◌<◌, ◌≤◌, [], ℕ, true, false, IsTrue, IfOk, IfErr, OnOk};
 ghost use Rattle.pcm_media.specs.View.{Writes};
 ghost use Rattle.array_shape.specs.Places.{media_len};
-ghost use Rattle.array_shape.specs.Logged.{IsOwned};
 ghost use Rattle.array_image.specs.Image.{row_of, cell_of, cell_head, IsGoodCell};
 ghost use Rattle.array_image.specs.Decided.{decided};
 ghost use Rattle.array_image.specs.Standing.{IsGoodRow};
 ghost use Rattle.device_recovery.specs.Table.{row_in, RowsAre, decided_in};
 ghost use Rattle.pcm_media.specs.Answer.{media_answer};
-ghost use Rattle.device_recovery.specs.Recovered.{AllGood, IsFirstBadAt, IsFirstBad, is_of_media};
+ghost use Rattle.device_recovery.specs.Recovered.{AllGood, IsFirstBad, is_of_media};
 ghost use Rattle.device_recovery.specs.declared.report.RecoverFault.TheVariants.{BadRow};
 
 use crate::report::RecoverFault;
-use crate::table::{MOST, is_decided, row_in};
+use crate::rows::{nth_row, row_count};
+use crate::table::{ROWS_MAX, is_decided, row_in};
 use array_shape::Shape;
+use logger::Logger;
 use mars_base::Failed;
 use pcm_media::Media;
 use row_bytes::{Head, Row, read_head};
-
-// Whether the range that this head says lies in one page of this logger.
-fn is_owned(shape: &Shape, logger: u8, head: Head) -> bool
-    ensures { IsTrue result ↔ IsOwned shape.now logger head.addr head.len }
-{
-    let data_len = shape.data_len();
-    let len = u64::from(head.len);
-    if head.addr >= data_len || len == 0 {
-        return false;
-    }
-    head.addr % 512 + len <= 512
-        && head.addr + len <= data_len
-        && shape.place(head.addr).logger == logger
-}
 
 // Reads the head of a cell.
 fn read_cell_head<M: Media>(
@@ -71,7 +58,7 @@ fn has_bad_cell<M: Media>(
 {
     for entry in first..first + count {
         let head = read_cell_head(media, shape, logger, tid, entry)?;
-        if !is_owned(shape, logger, head) {
+        if !Logger::new(*shape, logger).has_part(head) {
             return Ok(true);
         }
     }
@@ -82,7 +69,7 @@ fn has_bad_cell<M: Media>(
 fn is_bad<M: Media>(
     media: &mut M,
     shape: &Shape,
-    rows: &[Row; MOST],
+    rows: &[Row; ROWS_MAX],
     logger: u8,
     tid: u8,
 ) -> Result<bool, Failed>
@@ -106,35 +93,11 @@ fn is_bad<M: Media>(
     has_bad_cell(media, shape, logger, tid, row.first, row.count)
 }
 
-// Checks the rows of one number.
-fn check_number<M: Media>(
-    media: &mut M,
-    shape: &Shape,
-    rows: &[Row; MOST],
-    tid: u8,
-) -> Result<(), RecoverFault>
-    requires tid { tid < shape.now.numbers }
-    requires size { (M.view media.old).size ≡ media_len shape.now }
-    requires rows { IsTrue M.tells → RowsAre shape.now (M.view media.old).content.bytes shape.now.numbers rows.now }
-    ensures good { IsTrue M.tells → OnOk result ((g : ℕ) → g < shape.now.loggers → decided shape.now (M.view media.old).content.bytes g tid ≡ true → IsGoodRow shape.now (M.view media.old).content.bytes g tid) }
-    ensures bad { IsTrue M.tells → IfErr result (λ fault. (g t : ℕ) → fault ≡ BadRow g t → (t ≡ tid) × IsFirstBadAt shape.now (M.view media.old).content.bytes g tid) }
-    ensures idle { ((g : ℕ) → g < shape.now.loggers → decided_in shape.now rows.now g tid ≡ false) → (M.view media.new).moment ≡ (M.view media.old).moment }
-    ensures fits { OnOk result ((g : ℕ) → g < shape.now.loggers → decided_in shape.now rows.now g tid ≡ true → (row_in rows.now g tid).first + (row_in rows.now g tid).count ≤ shape.now.entries) }
-    ensures does { Writes M.tells [] (M.view media.old) (M.view media.new) (media_answer is_of_media result) }
-{
-    for logger in 0..shape.loggers {
-        if is_bad(media, shape, rows, logger, tid)? {
-            return Err(RecoverFault::BadRow { logger, tid });
-        }
-    }
-    Ok(())
-}
-
 /// Refuses the first decided row that is not good.
 pub(crate) fn check_rows<M: Media>(
     media: &mut M,
     shape: &Shape,
-    rows: &[Row; MOST],
+    rows: &[Row; ROWS_MAX],
 ) -> Result<(), RecoverFault>
     requires size { (M.view media.old).size ≡ media_len shape.now }
     requires rows { IsTrue M.tells → RowsAre shape.now (M.view media.old).content.bytes shape.now.numbers rows.now }
@@ -144,8 +107,14 @@ pub(crate) fn check_rows<M: Media>(
     ensures fits { OnOk result ((g t : ℕ) → g < shape.now.loggers → t < shape.now.numbers → decided_in shape.now rows.now g t ≡ true → (row_in rows.now g t).first + (row_in rows.now g t).count ≤ shape.now.entries) }
     ensures does { Writes M.tells [] (M.view media.old) (M.view media.new) (media_answer is_of_media result) }
 {
-    for tid in 0..shape.numbers {
-        check_number(media, shape, rows, tid)?;
+    for nth in 0..row_count(shape) {
+        let at = nth_row(shape, nth);
+        if is_bad(media, shape, rows, at.logger, at.tid)? {
+            return Err(RecoverFault::BadRow {
+                logger: at.logger,
+                tid: at.tid,
+            });
+        }
     }
     Ok(())
 }

@@ -6,6 +6,7 @@ mod counting;
 mod reading;
 mod recovery;
 mod report;
+mod rows;
 mod settling;
 mod table;
 

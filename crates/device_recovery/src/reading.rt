@@ -6,7 +6,8 @@ ghost use Rattle.array_shape.specs.Places.{media_len};
 ghost use Rattle.array_image.specs.Image.{row_of};
 ghost use Rattle.device_recovery.specs.Table.{row_in, RowsAre};
 
-use crate::table::{MOST, place};
+use crate::rows::{nth_row, row_count};
+use crate::table::{ROWS_MAX, place};
 use array_shape::Shape;
 use mars_base::Failed;
 use pcm_media::Media;
@@ -32,36 +33,17 @@ fn read_one<M: Media>(media: &mut M, shape: &Shape, logger: u8, tid: u8) -> Resu
     Ok(read_row(&bytes))
 }
 
-// Reads the rows of one number.
-fn read_number<M: Media>(
-    media: &mut M,
-    shape: &Shape,
-    tid: u8,
-    rows: &mut [Row; MOST],
-) -> Result<(), Failed>
-    requires tid { tid < shape.now.numbers }
-    requires size { (M.view media.old).size ≡ media_len shape.now }
-    ensures rows { IsTrue M.tells → OnOk result ((g : ℕ) → g < shape.now.loggers → row_in rows.new g tid ≡ row_of shape.now (M.view media.old).content.bytes g tid) }
-    ensures others { (g t : ℕ) → g < 8 → t ≢ tid → row_in rows.new g t ≡ row_in rows.old g t }
-    ensures costs { Costs true shape.now.loggers (M.view media.old).moment (M.view media.new).moment result }
-    ensures does { Writes M.tells [] (M.view media.old) (M.view media.new) result }
-{
-    for logger in 0..shape.loggers {
-        rows[place(logger, tid)] = read_one(media, shape, logger, tid)?;
-    }
-    Ok(())
-}
-
 /// Reads all rows, each once.
-pub(crate) fn read_rows<M: Media>(media: &mut M, shape: &Shape) -> Result<[Row; MOST], Failed>
+pub(crate) fn read_rows<M: Media>(media: &mut M, shape: &Shape) -> Result<[Row; ROWS_MAX], Failed>
     requires size { (M.view media.old).size ≡ media_len shape.now }
     ensures rows { IsTrue M.tells → IfOk result (RowsAre shape.now (M.view media.old).content.bytes shape.now.numbers) }
     ensures costs { Costs true (shape.now.loggers * shape.now.numbers) (M.view media.old).moment (M.view media.new).moment result }
     ensures does { Writes M.tells [] (M.view media.old) (M.view media.new) result }
 {
-    let mut rows = [NO_ROW; MOST];
-    for tid in 0..shape.numbers {
-        read_number(media, shape, tid, &mut rows)?;
+    let mut rows = [NO_ROW; ROWS_MAX];
+    for nth in 0..row_count(shape) {
+        let at = nth_row(shape, nth);
+        rows[place(at.logger, at.tid)] = read_one(media, shape, at.logger, at.tid)?;
     }
     Ok(rows)
 }

@@ -17,7 +17,7 @@ use crate::counting::count_rows;
 use crate::reading::read_rows;
 use crate::report::{RecoverFault, Report};
 use crate::settling::{settle_data, settle_votes};
-use crate::table::MOST;
+use crate::table::ROWS_MAX;
 use array_shape::Shape;
 use mars_base::Failed;
 use pcm_media::Media;
@@ -56,7 +56,7 @@ pub fn recover<M: Media>(media: &mut M, shape: &Shape) -> Result<Report, Recover
 }
 
 // Makes what was left durable, reads the rows, and refuses bad ones.
-fn read_sound<M: Media>(media: &mut M, shape: &Shape) -> Result<[Row; MOST], RecoverFault>
+fn read_sound<M: Media>(media: &mut M, shape: &Shape) -> Result<[Row; ROWS_MAX], RecoverFault>
     requires size { (M.view media.old).size ≡ media_len shape.now }
     ensures rows { IsTrue M.tells → IfOk result (RowsAre shape.now (M.view media.old).content.bytes shape.now.numbers) }
     ensures good { IsTrue M.tells → OnOk result (AllGood shape.now (M.view media.old).content.bytes shape.now.numbers) }
@@ -73,7 +73,7 @@ fn read_sound<M: Media>(media: &mut M, shape: &Shape) -> Result<[Row; MOST], Rec
 }
 
 // Writes the parts of the decided rows into the data, then clears the votes, each followed by a barrier.
-fn settle<M: Media>(media: &mut M, shape: &Shape, rows: &[Row; MOST]) -> Result<(), Failed>
+fn settle<M: Media>(media: &mut M, shape: &Shape, rows: &[Row; ROWS_MAX]) -> Result<(), Failed>
     requires size { (M.view media.old).size ≡ media_len shape.now }
     requires fits { (g t : ℕ) → g < shape.now.loggers → t < shape.now.numbers → decided_in shape.now rows.now g t ≡ true → (row_in rows.now g t).first + (row_in rows.now g t).count ≤ shape.now.entries }
     requires sure { IsTrue M.tells → (i : ℕ) → IsOutside (M.view media.old).content.unsettled i }

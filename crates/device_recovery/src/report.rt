@@ -18,7 +18,7 @@ pub enum RecoverFault {
     #[error("bad row {logger} {tid}")]
     BadRow { logger: u8, tid: u8 },
     /// The medium failed.
-    #[error("media fault")]
+    #[error("the medium failed")]
     Media,
 }
 

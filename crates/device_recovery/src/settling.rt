@@ -9,45 +9,19 @@ ghost use Rattle.array_image.specs.Standing.{IsGoodRow};
 ghost use Rattle.device_recovery.specs.Table.{row_in, RowsAre, decided_in};
 ghost use Rattle.device_recovery.specs.Recovered.{AllGood, HasNoVote, number_votes, voted_places};
 
-use crate::table::{MOST, is_decided, row_in};
+use crate::rows::{nth_row, row_count};
+use crate::table::{ROWS_MAX, is_decided, row_in};
 use array_shape::Shape;
 use logger::Logger;
 use mars_base::Failed;
 use pcm_media::Media;
 use row_bytes::Row;
 
-// Writes the parts of the decided rows of one number into the data.
-fn apply_number<M: Media>(
-    media: &mut M,
-    shape: &Shape,
-    rows: &[Row; MOST],
-    tid: u8,
-) -> Result<(), Failed>
-    requires tid { tid < shape.now.numbers }
-    requires size { (M.view media.old).size ≡ media_len shape.now }
-    requires fits { (g : ℕ) → g < shape.now.loggers → decided_in shape.now rows.now g tid ≡ true → (row_in rows.now g tid).first + (row_in rows.now g tid).count ≤ shape.now.entries }
-    requires rows { IsTrue M.tells → (g : ℕ) → g < shape.now.loggers → row_in rows.now g tid ≡ row_of shape.now (M.view media.old).content.bytes g tid }
-    requires good { IsTrue M.tells → (g : ℕ) → g < shape.now.loggers → decided shape.now (M.view media.old).content.bytes g tid ≡ true → IsGoodRow shape.now (M.view media.old).content.bytes g tid }
-    ensures applied { IsTrue M.tells → OnOk result (data_of shape.now (M.view media.new).content.bytes ≡
-        applied (number_parts shape.now (M.view media.old).content.bytes tid) (data_of shape.now (M.view media.old).content.bytes)) }
-    ensures does { Writes M.tells (places_of shape.now (number_parts shape.now (M.view media.old).content.bytes tid)) (M.view media.old) (M.view media.new) result }
-{
-    for number in 0..shape.loggers {
-        if !is_decided(rows, shape, number, tid) {
-            continue;
-        }
-        let row = row_in(rows, number, tid);
-        let logger = Logger::new(*shape, number);
-        logger.apply(media, tid, row.first, row.count)?;
-    }
-    Ok(())
-}
-
 /// Writes the parts of all decided rows into the data, and makes that durable.
 pub(crate) fn settle_data<M: Media>(
     media: &mut M,
     shape: &Shape,
-    rows: &[Row; MOST],
+    rows: &[Row; ROWS_MAX],
 ) -> Result<(), Failed>
     requires size { (M.view media.old).size ≡ media_len shape.now }
     requires fits { (g t : ℕ) → g < shape.now.loggers → t < shape.now.numbers → decided_in shape.now rows.now g t ≡ true → (row_in rows.now g t).first + (row_in rows.now g t).count ≤ shape.now.entries }
@@ -56,48 +30,35 @@ pub(crate) fn settle_data<M: Media>(
     ensures applied { IsTrue M.tells → OnOk result (((M.view media.new).content.unsettled ≡ []) × (data_of shape.now (M.view media.new).content.bytes ≡ settled_data shape.now (M.view media.old).content.bytes)) }
     ensures does { Writes M.tells (places_of shape.now (all_decided shape.now (M.view media.old).content.bytes)) (M.view media.old) (M.view media.new) result }
 {
-    for tid in 0..shape.numbers {
-        apply_number(media, shape, rows, tid)?;
-    }
-    media.barrier()
-}
-
-// Clears the votes of the voted rows of one number.
-fn clear_number<M: Media>(
-    media: &mut M,
-    shape: &Shape,
-    rows: &[Row; MOST],
-    tid: u8,
-) -> Result<(), Failed>
-    requires tid { tid < shape.now.numbers }
-    requires size { (M.view media.old).size ≡ media_len shape.now }
-    requires rows { IsTrue M.tells → (g : ℕ) → g < shape.now.loggers → row_in rows.now g tid ≡ row_of shape.now (M.view media.old).content.bytes g tid }
-    ensures cleared { IsTrue M.tells → OnOk result ((g : ℕ) → g < shape.now.loggers → (row_of shape.now (M.view media.new).content.bytes g tid).voted ≡ false) }
-    ensures does { Writes M.tells (number_votes shape.now (M.view media.old).content.bytes tid) (M.view media.old) (M.view media.new) result }
-{
-    for number in 0..shape.loggers {
-        if !row_in(rows, number, tid).voted {
+    for nth in 0..row_count(shape) {
+        let at = nth_row(shape, nth);
+        if !is_decided(rows, shape, at.logger, at.tid) {
             continue;
         }
-        let logger = Logger::new(*shape, number);
-        logger.set_vote(media, tid, false)?;
+        let row = row_in(rows, at.logger, at.tid);
+        let logger = Logger::new(*shape, at.logger);
+        logger.apply(media, at.tid, row.first, row.count)?;
     }
-    Ok(())
+    media.barrier()
 }
 
 /// Clears the votes of all voted rows, and makes that durable.
 pub(crate) fn settle_votes<M: Media>(
     media: &mut M,
     shape: &Shape,
-    rows: &[Row; MOST],
+    rows: &[Row; ROWS_MAX],
 ) -> Result<(), Failed>
     requires size { (M.view media.old).size ≡ media_len shape.now }
     requires rows { IsTrue M.tells → RowsAre shape.now (M.view media.old).content.bytes shape.now.numbers rows.now }
     ensures cleared { IsTrue M.tells → OnOk result (((M.view media.new).content.unsettled ≡ []) × HasNoVote shape.now (M.view media.new).content.bytes) }
     ensures does { Writes M.tells (voted_places shape.now (M.view media.old).content.bytes) (M.view media.old) (M.view media.new) result }
 {
-    for tid in 0..shape.numbers {
-        clear_number(media, shape, rows, tid)?;
+    for nth in 0..row_count(shape) {
+        let at = nth_row(shape, nth);
+        if !row_in(rows, at.logger, at.tid).voted {
+            continue;
+        }
+        Logger::new(*shape, at.logger).unvote(media, at.tid)?;
     }
     media.barrier()
 }

@@ -6,13 +6,15 @@ ghost use Rattle.array_image.specs.Image.{row_of};
 ghost use Rattle.array_image.specs.Decided.{has_logger, all_below, agrees};
 ghost use Rattle.device_recovery.specs.Table.{row_in, RowsAre, decided_in};
 
-use array_shape::Shape;
+use array_shape::{LOGGERS_MAX, NUMBERS_MAX, Shape};
 use mars_base::Failed;
 use pcm_media::Media;
 use row_bytes::Row;
 
-// The most rows that an array may have: 8 loggers times 64 numbers.
-pub(crate) const MOST: usize = 512;
+const LOGGERS: usize = LOGGERS_MAX as usize;
+
+// The most rows that an array may have.
+pub(crate) const ROWS_MAX: usize = LOGGERS * NUMBERS_MAX as usize;
 
 // Where in the table the row of a number at a logger is.
 pub(crate) fn place(logger: u8, tid: u8) -> usize
@@ -21,10 +23,10 @@ pub(crate) fn place(logger: u8, tid: u8) -> usize
     ensures place { result ≡ 8 * tid + logger }
     ensures below { result < 512 }
 {
-    8 * usize::from(tid) + usize::from(logger)
+    LOGGERS * usize::from(tid) + usize::from(logger)
 }
 
-pub(crate) fn row_in(rows: &[Row; MOST], logger: u8, tid: u8) -> Row
+pub(crate) fn row_in(rows: &[Row; ROWS_MAX], logger: u8, tid: u8) -> Row
     requires logger { logger < 8 }
     requires tid { tid < 64 }
     ensures { result ≡ row_in rows.now logger tid }
@@ -49,7 +51,7 @@ fn agrees(row: Row, mask: u8, logger: u8) -> bool
 }
 
 // Whether the rows of a number at all loggers of a mask are voted with that mask.
-fn all_agree(rows: &[Row; MOST], shape: &Shape, tid: u8, mask: u8) -> bool
+fn all_agree(rows: &[Row; ROWS_MAX], shape: &Shape, tid: u8, mask: u8) -> bool
     requires { tid < shape.now.numbers }
     ensures { result ≡ all_below shape.now.loggers (agrees mask (λ h. row_in rows.now h tid)) }
 {
@@ -62,7 +64,7 @@ fn all_agree(rows: &[Row; MOST], shape: &Shape, tid: u8, mask: u8) -> bool
 }
 
 // Whether a row is decided.
-pub(crate) fn is_decided(rows: &[Row; MOST], shape: &Shape, logger: u8, tid: u8) -> bool
+pub(crate) fn is_decided(rows: &[Row; ROWS_MAX], shape: &Shape, logger: u8, tid: u8) -> bool
     requires logger { logger < shape.now.loggers }
     requires tid { tid < shape.now.numbers }
     ensures { result ≡ decided_in shape.now rows.now logger tid }

@@ -1,6 +1,6 @@
 -- What a command does, from what its calls do.
 use Rattle.std.proofs.Common.{◌≡◌, ℕ, ◌<◌, ◌≤◌, Bool, true, false, List, length, get_or, Result, Ok, Err, refl, sym, ◌∙◌, ap, subst, arith}
-use Rattle.std.specs.Prelude.{IsTrue, OnErr, IsErrAnd, is_err, slice_get, Some}
+use Rattle.std.specs.Prelude.{None, IsTrue, OnErr, IsErrAnd, is_err, slice_get, Some}
 use Rattle.std.proofs.lemmas.Bool.{false≢true}
 use Rattle.mars_base.specs.Causes.{Rose}
 use Rattle.mars_base.proofs.Going.{stays}
@@ -9,7 +9,7 @@ use Rattle.array_shape.specs.declared.shape.Shape.{Shape}
 use Rattle.eaw_face.specs.State.{Logs}
 use Rattle.eaw_face.specs.StoreView.{StoreView, IsLive, LeavesOnly}
 use Rattle.eaw_face.specs.Command.{Command, after}
-use Rattle.eaw_face.specs.Causes.{IsAlive, Knows, IsNumberOf, HasRoom, Cause}
+use Rattle.eaw_face.specs.Causes.{IsAlive, Knows, IsNumberOf, room_for, Cause}
 use Rattle.eaw_face.proofs.Others.{others_after}
 use Rattle.eaw_face.specs.Does.{Becomes, IsEither, Does}
 use Rattle.eaw_face.specs.declared.fault.EawFault.{EawFault}
@@ -22,7 +22,7 @@ use Rattle.eaw_device.proofs.Tables.{found_log, live_there}
 module _ (tells : Bool) (Opens : List ℕ → List ℕ → Type 0) (command : Command) (old new : StoreView) (shape : new.shape ≡ old.shape) (later : old.faults ≤ new.faults)
     (time : IsTrue tells → old.is_dead ≡ false → LeavesOnly (IsEither Opens old.state.bytes (after command old.state).bytes) old new) where
   -- a command that is done
-  pub done : {T : Type 0} (x : T) → new.faults ≡ old.faults → IsAlive old → Knows old command → HasRoom old command → Becomes tells command old new → (let r : Result T EawFault = Ok x in Does tells Opens command old new r)
+  pub done : {T : Type 0} (x : T) → new.faults ≡ old.faults → IsAlive old → Knows old command → room_for old command None → Becomes tells command old new → (let r : Result T EawFault = Ok x in Does tells Opens command old new r)
   done x kept alive knows room becomes = record {
     shape = shape;
     later = later;
@@ -35,7 +35,7 @@ module _ (tells : Bool) (Opens : List ℕ → List ℕ → Type 0) (command : Co
   }
 
   -- a command in which the medium failed
-  pub failed : {T : Type 0} → IsAlive old → Knows old command → HasRoom old command → Rose old.faults new.faults → new.is_dead ≡ true → ((u : ℕ) → (IsNumberOf command u → ⊥) → new.ranges u ≡ old.ranges u) → (let r : Result T EawFault = Err Media in Does tells Opens command old new r)
+  pub failed : {T : Type 0} → IsAlive old → Knows old command → room_for old command None → Rose old.faults new.faults → new.is_dead ≡ true → ((u : ℕ) → (IsNumberOf command u → ⊥) → new.ranges u ≡ old.ranges u) → (let r : Result T EawFault = Err Media in Does tells Opens command old new r)
   failed alive knows room rose dead others = record {
     shape = shape;
     later = later;

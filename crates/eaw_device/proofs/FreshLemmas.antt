@@ -12,7 +12,9 @@ use Rattle.array_shape.specs.Places.{media_len, row_at, data_at, page_count, dat
 use Rattle.array_shape.proofs.Apart.{row_end, data_end, region_end, region_fits, place_start, place_end, place_below, place_along}
 use Rattle.array_image.specs.Image.{data_of}
 use Rattle.array_image.proofs.Data.{length-data_of, data_put, data_away}
-use Rattle.eaw_device.specs.Fresh.{fresh_page, behind_header, HasPages, HasRows, HasParts}
+use Rattle.record_slots.specs.Fresh.{fresh_page}
+use Rattle.record_slots.specs.Super.{count_bytes}
+use Rattle.eaw_device.specs.Fresh.{behind_header, HasPages, HasRows, HasParts}
 
 -- pages of the same data
 pub same_pages : (shape : Shape) (n : ℕ) (old new : List ℕ) → data_of shape new ≡ data_of shape old → HasPages shape n old → HasPages shape n new
@@ -26,12 +28,8 @@ within shape at n i behind fits out = ((λ le lt. out.0 (omega arith) (omega ari
 pub whole : (shape : Shape) (i : ℕ) → IsOutside ((0, media_len shape) ∷ []) i → IsOutside (behind_header shape) i × IsOutside ((0, 512) ∷ []) i
 whole shape i out = (((λ le lt. out.0 (omega arith) (omega arith)), tt), ((λ le lt. out.0 (omega arith) (omega arith)), tt))
 
-pub other_page : (p : ℕ) → (p ≡ 0 → ⊥) → (p ≡ 1 → ⊥) → fresh_page p ≡ replicate 512 0
-other_page zero not_first not_second = absurd (not_first refl)
-other_page (suc zero) not_first not_second = absurd (not_second refl)
-other_page (suc (suc p)) not_first not_second = refl
-
 pub length-fresh_page : (p : ℕ) → length (fresh_page p) ≡ 512
+unfolding count_bytes
 length-fresh_page zero = refl
 length-fresh_page (suc zero) = refl
 length-fresh_page (suc (suc p)) = length-replicate {A = ℕ} 512 0

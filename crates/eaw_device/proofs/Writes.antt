@@ -1,6 +1,6 @@
 -- A write that is staged and logged.
 use Rattle.std.proofs.Common.{◌≡◌, ◌≢◌, ℕ, ◌+◌, ◌-◌, ◌<◌, ◌≤◌, ◌⊎◌, Bool, true, false, inl, inr, List, [], ◌∷◌, ◌++◌, length, map, take, drop, Result, Ok, Err, refl, sym, ◌∙◌, ap, subst, arith}
-use Rattle.std.specs.Prelude.{IsTrue, IsErrAnd, All, slice_get, slice_set, slice_index, Some}
+use Rattle.std.specs.Prelude.{None, IsTrue, IsErrAnd, All, slice_get, slice_set, slice_index, Some}
 use Rattle.std.specs.Option.{option_map}
 use Rattle.std.specs.List.{range_with_len}
 use Rattle.std.proofs.lemmas.Bool.{cases_lt}
@@ -22,7 +22,7 @@ use Rattle.logger.specs.Cells.{HoldsParts}
 use Rattle.logger.proofs.Staging.{IsWithin, all_within}
 use Rattle.eaw_face.specs.State.{listed, count_on}
 use Rattle.eaw_face.specs.StoreView.{log_len}
-use Rattle.eaw_face.specs.Causes.{Fit, IsFirstFull}
+use Rattle.eaw_face.specs.Causes.{fit}
 use Rattle.eaw_face.specs.Command.{log_write}
 use Rattle.eaw_face.specs.Does as face
 use Rattle.eaw_face.specs.declared.fault.EawFault.{EawFault}
@@ -30,7 +30,7 @@ use Rattle.eaw_face.specs.declared.fault.EawFault.TheVariants.{UnknownTid, LogFu
 use Rattle.eaw_device.specs.declared.log.Log.{Log}
 use Rattle.eaw_device.specs.Opens.{Opens}
 use Rattle.eaw_device.specs.Logs.{ranges_in, parts_in, cells_on, IsKept, IsHeld, Adds, entries_at}
-use Rattle.eaw_device.specs.Steps.{HasCells, LacksCells, RefusesWrite, staged_places}
+use Rattle.eaw_device.specs.Steps.{cells_fit, RefusesWrite, staged_places}
 use Rattle.eaw_device.specs.Sound.{IsSound, view_of}
 use Rattle.eaw_device.proofs.Entries.{numbers_split, ranges_in-append, length-ranges_in, cells_on-append, count_on-ranges_in}
 use Rattle.eaw_device.proofs.Keeping.{length-cells_on_kept}
@@ -68,7 +68,7 @@ module _ (tells : Bool) (old : View) (shape : Shape) (logs : List Log) (is_dead 
   needed g = count_on-ranges_of shape g (parts_of_write addr bytes) ∙ length-write_parts_on shape g addr bytes
 
   -- what a log without room says
-  pub first_full : (g h n : ℕ) → LacksCells shape log.held addr (length bytes) g h n → IsFirstFull (view_of old shape logs is_dead) (listed (option_map ranges_in (entries_at logs t))) (ranges_of (parts_of_write addr bytes)) g h n
+  pub first_full : (g h n : ℕ) → cells_fit shape log.held addr (length bytes) (Some (g, h, n)) → fit (view_of old shape logs is_dead) (listed (option_map ranges_in (entries_at logs t))) (ranges_of (parts_of_write addr bytes)) (Some (g, h, n))
   first_full g h n said = record {
     logger = said.logger;
     held_is = said.held_is ∙ sym (counted g said.logger);
@@ -80,8 +80,8 @@ module _ (tells : Bool) (old : View) (shape : Shape) (logs : List Log) (is_dead 
         omega (arith, has, counted k here, needed k);
   }
 
-  module _ (room : (g : ℕ) → g < shape.loggers → HasCells shape log.held addr (length bytes) g) where
-    pub fits : Fit (view_of old shape logs is_dead) (listed (option_map ranges_in (entries_at logs t))) (ranges_of (parts_of_write addr bytes))
+  module _ (room : cells_fit shape log.held addr (length bytes) None) where
+    pub fits : fit (view_of old shape logs is_dead) (listed (option_map ranges_in (entries_at logs t))) (ranges_of (parts_of_write addr bytes)) None
     fits g lt = omega (arith, room g lt, counted g lt, needed g)
 
     pub write_parts_fit : (g : ℕ) → g < shape.loggers → slice_index log.held g + length (write_parts_on shape g addr bytes) ≤ shape.entries

@@ -1,6 +1,5 @@
 -- What a fresh array holds.
-use Rattle.std.specs.Prelude.{ℕ, zero, suc, ◌*◌, ◌≡◌, ◌<◌, ◌⊎◌, List, [], ◌∷◌, ◌++◌, replicate, codes}
-use Rattle.byteorder.specs.Endian.{little_bytes}
+use Rattle.std.specs.Prelude.{ℕ, ◌*◌, ◌≡◌, ◌<◌, ◌⊎◌, List, [], ◌∷◌, replicate}
 use Rattle.mars_base.specs.Bytes.{range}
 use Rattle.pcm_media.specs.Images.{Content, MayLeave}
 use Rattle.array_shape.specs.declared.shape.Shape.{Shape}
@@ -8,18 +7,12 @@ use Rattle.array_shape.specs.Places.{row_at, page_count, region_len, media_len}
 use Rattle.array_shape.specs.declared.bad_shape.ShapeNumber.TheVariants.{MediaLength}
 use Rattle.row_bytes.specs.Header.{header_bytes}
 use Rattle.array_image.specs.Image.{data_of}
+use Rattle.record_slots.specs.Fresh.{fresh_page}
 use Rattle.eaw_device.specs.declared.fresh.FormatFault.{FormatFault}
 use Rattle.eaw_device.specs.declared.fresh.FormatFault.TheVariants.{BadShape, Media}
 use Rattle.eaw_device.specs.Opens.{header_of}
 
--- Page 0 is the super page: its mark, the version 1, the form 1, no slot given out, and 2 as the next page to give out. Page 1 is an
--- index page without pairs, and all others are zero.
-abbrev pub fresh_page : ℕ → List ℕ
-fresh_page zero = codes "MREC" ++ 1 ∷ 1 ∷ 0 ∷ 0 ∷ (little_bytes 4 0 ++ little_bytes 4 2 ++ replicate 496 0)
-fresh_page (suc zero) = 1 ∷ replicate 511 0
-fresh_page (suc (suc p)) = replicate 512 0
-
--- the first n pages are fresh
+-- the first n pages are those of data without records
 abbrev pub HasPages : Shape → ℕ → List ℕ → Type 0
 HasPages shape n bytes = (p : ℕ) → p < n → range (data_of shape bytes) (512 * p) 512 ≡ fresh_page p
 

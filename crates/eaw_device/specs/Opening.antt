@@ -1,5 +1,5 @@
 -- What an opening finds before there is a store.
-use Rattle.std.specs.Prelude.{ℕ, ◌≡◌, ◌+◌, Bool, false, IsTrue, List, length, slice_get}
+use Rattle.std.specs.Prelude.{ℕ, ◌≡◌, ◌+◌, ◌*◌, Bool, false, IsTrue, List, length, slice_get, vec_capacity}
 use Rattle.std.specs.Option.{ForSome}
 use Rattle.pcm_media.specs.View.{View}
 use Rattle.array_shape.specs.declared.shape.Shape.{Shape}
@@ -13,9 +13,10 @@ use Rattle.eaw_device.specs.Sound.{IsSure}
 use Rattle.eaw_device.specs.Logs.{IsKept}
 use Rattle.eaw_device.specs.declared.log.Log.{Log}
 
--- the log of a free number
+-- the log of a free number, with room for just what it may have
 pub record IsFree (shape : Shape) (log : Log) : Type 0 where
   pub kept : IsKept shape log
+  pub room : vec_capacity log.entries ≡ shape.loggers * shape.entries
   pub is_free : log.is_live ≡ false
 
 -- a log for each number, all of them free

@@ -1,6 +1,8 @@
 -- What the steps of a command do to the medium, and why a write is refused.
-use Rattle.std.specs.Prelude.{ℕ, ◌≡◌, ◌+◌, ◌<◌, ◌≤◌, Bool, true, false, List, length, Some, slice_get, slice_index, Result}
+use Rattle.std.specs.Prelude.{ℕ, ◌≡◌, ◌<◌, Bool, true, false, List, length, Some, None, slice_get, slice_index, Result}
 use Rattle.std.specs.Option.{ForSome}
+use Rattle.mars_base.specs.Check.{Check}
+use Rattle.mars_base.specs.Room.{room}
 use Rattle.pcm_media.specs.Images.{IsOutside}
 use Rattle.pcm_media.specs.View.{View, Writes}
 use Rattle.array_shape.specs.declared.shape.Shape.{Shape}
@@ -11,26 +13,18 @@ use Rattle.eaw_face.specs.declared.fault.EawFault.{EawFault}
 use Rattle.eaw_face.specs.declared.fault.EawFault.TheVariants.{UnknownTid, LogFull, Media, Dead}
 use Rattle.eaw_device.specs.declared.log.Log.{Log}
 
--- logger g has room, after the held cells, for its share of the parts of a range
-abbrev pub HasCells : Shape → List ℕ → ℕ → ℕ → ℕ → Type 0
-HasCells shape held addr len g = slice_index held g + length (parts_on shape g addr len) ≤ shape.entries
-
--- logger g is the first that has none: it holds h cells, and n more are needed
-pub record LacksCells (shape : Shape) (held : List ℕ) (addr len g h n : ℕ) : Type 0 where
-  pub logger : g < shape.loggers
-  pub held_is : h ≡ slice_index held g
-  pub needed_is : n ≡ length (parts_on shape g addr len)
-  pub full : shape.entries < h + n
-  pub before : (k : ℕ) → k < g → HasCells shape held addr len k
+-- the test for room at each logger, after the held cells, for its share of the parts of a range
+abbrev pub cells_fit : Shape → List ℕ → (addr len : ℕ) → Check (ℕ × ℕ × ℕ)
+cells_fit shape held addr len = room shape.loggers shape.entries (λ g. slice_index held g) (λ g. length (parts_on shape g addr len))
 
 -- the refusal of a write says that
 abbrev pub SaysFull : Shape → List ℕ → ℕ → ℕ → EawFault → Type 0
-SaysFull shape held addr len (LogFull g h n) = LacksCells shape held addr len g h n
+SaysFull shape held addr len (LogFull g h n) = cells_fit shape held addr len (Some (g, h, n))
 SaysFull shape held addr len _ = ⊥
 
 -- the log of number t has room at all loggers
 abbrev pub LogHasCells : Shape → List Log → ℕ → ℕ → ℕ → Type 0
-LogHasCells shape logs t addr len = ForSome (slice_get logs t) (λ log. (g : ℕ) → g < shape.loggers → HasCells shape log.held addr len g)
+LogHasCells shape logs t addr len = ForSome (slice_get logs t) (λ log. cells_fit shape log.held addr len None)
 
 -- the log of number t lacks room, and the fault says so
 pub record LogLacksCells (shape : Shape) (logs : List Log) (t addr len : ℕ) (fault : EawFault) : Type 0 where

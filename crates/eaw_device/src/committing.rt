@@ -11,7 +11,7 @@ ghost use Rattle.coordinator.specs.Costs.{commit_calls};
 ghost use Rattle.eaw_device.specs.Steps.{WritesBehind};
 ghost use Rattle.eaw_device.specs.Costs.{counts_of};
 
-use crate::log::Log;
+use crate::log::{LOGGERS, Log};
 use array_shape::Shape;
 use coordinator::commit_from;
 use mars_base::Failed;
@@ -50,14 +50,14 @@ pub(crate) fn commit_log<M: Media>(
 }
 
 // How many of each logger's held cells come after the first ones.
-fn counts_behind(shape: &Shape, held: &[u16], firsts: &[u16]) -> [u16; 8]
+fn counts_behind(shape: &Shape, held: &[u16], firsts: &[u16]) -> [u16; LOGGERS]
     requires held { length held.now ≡ 8 }
     requires firsts { length firsts.now ≡ 8 }
     requires few { (g : ℕ) → g < shape.now.loggers → slice_index firsts.now g ≤ slice_index held.now g }
     ensures long { length result ≡ 8 }
     ensures counts { (g : ℕ) → g < shape.now.loggers → slice_index result g ≡ slice_index held.now g - slice_index firsts.now g }
 {
-    let mut counts = [0; 8];
+    let mut counts = [0; LOGGERS];
     for logger in 0..usize::from(shape.loggers) {
         counts[logger] = held[logger] - firsts[logger];
     }

@@ -17,7 +17,7 @@ pub enum AttachFault {
     #[error("bad row {logger} {tid}")]
     BadRow { logger: u8, tid: u8 },
     /// The medium failed.
-    #[error("media fault")]
+    #[error("the medium failed")]
     Media,
     #[error("no memory")]
     NoMemory,

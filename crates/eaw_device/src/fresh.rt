@@ -7,13 +7,17 @@ ghost use Rattle.array_shape.specs.Places.{media_len, row_at, page_count};
 ghost use Rattle.array_image.specs.Image.{data_of};
 ghost use Rattle.array_image.specs.Standing.{SameCells};
 ghost use Rattle.eaw_device.specs.Attaching.{AllOpenWith};
-ghost use Rattle.eaw_device.specs.Fresh.{IsFresh, LeavesAsRead, IsHalfFresh, HasParts, HasPages, HasRows, behind_header, fresh_page, IsWrongLength};
+ghost use Rattle.eaw_device.specs.Fresh.{IsFresh, LeavesAsRead, IsHalfFresh, HasParts, HasPages, HasRows, behind_header, IsWrongLength};
 
-use array_shape::{BadShape, Shape, ShapeNumber};
+use array_shape::{BadShape, NUMBERS_MAX, PAGE_LEN, ROW_LEN, Shape, ShapeNumber};
 use mars_base::Failed;
 use pcm_media::Media;
+use record_slots::fresh_page;
 use row_bytes::write_array_header;
 use thiserror::Error;
+
+// The most bytes that the rows of a logger take.
+const ROWS_LEN: usize = ROW_LEN as usize * NUMBERS_MAX as usize;
 
 /// Why a medium was not formatted.
 #[derive(Clone, Copy, Debug, PartialEq, Eq, Error)]
@@ -21,11 +25,11 @@ pub enum FormatFault {
     /// Its length is not that of the shape. Nothing was written.
     #[error("{0}")]
     BadShape(BadShape),
-    #[error("the media failed")]
+    #[error("the medium failed")]
     Media,
 }
 
-/// Writes a fresh array of this shape: rows and pages, a barrier, the header, and a barrier. If it is broken off, the header is
+/// Writes a fresh array of this shape, whose data has no records: rows and pages, a barrier, the header, and a barrier. If it is broken off, the header is
 /// an old one, or the rows and pages are fresh. The cells are left as they are, whatever it answers.
 pub fn format<M: Media>(media: &mut M, shape: &Shape) -> Result<(), FormatFault>
     // Whatever a loss of power leaves after it is the fresh array, and opens.
@@ -102,7 +106,7 @@ fn write_pages<M: Media>(media: &mut M, shape: &Shape) -> Result<(), Failed>
     ensures does { Writes M.tells (behind_header shape.now) (M.view media.old) (M.view media.new) result }
 {
     for page in 0..shape.page_count() {
-        media.write(shape.byte_at(512 * page), &fresh_page(page))?;
+        media.write(shape.byte_at(PAGE_LEN * page), &fresh_page(page))?;
     }
     Ok(())
 }
@@ -114,7 +118,7 @@ fn clear_rows<M: Media>(media: &mut M, shape: &Shape) -> Result<(), Failed>
     ensures cells { IsTrue M.tells → SameCells shape.now (M.view media.old).content.bytes (M.view media.new).content.bytes }
     ensures does { Writes M.tells (behind_header shape.now) (M.view media.old) (M.view media.new) result }
 {
-    let zeros = [0; 1024];
+    let zeros = [0; ROWS_LEN];
     fill_rows(media, shape, &zeros[..16 * usize::from(shape.numbers)])
 }
 
@@ -131,30 +135,4 @@ fn fill_rows<M: Media>(media: &mut M, shape: &Shape, zeros: &[u8]) -> Result<(),
         media.write(shape.row_at(logger, 0), zeros)?;
     }
     Ok(())
-}
-
-fn fresh_page(page: u64) -> [u8; 512]
-    ensures { result ≡ fresh_page page }
-{
-    match page {
-        0 => super_page(),
-        1 => empty_index(),
-        _ => [0; 512],
-    }
-}
-
-fn super_page() -> [u8; 512]
-    ensures { result ≡ fresh_page 0 }
-{
-    let mut bytes = [0; 512];
-    bytes[..16].copy_from_slice(b"MREC\x01\x01\0\0\0\0\0\0\x02\0\0\0");
-    bytes
-}
-
-fn empty_index() -> [u8; 512]
-    ensures { result ≡ fresh_page 1 }
-{
-    let mut bytes = [0; 512];
-    bytes[0] = 1;
-    bytes
 }

@@ -1,11 +1,14 @@
 // What each transaction number has logged, as the device keeps it in memory.
-ghost use Rattle.std.specs.Prelude.{◌≡◌, ◌+◌, ◌≤◌, ◌<◌, [], ◌∷◌, ◌++◌, ℕ, true, false, take, map, length, slice_index, slice_set, IfOk};
+ghost use Rattle.std.specs.Prelude.{◌≡◌, ◌+◌, ◌*◌, ◌≤◌, ◌<◌, [], ◌∷◌, ◌++◌, ℕ, true, false, take, map, length, slice_index, slice_set, vec_capacity, IfOk};
 ghost use Rattle.array_shape.specs.Places.{data_len};
 ghost use Rattle.array_shape.specs.Parts.{parts_of, parts_on, IsPartOf};
 ghost use Rattle.eaw_device.specs.Logs.{ranges_in, cells_on, IsKept, Adds};
 
-use array_shape::{Part, Shape};
+use array_shape::{LOGGERS_MAX, Part, Shape};
 use std::alloc::{AllocError, Global};
+
+// How many loggers a log counts for.
+pub(crate) const LOGGERS: usize = LOGGERS_MAX as usize;
 
 /// A logged part: where it is to go, and the cell of its logger that holds it.
 #[derive(Clone, Copy)]
@@ -21,20 +24,21 @@ pub(crate) struct Log {
     pub(crate) is_live: bool,
     pub(crate) entries: Vec<Entry>,
     // How many cells it holds at each logger.
-    pub(crate) held: [u16; 8],
+    pub(crate) held: [u16; LOGGERS],
 }
 
 impl Log {
     /// The log of a free number, with memory for all that it may have.
     pub(crate) fn new(alloc: Global, shape: &Shape) -> Result<Log, AllocError>
         ensures kept { IfOk result (IsKept shape.now) }
+        ensures room { IfOk result (λ log. vec_capacity log.entries ≡ shape.now.loggers * shape.now.entries) }
         ensures free { IfOk result (λ log. log.is_live ≡ false) }
     {
         let most = usize::from(shape.loggers) * usize::from(shape.entries);
         Ok(Log {
             is_live: false,
             entries: Vec::with_capacity(alloc, most)?,
-            held: [0; 8],
+            held: [0; LOGGERS],
         })
     }
 
@@ -75,13 +79,13 @@ impl Log {
     }
 
     /// How many of the first entries each logger has.
-    pub(crate) fn counts_of_first(&self, shape: &Shape, len: usize) -> [u16; 8]
+    pub(crate) fn counts_of_first(&self, shape: &Shape, len: usize) -> [u16; LOGGERS]
         requires kept { IsKept shape.now self.now }
         requires len { len ≤ length self.now.entries.items }
         ensures long { length result ≡ 8 }
         ensures counts { (g : ℕ) → g < shape.now.loggers → slice_index result g ≡ length (cells_on shape.now g (take len self.now.entries.items)) }
     {
-        let mut counts = [0; 8];
+        let mut counts = [0; LOGGERS];
         for entry in &self.entries[..len] {
             let at = usize::from(shape.place(entry.addr).logger);
             counts[at] += 1;

@@ -1,5 +1,5 @@
-// An opening: the header, memory for the tables, recovery.
-ghost use Rattle.std.specs.Prelude.{◌≡◌, ◌≢◌, ◌+◌, ◌≤◌, IsTrue, IfOk, IfErr, OnErr};
+// An opening: the header, memory for the tables, as much as they need, and recovery.
+ghost use Rattle.std.specs.Prelude.{◌≡◌, ◌≢◌, ◌+◌, ◌≤◌, IsTrue, IfOk, IfErr, OnErr, vec_capacity};
 ghost use Rattle.eaw_device.specs.Opens.{AttachCause, AttachLeaves, KeepsData, OpensWithin};
 ghost use Rattle.eaw_device.specs.Opening.{AreFree, Settled};
 
@@ -18,6 +18,7 @@ pub(crate) fn open_array<M: Media>(
 ) -> Result<(Shape, Vec<Log>), AttachFault>
     ensures settled { IfOk result (λ opened. Settled M.tells (M.view media.old) opened.0 (M.view media.new)) }
     ensures free { IfOk result (λ opened. AreFree opened.0 opened.1.items) }
+    ensures room { IfOk result (λ opened. vec_capacity opened.1 ≡ opened.0.numbers) }
     ensures cause { IfErr result (AttachCause M.tells (M.view media.old) (M.view media.new).faults) }
     ensures unwritten { IfErr result (AttachLeaves M.tells (M.view media.old) (M.view media.new)) }
     ensures keeps { KeepsData M.tells (M.view media.old) (M.view media.new).moment (M.view media.new).left_since }
@@ -38,11 +39,12 @@ pub(crate) fn open_array<M: Media>(
 }
 
 fn free_logs(alloc: Global, shape: &Shape) -> Result<Vec<Log>, NoMemory>
-    ensures { IfOk result (λ logs. AreFree shape.now logs.items) }
+    ensures free { IfOk result (λ logs. AreFree shape.now logs.items) }
+    ensures room { IfOk result (λ logs. vec_capacity logs ≡ shape.now.numbers) }
 {
     let mut logs = Vec::with_capacity(alloc, usize::from(shape.numbers))?;
     for _tid in 0..shape.numbers {
-        logs.push(Log::new(alloc, shape)?)?;
+        logs.push_reserved(Log::new(alloc, shape)?);
     }
     Ok(logs)
 }

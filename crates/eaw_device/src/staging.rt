@@ -1,12 +1,12 @@
 // The parts of a write, put into cells at all loggers.
-ghost use Rattle.std.specs.Prelude.{◌≡◌, ◌+◌, ◌*◌, ◌≤◌, ◌<◌, ℕ, true, length, slice_index, IsTrue, IfErr, OnOk};
+ghost use Rattle.std.specs.Prelude.{◌≡◌, ◌+◌, ◌*◌, ◌≤◌, ◌<◌, ℕ, true, length, slice_index, None, IsTrue, IfErr, OnOk};
 ghost use Rattle.mars_base.specs.Costs.{Costs};
 ghost use Rattle.pcm_media.specs.View.{Writes};
 ghost use Rattle.array_shape.specs.Places.{media_len, data_len};
 ghost use Rattle.array_shape.specs.Parts.{parts_of_write, write_parts_on};
 ghost use Rattle.logger.specs.Cells.{HoldsParts};
 ghost use Rattle.eaw_device.specs.Logs.{IsKept};
-ghost use Rattle.eaw_device.specs.Steps.{HasCells, SaysFull, staged_places};
+ghost use Rattle.eaw_device.specs.Steps.{cells_fit, SaysFull, staged_places};
 
 use crate::log::Log;
 use array_shape::Shape;
@@ -19,7 +19,7 @@ use pcm_media::Media;
 pub(crate) fn check_room(shape: &Shape, log: &Log, addr: u64, len: u64) -> Result<(), EawFault>
     requires kept { IsKept shape.now log.now }
     requires range { addr + len ≤ data_len shape.now }
-    ensures room { OnOk result ((g : ℕ) → g < shape.now.loggers → HasCells shape.now log.now.held addr len g) }
+    ensures room { OnOk result (cells_fit shape.now log.now.held addr len None) }
     ensures full { IfErr result (SaysFull shape.now log.now.held addr len) }
 {
     for number in 0..shape.loggers {

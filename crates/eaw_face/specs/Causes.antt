@@ -1,6 +1,8 @@
 -- When each answer of a command comes. The refusals are listed in their order: a later one comes only if no earlier one does.
-use Rattle.std.specs.Prelude.{ℕ, ◌≡◌, ◌+◌, ◌<◌, ◌≤◌, true, false, List, [], Result, Ok, Err}
+use Rattle.std.specs.Prelude.{ℕ, ◌≡◌, ◌<◌, true, false, List, [], Some, None, Result, Ok, Err}
 use Rattle.mars_base.specs.Causes.{Rose}
+use Rattle.mars_base.specs.Check.{Check, pass}
+use Rattle.mars_base.specs.Room.{room}
 use Rattle.array_shape.specs.Parts.{parts_of_write}
 use Rattle.array_shape.specs.Logged.{ranges_of}
 use Rattle.eaw_face.specs.State.{listed, count_on}
@@ -37,32 +39,20 @@ IsNumberOf (atomic_write t addr bytes) u = u ≡ t
 IsNumberOf (log_read t) u = u ≡ t
 IsNumberOf (read addr len) u = ⊥
 
--- each logger has room for its share of `needed` besides its share of `held`
-abbrev pub Fit : StoreView → List (ℕ × ℕ) → List (ℕ × ℕ) → Type 0
-Fit store held needed = (g : ℕ) → g < store.shape.loggers → count_on store.shape g held + count_on store.shape g needed ≤ store.shape.entries
+-- the test for room at each logger, for its share of `needed` besides its share of `held`
+abbrev pub fit : StoreView → (held needed : List (ℕ × ℕ)) → Check (ℕ × ℕ × ℕ)
+fit store held needed = room store.shape.loggers store.shape.entries (λ g. count_on store.shape g held) (λ g. count_on store.shape g needed)
 
-abbrev pub HasRoom : StoreView → Command → Type 0
-HasRoom store (log_write t addr bytes) = Fit store (listed (store.ranges t)) (ranges_of (parts_of_write addr bytes))
-HasRoom store (atomic_write t addr bytes) = Fit store [] (ranges_of (parts_of_write addr bytes))
-HasRoom store _ = Unit {0}
-
--- logger g is the first that has no room: it holds h parts, and n more are needed
-pub record IsFirstFull (store : StoreView) (held needed : List (ℕ × ℕ)) (g h n : ℕ) : Type 0 where
-  pub logger : g < store.shape.loggers
-  pub held_is : h ≡ count_on store.shape g held
-  pub needed_is : n ≡ count_on store.shape g needed
-  pub full : store.shape.entries < h + n
-  pub before : (k : ℕ) → k < g → count_on store.shape k held + count_on store.shape k needed ≤ store.shape.entries
-
-abbrev pub IsFull : StoreView → Command → ℕ → ℕ → ℕ → Type 0
-IsFull store (log_write t addr bytes) g h n = IsFirstFull store (listed (store.ranges t)) (ranges_of (parts_of_write addr bytes)) g h n
-IsFull store (atomic_write t addr bytes) g h n = IsFirstFull store [] (ranges_of (parts_of_write addr bytes)) g h n
-IsFull store _ g h n = ⊥
+-- the test for the room that a command needs: a write needs an entry for each of its parts
+abbrev pub room_for : StoreView → Command → Check (ℕ × ℕ × ℕ)
+room_for store (log_write t addr bytes) = fit store (listed (store.ranges t)) (ranges_of (parts_of_write addr bytes))
+room_for store (atomic_write t addr bytes) = fit store [] (ranges_of (parts_of_write addr bytes))
+room_for store _ = pass
 
 -- why a command gets this answer, after which `faults` faults are counted
 abbrev pub Cause : {T : Type 0} → StoreView → Command → ℕ → Result T EawFault → Type 0
-Cause old command faults (Ok answer) = IsAlive old × Knows old command × HasRoom old command
+Cause old command faults (Ok answer) = IsAlive old × Knows old command × room_for old command None
 Cause old command faults (Err Dead) = old.is_dead ≡ true
 Cause old command faults (Err (UnknownTid u)) = IsAlive old × IsNumberOf command u × (Knows old command → ⊥)
-Cause old command faults (Err (LogFull g h n)) = IsAlive old × Knows old command × IsFull old command g h n
-Cause old command faults (Err Media) = IsAlive old × Knows old command × HasRoom old command × Rose old.faults faults
+Cause old command faults (Err (LogFull g h n)) = IsAlive old × Knows old command × room_for old command (Some (g, h, n))
+Cause old command faults (Err Media) = IsAlive old × Knows old command × room_for old command None × Rose old.faults faults

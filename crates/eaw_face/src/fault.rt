@@ -10,7 +10,7 @@ pub enum EawFault {
     #[error("the log of logger {logger} is full: {held} held, {needed} needed")]
     LogFull { logger: u8, held: u16, needed: u16 },
     /// The medium failed in this call.
-    #[error("the media failed")]
+    #[error("the medium failed")]
     Media,
     /// An earlier call met a fault of the medium.
     #[error("the array is dead")]

@@ -1,3 +1,4 @@
+pub mod Modes
 pub mod OneMore
 pub mod Tables
 pub mod Pending

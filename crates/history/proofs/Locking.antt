@@ -1,13 +1,15 @@
 -- Strict locking: what a transaction replies and leaves depends only on what it touched, and it changes nothing else.
 use Rattle.std.proofs.Common.{◌≡◌, ℕ, zero, suc, ◌+◌, ◌-◌, Bool, true, false, cond, ◌&&◌, nat_eq, nat_lt, nat_le, List, [], ◌∷◌, ◌++◌, length, take, get_or, Option, Some, None, refl, sym, ap, subst, ◌∙◌, arith, lt-ltb, eq-eqb}
-use Rattle.std.proofs.lemmas.Bool.{or_left, or_right, false_from_ne_true}
+use Rattle.std.specs.Prelude.{is_some}
+use Rattle.std.proofs.lemmas.Bool.{or_left, or_right, false_from_ne_true, both_ways}
 use Rattle.history.specs.Writes.{Table, set_or_remove, rows_within}
 use Rattle.history.specs.Table.{Granted, Work, begun, found, removed, has_save, Answers, after, worked, IsRightFrom, IsRight, left_by}
-use Rattle.history.specs.Locks.{stripe_of, touches, touched, has_touched, Agree, AgreeOff}
+use Rattle.history.specs.Locks.{Exclusive, stripe_of, touches, touched, has_touched, clash, AreApart, Agree, AgreeOff}
 use Rattle.history.specs.declared.call.Call.{Call}
 use Rattle.history.specs.declared.call.Call.TheVariants.{Begin, Get, Put, Del, Scan, Save, Back, Commit, Abort}
 use Rattle.history.specs.declared.call.Reply.{Reply}
 use Rattle.history.specs.declared.call.Reply.TheVariants.{Saved, Listed}
+use Rattle.history.proofs.Modes.{is_touch, clash_both}
 use Rattle.history.proofs.Tables.{agree-set, off-set, agree_all}
 
 -- two lists of tables are related pair by pair
@@ -57,7 +59,7 @@ record IsAlike (keys : ℕ → Bool) (start : Table) (one other : Work) : Type 0
 module _ (keys : ℕ → Bool) (start : Table) where
   -- every key that the call touches is among the keys
   Within : Call → Type 0
-  Within call = (key : ℕ) → touches call (stripe_of key) ≡ true → keys key ≡ true
+  Within call = (key : ℕ) → is_some (touches call (stripe_of key)) ≡ true → keys key ≡ true
 
   like-set : (one other : Table) (k : ℕ) (v : Option (List ℕ)) → keys k ≡ true → IsLike keys start one other → IsLike keys start (set_or_remove one k v) (set_or_remove other k v)
   like-set one other k v within like = record { same = agree-set keys one other k v like.same; off = off-set keys other start k v within like.off }
@@ -77,11 +79,14 @@ module _ (keys : ℕ → Bool) (start : Table) where
   same_saves : (n : ℕ) (one other : Work) → IsAlike keys start one other → has_save one.saves n ≡ has_save other.saves n
   same_saves n one other alike = ap (λ (height : ℕ). nat_lt 0 n && nat_le n height) (same_height one other alike)
 
-  own_key : (k : ℕ) → nat_eq (stripe_of k) (stripe_of k) ≡ true
-  own_key k = eq-eqb (stripe_of k) (stripe_of k) refl
+  is_there : (b : Bool) → b ≡ true → is_some (cond b (Some Exclusive) None) ≡ true
+  is_there b is = ap (λ (b : Bool). is_some (cond b (Some Exclusive) None)) is
 
-  any_key : (k : ℕ) → nat_lt (stripe_of k) 64 ≡ true
-  any_key k = lt-ltb (stripe_of k) 64 (omega arith)
+  own_key : (k : ℕ) → is_some (touches (Get k) (stripe_of k)) ≡ true
+  own_key k = is_there (nat_eq (stripe_of k) (stripe_of k)) (eq-eqb (stripe_of k) (stripe_of k) refl)
+
+  any_key : (low high k : ℕ) → is_some (touches (Scan low high) (stripe_of k)) ≡ true
+  any_key low high k = is_there (nat_lt (stripe_of k) 64) (lt-ltb (stripe_of k) 64 (omega arith))
 
   after-alike : (call : Call) (one other : Work) → Within call → IsAlike keys start one other → IsAlike keys start (after one call) (after other call)
   unfolding Within
@@ -104,7 +109,7 @@ module _ (keys : ℕ → Bool) (start : Table) where
   answers-alike (Put k v) reply one other within alike answers = answers
   answers-alike (Del k) reply one other within alike answers = answers ∙ ap removed (alike.tables.same k (within k (own_key k)))
   answers-alike (Scan low high) reply one other within alike answers =
-      answers ∙ ap (λ (table : Table). Listed (rows_within low high table)) (agree_all keys one.table other.table (λ k. within k (any_key k)) alike.tables.same)
+      answers ∙ ap (λ (table : Table). Listed (rows_within low high table)) (agree_all keys one.table other.table (λ k. within k (any_key low high k)) alike.tables.same)
   answers-alike Save reply one other within alike answers = answers ∙ ap (λ (height : ℕ). Saved (height + 1)) (same_height one other alike)
   answers-alike (Back n) reply one other within alike answers = (sym (same_saves n one other alike) ∙ answers.0, answers.1)
   answers-alike Commit reply one other within alike answers = answers
@@ -116,11 +121,13 @@ module _ (keys : ℕ → Bool) (start : Table) where
 
   head_within : (entry : Call × Reply) (calls : Granted) → AllWithin (entry ∷ calls) → Within entry.0
   unfolding Within AllWithin
-  head_within entry calls within key at = within key (or_left (touches entry.0 (stripe_of key)) (touched calls (stripe_of key)) at)
+  head_within entry calls within key at = within key
+      (is_touch (touches entry.0 (stripe_of key)) (touched calls (stripe_of key)) ∙ or_left (is_some (touches entry.0 (stripe_of key))) (has_touched calls key) at)
 
   tail_within : (entry : Call × Reply) (calls : Granted) → AllWithin (entry ∷ calls) → AllWithin calls
   unfolding AllWithin
-  tail_within entry calls within key at = within key (or_right (touches entry.0 (stripe_of key)) (touched calls (stripe_of key)) at)
+  tail_within entry calls within key at = within key
+      (is_touch (touches entry.0 (stripe_of key)) (touched calls (stripe_of key)) ∙ or_right (is_some (touches entry.0 (stripe_of key))) (has_touched calls key) at)
 
   worked-alike : (calls : Granted) (one other : Work) → AllWithin calls → IsAlike keys start one other → IsAlike keys start (worked one calls) (worked other calls)
   worked-alike [] one other within alike = alike
@@ -156,10 +163,11 @@ untouched_kept calls table =
     (worked-alike (has_touched calls) table calls (begun table) (begun table) (all_within calls table table (λ key at. refl))
     (begun-alike (has_touched calls) table table (λ key at. refl))).tables.off
 
-module _ (table : Table) (committed calls : Granted) (apart : (stripe : ℕ) → touched committed stripe ≡ true → touched calls stripe ≡ true → ⊥) where
-  -- a transaction changes nothing that another touched, if no stripe was touched by both
+module _ (table : Table) (committed calls : Granted) (apart : AreApart committed calls) where
+  -- a transaction changes nothing that another touched, if they clash nowhere
   pub agrees_after : Agree (has_touched calls) table (left_by table committed)
-  agrees_after key at = sym (untouched_kept committed table key (false_from_ne_true (has_touched committed key) (λ both. apart (stripe_of key) both at)))
+  agrees_after key at = sym (untouched_kept committed table key (false_from_ne_true (has_touched committed key) (λ touches.
+      both_ways (clash (touched committed (stripe_of key)) (touched calls (stripe_of key))) (apart (stripe_of key)) (clash_both (touched committed (stripe_of key)) (touched calls (stripe_of key)) touches at))))
 
   -- So calls that are right stay right when such a transaction commits,
   pub right_after : IsRight table calls → IsRight (left_by table committed) calls

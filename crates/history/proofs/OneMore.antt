@@ -1,14 +1,15 @@
 -- One more call of a transaction, and one more transaction of a history.
-use Rattle.std.proofs.Common.{◌≡◌, ℕ, ◌+◌, ◌||◌, Bool, true, false, List, [], ◌∷◌, ◌++◌, length, refl, ap, ◌∙◌, arith}
+use Rattle.std.proofs.Common.{◌≡◌, ℕ, ◌+◌, List, [], ◌∷◌, ◌++◌, length, refl, ap, ◌∙◌, arith}
 use Rattle.std.specs.List.{fold}
 use Rattle.history.specs.Writes.{Table}
 use Rattle.history.specs.Table.{Granted, Work, begun, Answers, after, worked, left_by, IsRightFrom, IsRight}
 use Rattle.history.specs.Legal.{records, IsLegalFrom, IsLegal}
-use Rattle.history.specs.Locks.{touches, touched}
+use Rattle.history.specs.Locks.{touches, touched, stronger}
 use Rattle.history.specs.Log.{Log, log_after, log_of}
 use Rattle.history.specs.declared.call.Call.{Call}
 use Rattle.history.specs.declared.call.Reply.{Reply}
 use Rattle.history.specs.declared.transaction.Done.{Done}
+use Rattle.history.proofs.Modes.{stronger_none, stronger_next}
 
 fold-push : {A X : Type 0} (f : A → X → A) → (a : A) (xs : List X) (x : X) → fold f a (xs ++ x ∷ []) ≡ f (fold f a xs) x
 fold-push f a [] x = refl
@@ -30,20 +31,12 @@ left_by-push table calls call reply = ap (λ (work : Work). work.table) (worked-
 pub log_of-push : (calls : Granted) (call : Call) (reply : Reply) → log_of (calls ++ (call, reply) ∷ []) ≡ log_after (log_of calls) call reply
 log_of-push calls call reply = fold-push (λ (was : Log) (entry : Call × Reply). log_after was entry.0 entry.1) (record { writes = []; saved = [] }) calls (call, reply)
 
-or_none : (b : Bool) → (b || false) ≡ b
-or_none true = refl
-or_none false = refl
-
-or_next : (a b c : Bool) → (a || (b || c)) ≡ ((a || b) || c)
-or_next true b c = refl
-or_next false b c = refl
-
 -- the last call adds what it touches
 pub touched-push : (calls : Granted) (call : Call) (reply : Reply) (stripe : ℕ)
-    → touched (calls ++ (call, reply) ∷ []) stripe ≡ (touched calls stripe || touches call stripe)
-touched-push [] call reply stripe = or_none (touches call stripe)
+    → touched (calls ++ (call, reply) ∷ []) stripe ≡ stronger (touched calls stripe) (touches call stripe)
+touched-push [] call reply stripe = stronger_none (touches call stripe)
 touched-push (entry ∷ calls) call reply stripe =
-    ap (λ (b : Bool). touches entry.0 stripe || b) (touched-push calls call reply stripe) ∙ or_next (touches entry.0 stripe) (touched calls stripe) (touches call stripe)
+    ap (stronger (touches entry.0 stripe)) (touched-push calls call reply stripe) ∙ stronger_next (touches entry.0 stripe) (touched calls stripe) (touches call stripe)
 
 -- calls stay right with one more, whose reply is right for what they leave
 pub IsRightFrom-push : (work : Work) (calls : Granted) (call : Call) (reply : Reply)

@@ -1,5 +1,5 @@
 -- Histories, and which of them are legal: each transaction is right on what those before it leave.
-use Rattle.std.specs.Prelude.{ℕ, ◌≡◌, ◌+◌, List, [], ◌∷◌, ◌++◌, Option, Some, None}
+use Rattle.std.specs.Prelude.{ℕ, ◌≡◌, ◌+◌, List, [], ◌∷◌}
 use Rattle.std.specs.List.{fold}
 use Rattle.history.specs.Writes.{Table}
 use Rattle.history.specs.Table.{left_by, IsRight}
@@ -17,8 +17,3 @@ IsLegalFrom n base (done ∷ history) = (done.at ≡ n) × IsRight base done.cal
 -- the same, numbered from 1
 abbrev pub IsLegal : Table → List Done → Type 0
 IsLegal base history = IsLegalFrom 1 base history
-
--- a history with the transaction in doubt, if there is one, as its last
-abbrev pub with_doubt : List Done → Option Done → List Done
-with_doubt history None = history
-with_doubt history (Some done) = history ++ done ∷ []

@@ -1,3 +1,4 @@
+pub mod Key
 pub mod Writes
 pub mod Table
 pub mod Legal

@@ -1,6 +1,7 @@
 -- What a transaction has written so far, as a list that a way back truncates.
 use Rattle.std.specs.Prelude.{ℕ, ◌-◌, Bool, if◌then◌else◌, List, [], ◌∷◌, ◌++◌, length, take, drop, slice_index_or, Some, None}
 use Rattle.std.specs.List.{fold, list_any}
+use Rattle.history.specs.Key.{Key}
 use Rattle.history.specs.Writes.{Write, is_of, with_write}
 use Rattle.history.specs.Table.{Granted, has_save}
 use Rattle.history.specs.declared.call.Call.{Call}
@@ -22,7 +23,7 @@ abbrev pub floor_of : Log → ℕ
 floor_of log = length (save_at log.saved (length log.saved))
 
 -- the key was written since the last save
-abbrev pub is_rewritten : Log → ℕ → Bool
+abbrev pub is_rewritten : Log → Key → Bool
 is_rewritten log key = list_any (is_of key) (drop (floor_of log) log.writes)
 
 -- one more write, which replaces one of its key since the last save

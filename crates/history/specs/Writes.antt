@@ -1,18 +1,22 @@
 -- Tables of records, and writes to them.
-use Rattle.std.specs.Prelude.{ℕ, nat_eq, nat_le, ◌&&◌, not, if◌then◌else◌, Bool, List, [], ◌∷◌, ◌++◌, filter, take, drop, Option, Some, None}
+use Rattle.std.specs.Prelude.{ℕ, ◌&&◌, not, if◌then◌else◌, Bool, List, [], ◌∷◌, ◌++◌, filter, take, drop, Option, Some, None}
 use Rattle.std.specs.List.{list_any}
-use Rattle.std.specs.Ordering.{nat_cmp}
 use Rattle.std.specs.FinMap.{FinMap, insert, remove, entries}
+use Rattle.history.specs.Key.{Key, key_cmp, is_same_key, is_key_within}
 
 -- a value for each of some keys
 abbrev pub Table : Type 0
-Table = FinMap nat_cmp (List ℕ)
+Table = FinMap key_cmp (List ℕ)
+
+-- a key and its value
+abbrev pub Row : Type 0
+Row = Key × List ℕ
 
 -- a key and its new value, or none if its record is removed
 abbrev pub Write : Type 0
-Write = ℕ × Option (List ℕ)
+Write = Key × Option (List ℕ)
 
-abbrev pub set_or_remove : Table → ℕ → Option (List ℕ) → Table
+abbrev pub set_or_remove : Table → Key → Option (List ℕ) → Table
 set_or_remove table key None = remove table key
 set_or_remove table key (Some value) = insert table key value
 
@@ -25,8 +29,8 @@ all_written table [] = table
 all_written table (write ∷ writes) = all_written (write_into table write) writes
 
 -- the write is of this key
-abbrev pub is_of : ℕ → Write → Bool
-is_of key write = nat_eq write.0 key
+abbrev pub is_of : Key → Write → Bool
+is_of key write = is_same_key write.0 key
 
 -- a write in the place of the last one of its key, or else after all of them
 abbrev pub replaced : Write → List Write → List Write
@@ -38,9 +42,9 @@ replaced write (other ∷ writes) =
 abbrev pub with_write : ℕ → Write → List Write → List Write
 with_write floor write writes = take floor writes ++ replaced write (drop floor writes)
 
-abbrev pub is_within : ℕ → ℕ → ℕ × List ℕ → Bool
-is_within low high row = nat_le low row.0 && nat_le row.0 high
+abbrev pub is_within : Key → Key → Row → Bool
+is_within low high row = is_key_within low high row.0
 
 -- the records from one key to another, both included, by rising key
-abbrev pub rows_within : ℕ → ℕ → Table → List (ℕ × List ℕ)
+abbrev pub rows_within : Key → Key → Table → List Row
 rows_within low high table = filter (is_within low high) (entries table)

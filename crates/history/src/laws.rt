@@ -1,8 +1,8 @@
 // Laws of calls and locks, each of which follows from the definitions alone.
-ghost use Rattle.std.specs.Prelude.{◌≡◌, IsTrue, ℕ};
+ghost use Rattle.std.specs.Prelude.{◌≡◌};
 ghost use Rattle.history.specs.Writes.{Table, all_written};
 ghost use Rattle.history.specs.Table.{Granted, IsRight, left_by};
-ghost use Rattle.history.specs.Locks.{touched, has_touched, Agree, AgreeOff};
+ghost use Rattle.history.specs.Locks.{has_touched, AreApart, Agree, AgreeOff};
 ghost use Rattle.history.specs.Log.{log_of};
 
 /// Calls that are right on a table are right, with the same replies, on each table that agrees with it at the keys that they touched. What
@@ -13,15 +13,12 @@ pub fn strict_locking()
     ensures elsewhere { (calls : Granted) (table : Table) → AgreeOff (has_touched calls) (left_by table calls) table }
 {}
 
-/// When a transaction commits, the calls of another transaction that touched none of its stripes stay right and leave the same at what they
+/// When a transaction commits, the calls of another transaction that clash with it at no stripe stay right and leave the same at what they
 /// touched. Nothing that the other read or wrote is changed.
 pub fn others_stay_right()
-    ensures right { (table : Table) (committed calls : Granted) → ((stripe : ℕ) → IsTrue (touched committed stripe) → IsTrue (touched calls stripe) → ⊥)
-        → IsRight table calls → IsRight (left_by table committed) calls }
-    ensures same { (table : Table) (committed calls : Granted) → ((stripe : ℕ) → IsTrue (touched committed stripe) → IsTrue (touched calls stripe) → ⊥)
-        → Agree (has_touched calls) (left_by table calls) (left_by (left_by table committed) calls) }
-    ensures unchanged { (table : Table) (committed calls : Granted) → ((stripe : ℕ) → IsTrue (touched committed stripe) → IsTrue (touched calls stripe) → ⊥)
-        → Agree (has_touched calls) table (left_by table committed) }
+    ensures right { (table : Table) (committed calls : Granted) → AreApart committed calls → IsRight table calls → IsRight (left_by table committed) calls }
+    ensures same { (table : Table) (committed calls : Granted) → AreApart committed calls → Agree (has_touched calls) (left_by table calls) (left_by (left_by table committed) calls) }
+    ensures unchanged { (table : Table) (committed calls : Granted) → AreApart committed calls → Agree (has_touched calls) table (left_by table committed) }
 {}
 
 /// The log of right calls, written into the table on which they are right, gives the table that they leave.

@@ -27,7 +27,7 @@ pub fn play(history: &History, base: &Rows, alloc: Global) -> Result<Rows, NoMem
     ensures { IfOk result (λ rows. rows ≡ entries (records (table_of base.now) history.now)) }
 {
     let mut replay = Replay::new(base, alloc)?;
-    for done in history.items() {
+    for done in history.as_slice() {
         replay.make_all(&done.calls)?;
     }
     replay.rows(alloc)
@@ -39,7 +39,7 @@ pub fn is_legal(history: &History, base: &Rows, alloc: Global) -> Result<bool, N
     ensures { IfOk result (λ legal. IsTrue legal ↔ IsLegal (table_of base.now) history.now) }
 {
     let mut replay = Replay::new(base, alloc)?;
-    let items = history.items();
+    let items = history.as_slice();
     for i in 0..items.len() {
         let done = &items[i];
         if done.at != i as u64 + 1 {

@@ -4,7 +4,7 @@ ghost use Rattle.history.specs.declared.call.Call.{Call};
 ghost use Rattle.history.specs.declared.call.Reply.{Reply};
 
 use crate::{Call, Reply};
-use mars_base::NoMemory;
+use mars_base::{Listed, NoMemory};
 use std::alloc::Global;
 use std::marker::Model;
 
@@ -80,58 +80,4 @@ pub struct Done {
 }
 
 /// Committed transactions, in the order of their commits.
-#[derive(Debug, Drop)]
-pub struct History {
-    items: Vec<Done>,
-}
-
-impl Model for History {
-    ghost use Rattle.std.specs.Prelude.{List};
-    ghost use Rattle.history.specs.declared.transaction.Done.{Done};
-
-    ghost Value = { List Done };
-
-    ghost view = { λ h. h.items.items };
-}
-
-impl History {
-    pub fn new(alloc: Global) -> Self
-        ensures { result ≡ [] }
-    {
-        History {
-            items: Vec::new(alloc),
-        }
-    }
-
-    /// Appends a transaction, or returns it if there is no memory.
-    pub fn push(&mut self, done: Done) -> Result<(), Done>
-        ensures ok { OnOk result (self.new ≡ self.old ++ done ∷ []) }
-        ensures err { OnErr result (self.new ≡ self.old) }
-        ensures given_back { IfErr result (λ back. back ≡ done) }
-    {
-        match self.items.push(done) {
-            Ok(()) => Ok(()),
-            Err(failed) => Err(failed.value),
-        }
-    }
-
-    /// Removes and returns the last transaction.
-    pub fn pop(&mut self) -> Option<Done>
-        ensures last { self.old ≡ self.new ++ option_to_list result }
-        ensures empty { IsNone result ↔ (self.old ≡ []) }
-    {
-        self.items.pop()
-    }
-
-    pub fn items(&self) -> &[Done]
-        ensures { result.now ≡ self.now }
-    {
-        &self.items
-    }
-
-    pub fn len(&self) -> usize
-        ensures { result ≡ length self.now }
-    {
-        self.items.len()
-    }
-}
+pub type History = Listed<Done>;

@@ -14,7 +14,7 @@ use script_text::put_reply;
 pub fn put_history<E, T: TextOut<E>>(out: &mut T, history: &History) -> Result<(), E>
     ensures { Appends T.tells (T.view out.old) (T.view out.new) result (flat_map done_lines history.now) }
 {
-    for done in history.items() {
+    for done in history.as_slice() {
         put_done(out, done)?;
     }
     Ok(())

@@ -4,10 +4,6 @@ pub mod PageFacts
 pub mod Kept
 pub mod Given
 pub mod Halves
-pub mod ChainFacts
-pub mod ChainActions
-pub mod FailingFacts
-pub mod Fresh
 pub mod Reading
 pub mod Writing
 pub mod Looking
@@ -15,9 +11,10 @@ pub mod Sizes
 pub mod Acting
 pub mod Ranges
 pub mod Fronts
-pub mod Resting
 pub mod Listed
 pub mod Placing
 pub mod Causing
 pub mod Going
 pub mod Carrying
+pub mod Slotted
+pub mod Parting

@@ -16,3 +16,7 @@ length-page_pairs bytes page = length-pairs_from (page_bytes bytes page) 0 (coun
 pub rise_wide : (low high : ℕ) (ps : List Pair) → 1 ≤ length ps → Rise low high ps → low < high
 rise_wide low high [] some r = absurd (omega arith)
 rise_wide low high (p ∷ ps) some r = let h = rise_bounds (suc p.0) high ps r.1 in omega arith
+
+pub no_pairs : (bytes : List ℕ) (page : ℕ) → count_of bytes page ≡ 0 → page_pairs bytes page ≡ []
+unfolding pairs_said
+no_pairs bytes page none = ap (λ (n : ℕ). pairs_from (page_bytes bytes page) 0 n) none

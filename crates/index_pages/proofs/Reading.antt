@@ -7,7 +7,7 @@ use Rattle.byteorder.specs.Endian.{little_from}
 use Rattle.byteorder.specs.Numbers.{little_from-take}
 use Rattle.page_store.specs.Pairs.{Pair, next}
 use Rattle.index_pages.specs.Page.{kind_said, level_said, count_said, link_said, pair_said, pairs_from, pairs_said}
-use Rattle.index_pages.specs.Written.{IsLeaf, SaysLeaf}
+use Rattle.index_pages.specs.Written.{IsKind, IsPage, SaysHead}
 
 -- a number behind k bytes
 pub little_from-drop : (i k n : ℕ) (xs : List ℕ) → little_from i n (drop k xs) ≡ little_from (k + i) n xs
@@ -31,7 +31,7 @@ pub pair_is : (page : List ℕ) (i a b : ℕ) → a ≡ little_from (8 + 16 * i)
 unfolding pair_said
 pair_is page i a b e f = cc
 
--- the head of a page, and a page that is no leaf
+-- the head of a page, and what is no page
 module _ (page : List ℕ) where
   pub kind_is : (n : ℕ) → slice_index page 0 ≡ n → kind_said page ≡ n
   unfolding kind_said
@@ -41,28 +41,25 @@ module _ (page : List ℕ) where
   unfolding level_said
   level_is n e = e
 
-  pub says_leaf : (count link : ℕ) → slice_index page 0 ≡ 1 → slice_index page 1 ≡ 0 → count ≤ 30
-      → count ≡ little_from 0 2 (take 510 (drop 2 page)) → link ≡ little_from 0 4 (take 508 (drop 4 page)) → SaysLeaf page (record { count = count; link = link })
+  pub says_head : (count link : ℕ) → count ≤ 30 → IsKind (slice_index page 0) (slice_index page 1)
+      → count ≡ little_from 0 2 (take 510 (drop 2 page)) → link ≡ little_from 0 4 (take 508 (drop 4 page)) → SaysHead page (record { level = slice_index page 1; count = count; link = link })
   unfolding kind_said level_said count_said link_said
-  says_leaf count link kind level most c l =
+  says_head count link most kind c l =
       let count_e : count ≡ little_from 2 2 page = c ∙ piece 2 2 510 page (omega arith) in
       record {
-        leaf = record { kind = kind; level = level; most = omega (arith, count_e) };
+        page = record { kind_is = kind; most = omega (arith, count_e) };
+        level = refl;
         count = count_e;
         link = l ∙ piece 4 4 508 page (omega arith);
       }
 
-  pub other_kind : (slice_index page 0 ≡ 1 → ⊥) → ¬ IsLeaf page
-  unfolding kind_said
-  other_kind other leaf = other leaf.kind
+  pub other_kind : ¬ IsKind (slice_index page 0) (slice_index page 1) → ¬ IsPage page
+  unfolding kind_said level_said
+  other_kind other is = other is.kind_is
 
-  pub other_level : (slice_index page 1 ≡ 0 → ⊥) → ¬ IsLeaf page
-  unfolding level_said
-  other_level other leaf = other leaf.level
-
-  pub too_many : (count : ℕ) → 30 < count → count ≡ little_from 0 2 (take 510 (drop 2 page)) → ¬ IsLeaf page
+  pub too_many : (count : ℕ) → 30 < count → count ≡ little_from 0 2 (take 510 (drop 2 page)) → ¬ IsPage page
   unfolding count_said
-  too_many count many c leaf = let e : count ≡ little_from 2 2 page = c ∙ piece 2 2 510 page (omega arith) in omega (arith, leaf.most, e)
+  too_many count many c is = let e : count ≡ little_from 2 2 page = c ∙ piece 2 2 510 page (omega arith) in omega (arith, is.most, e)
 
 pub from_first : (page : List ℕ) → pairs_said page ≡ pairs_from page 0 (count_said page)
 unfolding pairs_said

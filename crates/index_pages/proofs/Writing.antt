@@ -8,8 +8,16 @@ use Rattle.mars_base.specs.Bytes.{put}
 use Rattle.page_store.specs.Pairs.{Pair, inserted}
 use Rattle.std.proofs.lemmas.Bool.Decides.{leb_tells}
 use Rattle.index_pages.specs.Page.{kind_said, level_said, count_said, link_said, pair_said, pairs_from, pairs_said}
-use Rattle.index_pages.specs.Written.{pair_bytes, pairs_bytes, front_bytes, leaf_bytes, AreSmall}
+use Rattle.index_pages.specs.Written.{pair_bytes, pairs_bytes, kind_for, front_bytes, written_page, AreSmall}
 use Rattle.index_pages.proofs.Reading.{little_from-drop}
+
+pub kind_leaf : (level : ℕ) → level ≡ 0 → 1 ≡ kind_for level
+kind_leaf zero none = refl
+kind_leaf (suc level) none = absurd (omega arith)
+
+pub kind_inner : (level : ℕ) → (level ≡ 0 → ⊥) → 2 ≡ kind_for level
+kind_inner zero some = absurd (some refl)
+kind_inner (suc level) some = refl
 
 pub length-pair_bytes : (p : Pair) → length (pair_bytes p) ≡ 16
 unfolding pair_bytes
@@ -81,47 +89,47 @@ pairs_back page rest i (p ∷ ps) small is =
     let others = pairs_back page rest (suc i) ps small.2 later in
     λ j. first j ∷ others j
 
-pub length-front : (count link : ℕ) → length (front_bytes count link) ≡ 8
+pub length-front : (level count link : ℕ) → length (front_bytes level count link) ≡ 8
 unfolding front_bytes
-length-front count link = omega (arith, length-append (little_bytes 2 count) (little_bytes 4 link), length-bytes_low_first 0 2 count, length-bytes_low_first 0 4 link)
+length-front level count link = omega (arith, length-append (little_bytes 2 count) (little_bytes 4 link), length-bytes_low_first 0 2 count, length-bytes_low_first 0 4 link)
 
 -- what the written page says
-module _ (link : ℕ) (ps : List Pair) (few : length ps ≤ 30) (fits : link < 2 ^ 32) where
+module _ (level link : ℕ) (ps : List Pair) (few : length ps ≤ 30) (fits : link < 2 ^ 32) where
   tail : List ℕ
   tail = pairs_bytes ps ++ replicate (504 - 16 * length ps) 0
 
-  pub leaf_kind : kind_said (leaf_bytes link ps) ≡ 1
-  unfolding kind_said leaf_bytes front_bytes
-  leaf_kind = refl
+  pub written_kind : kind_said (written_page level link ps) ≡ kind_for level
+  unfolding kind_said written_page front_bytes
+  written_kind = refl
 
-  pub leaf_level : level_said (leaf_bytes link ps) ≡ 0
-  unfolding level_said leaf_bytes front_bytes
-  leaf_level = refl
+  pub written_level : level_said (written_page level link ps) ≡ level
+  unfolding level_said written_page front_bytes
+  written_level = refl
 
-  pub leaf_count : count_said (leaf_bytes link ps) ≡ length ps
-  unfolding count_said leaf_bytes front_bytes tail
-  leaf_count =
-      sym (little_from-drop 0 2 2 (front_bytes (length ps) link ++ tail))
+  pub written_count : count_said (written_page level link ps) ≡ length ps
+  unfolding count_said written_page front_bytes tail
+  written_count =
+      sym (little_from-drop 0 2 2 (front_bytes level (length ps) link ++ tail))
       ∙ ap (little_from 0 2) (append_assoc (little_bytes 2 (length ps)) (little_bytes 4 link) (tail))
       ∙ little_number-reads_back 2 (length ps) (little_bytes 4 link ++ tail) (omega arith)
 
-  pub leaf_link : link_said (leaf_bytes link ps) ≡ link
-  unfolding link_said leaf_bytes front_bytes tail
-  leaf_link =
-      sym (little_from-drop 0 4 4 (front_bytes (length ps) link ++ tail))
+  pub written_link : link_said (written_page level link ps) ≡ link
+  unfolding link_said written_page front_bytes tail
+  written_link =
+      sym (little_from-drop 0 4 4 (front_bytes level (length ps) link ++ tail))
       ∙ ap (λ (l : List ℕ). little_from 0 4 (drop 2 l)) (append_assoc (little_bytes 2 (length ps)) (little_bytes 4 link) (tail))
       ∙ ap (little_from 0 4) (drop_at (little_bytes 2 (length ps)) (little_bytes 4 link ++ tail) 2 (length-bytes_low_first 0 2 (length ps)))
       ∙ little_number-reads_back 4 link tail fits
 
-  pub leaf_pairs : AreSmall ps → pairs_said (leaf_bytes link ps) ≡ ps
-  unfolding pairs_said leaf_bytes tail
-  leaf_pairs small =
-      ap (λ (n : ℕ). pairs_from (leaf_bytes link ps) 0 n) leaf_count
-      ∙ pairs_back (leaf_bytes link ps) (replicate (504 - 16 * length ps) 0) 0 ps small (drop_at (front_bytes (length ps) link) tail 8 (length-front (length ps) link))
+  pub written_pairs : AreSmall ps → pairs_said (written_page level link ps) ≡ ps
+  unfolding pairs_said written_page tail
+  written_pairs small =
+      ap (λ (n : ℕ). pairs_from (written_page level link ps) 0 n) written_count
+      ∙ pairs_back (written_page level link ps) (replicate (504 - 16 * length ps) 0) 0 ps small (drop_at (front_bytes level (length ps) link) tail 8 (length-front level (length ps) link))
 
-  pub length-leaf_bytes : length (leaf_bytes link ps) ≡ 512
-  unfolding leaf_bytes
-  length-leaf_bytes = omega (arith, length-append (front_bytes (length ps) link) (pairs_bytes ps ++ replicate (504 - 16 * length ps) 0), length-front (length ps) link, length-append (pairs_bytes ps) (replicate (504 - 16 * length ps) 0), length-pairs_bytes ps, length_replicate (504 - 16 * length ps))
+  pub length-written_page : length (written_page level link ps) ≡ 512
+  unfolding written_page
+  length-written_page = omega (arith, length-append (front_bytes level (length ps) link) (pairs_bytes ps ++ replicate (504 - 16 * length ps) 0), length-front level (length ps) link, length-append (pairs_bytes ps) (replicate (504 - 16 * length ps) 0), length-pairs_bytes ps, length_replicate (504 - 16 * length ps))
     where
       length_replicate : (n : ℕ) → length {A = ℕ} (replicate n 0) ≡ n
       length_replicate zero = refl

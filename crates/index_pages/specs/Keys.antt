@@ -1,5 +1,5 @@
 -- Places in a list of pairs.
-use Rattle.std.specs.Prelude.{ℕ, zero, suc, List, [], ◌∷◌, Option, Some, None}
+use Rattle.std.specs.Prelude.{ℕ, zero, suc, ◌^◌, List, [], ◌∷◌, Option, Some, None}
 use Rattle.page_store.specs.Pairs.{Pair}
 
 -- the key of pair n
@@ -16,3 +16,7 @@ or_else (Some p) other = Some p
 abbrev pub head : List Pair → Option Pair
 head [] = None
 head (p ∷ ps) = Some p
+
+-- above all keys
+abbrev pub key_end : ℕ
+key_end = 2 ^ 64

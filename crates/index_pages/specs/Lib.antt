@@ -1,14 +1,12 @@
 pub mod Keys
 pub mod Page
 pub mod Pieces
-pub mod Chain
 pub mod Ways
-pub mod Changes
-pub mod Failing
 pub mod Props
 pub mod Written
 pub mod Fetched
 pub mod Acts
 pub mod Faults
 pub mod Parts
-pub mod Checked
+pub mod Adding
+pub mod Slots

@@ -17,52 +17,6 @@ pub struct PagePart<'a> {
     pub bytes: &'a [u8],
 }
 
-/// Writes three parts as one nested top action of the number: all of them or none, whatever becomes of the number. The room for them is
-/// tested first.
-pub fn act<S: EawStore>(
-    pages: &mut Pages<S>,
-    tid: u8,
-    first: &PagePart<'_>,
-    second: &PagePart<'_>,
-    third: &PagePart<'_>,
-) -> Result<(), PageFault>
-    requires tid { tid < (S.view pages.old.store).shape.numbers }
-    requires closed { IsAlive (S.view pages.old.store) → top_in pages.old.marks tid ≡ None }
-    requires first { IsInPage (S.view pages.old.store) first.now.page first.now.at (length first.now.bytes.now) }
-    requires second { IsInPage (S.view pages.old.store) second.now.page second.now.at (length second.now.bytes.now) }
-    requires third { IsInPage (S.view pages.old.store) third.now.page third.now.at (length third.now.bytes.now) }
-    requires first_some { 0 < length first.now.bytes.now }
-    requires second_some { 0 < length second.now.bytes.now }
-    requires third_some { 0 < length third.now.bytes.now }
-    ensures acts { Acts S.tells (S.opens (S.view pages.old.store).shape) tid (first.now.page ∷ second.now.page ∷ third.now.page ∷ [])
-        ((address first.now.page first.now.at, first.now.bytes.now) ∷ (address second.now.page second.now.at, second.now.bytes.now)
-        ∷ (address third.now.page third.now.at, third.now.bytes.now) ∷ [])
-        (pages_of (S.view pages.old.store) pages.old) (pages_of (S.view pages.new.store) pages.new) result }
-    ensures dead { IsErrOf result PageFault.Dead → pages.new ≡ pages.old }
-{
-    if pages.is_dead() {
-        return Err(PageFault::Dead);
-    }
-    match pages.fits(tid, &[first.page, second.page, third.page]) {
-        Ok(()) => {}
-        Err(fault) => return Err(fault),
-    }
-    let mark = pages.top_begin(tid);
-    match pages.write_as(tid, first.page, first.at, first.bytes) {
-        Ok(()) => {}
-        Err(fault) => return Err(fault),
-    }
-    match pages.write_as(tid, second.page, second.at, second.bytes) {
-        Ok(()) => {}
-        Err(fault) => return Err(fault),
-    }
-    match pages.write_as(tid, third.page, third.at, third.bytes) {
-        Ok(()) => {}
-        Err(fault) => return Err(fault),
-    }
-    pages.top_end(tid, mark)
-}
-
 // The most parts of an action.
 const PARTS_MAX: usize = 4;
 

@@ -3,9 +3,9 @@ ghost use Rattle.std.specs.Prelude.{◌≡◌, ◌≤◌, ◌↔◌, IsErrOf, Is
 ghost use Rattle.eaw_face.specs.Causes.{IsAlive};
 ghost use Rattle.record_slots.specs.Places.{next_slot, IsOfKey};
 ghost use Rattle.page_store.specs.Index.{slots_of};
-ghost use Rattle.page_store.specs.Looks.{Looks};
+ghost use Rattle.page_store.specs.Looks.{Looks, is_check_failed};
 ghost use Rattle.page_store.specs.Shown.{pages_of};
-ghost use Rattle.index_pages.specs.Checked.{is_media, SlotCause};
+ghost use Rattle.index_pages.specs.Slots.{slot_check, IsVerdict};
 
 use crate::fault::check_fault;
 use crate::fetch::{SLOTS_IN_PAGE, fetch_slot, index_page_count};
@@ -24,10 +24,10 @@ pub fn check_slot<S: EawStore>(
 ) -> Result<(), CheckFault>
     requires alive { IsAlive (S.view pages.old.store) }
     requires slots { slots ≤ slots_of (S.view pages.old.store).shape }
-    ensures looks { Looks S.tells (S.opens (S.view pages.old.store).shape) (is_media result)
+    ensures looks { Looks S.tells (S.opens (S.view pages.old.store).shape) (is_check_failed result)
         (pages_of (S.view pages.old.store) pages.old) (pages_of (S.view pages.new.store) pages.new) }
     ensures cause { IsTrue S.tells → slots ≡ next_slot (S.view pages.old.store).state.bytes
-        → SlotCause (S.view pages.old.store).state.bytes page pair result }
+        → IsVerdict (slot_check (S.view pages.old.store).state.bytes page pair) result }
     ensures dead { IsErrOf result CheckFault.Dead → ⊥ }
 {
     if pair.1 >= u64::from(slots) {

@@ -14,7 +14,8 @@ use eaw_face::EawStore;
 use page_store::{PageFault, Pages};
 use record_slots::{SLOT_LEN, Slot, Super, read_slot, read_super};
 
-pub(crate) const SLOTS_IN_PAGE: u32 = 8;
+/// How many slots a page has.
+pub const SLOTS_IN_PAGE: u32 = PAGE_LEN as u32 / SLOT_LEN as u32;
 
 /// How many pages an index has, among them the super page: half of the array's.
 pub fn index_page_count<S: EawStore>(pages: &Pages<S>) -> u32
@@ -54,7 +55,7 @@ pub fn fetch_slot<S: EawStore>(pages: &mut Pages<S>, slot: u32) -> Result<Option
 {
     let page = index_page_count(pages) + slot / SLOTS_IN_PAGE;
     let mut bytes = [0; SLOT_LEN];
-    pages.read(page, slot % SLOTS_IN_PAGE * 64, &mut bytes)?;
+    pages.read(page, slot % SLOTS_IN_PAGE * SLOT_LEN as u32, &mut bytes)?;
     Ok(read_slot(&bytes))
 }
 
@@ -87,7 +88,7 @@ fn is_front(front: &Super, form: u8, count: u32) -> bool
     ensures { IsTrue result ↔ (front.now.form ≡ form) × (front.now.next_slot ≤ 8 * count) × (2 ≤ front.now.next_page) × (front.now.next_page ≤ count) }
 {
     front.form == form
-        && front.next_slot <= 8 * count
+        && front.next_slot <= SLOTS_IN_PAGE * count
         && 2 <= front.next_page
         && front.next_page <= count
 }

@@ -1,7 +1,8 @@
-//! What the pages of an index say: pairs of keys and slots, and a chain of such pages. Their laws, and the codec of a page.
+//! What the pages of an index say: pairs of keys and slots. Their laws, the codec of a page, and the nested top actions that change pages.
 #![tactic(auto)]
 
 mod action;
+mod adding;
 mod checking;
 mod fault;
 mod fetch;
@@ -9,16 +10,14 @@ mod laws;
 mod page;
 mod place;
 
-pub use action::{PagePart, act, act_all};
+pub use action::{PagePart, act_all};
+pub use adding::{LeafPage, add_pair, front_part, whole_page, with_pair};
 pub use checking::check_slot;
 pub use fault::{check_fault, index_fault};
-pub use fetch::{fetch_page, fetch_slot, fetch_super, index_page_count};
-pub use laws::{
-    chain_changes_keep, chain_rises, damage_is_first, fresh_is_sound, insertion_adds,
-    pieces_answer, slots_leave_the_chain,
-};
+pub use fetch::{SLOTS_IN_PAGE, fetch_page, fetch_slot, fetch_super, index_page_count};
+pub use laws::{insertion_adds, pieces_answer};
 pub use page::{
-    LeafHead, PAGE_LEN, PAIRS_MAX, Pairs, next_pair, read_leaf_head, read_pair, read_pairs,
-    write_leaf,
+    HALF, Head, LEVEL_MAX, PAGE_LEN, PAIRS_MAX, Pairs, next_pair, read_head, read_pair, read_pairs,
+    write_page,
 };
 pub use place::place_of;

@@ -1,9 +1,9 @@
 // The bytes of a page of an index.
-ghost use Rattle.std.specs.Prelude.{◌≡◌, ◌+◌, ◌*◌, ◌^◌, ◌≤◌, ◌<◌, IfSome, IfNone, length};
+ghost use Rattle.std.specs.Prelude.{◌≡◌, ◌+◌, ◌*◌, ◌^◌, ◌≤◌, ◌<◌, ◌↔◌, IsTrue, IfSome, IfNone, length};
 ghost use Rattle.mars_base.specs.Bytes.{put};
 ghost use Rattle.page_store.specs.Pairs.{next};
 ghost use Rattle.index_pages.specs.Page.{count_said, pair_said, pairs_said};
-ghost use Rattle.index_pages.specs.Written.{IsLeaf, SaysLeaf, AreSmall, front_bytes, leaf_bytes, pair_bytes};
+ghost use Rattle.index_pages.specs.Written.{IsKind, IsPage, SaysHead, AreSmall, kind_for, front_bytes, written_page, pair_bytes};
 
 use arrayvec::ArrayVec;
 use byteorder::{ByteOrder, LittleEndian};
@@ -14,45 +14,70 @@ pub const PAGE_LEN: usize = 512;
 /// The most pairs of a page.
 pub const PAIRS_MAX: usize = 30;
 
+/// How many of the most pairs stay when a full page is cut.
+pub const HALF: usize = PAIRS_MAX / 2;
+
 const PAIRS_AT: usize = 8;
 
 const PAIR_LEN: usize = 16;
+
+/// The highest level of a page.
+pub const LEVEL_MAX: u8 = 7;
+
+const KIND_AT: usize = 0;
+
+const LEVEL_AT: usize = 1;
 
 const COUNT_AT: usize = 2;
 
 const LINK_AT: usize = 4;
 
+// The kind of a page with no pages below it.
 const LEAF: u8 = 1;
+
+// The kind of a page that names the pages below it.
+const INNER: u8 = 2;
 
 /// The pairs of a page: keys, and what each leads to.
 pub type Pairs = ArrayVec<(u64, u64), PAIRS_MAX>;
 
-/// The head of a page of kind 1 and level 0, which is a page of a chain or a leaf of a tree.
+/// The head of a page.
 #[derive(Clone, Copy, Debug, PartialEq, Eq)]
-pub struct LeafHead {
+pub struct Head {
+    /// How many levels of pages are below it, 0 to 7.
+    pub level: u8,
     /// How many pairs it has, at most 30.
     pub count: u16,
     /// The page that follows it, 0 for none.
     pub link: u32,
 }
 
-/// The head of a page. `None` exactly when its kind is not 1, its level is not 0, or its count is above 30.
-pub fn read_leaf_head(page: &[u8; PAGE_LEN]) -> Option<LeafHead>
-    ensures says { IfSome result (SaysLeaf page.now) }
-    ensures other { IfNone result (¬ IsLeaf page.now) }
+/// The head of a page. `None` exactly when its kind is not that of its level, its level is above 7, or its count is above 30.
+pub fn read_head(page: &[u8; PAGE_LEN]) -> Option<Head>
+    ensures says { IfSome result (SaysHead page.now) }
+    ensures other { IfNone result (¬ IsPage page.now) }
 {
-    if page[0] != LEAF {
-        return None;
-    }
-    if page[1] != 0 {
-        return None;
-    }
+    let level = page[LEVEL_AT];
     let count = LittleEndian::read_u16(&page[COUNT_AT..]);
+    let link = LittleEndian::read_u32(&page[LINK_AT..]);
     if usize::from(count) > PAIRS_MAX {
         return None;
     }
-    let link = LittleEndian::read_u32(&page[LINK_AT..]);
-    Some(LeafHead { count, link })
+    if !is_kind(page[KIND_AT], level) {
+        return None;
+    }
+    Some(Head { level, count, link })
+}
+
+// Whether a page of this level has this kind.
+fn is_kind(kind: u8, level: u8) -> bool
+    ensures { IsTrue result ↔ IsKind kind level }
+{
+    match kind {
+        LEAF => level == 0,
+        INNER => 1 <= level && level <= LEVEL_MAX,
+        _ => false,
+    }
 }
 
 /// Pair `i` of a page.
@@ -97,27 +122,38 @@ pub fn next_pair(page: &[u8; PAGE_LEN], count: u16, from: u64) -> Option<(u64, u
     None
 }
 
-/// Writes a page of kind 1 and level 0 with this link and these pairs, and zeros behind them.
-pub fn write_leaf(link: u32, pairs: &[(u64, u64)], out: &mut [u8; PAGE_LEN])
+/// Writes a page of this level with this link and these pairs, and zeros behind them.
+pub fn write_page(level: u8, link: u32, pairs: &[(u64, u64)], out: &mut [u8; PAGE_LEN])
     requires { length pairs.now ≤ 30 }
-    ensures { out.new ≡ leaf_bytes link pairs.now }
+    ensures { out.new ≡ written_page level link pairs.now }
 {
     out.fill(0);
-    out[..PAIRS_AT].copy_from_slice(&leaf_front(pairs.len() as u16, link));
+    out[..PAIRS_AT].copy_from_slice(&front_of(level, pairs.len() as u16, link));
     for (i, pair) in pairs.iter().enumerate() {
         put_pair(out, PAIRS_AT + PAIR_LEN * i, *pair);
     }
 }
 
 // Kind, level, count and link.
-fn leaf_front(count: u16, link: u32) -> [u8; PAIRS_AT]
-    ensures { result ≡ front_bytes count link }
+fn front_of(level: u8, count: u16, link: u32) -> [u8; PAIRS_AT]
+    ensures { result ≡ front_bytes level count link }
 {
     let mut front = [0; PAIRS_AT];
-    front[0] = LEAF;
+    front[KIND_AT] = kind_of(level);
+    front[LEVEL_AT] = level;
     LittleEndian::write_u16(&mut front[COUNT_AT..], count);
     LittleEndian::write_u32(&mut front[LINK_AT..], link);
     front
+}
+
+// The kind of a page of this level.
+fn kind_of(level: u8) -> u8
+    ensures { result ≡ kind_for level }
+{
+    if level == 0 {
+        return LEAF;
+    }
+    INNER
 }
 
 // Puts a pair at a place.

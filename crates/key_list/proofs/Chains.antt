@@ -4,13 +4,14 @@ use Rattle.std.specs.Prelude.{if◌then◌else◌}
 use Rattle.std.proofs.lemmas.Bool.Decides.{eqb_tells, leb_tells}
 use Rattle.record_slots.specs.Places.{page_bytes, next_page}
 use Rattle.page_store.specs.Pairs.{Pair}
-use Rattle.index_pages.specs.Chain.{key_end, behind, IsChain, first_key, IsSoundChain}
-use Rattle.index_pages.specs.Changes.{SplitsPage}
-use Rattle.index_pages.specs.Keys.{key_at}
+use Rattle.key_list.specs.Chain.{behind, first_key, IsSoundChain, chain_page_for, page_of_key}
+use Rattle.key_list.specs.Seen.{IsChain, pages_of_sound}
+use Rattle.key_list.specs.Changes.{SplitsPage}
+use Rattle.index_pages.specs.Keys.{key_at, key_end}
 use Rattle.index_pages.specs.Page.{page_pairs, pairs_said, link_said, link_of}
-use Rattle.index_pages.specs.Ways.{IsOwn, chain_page_for, page_of_key}
-use Rattle.index_pages.proofs.ChainActions.{first_below, later_some, linked_some, far_first}
-use Rattle.index_pages.proofs.ChainFacts.{first_from, wide_behind}
+use Rattle.index_pages.specs.Ways.{IsOwn}
+use Rattle.key_list.proofs.ChainActions.{first_below, later_some, linked_some, far_first}
+use Rattle.key_list.specs.ChainFacts.{first_from, wide_behind}
 use Rattle.key_list.specs.Index.{IsOnChain, IsPageOfChain, half_for}
 
 -- the page of a key is given, and is one of the chain
@@ -32,7 +33,7 @@ own_for (suc n) bytes page low key own chain =
     ]
 
 pub key_page_own : (bytes : List ℕ) (key : ℕ) → IsSoundChain bytes → IsOwn bytes (page_of_key bytes key) × IsPageOfChain bytes (page_of_key bytes key)
-key_page_own bytes key sound = own_for (next_page bytes) bytes 1 0 key (omega arith, omega (arith, sound.front.some_pages)) sound.pages
+key_page_own bytes key sound = own_for (next_page bytes) bytes 1 0 key (omega arith, omega (arith, sound.0.some_pages)) (pages_of_sound bytes sound)
 
 -- if all links are as they were, so are the pages
 on_same : (old new : List ℕ) → ((p : ℕ) → 1 ≤ p → p < next_page old → link_of new p ≡ link_of old p)
@@ -51,7 +52,7 @@ on_same old new same (suc n) page low other own chain (inr on) =
 pub pages_same : (old new : List ℕ) → IsSoundChain old → next_page new ≡ next_page old → ((p : ℕ) → 1 ≤ p → p < next_page old → link_of new p ≡ link_of old p)
     → (other : ℕ) → IsPageOfChain old other → IsPageOfChain new other
 pages_same old new sound count same other on =
-    subst (λ (n : ℕ). IsOnChain n new 1 other) (sym count) (on_same old new same (next_page old) 1 0 other (omega arith, omega (arith, sound.front.some_pages)) sound.pages on)
+    subst (λ (n : ℕ). IsOnChain n new 1 other) (sym count) (on_same old new same (next_page old) 1 0 other (omega arith, omega (arith, sound.0.some_pages)) (pages_of_sound old sound) on)
 
 module _ (old new : List ℕ) (q : ℕ) (cut : SplitsPage old new q) (two : 2 ≤ next_page old) (kept : (x : ℕ) → 1 ≤ x → x < next_page old → x ≢ q → page_bytes new x ≡ page_bytes old x) where
   link_same : (p : ℕ) → IsOwn old p → p ≢ q → link_of new p ≡ link_of old p
@@ -123,10 +124,10 @@ module _ (old new : List ℕ) (q : ℕ) (cut : SplitsPage old new q) (two : 2 �
 
   pub cut_keeps : IsSoundChain old → (other : ℕ) → IsPageOfChain old other → IsPageOfChain new other
   cut_keeps sound other on =
-      subst (λ (n : ℕ). IsOnChain n new 1 other) (sym cut.one_more) (stays (next_page old) 1 0 other (omega arith, omega arith) sound.pages on)
+      subst (λ (n : ℕ). IsOnChain n new 1 other) (sym cut.one_more) (stays (next_page old) 1 0 other (omega arith, omega arith) (pages_of_sound old sound) on)
 
   pub cut_names : IsSoundChain old → IsPageOfChain old q → IsPageOfChain new (next_page old)
-  cut_names sound on = subst (λ (n : ℕ). IsOnChain n new 1 (next_page old)) (sym cut.one_more) (reaches (next_page old) 1 0 (omega arith, omega arith) sound.pages on)
+  cut_names sound on = subst (λ (n : ℕ). IsOnChain n new 1 (next_page old)) (sym cut.one_more) (reaches (next_page old) 1 0 (omega arith, omega arith) (pages_of_sound old sound) on)
 
   module _ (key : ℕ) where
     half : ℕ
@@ -209,4 +210,4 @@ module _ (old new : List ℕ) (q : ℕ) (cut : SplitsPage old new q) (two : 2 �
 
     pub half_after : IsSoundChain old → q ≡ page_of_key old key → page_of_key new key ≡ half_for old q key
     unfolding half
-    half_after sound is = ap (λ (n : ℕ). chain_page_for n new 1 key) cut.one_more ∙ half_on_way (next_page old) 1 0 (omega arith, omega arith) sound.pages is
+    half_after sound is = ap (λ (n : ℕ). chain_page_for n new 1 key) cut.one_more ∙ half_on_way (next_page old) 1 0 (omega arith, omega arith) (pages_of_sound old sound) is

@@ -14,11 +14,12 @@ use Rattle.page_store.specs.Index.{Action, slots_of, index_pages_of}
 use Rattle.page_store.specs.Inserts.{ComesTo, ActionFits, AllFit, LackPages, LackRoom}
 use Rattle.page_store.specs.Pairs.{Pair}
 use Rattle.index_pages.specs.Page.{count_of, page_pairs}
-use Rattle.index_pages.specs.Ways.{page_of_key}
+use Rattle.key_list.specs.Chain.{page_of_key}
 use Rattle.index_pages.proofs.PageFacts.{length-page_pairs}
 use Rattle.index_pages.proofs.Sizes.{slot_page_is}
 use Rattle.key_list.specs.Index.{chain, chain_actions, adding, cutting, half_for}
-use Rattle.key_list.specs.Located.{Locates, adding_pages, cutting_pages}
+use Rattle.key_list.specs.Located.{Locates, cutting_pages}
+use Rattle.index_pages.specs.Adding.{adding_pages}
 
 -- room in the log, if a number has logged the same
 pub fits_same : (a b : StoreView) (t : ℕ) (pages : List ℕ) → b.shape ≡ a.shape → listed (b.ranges t) ≡ listed (a.ranges t) → FitAll b t pages → FitAll a t pages

@@ -18,20 +18,21 @@ use Rattle.record_slots.proofs.SlotLemmas.{length-slot_bytes, slot_said-slot_byt
 use Rattle.page_store.specs.Index.{slots_of, index_pages_of, Grows, Rests, Gains}
 use Rattle.page_store.specs.Pairs.{Pair, found, inserted}
 use Rattle.page_store.specs.Shown.{address}
-use Rattle.index_pages.specs.Chain.{IsSoundChain, pairs_of_chain}
-use Rattle.index_pages.specs.Changes.{TakesPairInChain, SplitsPage}
+use Rattle.key_list.specs.Chain.{IsSoundChain, pairs_of_chain, page_of_key}
+use Rattle.key_list.specs.Changes.{TakesPairInChain, SplitsPage}
 use Rattle.index_pages.specs.Keys.{key_at}
 use Rattle.index_pages.specs.Page.{page_pairs, pairs_said, kind_said, level_said, link_said, link_of}
-use Rattle.index_pages.specs.Ways.{Keeps, page_of_key}
-use Rattle.index_pages.specs.Written.{leaf_bytes, AreSmall}
+use Rattle.index_pages.specs.Ways.{Keeps}
+use Rattle.index_pages.specs.Written.{AreSmall, written_page}
 use Rattle.index_pages.proofs.Ranges.{Apart, three_long, three_away, three_first, three_second, three_third}
 use Rattle.index_pages.proofs.Fronts.{length-count_bytes, slot_written, page_written, mark_kept, form_kept}
-use Rattle.index_pages.proofs.Writing.{leaf_kind, leaf_level, leaf_link, leaf_pairs, length-leaf_bytes, small_take, small_inserted}
+use Rattle.index_pages.proofs.Writing.{small_take, small_inserted, written_kind, written_level, written_link, written_pairs, length-written_page}
 use Rattle.index_pages.proofs.Rising.{length-inserted}
 use Rattle.index_pages.proofs.PageFacts.{length-page_pairs}
-use Rattle.index_pages.proofs.ChainActions.{sound_chain_takes, sound_chain_splits}
+use Rattle.key_list.proofs.ChainActions.{sound_chain_takes, sound_chain_splits}
 use Rattle.key_list.specs.Index.{chain, IsPageOfChain, half_for}
-use Rattle.key_list.specs.Located.{IsLocated, Locates, adding_parts, cutting_parts}
+use Rattle.key_list.specs.Located.{IsLocated, Locates, cutting_parts}
+use Rattle.index_pages.specs.Adding.{adding_parts}
 use Rattle.key_list.proofs.Chains.{key_page_own, pages_same, cut_keeps, cut_names, half_after}
 
 -- the slot of a pair carries its key if it is as it was
@@ -69,7 +70,7 @@ module _ (shape : Shape) (old : List ℕ) (half : ℕ) (long : length old ≡ da
     a2 = address page 0
 
     b2 : List ℕ
-    b2 = leaf_bytes link (inserted pairs key front.next_slot)
+    b2 = written_page 0 link (inserted pairs key front.next_slot)
 
     b3 : List ℕ
     b3 = count_bytes (front.next_slot + 1) front.next_page
@@ -92,7 +93,7 @@ module _ (shape : Shape) (old : List ℕ) (half : ℕ) (long : length old ≡ da
 
     len2 : length b2 ≡ 512
     unfolding b2
-    len2 = length-leaf_bytes link (inserted pairs key front.next_slot) many link_fits
+    len2 = length-written_page 0 link (inserted pairs key front.next_slot) many link_fits
 
     len3 : length b3 ≡ 8
     unfolding b3
@@ -143,7 +144,7 @@ module _ (shape : Shape) (old : List ℕ) (half : ℕ) (long : length old ≡ da
     unfolding slot_of a1 b1 a2 b2 b3 added
     slot_new = ap (λ (x : ℕ). range added x 64) slot_place ∙ three_first old a1 b1 a2 b2 (address 0 8) b3 fits1 fits2 fits3 apart12 apart13 apart23 64 (sym len1)
 
-    page_new : page_bytes added page ≡ leaf_bytes link (inserted pairs key front.next_slot)
+    page_new : page_bytes added page ≡ written_page 0 link (inserted pairs key front.next_slot)
     unfolding page_bytes a1 b1 a2 b2 b3 added
     page_new =
         ap (λ (x : ℕ). range added x 512) (let e : 512 * page ≡ address page 0 = omega arith in e)
@@ -185,8 +186,8 @@ module _ (shape : Shape) (old : List ℕ) (half : ℕ) (long : length old ≡ da
 
     front_now : IsSuper 0 added
     front_now = record {
-      has_mark = mark_kept old added zero_new sound.front.has_mark;
-      form_is = form_kept old added zero_new ∙ sound.front.form_is;
+      has_mark = mark_kept old added zero_new sound.0.has_mark;
+      form_is = form_kept old added zero_new ∙ sound.0.form_is;
       slots = omega (arith, slot_now, added_count, eight);
       some_pages = omega (arith, page_now, loc.front_is.some);
       pages = omega (arith, page_now, added_count, loc.front_is.pages, half_is);
@@ -208,16 +209,16 @@ module _ (shape : Shape) (old : List ℕ) (half : ℕ) (long : length old ≡ da
     takes : TakesPairInChain old added page key front.next_slot
     takes = record {
       room = omega (arith, room, ap (λ (ps : List Pair). length ps) says.pairs_are, length-page_pairs old page);
-      kind = ap kind_said page_new ∙ leaf_kind link (inserted pairs key front.next_slot) many link_fits;
-      level = ap level_said page_new ∙ leaf_level link (inserted pairs key front.next_slot) many link_fits;
-      link = ap link_said page_new ∙ leaf_link link (inserted pairs key front.next_slot) many link_fits ∙ says.link_is;
-      pairs = ap pairs_said page_new ∙ leaf_pairs link (inserted pairs key front.next_slot) many link_fits small ∙ ap (λ (ps : List Pair). inserted ps key front.next_slot) says.pairs_are;
+      kind = ap kind_said page_new ∙ written_kind 0 link (inserted pairs key front.next_slot) many link_fits;
+      level = ap level_said page_new ∙ written_level 0 link (inserted pairs key front.next_slot) many link_fits;
+      link = ap link_said page_new ∙ written_link 0 link (inserted pairs key front.next_slot) many link_fits ∙ says.link_is;
+      pairs = ap pairs_said page_new ∙ written_pairs 0 link (inserted pairs key front.next_slot) many link_fits small ∙ ap (λ (ps : List Pair). inserted ps key front.next_slot) says.pairs_are;
       given = omega (arith, slot_now);
       carries = carries_absent added key front.next_slot fits slot_new;
     }
 
     pages_stay : (x : ℕ) → 1 ≤ x → x < next_page old → x ≢ page → page_bytes added x ≡ page_bytes old x
-    pages_stay x some lt other = page_old x some (omega (arith, sound.front.pages, first)) other
+    pages_stay x some lt other = page_old x some (omega (arith, sound.0.pages, first)) other
 
     adds : IsSoundChain added × (pairs_of_chain added ≡ inserted (pairs_of_chain old) key front.next_slot)
     adds = sound_chain_takes old added key front.next_slot sound keeps front_now (page_now ∙ says.next_is) fits none
@@ -256,10 +257,10 @@ module _ (shape : Shape) (old : List ℕ) (half : ℕ) (long : length old ≡ da
   -- a full page is cut
   module _ (full : length pairs ≡ 30) (next : front.next_page < index_pages_of shape) where
     c1 : List ℕ
-    c1 = leaf_bytes front.next_page (take 15 pairs)
+    c1 = written_page 0 front.next_page (take 15 pairs)
 
     c2 : List ℕ
-    c2 = leaf_bytes link (drop 15 pairs)
+    c2 = written_page 0 link (drop 15 pairs)
 
     c3 : List ℕ
     c3 = count_bytes front.next_slot (front.next_page + 1)
@@ -287,11 +288,11 @@ module _ (shape : Shape) (old : List ℕ) (half : ℕ) (long : length old ≡ da
 
     clen1 : length c1 ≡ 512
     unfolding c1
-    clen1 = length-leaf_bytes front.next_page (take 15 pairs) lower_many next_fits
+    clen1 = length-written_page 0 front.next_page (take 15 pairs) lower_many next_fits
 
     clen2 : length c2 ≡ 512
     unfolding c2
-    clen2 = length-leaf_bytes link (drop 15 pairs) upper_many link_fits'
+    clen2 = length-written_page 0 link (drop 15 pairs) upper_many link_fits'
 
     clen3 : length c3 ≡ 8
     unfolding c3
@@ -326,13 +327,13 @@ module _ (shape : Shape) (old : List ℕ) (half : ℕ) (long : length old ≡ da
     cut_count : page_count cut ≡ half + half
     cut_count = omega (arith, cut_long, size)
 
-    lower_new : page_bytes cut page ≡ leaf_bytes front.next_page (take 15 pairs)
+    lower_new : page_bytes cut page ≡ written_page 0 front.next_page (take 15 pairs)
     unfolding page_bytes c1 c2 c3 cut
     lower_new =
         ap (λ (x : ℕ). range cut x 512) (let e : 512 * page ≡ address page 0 = omega arith in e)
         ∙ three_first old (address page 0) c1 (address front.next_page 0) c2 (address 0 8) c3 cfits1 cfits2 cfits3 capart12 capart13 capart23 512 (sym clen1)
 
-    upper_new : page_bytes cut front.next_page ≡ leaf_bytes link (drop 15 pairs)
+    upper_new : page_bytes cut front.next_page ≡ written_page 0 link (drop 15 pairs)
     unfolding page_bytes c1 c2 c3 cut
     upper_new =
         ap (λ (x : ℕ). range cut x 512) (let e : 512 * front.next_page ≡ address front.next_page 0 = omega arith in e)
@@ -371,8 +372,8 @@ module _ (shape : Shape) (old : List ℕ) (half : ℕ) (long : length old ≡ da
 
     front_cut : IsSuper 0 cut
     front_cut = record {
-      has_mark = mark_kept old cut zero_cut sound.front.has_mark;
-      form_is = form_kept old cut zero_cut ∙ sound.front.form_is;
+      has_mark = mark_kept old cut zero_cut sound.0.has_mark;
+      form_is = form_kept old cut zero_cut ∙ sound.0.form_is;
       slots = omega (arith, slot_cut, cut_count, loc.front_is.slots, all);
       some_pages = omega (arith, page_cut);
       pages = omega (arith, page_cut, cut_count, next_below);
@@ -387,18 +388,18 @@ module _ (shape : Shape) (old : List ℕ) (half : ℕ) (long : length old ≡ da
 
     splits : SplitsPage old cut page
     splits =
-        let upper : (x : ℕ) → x ≡ front.next_page → page_bytes cut x ≡ leaf_bytes link (drop 15 pairs) = λ x is. ap (λ (y : ℕ). page_bytes cut y) is ∙ upper_new in
+        let upper : (x : ℕ) → x ≡ front.next_page → page_bytes cut x ≡ written_page 0 link (drop 15 pairs) = λ x is. ap (λ (y : ℕ). page_bytes cut y) is ∙ upper_new in
         let there = upper (next_page old) (sym says.next_is) in
         record {
           full = ap (λ (ps : List Pair). length ps) (sym says.pairs_are) ∙ full;
-          kind = ap kind_said lower_new ∙ leaf_kind front.next_page (take 15 pairs) lower_many next_fits;
-          level = ap level_said lower_new ∙ leaf_level front.next_page (take 15 pairs) lower_many next_fits;
-          link = ap link_said lower_new ∙ leaf_link front.next_page (take 15 pairs) lower_many next_fits ∙ says.next_is;
-          pairs = ap pairs_said lower_new ∙ leaf_pairs front.next_page (take 15 pairs) lower_many next_fits (small_take 15 pairs loc.small).0 ∙ ap (take 15) says.pairs_are;
-          kind' = ap kind_said there ∙ leaf_kind link (drop 15 pairs) upper_many link_fits';
-          level' = ap level_said there ∙ leaf_level link (drop 15 pairs) upper_many link_fits';
-          link' = ap link_said there ∙ leaf_link link (drop 15 pairs) upper_many link_fits' ∙ says.link_is;
-          pairs' = ap pairs_said there ∙ leaf_pairs link (drop 15 pairs) upper_many link_fits' (small_take 15 pairs loc.small).1 ∙ ap (drop 15) says.pairs_are;
+          kind = ap kind_said lower_new ∙ written_kind 0 front.next_page (take 15 pairs) lower_many next_fits;
+          level = ap level_said lower_new ∙ written_level 0 front.next_page (take 15 pairs) lower_many next_fits;
+          link = ap link_said lower_new ∙ written_link 0 front.next_page (take 15 pairs) lower_many next_fits ∙ says.next_is;
+          pairs = ap pairs_said lower_new ∙ written_pairs 0 front.next_page (take 15 pairs) lower_many next_fits (small_take 15 pairs loc.small).0 ∙ ap (take 15) says.pairs_are;
+          kind' = ap kind_said there ∙ written_kind 0 link (drop 15 pairs) upper_many link_fits';
+          level' = ap level_said there ∙ written_level 0 link (drop 15 pairs) upper_many link_fits';
+          link' = ap link_said there ∙ written_link 0 link (drop 15 pairs) upper_many link_fits' ∙ says.link_is;
+          pairs' = ap pairs_said there ∙ written_pairs 0 link (drop 15 pairs) upper_many link_fits' (small_take 15 pairs loc.small).1 ∙ ap (drop 15) says.pairs_are;
           one_more = page_cut ∙ (let e : front.next_page + 1 ≡ suc (next_page old) = omega (arith, says.next_is) in e);
         }
 
@@ -421,13 +422,13 @@ module _ (shape : Shape) (old : List ℕ) (half : ℕ) (long : length old ≡ da
             later = omega (arith, page_cut, says.next_is);
             few = omega (arith, page_cut, says.next_is);
             named = λ x from to. subst (λ (y : ℕ). IsPageOfChain cut y) (let e : next_page old ≡ x = omega (arith, page_cut, says.next_is) in e)
-                (cut_names old cut page splits sound.front.some_pages others_cut sound on);
-            kept = cut_keeps old cut page splits sound.front.some_pages others_cut sound;
+                (cut_names old cut page splits sound.0.some_pages others_cut sound on);
+            kept = cut_keeps old cut page splits sound.0.some_pages others_cut sound;
             levels = omega arith;
           },
           record { pairs = cuts.1; slots = slot_cut ∙ says.slot_is },
           splits.one_more,
-          half_after old cut page splits sound.front.some_pages others_cut key sound says.page_is,
+          half_after old cut page splits sound.0.some_pages others_cut key sound says.page_is,
         )
 
     -- the half of the key has room

@@ -1,128 +1,110 @@
 -- Tests of a chain, step by step.
-use Rattle.std.proofs.Common.{◌≡◌, ◌≢◌, ℕ, suc, ◌<◌, ◌≤◌, Bool, inl, inr, List, [], ◌∷◌, Option, Result, Ok, Err, refl, sym, ◌∙◌, ap, subst}
-use Rattle.record_slots.specs.Places.{next_page, AreGiven, IsSuper, page_bytes}
-use Rattle.page_store.specs.Pairs.{Pair, Rise}
-use Rattle.page_store.specs.declared.index_fault.CheckFault.{CheckFault}
-use Rattle.page_store.specs.declared.index_fault.CheckFault.TheVariants.{Damaged, Media, Dead}
-use Rattle.index_pages.specs.Chain.{key_end, behind, IsChain, IsChainPage, IsSoundChain}
-use Rattle.index_pages.specs.Checked.{SlotCause}
-use Rattle.index_pages.specs.Failing.{PairsFail, IsChainHead, IsLink, ChainFails, IsFirstDamagedOfChain}
-use Rattle.index_pages.specs.Page.{page_pairs, pairs_said, link_of, kind_said, level_said, count_said, link_said}
+use Rattle.std.proofs.Common.{◌≡◌, ◌≢◌, ℕ, zero, suc, ◌<◌, ◌≤◌, Bool, true, false, nat_eq, inl, inr, List, [], ◌∷◌, Option, Some, None, Result, Ok, Err, refl, sym, ◌∙◌, ap, subst, arith}
 use Rattle.std.specs.Prelude.{IsTrue, IsErrOf}
+use Rattle.std.proofs.lemmas.Bool.Decides.{nat_tests}
+use Rattle.mars_base.specs.Check.{Check, unless}
+use Rattle.mars_base.proofs.Checks.{both_on}
 use Rattle.eaw_face.specs.StoreView.{StoreView}
 use Rattle.eaw_face.specs.Causes.{IsAlive}
+use Rattle.record_slots.specs.Places.{next_page, IsSuper, page_bytes}
 use Rattle.page_store.specs.Looks.{CheckCause}
+use Rattle.page_store.specs.Pairs.{Pair}
+use Rattle.page_store.specs.declared.index_fault.CheckFault.{CheckFault}
+use Rattle.page_store.specs.declared.index_fault.CheckFault.TheVariants.{Damaged, Media, Dead}
+use Rattle.index_pages.specs.Keys.{key_end}
+use Rattle.index_pages.specs.Page.{page_pairs, pairs_said, link_of, link_said}
+use Rattle.index_pages.specs.Slots.{slot_check, IsVerdict}
+use Rattle.key_list.specs.Chain.{behind, IsChainHead, pair_check, pairs_check, chain_from, chain_check, IsSoundChain, IsFirstDamagedOfChain}
+use Rattle.key_list.specs.Checked.{low_of}
 use Rattle.key_list.specs.Index.{chain}
-use Rattle.key_list.specs.Checked.{low_of, IsHead, PairCause, PairsCause}
+use Rattle.key_list.specs.Seen.{linked}
 
--- the test of a pair's slot as that of the pair, whose key may follow
-pub pair_cause : (bytes : List ℕ) (page low : ℕ) (pair : Pair) → low ≤ pair.0 → (r : Result (Unit {0}) CheckFault) → SlotCause bytes page pair r → PairCause bytes page low pair r
-pair_cause bytes page low pair le (Ok tt) cause = (le, cause.0, cause.1)
-pair_cause bytes page low pair le (Err (Damaged bad)) (inl f) = inl ((λ both. f.0 both.1), f.1)
-pair_cause bytes page low pair le (Err (Damaged bad)) (inr f) = inr (le, f.0, f.1, f.2)
-pair_cause bytes page low pair le (Err Media) cause = tt
-pair_cause bytes page low pair le (Err Dead) cause = tt
+-- the check of a pair's slot as that of the pair, whose key may follow
+pub pair_told : (bytes : List ℕ) (page low : ℕ) (pair : Pair) → low ≤ pair.0 → (r : Result (Unit {0}) CheckFault) → IsVerdict (slot_check bytes page pair) r → IsVerdict (pair_check bytes page low pair) r
+pair_told bytes page low pair le (Ok tt) cause = (le, cause)
+pair_told bytes page low pair le (Err (Damaged bad)) cause = inr (le, cause)
+pair_told bytes page low pair le (Err Media) cause = tt
+pair_told bytes page low pair le (Err Dead) cause = tt
 
--- Of all pairs after a lower bound these are left after another: if they pass, so do all, and the page that is bad by one of
--- them is bad for all.
-pub record PairsLeft (bytes : List ℕ) (page low : ℕ) (pairs : List Pair) (low' : ℕ) (left : List Pair) : Type 0 where
-  pub fails : (bad : ℕ) → PairsFail bytes page low' left bad → PairsFail bytes page low pairs bad
-  pub rises : Rise low' key_end left → Rise low key_end pairs
-  pub given : AreGiven bytes left → AreGiven bytes pairs
-  pub ends : behind low' left ≡ behind low pairs
-
-pub left_all : (bytes : List ℕ) (page low : ℕ) (pairs : List Pair) → PairsLeft bytes page low pairs low pairs
-left_all bytes page low pairs = record { fails = λ bad f. f; rises = λ r. r; given = λ g. g; ends = refl }
+-- Of all pairs after a lower bound these are left after another: their verdict is that of all.
+abbrev pub PairsLeft : List ℕ → ℕ → ℕ → List Pair → ℕ → List Pair → Type 0
+PairsLeft bytes page low pairs low' left = (verdict : Option ℕ) → pairs_check bytes page low' left verdict → pairs_check bytes page low pairs verdict
 
 module _ (bytes : List ℕ) (page low : ℕ) (pairs : List Pair) (low' : ℕ) (p : Pair) (rest : List Pair) (left : PairsLeft bytes page low pairs low' (p ∷ rest)) where
-  pub left_step : (let r : Result (Unit {0}) CheckFault = Ok tt in PairCause bytes page low' p r) → PairsLeft bytes page low pairs (suc p.0) rest
-  left_step well = record {
-    fails = λ bad f. left.fails bad (inr (inr (well.0, well.1, well.2, f)));
-    rises = λ r. left.rises (well.0, r);
-    given = λ g. left.given (well.1, well.2, g);
-    ends = left.ends;
-  }
+  pub left_step : (let r : Result (Unit {0}) CheckFault = Ok tt in IsVerdict (pair_check bytes page low' p) r) → PairsLeft bytes page low pairs (suc p.0) rest
+  left_step well = λ verdict told. left verdict (both_on (pair_check bytes page low' p) (pairs_check bytes page (suc p.0) rest) well verdict told)
 
-  pub left_fails : (fault : CheckFault) → (let r : Result (Unit {0}) CheckFault = Err fault in PairCause bytes page low' p r) → (let s : Result (Option ℕ) CheckFault = Err fault in PairsCause bytes page low pairs s)
-  left_fails (Damaged bad) (inl f) = left.fails bad (inl f)
-  left_fails (Damaged bad) (inr f) = left.fails bad (inr (inl f))
+  pub left_fails : (fault : CheckFault) → (let r : Result (Unit {0}) CheckFault = Err fault in IsVerdict (pair_check bytes page low' p) r) → (let s : Result (Option ℕ) CheckFault = Err fault in IsVerdict (pairs_check bytes page low pairs) s)
+  left_fails (Damaged bad) f = left (Some bad) (inl f)
   left_fails Media f = tt
   left_fails Dead f = tt
 
-pub left_none : (bytes : List ℕ) (page low : ℕ) (pairs : List Pair) (last : Option ℕ) → low_of last ≤ key_end → PairsLeft bytes page low pairs (low_of last) []
-    → (let s : Result (Option ℕ) CheckFault = Ok last in PairsCause bytes page low pairs s)
-left_none bytes page low pairs last le left = (left.rises le, left.given tt, left.ends)
-
--- Of a chain at most n pages are left from this one on, after keys below a lower bound: if they are sound, so is the data, and
--- the first of them that fails is the first of all.
-pub record ChainLeft (bytes : List ℕ) (page low n : ℕ) : Type 0 where
-  pub fails : (bad : ℕ) → ChainFails n bytes page low bad → IsFirstDamagedOfChain bytes bad
-  pub sound : IsChain n bytes page low → IsSoundChain bytes
+-- Of a chain at most n pages are left from this one on, after keys below a lower bound: their verdict is that of the whole chain.
+abbrev pub ChainLeft : List ℕ → ℕ → ℕ → ℕ → Type 0
+ChainLeft bytes page low n = (verdict : Option ℕ) → chain_from n bytes page low verdict → chain_check bytes verdict
 
 pub chain_all : (bytes : List ℕ) → IsSuper 0 bytes → ChainLeft bytes 1 0 (next_page bytes)
-chain_all bytes front = record { fails = λ bad f. inr (front, f); sound = λ c. record { front = front; pages = c } }
+chain_all bytes front None told = (front, told)
+chain_all bytes front (Some bad) told = inr (front, told)
 
 pub chain_none : (bytes : List ℕ) (page low n : ℕ) → n ≡ 0 → ChainLeft bytes page low n → IsFirstDamagedOfChain bytes page
-chain_none bytes page low n none left = left.fails page (subst (λ (m : ℕ). ChainFails m bytes page low page) (sym none) refl)
-
--- the head that was read
-head_there : (bytes buf : List ℕ) (page : ℕ) → buf ≡ page_bytes bytes page → IsHead page buf → IsChainHead bytes page
-head_there bytes buf page is head = record {
-  kind = ap kind_said (sym is) ∙ head.kind;
-  level = ap level_said (sym is) ∙ head.level;
-  most = subst (λ (b : List ℕ). count_said b ≤ 30) is head.most;
-  some = subst (λ (b : List ℕ). count_said b ≡ 0 → (page ≡ 1) × (link_said b ≡ 0)) is head.some;
-}
-
-head_back : (bytes buf : List ℕ) (page : ℕ) → buf ≡ page_bytes bytes page → IsChainHead bytes page → IsHead page buf
-head_back bytes buf page is head = record {
-  kind = ap kind_said is ∙ head.kind;
-  level = ap level_said is ∙ head.level;
-  most = subst (λ (b : List ℕ). count_said b ≤ 30) (sym is) head.most;
-  some = subst (λ (b : List ℕ). count_said b ≡ 0 → (page ≡ 1) × (link_said b ≡ 0)) (sym is) head.some;
-}
+chain_none bytes page low n none left = left (Some page) (subst (λ (m : ℕ). chain_from m bytes page low (Some page)) (sym none) ((λ never. never), refl))
 
 module _ (bytes buf : List ℕ) (page low n : ℕ) (is : buf ≡ page_bytes bytes page) (left : ChainLeft bytes page low (suc n)) where
-  pub head_fails : ¬ IsHead page buf → IsFirstDamagedOfChain bytes page
-  head_fails other = left.fails page (inl (λ head. other (head_back bytes buf page is head), refl))
+  pub head_fails : ¬ IsChainHead page buf → IsFirstDamagedOfChain bytes page
+  head_fails other = left (Some page) (inl ((λ head. other (subst (λ (b : List ℕ). IsChainHead page b) (sym is) head)), refl))
 
-  module _ (head : IsHead page buf) where
-    pub pairs_fail : (fault : CheckFault) (bad : ℕ) → fault ≡ Damaged bad → (let s : Result (Option ℕ) CheckFault = Err fault in PairsCause bytes page low (pairs_said buf) s) → IsFirstDamagedOfChain bytes bad
+  module _ (head : IsChainHead page buf) where
+    head_there : IsChainHead page (page_bytes bytes page)
+    head_there = subst (λ (b : List ℕ). IsChainHead page b) is head
+
+    pub pairs_fail : (fault : CheckFault) (bad : ℕ) → fault ≡ Damaged bad → (let s : Result (Option ℕ) CheckFault = Err fault in IsVerdict (pairs_check bytes page low (pairs_said buf)) s) → IsFirstDamagedOfChain bytes bad
     pairs_fail (Damaged bad') bad e f =
         let same : bad' ≡ bad = cc in
-        subst (λ (b : ℕ). IsFirstDamagedOfChain bytes b) same (left.fails bad' (inr (inl (head_there bytes buf page is head, subst (λ (b : List ℕ). PairsFail bytes page low (pairs_said b) bad') is f))))
+        let there = subst (λ (b : List ℕ). pairs_check bytes page low (pairs_said b) (Some bad')) is f in
+        subst (λ (b : ℕ). IsFirstDamagedOfChain bytes b) same (left (Some bad') (inr (head_there, inl there)))
     pairs_fail Media bad e f = absurd (cc)
     pairs_fail Dead bad e f = absurd (cc)
 
-    module _ (last : Option ℕ) (well : (let s : Result (Option ℕ) CheckFault = Ok last in PairsCause bytes page low (pairs_said buf) s)) where
-      rises : Rise low key_end (page_pairs bytes page)
-      rises = subst (λ (b : List ℕ). Rise low key_end (pairs_said b)) is well.0
+    module _ (well : pairs_check bytes page low (pairs_said buf) None) where
+      pairs_there : pairs_check bytes page low (page_pairs bytes page) None
+      pairs_there = subst (λ (b : List ℕ). pairs_check bytes page low (pairs_said b) None) is well
 
-      given : AreGiven bytes (page_pairs bytes page)
-      given = subst (λ (b : List ℕ). AreGiven bytes (pairs_said b)) is well.1
-
-      page_is : IsLink bytes (link_of bytes page) → IsChainPage bytes page low
-      page_is link = let h = head_there bytes buf page is head in record { kind = h.kind; level = h.level; most = h.most; some = h.some; rises = rises; given = given; link = link }
-
-      pub link_fails : ¬ IsLink bytes (link_said buf) → IsFirstDamagedOfChain bytes page
-      link_fails other = left.fails page (inr (inr (inl (head_there bytes buf page is head, rises, given, (λ link. other (subst (λ (b : List ℕ). IsLink bytes (link_said b)) (sym is) link)), refl))))
+      -- what comes after the pairs decides
+      rest_tells : (verdict : Option ℕ) → unless (nat_eq (link_of bytes page) 0) (linked n bytes page low) verdict → chain_check bytes verdict
+      rest_tells None told = left None (head_there, (pairs_there, told))
+      rest_tells (Some bad) told = left (Some bad) (inr (head_there, inr (pairs_there, told)))
 
       pub link_ends : link_said buf ≡ 0 → IsSoundChain bytes
       link_ends none =
           let none' : link_of bytes page ≡ 0 = ap link_said (sym is) ∙ none in
-          left.sound (page_is (λ other. absurd (other none')), λ other. absurd (other none'))
+          let b : nat_eq (link_of bytes page) 0 ≡ true = grind (arith, nat_tests) in
+          let ends : unless (nat_eq (link_of bytes page) 0) (linked n bytes page low) None = rw b tt in
+          rest_tells None ends
 
-      pub link_on : link_said buf ≢ 0 → (2 ≤ link_said buf) × (link_said buf < next_page bytes) → ChainLeft bytes (link_said buf) (low_of last) n
-      link_on some to =
-          let same : link_said buf ≡ link_of bytes page = ap link_said is in
-          let some' : link_of bytes page ≢ 0 = λ e. some (same ∙ e) in
-          let to' : IsLink bytes (link_of bytes page) = λ other. subst (λ (x : ℕ). (2 ≤ x) × (x < next_page bytes)) same to in
-          let ends : low_of last ≡ behind low (page_pairs bytes page) = well.2 ∙ ap (λ (b : List ℕ). behind low (pairs_said b)) is in
-          subst (λ (x : ℕ). ChainLeft bytes x (low_of last) n) (sym same) (subst (λ (x : ℕ). ChainLeft bytes (link_of bytes page) x n) (sym ends)
-          (record {
-            fails = λ bad f. left.fails bad (inr (inr (inr (head_there bytes buf page is head, rises, given, to', some', f))));
-            sound = λ c. left.sound (page_is to', λ other. c);
-          }))
+      module _ (some : link_said buf ≢ 0) where
+        same_link : link_said buf ≡ link_of bytes page
+        same_link = ap link_said is
+
+        linked_tells : (verdict : Option ℕ) → linked n bytes page low verdict → chain_check bytes verdict
+        linked_tells verdict told =
+            let some' : link_of bytes page ≢ 0 = λ e. some (same_link ∙ e) in
+            let b : nat_eq (link_of bytes page) 0 ≡ false = grind (arith, nat_tests) in
+            let on : unless (nat_eq (link_of bytes page) 0) (linked n bytes page low) verdict = rw b told in
+            rest_tells verdict on
+
+        pub link_fails : ¬ ((2 ≤ link_said buf) × (link_said buf < next_page bytes)) → IsFirstDamagedOfChain bytes page
+        link_fails other = linked_tells (Some page) (inl ((λ to. other (subst (λ (x : ℕ). (2 ≤ x) × (x < next_page bytes)) (sym same_link) to)), refl))
+
+        pub link_on : (last : Option ℕ) → low_of last ≡ behind low (pairs_said buf) → (2 ≤ link_said buf) × (link_said buf < next_page bytes) → ChainLeft bytes (link_said buf) (low_of last) n
+        link_on last ends to =
+            let to' = subst (λ (x : ℕ). (2 ≤ x) × (x < next_page bytes)) same_link to in
+            let ends' : low_of last ≡ behind low (page_pairs bytes page) = ends ∙ ap (λ (b : List ℕ). behind low (pairs_said b)) is in
+            subst (λ (x : ℕ). ChainLeft bytes x (low_of last) n) (sym same_link) (subst (λ (x : ℕ). ChainLeft bytes (link_of bytes page) x n) (sym ends') (on to'))
+          where
+            on : (2 ≤ link_of bytes page) × (link_of bytes page < next_page bytes) → ChainLeft bytes (link_of bytes page) (behind low (page_pairs bytes page)) n
+            on to None told = linked_tells None (to, told)
+            on to (Some bad) told = linked_tells (Some bad) (inr (to, told))
 
 -- a test that failed
 pub checked_err : (tells : Bool) (old : StoreView) (fault : CheckFault) → IsAlive old → (let r : Result (Option ℕ) CheckFault = Err fault in IsErrOf r Dead → ⊥)

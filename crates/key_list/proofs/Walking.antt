@@ -7,10 +7,10 @@ use Rattle.record_slots.specs.Places.{page_bytes, next_slot, next_page, AreGiven
 use Rattle.index_pages.specs.Page.{page_pairs, link_of, count_of, count_said, pair_said, pairs_from, pairs_said}
 use Rattle.index_pages.proofs.Reading.{from_first}
 use Rattle.index_pages.specs.Pieces.{joined}
-use Rattle.index_pages.specs.Chain.{behind, IsChain, IsChainPage, chain_pieces, first_key, IsSoundChain, pairs_of_chain}
-use Rattle.index_pages.specs.Ways.{chain_page_for, page_of_key}
+use Rattle.key_list.specs.Chain.{behind, chain_pieces, first_key, IsSoundChain, pairs_of_chain, chain_page_for, page_of_key}
+use Rattle.key_list.specs.Seen.{IsChain, IsChainPage, pages_of_sound}
 use Rattle.index_pages.proofs.Rising.{next-none, next-some, found-below}
-use Rattle.index_pages.proofs.ChainFacts.{chain_head}
+use Rattle.key_list.specs.ChainFacts.{chain_head}
 use Rattle.key_list.specs.Linked.{IsLinked}
 
 -- after `steps` steps the chain from this page on answers
@@ -25,12 +25,12 @@ pub record Next (bytes : List ℕ) (from steps page : ℕ) : Type 0 where
 pub next_first : (bytes : List ℕ) (from : ℕ) → IsSoundChain bytes → Next bytes from 0 1
 unfolding pairs_of_chain
 next_first bytes from sound =
-    let e : next_page bytes ≡ suc (next_page bytes - 1) = omega (arith, sound.front.some_pages) in
+    let e : next_page bytes ≡ suc (next_page bytes - 1) = omega (arith, sound.0.some_pages) in
     record {
       n = next_page bytes - 1;
       low = 0;
       start = 0;
-      chain = subst (λ (n : ℕ). IsChain n bytes 1 0) e sound.pages;
+      chain = subst (λ (n : ℕ). IsChain n bytes 1 0) e (pages_of_sound bytes sound);
       left = omega arith;
       answers = ap (λ (n : ℕ). next (joined (chain_pieces n bytes 1 0)) from) e;
     }
@@ -40,8 +40,8 @@ pub page_linked : (bytes : List ℕ) (pages page low : ℕ) → IsSoundChain byt
 page_linked bytes pages page low sound is head = record {
   leaf = record { kind = head.kind; level = head.level; most = head.most };
   link = elim (eqb_tells (link_of bytes page) 0) [
-    | inl none ↦ omega (arith, none.1, sound.front.some_pages, sound.front.pages)
-    | inr some ↦ omega (arith, (head.link some.1).1, sound.front.pages)
+    | inl none ↦ omega (arith, none.1, sound.0.some_pages, sound.0.pages)
+    | inr some ↦ omega (arith, (head.link some.1).1, sound.0.pages)
   ];
 }
 
@@ -149,18 +149,18 @@ pub record Place (bytes : List ℕ) (key steps page link : ℕ) : Type 0 where
 
 pub place_first : (bytes : List ℕ) (key link : ℕ) → IsSoundChain bytes → link ≡ link_of bytes 1 → Place bytes key 0 1 link
 place_first bytes key link sound link_is =
-    let e : next_page bytes ≡ suc (next_page bytes - 1) = omega (arith, sound.front.some_pages) in
+    let e : next_page bytes ≡ suc (next_page bytes - 1) = omega (arith, sound.0.some_pages) in
     record {
       n = next_page bytes - 1;
       low = 0;
-      chain = subst (λ (n : ℕ). IsChain n bytes 1 0) e sound.pages;
+      chain = subst (λ (n : ℕ). IsChain n bytes 1 0) e (pages_of_sound bytes sound);
       left = omega arith;
       link_is = link_is;
       answers = ap (λ (n : ℕ). chain_page_for n bytes 1 key) e;
     }
 
 pub first_linked : (bytes : List ℕ) (pages : ℕ) → IsSoundChain bytes → first_slot_page bytes ≡ pages → IsLinked pages (page_bytes bytes 1)
-first_linked bytes pages sound is = page_linked bytes pages 1 0 sound is (chain_head (next_page bytes) bytes 1 0 sound.pages)
+first_linked bytes pages sound is = page_linked bytes pages 1 0 sound is (chain_head (next_page bytes) bytes 1 0 (pages_of_sound bytes sound))
 
 -- the chain after the page
 link_chain : (n : ℕ) (bytes : List ℕ) (page low link : ℕ) → IsChain (suc n) bytes page low → link ≡ link_of bytes page → link ≢ 0 → IsChainPage bytes link (behind low (page_pairs bytes page)) × (2 ≤ link)
@@ -237,7 +237,7 @@ page_on_chain (suc n) bytes page low key chain =
     ]
 
 pub key_page : (bytes : List ℕ) (key : ℕ) → IsSoundChain bytes → (l : ℕ) × IsChainPage bytes (page_of_key bytes key) l
-key_page bytes key sound = page_on_chain (next_page bytes) bytes 1 0 key sound.pages
+key_page bytes key sound = page_on_chain (next_page bytes) bytes 1 0 key (pages_of_sound bytes sound)
 
 pub key_page_linked : (bytes : List ℕ) (pages key : ℕ) → IsSoundChain bytes → first_slot_page bytes ≡ pages → IsLinked pages (page_bytes bytes (page_of_key bytes key))
 key_page_linked bytes pages key sound is = let at = key_page bytes key sound in page_linked bytes pages (page_of_key bytes key) at.0 sound is at.1

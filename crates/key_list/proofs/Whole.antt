@@ -18,12 +18,12 @@ use Rattle.page_store.specs.declared.fault.PageFault.{PageFault}
 use Rattle.page_store.specs.declared.index_fault.IndexFault.{IndexFault}
 use Rattle.page_store.specs.declared.index_fault.IndexFault.TheVariants as index
 use Rattle.index_pages.specs.Acts.{Acts}
-use Rattle.index_pages.specs.Chain.{IsSoundChain, pairs_of_chain}
+use Rattle.key_list.specs.Chain.{IsSoundChain, pairs_of_chain, page_of_key}
 use Rattle.index_pages.specs.Page.{page_pairs}
-use Rattle.index_pages.specs.Ways.{page_of_key}
 use Rattle.index_pages.specs.Faults.{as_index}
 use Rattle.key_list.specs.Index.{chain, half_for}
-use Rattle.key_list.specs.Located.{IsLocated, Locates, adding_pages, adding_parts, cutting_pages, cutting_parts}
+use Rattle.key_list.specs.Located.{IsLocated, Locates, cutting_pages, cutting_parts}
+use Rattle.index_pages.specs.Adding.{adding_pages, adding_parts}
 use Rattle.key_list.specs.declared.place.Located.{Located}
 use Rattle.index_pages.proofs.Going.{Going, going_looks, going_more, going_act, inserts_done, inserts_refused, inserts_look_err, inserts_act_err}
 use Rattle.key_list.proofs.Data.{adding_grows, cutting_grows, half_short}

@@ -1,12 +1,10 @@
 -- The chain as an index: its pages, and what an insertion makes.
-use Rattle.std.specs.Prelude.{ℕ, zero, suc, ◌≡◌, ◌≢◌, ◌⊎◌, nat_lt, if◌then◌else◌, List, [], ◌∷◌}
+use Rattle.std.specs.Prelude.{ℕ, zero, suc, ◌≡◌, ◌≢◌, ◌⊎◌, nat_lt, if◌then◌else◌, List, [], ◌∷◌, Some, None}
 use Rattle.record_slots.specs.Places.{next_slot, next_page, slot_page}
 use Rattle.page_store.specs.Index.{Action, Index}
-use Rattle.index_pages.specs.Chain.{IsSoundChain, pairs_of_chain}
-use Rattle.index_pages.specs.Failing.{IsFirstDamagedOfChain}
+use Rattle.key_list.specs.Chain.{chain_check, pairs_of_chain, page_of_key}
 use Rattle.index_pages.specs.Keys.{key_at}
 use Rattle.index_pages.specs.Page.{count_of, link_of, page_pairs}
-use Rattle.index_pages.specs.Ways.{page_of_key}
 
 -- among the first n pages of the chain from this one on
 abbrev pub IsOnChain : ℕ → List ℕ → ℕ → ℕ → Type 0
@@ -35,4 +33,4 @@ chain_actions bytes key =
 
 -- the chain as an index; it has no inner pages
 abbrev pub chain : Index
-chain = record { sound = IsSoundChain; fails = IsFirstDamagedOfChain; pairs = pairs_of_chain; level = λ bytes. 0; has_page = IsPageOfChain; actions = chain_actions }
+chain = record { sound = λ bytes. chain_check bytes None; fails = λ bytes page. chain_check bytes (Some page); pairs = pairs_of_chain; level = λ bytes. 0; has_page = IsPageOfChain; actions = chain_actions }

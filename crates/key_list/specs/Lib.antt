@@ -1,4 +1,11 @@
+pub mod Chain
+pub mod Changes
 pub mod Linked
 pub mod Index
 pub mod Located
 pub mod Checked
+-- lemmas that the laws of the index cite
+pub mod Seen
+pub mod Props
+pub mod ChainFacts
+pub mod Resting

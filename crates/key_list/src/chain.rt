@@ -1,7 +1,7 @@
-ghost use Rattle.index_pages.specs.Props.{IsSoundChain-prop};
-ghost use Rattle.index_pages.proofs.ChainFacts.{sound_chain_rises};
-ghost use Rattle.index_pages.proofs.FailingFacts.{damaged_chain_is_not_sound, one_damaged_of_chain};
-ghost use Rattle.index_pages.proofs.Resting.{sound_chain_given, sound_chain_counts, sound_chain_rests};
+ghost use Rattle.key_list.specs.Props.{IsSoundChain-prop};
+ghost use Rattle.key_list.specs.ChainFacts.{sound_chain_rises};
+ghost use Rattle.key_list.specs.Seen.{chain_excludes, chain_first};
+ghost use Rattle.key_list.specs.Resting.{sound_chain_given, sound_chain_counts, sound_chain_rests};
 ghost use Rattle.key_list.specs.Index.{chain};
 
 use crate::{checking, insertion, look};
@@ -47,7 +47,7 @@ impl KeyIndex for KeyList {
 
     ghost rests = { λ old new sound keeps. ((sound_chain_rests old new sound keeps).0, (sound_chain_rests old new sound keeps).1, λ i. 0) };
 
-    ghost excluded = { damaged_chain_is_not_sound };
+    ghost excluded = { chain_excludes };
 
-    ghost first = { one_damaged_of_chain };
+    ghost first = { chain_first };
 }

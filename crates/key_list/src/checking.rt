@@ -5,17 +5,17 @@ ghost use Rattle.record_slots.specs.Places.{next_slot};
 ghost use Rattle.page_store.specs.Index.{slots_of, index_pages_of};
 ghost use Rattle.page_store.specs.Looks.{Looks, CheckCause, is_check_failed};
 ghost use Rattle.page_store.specs.Shown.{pages_of};
-ghost use Rattle.index_pages.specs.Checked.{is_media};
 ghost use Rattle.index_pages.specs.Page.{count_said, pairs_said};
-ghost use Rattle.index_pages.specs.Written.{SaysLeaf};
-ghost use Rattle.key_list.specs.Checked.{low_of, IsHead, PairCause, PairsCause};
+ghost use Rattle.key_list.specs.Linked.{SaysLeaf};
+ghost use Rattle.index_pages.specs.Slots.{IsVerdict};
+ghost use Rattle.key_list.specs.Chain.{behind, IsChainHead, pair_check, pairs_check};
+ghost use Rattle.key_list.specs.Checked.{low_of};
 ghost use Rattle.key_list.specs.Index.{chain};
 
+use crate::page::read_leaf_head;
 use crate::place::FORM;
 use eaw_face::EawStore;
-use index_pages::{
-    LeafHead, PAGE_LEN, check_fault, check_slot, fetch_page, fetch_super, read_leaf_head, read_pair,
-};
+use index_pages::{Head, PAGE_LEN, check_fault, check_slot, fetch_page, fetch_super, read_pair};
 use page_store::{CheckFault, PageFault, Pages};
 
 const FIRST_PAGE: u32 = 1;
@@ -61,10 +61,10 @@ pub fn check<S: EawStore>(pages: &mut Pages<S>) -> Result<(), CheckFault>
 }
 
 // The head of a page of the chain. Only the first page may be without pairs, and then it is the last one too.
-fn chain_head(bytes: &[u8; PAGE_LEN], page: u32) -> Option<LeafHead>
+fn chain_head(bytes: &[u8; PAGE_LEN], page: u32) -> Option<Head>
     ensures says { IfSome result (SaysLeaf bytes.now) }
-    ensures head { IfSome result (λ head. IsHead page bytes.now) }
-    ensures other { IfNone result (¬ IsHead page bytes.now) }
+    ensures head { IfSome result (λ head. IsChainHead page bytes.now) }
+    ensures other { IfNone result (¬ IsChainHead page bytes.now) }
 {
     let head = read_leaf_head(bytes)?;
     if head.count > 0 {
@@ -93,11 +93,12 @@ fn check_pairs<S: EawStore>(
     requires most { count ≤ 30 }
     requires slots { slots ≤ slots_of (S.view pages.old.store).shape }
     requires low { low_of last ≤ 2 ^ 64 }
-    ensures looks { Looks S.tells (S.opens (S.view pages.old.store).shape) (is_media result)
+    ensures looks { Looks S.tells (S.opens (S.view pages.old.store).shape) (is_check_failed result)
         (pages_of (S.view pages.old.store) pages.old) (pages_of (S.view pages.new.store) pages.new) }
     ensures low { IfOk result (λ last. low_of last ≤ 2 ^ 64) }
     ensures cause { IsTrue S.tells → slots ≡ next_slot (S.view pages.old.store).state.bytes
-        → PairsCause (S.view pages.old.store).state.bytes page (low_of last) (pairs_said bytes.now) result }
+        → IsVerdict (pairs_check (S.view pages.old.store).state.bytes page (low_of last) (pairs_said bytes.now)) result }
+    ensures behind { IfOk result (λ key. low_of key ≡ behind (low_of last) (pairs_said bytes.now)) }
     ensures dead { IsErrOf result CheckFault.Dead → ⊥ }
 {
     let mut last = last;
@@ -122,10 +123,10 @@ fn check_pair<S: EawStore>(
 ) -> Result<(), CheckFault>
     requires alive { IsAlive (S.view pages.old.store) }
     requires slots { slots ≤ slots_of (S.view pages.old.store).shape }
-    ensures looks { Looks S.tells (S.opens (S.view pages.old.store).shape) (is_media result)
+    ensures looks { Looks S.tells (S.opens (S.view pages.old.store).shape) (is_check_failed result)
         (pages_of (S.view pages.old.store) pages.old) (pages_of (S.view pages.new.store) pages.new) }
     ensures cause { IsTrue S.tells → slots ≡ next_slot (S.view pages.old.store).state.bytes
-        → PairCause (S.view pages.old.store).state.bytes page (low_of last) pair result }
+        → IsVerdict (pair_check (S.view pages.old.store).state.bytes page (low_of last) pair) result }
     ensures dead { IsErrOf result CheckFault.Dead → ⊥ }
 {
     if !is_above(last, pair.0) {

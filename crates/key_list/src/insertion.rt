@@ -4,13 +4,13 @@ ghost use Rattle.eaw_face.specs.Causes.{IsAlive};
 ghost use Rattle.page_store.specs.Inserts.{Inserts};
 ghost use Rattle.page_store.specs.Pairs.{found};
 ghost use Rattle.page_store.specs.Shown.{pages_of, top_in};
-ghost use Rattle.index_pages.specs.Chain.{IsSoundChain, pairs_of_chain};
+ghost use Rattle.key_list.specs.Chain.{IsSoundChain, pairs_of_chain};
 ghost use Rattle.key_list.specs.Index.{chain};
 
 use crate::place::locate;
 use crate::write::{add_pair, cut_page};
 use eaw_face::EawStore;
-use index_pages::{PAIRS_MAX, index_fault, index_page_count};
+use index_pages::{PAIRS_MAX, SLOTS_IN_PAGE, index_fault, index_page_count};
 use page_store::{IndexFault, Pages};
 
 // Inserts a key that is not there. A full page is cut first.
@@ -29,7 +29,7 @@ pub fn insert<S: EawStore>(pages: &mut Pages<S>, tid: u8, key: u64) -> Result<u3
         Err(fault) => return Err(index_fault(fault)),
     };
     let slot = at.front.next_slot;
-    if slot == 8 * count {
+    if slot == SLOTS_IN_PAGE * count {
         return Err(IndexFault::SlotsFull { slots: slot });
     }
     if at.pairs.len() < PAIRS_MAX {

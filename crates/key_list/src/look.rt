@@ -6,15 +6,14 @@ ghost use Rattle.page_store.specs.Index.{slots_of, index_pages_of};
 ghost use Rattle.page_store.specs.Looks.{Looks, LookCause, is_failed};
 ghost use Rattle.page_store.specs.Pairs.{found, next};
 ghost use Rattle.page_store.specs.Shown.{pages_of};
-ghost use Rattle.index_pages.specs.Chain.{IsSoundChain, pairs_of_chain};
+ghost use Rattle.key_list.specs.Chain.{IsSoundChain, pairs_of_chain, page_of_key};
 ghost use Rattle.index_pages.specs.Fetched.{TestCause};
-ghost use Rattle.index_pages.specs.Ways.{page_of_key};
-ghost use Rattle.index_pages.specs.Written.{SaysLeaf};
-ghost use Rattle.key_list.specs.Linked.{IsLinked};
+ghost use Rattle.key_list.specs.Linked.{IsLinked, SaysLeaf};
 
+use crate::page::read_leaf_head;
 use eaw_face::EawStore;
 use index_pages::{
-    LeafHead, PAGE_LEN, fetch_page, index_page_count, next_pair, read_leaf_head, read_pair,
+    Head, PAGE_LEN, SLOTS_IN_PAGE, fetch_page, index_page_count, next_pair, read_pair,
 };
 use page_store::{PageFault, Pages};
 
@@ -25,7 +24,7 @@ pub fn read_page<S: EawStore>(
     pages: &mut Pages<S>,
     page: u32,
     bytes: &mut [u8; PAGE_LEN],
-) -> Result<LeafHead, PageFault>
+) -> Result<Head, PageFault>
     requires { page < index_pages_of (S.view pages.old.store).shape }
     ensures looks { Looks S.tells (S.opens (S.view pages.old.store).shape) (is_failed result)
         (pages_of (S.view pages.old.store) pages.old) (pages_of (S.view pages.new.store) pages.new) }
@@ -66,7 +65,7 @@ pub fn next<S: EawStore>(pages: &mut Pages<S>, from: u64) -> Result<Option<(u64,
             Err(fault) => return Err(fault),
         };
         if let Some((key, slot)) = next_pair(&bytes, head.count, from) {
-            if slot >= u64::from(8 * count) {
+            if slot >= u64::from(SLOTS_IN_PAGE * count) {
                 return Err(PageFault::Damaged { page });
             }
             return Ok(Some((key, slot as u32)));

@@ -3,7 +3,7 @@ ghost use Rattle.std.specs.Prelude.{◌≡◌, IfOk, IsErrOf, IsTrue};
 ghost use Rattle.eaw_face.specs.Causes.{IsAlive};
 ghost use Rattle.page_store.specs.Looks.{Looks, LookCause, is_failed};
 ghost use Rattle.page_store.specs.Shown.{pages_of};
-ghost use Rattle.index_pages.specs.Chain.{IsSoundChain};
+ghost use Rattle.key_list.specs.Chain.{IsSoundChain};
 ghost use Rattle.key_list.specs.Located.{IsLocated, Locates};
 
 use crate::look::{page_for, read_page};

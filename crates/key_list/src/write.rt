@@ -4,18 +4,14 @@ ghost use Rattle.eaw_face.specs.Causes.{IsAlive};
 ghost use Rattle.page_store.specs.Index.{slots_of, index_pages_of};
 ghost use Rattle.page_store.specs.Shown.{pages_of, top_in};
 ghost use Rattle.index_pages.specs.Acts.{Acts};
-ghost use Rattle.key_list.specs.Located.{IsLocated, adding_pages, adding_parts, cutting_pages, cutting_parts};
+ghost use Rattle.index_pages.specs.Adding.{adding_pages, adding_parts};
+ghost use Rattle.key_list.specs.Located.{IsLocated, cutting_pages, cutting_parts};
 
 use crate::place::Located;
 use eaw_face::EawStore;
-use index_pages::{PAGE_LEN, PagePart, act, index_page_count, place_of, write_leaf};
+use index_pages::{HALF, LeafPage, PAGE_LEN, act_all, front_part, whole_page, write_page};
 use page_store::{PageFault, Pages};
-use record_slots::{COUNTS_AT, COUNTS_LEN, SLOT_LEN, Slot, write_slot, write_super_counts};
-
-const SLOTS_IN_PAGE: u32 = 8;
-
-// How many of 30 pairs stay when a page is cut.
-const HALF: usize = 15;
+use record_slots::{COUNTS_LEN, write_super_counts};
 
 // Adds a pair of the key and the next slot to its page.
 pub fn add_pair<S: EawStore>(
@@ -38,32 +34,9 @@ pub fn add_pair<S: EawStore>(
         front,
         page,
         link,
-        mut pairs,
+        pairs,
     } = at;
-    let mut slot = [0; SLOT_LEN];
-    write_slot(&Slot::Absent { key }, &mut slot);
-    let place = place_of(pairs.as_slice(), key);
-    pairs.insert(place, (key, u64::from(front.next_slot)));
-    let mut bytes = [0; PAGE_LEN];
-    write_leaf(link, pairs.as_slice(), &mut bytes);
-    let mut counts = [0; COUNTS_LEN];
-    write_super_counts(front.next_slot + 1, front.next_page, &mut counts);
-    let slot_part = PagePart {
-        page: index_page_count(pages) + front.next_slot / SLOTS_IN_PAGE,
-        at: front.next_slot % SLOTS_IN_PAGE * 64,
-        bytes: &slot,
-    };
-    let page_part = PagePart {
-        page,
-        at: 0,
-        bytes: &bytes,
-    };
-    let front_part = PagePart {
-        page: 0,
-        at: COUNTS_AT as u32,
-        bytes: &counts,
-    };
-    act(pages, tid, &slot_part, &page_part, &front_part)
+    index_pages::add_pair(pages, tid, key, &front, LeafPage { page, link, pairs })
 }
 
 // Cuts a full page: its upper half goes to the next page.
@@ -80,25 +53,15 @@ pub fn cut_page<S: EawStore>(pages: &mut Pages<S>, tid: u8, at: &Located) -> Res
 {
     let pairs = at.pairs.as_slice();
     let mut lower = [0; PAGE_LEN];
-    write_leaf(at.front.next_page, &pairs[..HALF], &mut lower);
+    write_page(0, at.front.next_page, &pairs[..HALF], &mut lower);
     let mut upper = [0; PAGE_LEN];
-    write_leaf(at.link, &pairs[HALF..], &mut upper);
+    write_page(0, at.link, &pairs[HALF..], &mut upper);
     let mut counts = [0; COUNTS_LEN];
     write_super_counts(at.front.next_slot, at.front.next_page + 1, &mut counts);
-    let lower_part = PagePart {
-        page: at.page,
-        at: 0,
-        bytes: &lower,
-    };
-    let upper_part = PagePart {
-        page: at.front.next_page,
-        at: 0,
-        bytes: &upper,
-    };
-    let front_part = PagePart {
-        page: 0,
-        at: COUNTS_AT as u32,
-        bytes: &counts,
-    };
-    act(pages, tid, &lower_part, &upper_part, &front_part)
+    let parts = [
+        whole_page(at.page, &lower),
+        whole_page(at.front.next_page, &upper),
+        front_part(&counts),
+    ];
+    act_all(pages, tid, &parts)
 }

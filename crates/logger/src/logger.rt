@@ -74,7 +74,41 @@ impl Logger {
         media.write(self.shape.row_at(self.number, tid) + 1, &bytes[1..])
     }
 
-    /// Sets or clears the vote of the row of a transaction number.
+    /// Votes for a transaction number: byte 0 of its row becomes 0xC3.
+    pub fn vote<M: Media>(self, media: &mut M, tid: u8) -> Result<(), Failed>
+        requires size { (M.view media.old).size ≡ media_len self.shape }
+        requires tid { tid < self.shape.numbers }
+        ensures written { IsTrue M.tells → OnOk result ((M.view media.new).content ≡
+            written (row_at self.shape self.number tid) (0xC3 ∷ []) (M.view media.old).content) }
+        ensures row { IsTrue M.tells → OnOk result (
+            row_of self.shape (M.view media.new).content.bytes self.number tid ≡
+            (let row = row_of self.shape (M.view media.old).content.bytes self.number tid in
+            record row { voted = true })) }
+        ensures costs { Costs true 1 (M.view media.old).moment (M.view media.new).moment result }
+        ensures does { Writes M.tells ((row_at self.shape self.number tid, 1) ∷ [])
+            (M.view media.old) (M.view media.new) result }
+    {
+        self.set_vote(media, tid, true)
+    }
+
+    /// Takes a vote back: byte 0 of the row of a transaction number becomes 0.
+    pub fn unvote<M: Media>(self, media: &mut M, tid: u8) -> Result<(), Failed>
+        requires size { (M.view media.old).size ≡ media_len self.shape }
+        requires tid { tid < self.shape.numbers }
+        ensures written { IsTrue M.tells → OnOk result ((M.view media.new).content ≡
+            written (row_at self.shape self.number tid) (0 ∷ []) (M.view media.old).content) }
+        ensures row { IsTrue M.tells → OnOk result (
+            row_of self.shape (M.view media.new).content.bytes self.number tid ≡
+            (let row = row_of self.shape (M.view media.old).content.bytes self.number tid in
+            record row { voted = false })) }
+        ensures costs { Costs true 1 (M.view media.old).moment (M.view media.new).moment result }
+        ensures does { Writes M.tells ((row_at self.shape self.number tid, 1) ∷ [])
+            (M.view media.old) (M.view media.new) result }
+    {
+        self.set_vote(media, tid, false)
+    }
+
+    /// Votes or takes a vote back.
     pub fn set_vote<M: Media>(self, media: &mut M, tid: u8, voted: bool) -> Result<(), Failed>
         requires size { (M.view media.old).size ≡ media_len self.shape }
         requires tid { tid < self.shape.numbers }
@@ -326,8 +360,8 @@ impl Logger {
         )
     }
 
-    // Whether the range that this head says lies in one page of this logger.
-    fn has_part(self, head: Head) -> bool
+    /// Whether the range that this head says lies in one page of this logger.
+    pub fn has_part(self, head: Head) -> bool
         ensures { IsTrue result ↔ IsOwned self.shape self.number head.addr head.len }
     {
         let data_len = self.shape.data_len();

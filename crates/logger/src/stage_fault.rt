@@ -12,7 +12,7 @@ pub enum StageFault {
     #[error("{held} cells are held and {needed} more needed")]
     Full { held: u16, needed: u16 },
     /// The medium failed.
-    #[error("media fault")]
+    #[error("the medium failed")]
     Media,
 }
 

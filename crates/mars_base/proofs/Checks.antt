@@ -35,3 +35,19 @@ unless_single false check s = s
 pub each_single : {A Bad : Type 0} (check : A → Check Bad) (xs : List A) → ((x : A) → IsSingle (check x)) → IsSingle (each check xs)
 each_single check [] s = pass_single
 each_single check (x ∷ xs) s = both_single (check x) (each check xs) (s x) (each_single check xs s)
+
+-- with at most one verdict none is bad only where nothing is told
+pub excludes : {Bad : Type 0} (check : Check Bad) → IsSingle check → (bad : Bad) → check (Some bad) → check None → ⊥
+excludes check single bad fails passes = some_is_none bad (single (Some bad) None fails passes)
+
+-- and one thing is told
+pub one_bad : {Bad : Type 0} (check : Check Bad) → IsSingle check → (bad other : Bad) → check (Some bad) → check (Some other) → bad ≡ other
+one_bad check single bad other fails fails' = let e = single (Some bad) (Some other) fails fails' in cc
+
+-- what comes after a check that passes decides
+pub both_on : {Bad : Type 0} (one other : Check Bad) → one None → (verdict : Option Bad) → other verdict → both one other verdict
+both_on one other passes None rest = (passes, rest)
+both_on one other passes (Some bad) rest = inr (passes, rest)
+
+pub each_on : {A Bad : Type 0} (check : A → Check Bad) (x : A) (xs : List A) → check x None → (verdict : Option Bad) → each check xs verdict → each check (x ∷ xs) verdict
+each_on check x xs passes verdict rest = both_on (check x) (each check xs) passes verdict rest

@@ -2,6 +2,7 @@
 use Rattle.std.proofs.Common.{◌≡◌, ◌<◌, ◌+◌, ◌⊎◌, ℕ, inl, inr, Bool, true, false, nat_eq, List, [], ◌∷◌, ◌++◌, length, IsTrue, Option, Some, None, unwrap_or, Result, Ok, Err, refl, sym, ap, subst, ◌∙◌}
 use Rattle.std.specs.Option.{option_to_list}
 use Rattle.std.specs.Map.{update}
+use Rattle.std.proofs.lemmas.List.{append-nil}
 use Rattle.std.proofs.lemmas.Map.{update_here, update_apart}
 use Rattle.std.proofs.lemmas.Bool.{false≢true}
 use Rattle.mars_base.proofs.Going.{weaker}
@@ -12,7 +13,7 @@ use Rattle.page_store.specs.Index as below
 use Rattle.page_store.specs.Shown.{PagesView}
 use Rattle.history.specs.Writes.{Table, Write, all_written}
 use Rattle.history.specs.Table.{Granted, IsRight}
-use Rattle.history.specs.Legal.{records, with_doubt}
+use Rattle.history.specs.Legal.{records}
 use Rattle.history.specs.Log.{log_of}
 use Rattle.history.specs.declared.call.Call.TheVariants.{Commit, Abort}
 use Rattle.history.specs.declared.call.Reply.TheVariants.{Fine, Committed, NoMemory}
@@ -117,7 +118,7 @@ module _ (tells : Bool) (Opens : Shape → List ℕ → List ℕ → Type 0) (in
           left_after : State → Done → Table
           left_after s d = records (records_of s) (d ∷ [])
 
-      time_commit : with_doubt new.history new.doubt ≡ s.history ++ done ∷ [] → LeavesOnly (HasPrefixOf (OpensWith (Opens q.store.shape) index) new (length s.history)) p.store q.store
+      time_commit : new.history ++ new.doubt ≡ s.history ++ done ∷ [] → LeavesOnly (HasPrefixOf (OpensWith (Opens q.store.shape) index) new (length s.history)) p.store q.store
       time_commit list = weaker go (does.time told alive)
         where
           opened : (image : List ℕ) (C : Table) → OpensWith (Opens p.store.shape) index image C → OpensWith (Opens q.store.shape) index image C
@@ -125,12 +126,12 @@ module _ (tells : Bool) (Opens : Shape → List ℕ → List ℕ → Type 0) (in
 
           turned : (image : List ℕ) → HasPrefix (OpensWith (Opens q.store.shape) index) s.base (s.history ++ done ∷ []) (length s.history) image
               → HasPrefixOf (OpensWith (Opens q.store.shape) index) new (length s.history) image
-          turned image has = subst (λ (b : Table). HasPrefix (OpensWith (Opens q.store.shape) index) b (with_doubt new.history new.doubt) (length s.history) image) (sym base)
+          turned image has = subst (λ (b : Table). HasPrefix (OpensWith (Opens q.store.shape) index) b (new.history ++ new.doubt) (length s.history) image) (sym base)
               (subst (λ (hs : List Done). HasPrefix (OpensWith (Opens q.store.shape) index) s.base hs (length s.history) image) (sym list) has)
 
           go : (image : List ℕ) → OpensWith (Opens p.store.shape) index image (state_of index p).table ⊎ OpensWith (Opens p.store.shape) index image (after (commit t) (state_of index p)).table
               → HasPrefixOf (OpensWith (Opens q.store.shape) index) new (length s.history) image
-          go image (inl o) = turned image (prefix_all (OpensWith (Opens q.store.shape) index) image s.base s.history (Some done)
+          go image (inl o) = turned image (prefix_all (OpensWith (Opens q.store.shape) index) image s.base s.history (done ∷ [])
               (subst (λ (table : Table). OpensWith (Opens q.store.shape) index image table) tied.mirrors.table (opened image (state_of index p).table o)))
           go image (inr o) = turned image (prefix_more (OpensWith (Opens q.store.shape) index) image s.base s.history done
               (subst (λ (table : Table). OpensWith (Opens q.store.shape) index image table) seen_left (opened image (after (commit t) (state_of index p)).table o)))
@@ -169,8 +170,8 @@ module _ (tells : Bool) (Opens : Shape → List ℕ → List ℕ → Type 0) (in
       safe_new : IsSafe (core_over Opens index q.store new) q.store.moment (length new.history)
       safe_new = safe_alive tells Opens index q new_laws new told living tied_new
 
-      no_doubt : with_doubt new.history new.doubt ≡ s.history ++ done ∷ []
-      no_doubt = ap (with_doubt new.history) (doubt ∙ (kept.tied told alive).sound.certain living_state) ∙ history
+      no_doubt : new.history ++ new.doubt ≡ s.history ++ done ∷ []
+      no_doubt = ap (λ (ds : List Done). new.history ++ ds) (doubt ∙ (kept.tied told alive).sound.certain living_state) ∙ append-nil new.history ∙ history
 
     pub committed_keeps : IsKept tells Opens index q count' rows new
     committed_keeps = record { seats = same_count ∙ kept.seats ∙ sym (ap (λ (h : Shape). h.numbers) does.shape); in_order = kept.in_order; tied = λ told _. tied_new told; safe = safe_new }
@@ -189,7 +190,7 @@ module _ (tells : Bool) (Opens : Shape → List ℕ → List ℕ → Type 0) (in
 
   -- the medium failed in the commit
   module _ (done : Done) (done_is : done ≡ done_by s t calls) (does : (let r : Result (Unit {0}) TableFault = Err fault.Media in Does tells (Opens p.store.shape) index (commit t) p q r))
-      (live : new.live ≡ update nat_eq s.live t None) (history : new.history ≡ s.history) (doubt : new.doubt ≡ Some done)
+      (live : new.live ≡ update nat_eq s.live t None) (history : new.history ≡ s.history) (doubt : new.doubt ≡ done ∷ [])
       (due : IsTrue tells → 0 < length ((state_of index p).writes t)) where
     wrote : IsTrue tells → 0 < length (log_of calls).writes
     wrote told = subst (λ (ws : List Write). 0 < length ws) ((kept.tied told alive).mirrors.writes t ∙ ap (λ (cs : Granted). (log_of cs).writes) at) (due told)
@@ -197,15 +198,15 @@ module _ (tells : Bool) (Opens : Shape → List ℕ → List ℕ → Type 0) (in
     died : new.is_dead ≡ true
     died = shows_new.dead ∙ (does.dies refl).0
 
-    doubtful : with_doubt new.history new.doubt ≡ s.history ++ done ∷ []
-    doubtful = λ i. with_doubt (history i) (doubt i)
+    doubtful : new.history ++ new.doubt ≡ s.history ++ done ∷ []
+    doubtful = λ i. history i ++ doubt i
 
     step_doubt : IsTrue tells → Step (limits_of p.store.shape) s t Commit reply.Media new
     step_doubt told = step_of (limits_of p.store.shape) (Some calls) s new t Commit reply.Media living_state is (inr (inr (
       wrote told,
       refl,
       new.index,
-      λ i. record { base = base i; history = history i; live = live i; doubt = (doubt ∙ ap (λ (d : Done). Some d) done_is) i; is_dead = died i; index = new.index },
+      λ i. record { base = base i; history = history i; live = live i; doubt = (doubt ∙ ap (λ (d : Done). d ∷ []) done_is) i; is_dead = died i; index = new.index },
     )))
 
     time_doubt : IsTrue tells → LeavesOnly (HasPrefixOf (OpensWith (Opens q.store.shape) index) new (length s.history)) p.store q.store

@@ -88,9 +88,9 @@ no_log new idle t = ap (λ (o : Option Granted). unwrap_or o []) (idle t)
 module _ (tells : Bool) (Opens : Shape → List ℕ → List ℕ → Type 0) (index : below.Index) (p q : PagesView) (new_laws : StoreLaws tells Opens q.store) (rises : index.sound p.store.state.bytes → Rise 0 (2 ^ 64) (index.pairs p.store.state.bytes))
     (alive : IsAlive p.store) (sound : IsTrue tells → index.sound p.store.state.bytes) (idle : IsTrue tells → (t : ℕ) → (state_of index p).writes t ≡ []) (unsaved : IsTrue tells → (t : ℕ) → (state_of index p).saved t ≡ [])
     (looks : LooksAs tells (Opens p.store.shape) 0 false p q) (same : IsTrue tells → state_of index q ≡ state_of index p) (rows : List (ℕ × List ℕ)) (scanned : IsTrue tells → rows ≡ rows_within 0 (2 ^ 64 - 1) (seen_by (state_of index p) 0))
-    (seats : Seats) (count : length seats ≡ p.store.shape.numbers) (none : (t : ℕ) → live_in seats t ≡ None) (history : List Done) (empty : history ≡ []) where
+    (seats : Seats) (count : length seats ≡ p.store.shape.numbers) (none : (t : ℕ) → live_in seats t ≡ None) (history : List Done) (empty : history ≡ []) (doubt : List Done) (sure : doubt ≡ []) where
   new : State
-  new = state_at index q.store (table_of rows) history (live_in seats) None
+  new = state_at index q.store (table_of rows) history (live_in seats) doubt
 
   lives : IsAlive q.store
   lives = (looks.same refl).still.dead ∙ alive
@@ -118,17 +118,17 @@ module _ (tells : Bool) (Opens : Shape → List ℕ → List ℕ → Type 0) (in
     sound_new = subst index.sound (sym bytes_same) (sound told)
 
     -- its state is that of a core that was just opened
-    opened_is : state_at index q.store (table_of rows) history (live_in seats) None ≡ opened (shown.table_of index p.store.state.bytes) (index_of (keys_of index p.store.state.bytes))
-    opened_is = λ i. record { base = table_is i; history = empty i; live = λ t. none t i; doubt = None; is_dead = lives i; index = index_of (keys_of index (bytes_same i)) }
+    opened_is : state_at index q.store (table_of rows) history (live_in seats) doubt ≡ opened (shown.table_of index p.store.state.bytes) (index_of (keys_of index p.store.state.bytes))
+    opened_is = λ i. record { base = table_is i; history = empty i; live = λ t. none t i; doubt = sure i; is_dead = lives i; index = index_of (keys_of index (bytes_same i)) }
 
-    mirrors : Mirrors (state_of index q) (state_at index q.store (table_of rows) history (live_in seats) None)
+    mirrors : Mirrors (state_of index q) (state_at index q.store (table_of rows) history (live_in seats) doubt)
     mirrors = subst (λ (s : State). Mirrors (state_of index q) s) (sym opened_is) (record {
       table = ap (λ (b : TableState). b.table) (same told);
       writes = λ t. ap (λ (b : TableState). b.writes t) (same told) ∙ idle told t;
       saved = λ t. ap (λ (b : TableState). b.saved t) (same told) ∙ unsaved told t;
     })
 
-    tied_new : IsTied index q (state_at index q.store (table_of rows) history (live_in seats) None)
+    tied_new : IsTied index q (state_at index q.store (table_of rows) history (live_in seats) doubt)
     tied_new = record {
       index_sound = sound_new;
       mirrors = mirrors;
@@ -136,15 +136,15 @@ module _ (tells : Bool) (Opens : Shape → List ℕ → List ℕ → Type 0) (in
       room = subst (HasHeld (limits_of q.store.shape)) (sym opened_is) (λ caller g. omega arith);
     }
 
-  pub opened_keeps : IsKept tells Opens index q (length seats) rows (state_at index q.store (table_of rows) history (live_in seats) None)
+  pub opened_keeps : IsKept tells Opens index q (length seats) rows (state_at index q.store (table_of rows) history (live_in seats) doubt)
   opened_keeps = record {
     seats = count ∙ sym (ap (λ (h : Shape). h.numbers) looks.shape);
     in_order = λ told. base_rows (shown.table_of index p.store.state.bytes) (above told) rows (rows_is told);
     tied = λ told _. tied_new told;
-    safe = λ told. safe_alive tells Opens index q new_laws (state_at index q.store (table_of rows) history (live_in seats) None) told lives (tied_new told);
+    safe = λ told. safe_alive tells Opens index q new_laws (state_at index q.store (table_of rows) history (live_in seats) doubt) told lives (tied_new told);
   }
 
-  pub opened_begins : Begins tells (Opens p.store.shape) index p.store q.store (core_over Opens index q.store (state_at index q.store (table_of rows) history (live_in seats) None))
+  pub opened_begins : Begins tells (Opens p.store.shape) index p.store q.store (core_over Opens index q.store (state_at index q.store (table_of rows) history (live_in seats) doubt))
   opened_begins = record {
     over = record {
       limits = refl;
@@ -161,7 +161,7 @@ module _ (tells : Bool) (Opens : Shape → List ℕ → List ℕ → Type 0) (in
     faults = (looks.same refl).still.faults;
     shape = looks.shape;
     state = opened_is;
-    fresh = (empty, none, refl);
+    fresh = (empty, none, sure);
     sound = sound;
     time = λ told. looks.time told alive;
   }

@@ -1,5 +1,5 @@
 -- What a loss of power leaves of a core, and what holds of its data.
-use Rattle.std.proofs.Common.{◌≡◌, ◌≤◌, ◌+◌, ◌⊎◌, ℕ, inl, inr, Bool, List, [], ◌∷◌, ◌++◌, length, take, IsTrue, Option, Some, None, refl, sym, ap, subst, ◌∙◌, arith}
+use Rattle.std.proofs.Common.{◌≡◌, ◌≤◌, ◌+◌, ◌⊎◌, ℕ, inl, inr, Bool, List, [], ◌∷◌, ◌++◌, length, take, IsTrue, refl, sym, ap, subst, ◌∙◌, arith}
 use Rattle.array_shape.specs.declared.shape.Shape.{Shape}
 use Rattle.array_shape.specs.Places.{data_len}
 use Rattle.eaw_face.specs.StoreView.{StoreView, LeavesOnly, LeavesSome}
@@ -7,7 +7,7 @@ use Rattle.eaw_face.specs.Causes.{IsAlive}
 use Rattle.page_store.specs.Index.{Index}
 use Rattle.page_store.specs.Shown.{PagesView}
 use Rattle.history.specs.Writes.{Table}
-use Rattle.history.specs.Legal.{records, with_doubt}
+use Rattle.history.specs.Legal.{records}
 use Rattle.history.specs.declared.transaction.Done.{Done}
 use Rattle.record_table.specs.Does.{OpensWith}
 use Rattle.record_table.specs.Shown.{table_of}
@@ -40,22 +40,14 @@ take_all : {A : Type 0} (xs : List A) → take (length xs) xs ≡ xs
 take_all [] = refl
 take_all (x ∷ xs) = ap (λ zs. x ∷ zs) (take_all xs)
 
-first_are : (history : List Done) (doubt : Option Done) → take (length history) (with_doubt history doubt) ≡ history
-first_are history None = take_all history
-first_are history (Some done) = take_front history (done ∷ [])
-
-no_more : (history : List Done) (doubt : Option Done) → length history ≤ length (with_doubt history doubt)
-no_more history None = omega arith
-no_more history (Some done) = longer history (done ∷ [])
-
 module _ (Op : List ℕ → Table → Type 0) (image : List ℕ) where
-  -- the whole history is a prefix, whichever transaction is in doubt
-  pub prefix_all : (base : Table) (history : List Done) (doubt : Option Done) → Op image (records base history) → HasPrefix Op base (with_doubt history doubt) (length history) image
+  -- the whole history is a prefix, whatever is in doubt
+  pub prefix_all : (base : Table) (history doubt : List Done) → Op image (records base history) → HasPrefix Op base (history ++ doubt) (length history) image
   prefix_all base history doubt opens = record {
     count = length history;
     at_least = omega arith;
-    at_most = no_more history doubt;
-    opens = subst (λ (hs : List Done). Op image (records base hs)) (sym (first_are history doubt)) opens;
+    at_most = longer history doubt;
+    opens = subst (λ (hs : List Done). Op image (records base hs)) (sym (take_front history doubt)) opens;
   }
 
   -- with one more transaction, in doubt or not
@@ -92,17 +84,17 @@ module _ (tells : Bool) (Opens : Shape → List ℕ → List ℕ → Type 0) (in
       → LeavesOnly (HasPrefixOf (OpensWith (Opens q.store.shape) index) new (length s.history)) p.store q.store
       → IsSafe (core_over Opens index q.store new) q.store.moment (length new.history)
   safe_dead s new table base history time image left =
-      subst (λ (hs : List Done). HasPrefix (OpensWith (Opens q.store.shape) index) new.base (with_doubt new.history new.doubt) (length hs) image) (sym history)
+      subst (λ (hs : List Done). HasPrefix (OpensWith (Opens q.store.shape) index) new.base (new.history ++ new.doubt) (length hs) image) (sym history)
       (go (time.only p.store.moment image (omega arith) (new_laws.counts told p.store.moment image time.later left)))
     where
       shows : table_of index p.store.state.bytes ≡ records new.base new.history
       shows = table ∙ (λ i. records (sym base i) (sym history i))
 
       go : (p.store.left_since p.store.moment image) ⊎ HasPrefixOf (OpensWith (Opens q.store.shape) index) new (length s.history) image
-          → HasPrefix (OpensWith (Opens q.store.shape) index) new.base (with_doubt new.history new.doubt) (length s.history) image
+          → HasPrefix (OpensWith (Opens q.store.shape) index) new.base (new.history ++ new.doubt) (length s.history) image
       go (inl past) =
           let opened = subst (λ (h : Shape). Opens h image p.store.state.bytes) (sym shape) (old_laws.only told alive image past) in
-          subst (λ (hs : List Done). HasPrefix (OpensWith (Opens q.store.shape) index) new.base (with_doubt new.history new.doubt) (length hs) image) history
+          subst (λ (hs : List Done). HasPrefix (OpensWith (Opens q.store.shape) index) new.base (new.history ++ new.doubt) (length hs) image) history
           (prefix_all (OpensWith (Opens q.store.shape) index) image new.base new.history new.doubt (record { bytes = p.store.state.bytes; opened = opened; sound = sound; shows = shows }))
       go (inr has) = has
 

@@ -7,10 +7,11 @@ use Rattle.std.proofs.lemmas.Bool.Decides.{eqb_tells}
 use Rattle.std.proofs.lemmas.Option.{slice_get-get_or}
 use Rattle.std.proofs.lemmas.List.{set-get_or}
 use Rattle.std.specs.Map.{update}
-use Rattle.std.proofs.lemmas.Bool.{cases_eq, cases_lt}
+use Rattle.std.proofs.lemmas.Bool.{cases_eq, cases_lt, both_ways}
 use Rattle.history.specs.Table.{Granted}
-use Rattle.history.specs.Locks.{touched}
+use Rattle.history.specs.Locks.{touches, clash, Meets}
 use Rattle.history.specs.declared.call.Call.{Call}
+use Rattle.history.proofs.Modes.{clash_none}
 use Rattle.caller_steps.specs.Locked.{Blocks}
 use Rattle.mars_core.specs.Masks.{mask_of, IsMaskOf}
 use Rattle.mars_core.specs.Seats.{Seats, live_in, calls_at, bare, Seated}
@@ -95,7 +96,7 @@ module _ (seats : Seats) (caller : ℕ) (call : Call) where
   pub free_apart : (n mask : ℕ) → ((holder : ℕ) → holder < n → Blocks (bare seats) caller call holder → ⊥) → IsMaskOf (calls_at seats n) mask → bit_and mask (mask_of call) ≡ 0
       → (holder : ℕ) → holder < n + 1 → Blocks (bare seats) caller call holder → ⊥
   free_apart n mask before is none holder lt blocks = elim (cases_eq holder n) [
-    | inl e ↦ masks_apart (calls_at seats n) mask call is none blocks.1 blocks.2 (subst (λ (h : ℕ). touched (calls_at seats h) blocks.1 ≡ true) e blocks.3)
+    | inl e ↦ masks_apart (calls_at seats n) mask call is none (subst (λ (h : ℕ). Meets call (calls_at seats h)) e blocks.1)
     | inr ne ↦ before holder (omega (arith, lt, ne)) blocks
   ]
 
@@ -103,5 +104,6 @@ module _ (seats : Seats) (caller : ℕ) (call : Call) where
   pub free_all : (n : ℕ) → length seats ≤ n → ((holder : ℕ) → holder < n → Blocks (bare seats) caller call holder → ⊥) → (holder : ℕ) → Blocks (bare seats) caller call holder → ⊥
   free_all n all before holder blocks = elim (cases_lt holder n) [
     | inl lt ↦ before holder lt blocks
-    | inr le ↦ (let nothing : false ≡ true = subst (λ (o : Option Granted). touched (unwrap_or o []) blocks.1 ≡ true) (none_beyond seats holder (omega (arith, all, le))) blocks.3 in absurd (cc))
+    | inr le ↦ (let nothing : Meets call [] = subst (λ (o : Option Granted). Meets call (unwrap_or o [])) (none_beyond seats holder (omega (arith, all, le))) blocks.1 in
+        absurd (both_ways (clash (touches call nothing.0) None) (clash_none (touches call nothing.0)) nothing.1))
   ]

@@ -10,7 +10,7 @@ use Rattle.eaw_face.specs.Causes.{IsAlive}
 use Rattle.page_store.specs.Index as below
 use Rattle.page_store.specs.Shown.{PagesView}
 use Rattle.history.specs.Table.{Granted, has_save}
-use Rattle.history.specs.Locks.{touched}
+use Rattle.history.specs.Locks.{Meets}
 use Rattle.history.specs.Log.{log_of}
 use Rattle.history.specs.declared.call.Call.{Call}
 use Rattle.history.specs.declared.call.Call.TheVariants.{Begin, Get, Put, Del, Scan, Save, Back, Commit, Abort}
@@ -73,10 +73,10 @@ module _ (live : ℕ → Option Granted) (t : ℕ) where
 -- Which callers hold the keys of a call does not depend on what its own caller touched.
 module _ (s mid : State) (t : ℕ) (x : Option Granted) (live : mid.live ≡ update nat_eq s.live t x) (call : Call) where
   blocks_to : (holder : ℕ) → Blocks mid t call holder → Blocks s t call holder
-  blocks_to holder (ne, stripe, own, at) = (ne, stripe, own, subst (λ (cs : Granted). touched cs stripe ≡ true) (calls_there s mid t x live holder ne) at)
+  blocks_to holder (ne, meets) = (ne, subst (λ (cs : Granted). Meets call cs) (calls_there s mid t x live holder ne) meets)
 
   blocks_from : (holder : ℕ) → Blocks s t call holder → Blocks mid t call holder
-  blocks_from holder (ne, stripe, own, at) = (ne, stripe, own, subst (λ (cs : Granted). touched cs stripe ≡ true) (sym (calls_there s mid t x live holder ne)) at)
+  blocks_from holder (ne, meets) = (ne, subst (λ (cs : Granted). Meets call cs) (sym (calls_there s mid t x live holder ne)) meets)
 
   pub free_before : IsFree mid t call → IsFree s t call
   free_before free holder blocks = free holder (blocks_from holder blocks)

@@ -14,7 +14,7 @@ use Rattle.page_store.specs.Index as below
 use Rattle.page_store.specs.Shown.{PagesView}
 use Rattle.history.specs.Writes.{Table, Write}
 use Rattle.history.specs.Table.{Granted, IsRight, has_save, removed}
-use Rattle.history.specs.Legal.{records, with_doubt}
+use Rattle.history.specs.Legal.{records}
 use Rattle.history.specs.Log.{log_of}
 use Rattle.history.specs.declared.call.Call.{Call}
 use Rattle.history.specs.declared.call.Call.TheVariants.{Begin, Get, Put, Del, Scan, Save, Back, Commit, Abort}
@@ -153,7 +153,7 @@ module _ (tells : Bool) (Opens : Shape → List ℕ → List ℕ → Type 0) (in
       opened image C c o =
           let here = subst (λ (h : Shape). OpensWith (Opens h) index image C) (sym shape) o in
           let shows = subst (λ (table : Table). OpensWith (Opens q.store.shape) index image table) (c ∙ (λ i. records (sym base i) (sym history i))) here in
-          subst (λ (hs : List Done). HasPrefix (OpensWith (Opens q.store.shape) index) new.base (with_doubt new.history new.doubt) (length hs) image) history
+          subst (λ (hs : List Done). HasPrefix (OpensWith (Opens q.store.shape) index) new.base (new.history ++ new.doubt) (length hs) image) history
           (prefix_all (OpensWith (Opens q.store.shape) index) image new.base new.history new.doubt shows)
 
       go : (image : List ℕ) → OpensWith (Opens p.store.shape) index image A ⊎ OpensWith (Opens p.store.shape) index image B → HasPrefixOf (OpensWith (Opens q.store.shape) index) new (length s.history) image

@@ -16,16 +16,16 @@ use Rattle.mars_core.specs.Over.{limits_of, index_of}
 use Rattle.mars_core.specs.Seats.{Seats, live_in}
 
 -- The records over a store, the rows of the records at the opening, the callers' live transactions, the transactions committed since, and
--- the one in doubt.
+-- those in doubt.
 pub record Held (S : Type 0) : Type 0 where
   pub records : Shown S
   pub base : List (ℕ × List ℕ)
   pub seats : Seats
   pub history : List Done
-  pub doubt : Option Done
+  pub doubt : List Done
 
--- the state with these records at the opening, transactions committed since, live ones and one in doubt, over what a store shows
-abbrev pub state_at : Index → StoreView → Table → List Done → (ℕ → Option Granted) → Option Done → State
+-- the state with these records at the opening, transactions committed since, live ones and ones in doubt, over what a store shows
+abbrev pub state_at : Index → StoreView → Table → List Done → (ℕ → Option Granted) → List Done → State
 state_at index store base history live doubt = record {
   base = base;
   history = history;

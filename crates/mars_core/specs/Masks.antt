@@ -1,5 +1,5 @@
 -- Sets of stripes as the bits of a number.
-use Rattle.std.specs.Prelude.{ℕ, ◌≡◌, ◌^◌, ◌-◌, if◌then◌else◌}
+use Rattle.std.specs.Prelude.{ℕ, ◌≡◌, ◌^◌, ◌-◌, if◌then◌else◌, is_some}
 use Rattle.std.specs.Int.{bit_at}
 use Rattle.history.specs.Table.{Granted}
 use Rattle.history.specs.Locks.{stripe_of, touched}
@@ -16,4 +16,4 @@ mask_of _ = 0
 
 -- each stripe's bit says whether the calls touched it
 abbrev pub IsMaskOf : Granted → ℕ → Type 0
-IsMaskOf calls mask = (stripe : ℕ) → bit_at mask stripe ≡ (if touched calls stripe then 1 else 0)
+IsMaskOf calls mask = (stripe : ℕ) → bit_at mask stripe ≡ (if is_some (touched calls stripe) then 1 else 0)

@@ -40,6 +40,6 @@ pub record Begins (tells : Bool) (Opens : List ℕ → List ℕ → Type 0) (ind
   pub faults : new.faults ≡ old.faults
   pub shape : new.shape ≡ old.shape
   pub state : IsTrue tells → core.state ≡ opened (table_of index old.state.bytes) (index_of (keys_of index old.state.bytes))
-  pub fresh : (core.state.history ≡ []) × ((caller : ℕ) → core.state.live caller ≡ None) × (core.state.doubt ≡ None)
+  pub fresh : (core.state.history ≡ []) × ((caller : ℕ) → core.state.live caller ≡ None) × (core.state.doubt ≡ [])
   pub sound : IsTrue tells → index.sound old.state.bytes
   pub time : IsTrue tells → LeavesOnly (λ image. Opens image old.state.bytes) old new

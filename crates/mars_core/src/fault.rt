@@ -7,7 +7,7 @@ pub enum CoreFault {
     #[error("page {page} is damaged")]
     Damaged { page: u32 },
     /// The medium failed in this call.
-    #[error("the media failed")]
+    #[error("the medium failed")]
     Media,
     #[error("no memory")]
     NoMemory,

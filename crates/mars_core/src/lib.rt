@@ -2,6 +2,7 @@
 #![tactic(auto)]
 
 mod asking;
+mod doubt;
 mod fault;
 mod live;
 mod masks;

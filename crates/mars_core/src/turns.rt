@@ -1,5 +1,5 @@
 // Callers by turns over records.
-ghost use Rattle.std.specs.Prelude.{◌≡◌, ◌<◌, [], ℕ, Some, None, IfOk, IfErr, MatchOption, IsTrue, is_some, length};
+ghost use Rattle.std.specs.Prelude.{◌≡◌, ◌<◌, ◌≤◌, [], ℕ, IfOk, IfErr, IsTrue, is_some, length};
 ghost use Rattle.std.specs.FinMap.{entries};
 ghost use Rattle.eaw_face.specs.Causes.{IsAlive};
 ghost use Rattle.eaw_face.specs.State.{listed};
@@ -16,6 +16,7 @@ ghost use Rattle.mars_core.specs.Seats.{live_in};
 ghost use Rattle.mars_core.specs.Works.{IsOfTable, IsShown};
 
 use crate::asking::{Answer, refused_save, work};
+use crate::doubt::Doubt;
 use crate::fault::CoreFault;
 use crate::live::Live;
 use crate::replies::reply_to;
@@ -37,8 +38,8 @@ pub struct Core<S: EawStore, K: KeyIndex> {
     base: Rows,
     seats: Seats,
     history: History,
-    /// The transaction whose commit met a fault of the medium. It may be durable or not.
-    doubt: Option<Done>,
+    /// The transactions whose commit met a fault of the medium. They may be durable or not.
+    doubt: Doubt,
 }
 
 impl<S: EawStore, K: KeyIndex> Model for Core<S, K> {
@@ -88,14 +89,12 @@ impl<S: EawStore, K: KeyIndex> Core<S, K> {
         &self.base
     }
 
-    /// The transaction whose commit met a fault of the medium.
-    pub fn doubt(&self) -> Option<&Done>
-        ensures { MatchOption result (self.now.doubt ≡ None) (λ done. self.now.doubt ≡ Some done.now) }
+    /// The transactions whose commit met a fault of the medium: at most one.
+    pub fn doubt(&self) -> &[Done]
+        ensures all { result.now ≡ self.now.doubt }
+        ensures few { length result.now ≤ 1 }
     {
-        match &self.doubt {
-            Some(done) => Some(done),
-            None => None,
-        }
+        self.doubt.as_slice()
     }
 
     /// Whether the caller has a live transaction.
@@ -190,7 +189,7 @@ impl<S: EawStore, K: KeyIndex> Core<S, K> {
         if !self.seats.is_live(caller) {
             return Reply::NoTransaction;
         }
-        let at = self.history.items().len() as u64 + 1;
+        let at = self.history.as_slice().len() as u64 + 1;
         let Some(live) = self.seats.take(caller) else {
             unreachable!();
         };
@@ -202,15 +201,15 @@ impl<S: EawStore, K: KeyIndex> Core<S, K> {
             at,
         }) {
             Ok(()) => {}
-            Err(done) => {
-                self.seats.put(caller, Live::of(done.calls, mask));
+            Err(failed) => {
+                self.seats.put(caller, Live::of(failed.value.calls, mask));
                 return Reply::NoMemory;
             }
         }
         match self.records.commit(caller) {
             Ok(()) => Reply::Committed(at),
             Err(fault) => {
-                self.doubt = self.history.pop();
+                self.doubt = Doubt::holding(self.history.pop());
                 reply_to(&fault)
             }
         }
@@ -293,7 +292,7 @@ fn begin_over<S: EawStore, K: KeyIndex>(
         base,
         seats,
         history: History::new(alloc),
-        doubt: None,
+        doubt: Doubt::none(),
     })
 }
 

@@ -17,13 +17,13 @@ use Rattle.caller_steps.specs.Own.{live_by}
 use Rattle.caller_steps.proofs.Continuing.{grows_on, after_grows}
 use Rattle.caller_steps.proofs.Running.{own_commits, last_here, turn_run, turn_told, turn_grows, turn_commits}
 use Rattle.caller_steps.proofs.Owning.{number_of_commit, turns_live}
-use Rattle.atomic_table.specs.Table.{Me, rest}
+use Rattle.atomic_table.specs.Table.{rest}
 use Rattle.mars_manager.specs.declared.view.Known.{Known}
 use Rattle.mars_manager.specs.declared.view.View.{View}
 use Rattle.mars_manager.specs.declared.setup.Setup.{Setup}
 use Rattle.mars_manager.specs.Pass.{Fits, AllFit, finds, told_of}
 use Rattle.mars_manager.specs.Sharing.{CanShare, Since, Called, IsLegalIn, done_of, mine_of, HasCommitted, Commits}
-use Rattle.mars_manager.specs.Seat.{shared_view}
+use Rattle.mars_manager.specs.Seat.{SeatOf, shared_view}
 use Rattle.mars_manager.specs.Rule.{Face, shown, Took, Told}
 use Rattle.mars_manager.proofs.Past.{since_step}
 use Rattle.mars_manager.proofs.Turns.{out, top_of, some_same, found_fit, Moved}
@@ -129,11 +129,8 @@ module _ {C : Type 0} (f : Face C) where
       pub commits : Commits f.tells k reply (shown f call reply turns new k)
       commits = commits_at (is_committed reply) refl
 
-  abbrev Sat : Type 0
-  Sat = Me (Option C) (View C)
-
   -- what a turn leaves in a seat
-  pub record Made (was : Known C) (call : Call) (reply : Reply) (m : Sat) : Type 0 where
+  pub record Made (was : Known C) (call : Call) (reply : Reply) (m : SeatOf C) : Type 0 where
     pub now : Known C
     pub idle : m ≡ (shared_view (now ∷ []) None, [])
     pub number : now.number ≡ was.number
@@ -144,18 +141,18 @@ module _ {C : Type 0} (f : Face C) where
     pub commits : Commits f.tells was reply now
 
   -- the core that the seat takes out of its slot
-  pub core_is : (m0 m1 : Sat) (core : C) (home : Option C) (took : Took f m0 m1) → m1.1 ≡ (0, home) ∷ rest m1.1 → home ≡ Some core → took.core ≡ core
-  core_is m0 m1 core home took taken is = some_same took.core core (ap (λ (l : List (ℕ × Option C)). top_of l) (sym (ap (λ (m : Sat). m.1) took.now) ∙ taken) ∙ is)
+  pub core_is : (m0 m1 : SeatOf C) (core : C) (home : Option C) (took : Took f m0 m1) → m1.1 ≡ (0, home) ∷ rest m1.1 → home ≡ Some core → took.core ≡ core
+  core_is m0 m1 core home took taken is = some_same took.core core (ap (λ (l : List (ℕ × Option C)). top_of l) (sym (ap (λ (m : SeatOf C). m.1) took.now) ∙ taken) ∙ is)
 
-  module _ (m0 m1 m2 m3 : Sat) (k : Known C) (core new : C) (home : Option C) (idle : m0 ≡ (shared_view (k ∷ []) None, [])) (took : Took f m0 m1)
+  module _ (m0 m1 m2 m3 : SeatOf C) (k : Known C) (core new : C) (home : Option C) (idle : m0 ≡ (shared_view (k ∷ []) None, [])) (took : Took f m0 m1)
       (taken : m1.1 ≡ (0, home) ∷ rest m1.1) (is : home ≡ Some core) (out_is : m2 ≡ (m1.0, (0, None) ∷ rest m1.1)) (back : m3 ≡ (m2.0, (0, Some new) ∷ rest m2.1)) where
     -- the seat once the core is back in its slot
     pub homed : m3 ≡ (shared_view (finds 0 k ∷ []) (Some core), out new)
     homed =
-        let F : Sat → Sat = λ m. (m.0, (0, Some new) ∷ rest m.1) in
-        let G : Sat → Sat = λ m. (m.0, (0, None) ∷ rest m.1) in
-        let H : C → Sat → Sat = λ c m. (shared_view (map (finds 0) m.0.passes) (Some c), out c) in
-        back ∙ ap F out_is ∙ ap (λ (m : Sat). F (G m)) took.now ∙ (λ i. F (G (H (core_is m0 m1 core home took taken is i) (idle i))))
+        let F : SeatOf C → SeatOf C = λ m. (m.0, (0, Some new) ∷ rest m.1) in
+        let G : SeatOf C → SeatOf C = λ m. (m.0, (0, None) ∷ rest m.1) in
+        let H : C → SeatOf C → SeatOf C = λ c m. (shared_view (map (finds 0) m.0.passes) (Some c), out c) in
+        back ∙ ap F out_is ∙ ap (λ (m : SeatOf C). F (G m)) took.now ∙ (λ i. F (G (H (core_is m0 m1 core home took taken is i) (idle i))))
 
     module _ (n : ℕ) (call : Call) (reply : Reply) (number : k.number ≡ n) (steps : Steps f.tells n call (f.show core) (f.show new) reply) (dead : IsTrue (f.show core).state.is_dead → (reply ≡ Dead) × (new ≡ core)) where
       steps_as : Steps f.tells k.number call (f.show core) (f.show new) reply
@@ -165,21 +162,21 @@ module _ {C : Type 0} (f : Face C) where
       moves setup = moved setup k.number call reply core new steps_as dead
 
       -- the step is recorded, and the turn is given back
-      module _ (m4 : Sat) (tells : (was now : C) → m3.0.held ≡ Some was → m3.1 ≡ out now → Told f call reply was now m3 m4) where
+      module _ (m4 : SeatOf C) (tells : (was now : C) → m3.0.held ≡ Some was → m3.1 ≡ out now → Told f call reply was now m3 m4) where
         pub record_of : Told f call reply core new m3 m4
-        record_of = tells core new (ap (λ (m : Sat). m.0.held) homed) (ap (λ (m : Sat). m.1) homed)
+        record_of = tells core new (ap (λ (m : SeatOf C). m.0.held) homed) (ap (λ (m : SeatOf C). m.1) homed)
 
         -- the seat once the length is published
         pub told_seat : m4 ≡ (shared_view (shown f call reply record_of.turns new k ∷ []) (Some new), out new)
-        told_seat = let F : Sat → Sat = λ m. (shared_view (map (shown f call reply record_of.turns new) m.0.passes) (Some new), m.1) in record_of.now ∙ ap F homed
+        told_seat = let F : SeatOf C → SeatOf C = λ m. (shared_view (map (shown f call reply record_of.turns new) m.0.passes) (Some new), m.1) in record_of.now ∙ ap F homed
 
         -- the seat once the turn is given back
-        pub made : (m5 : Sat) → m5 ≡ (shared_view m4.0.passes None, []) → Made k call reply m5
+        pub made : (m5 : SeatOf C) → m5 ≡ (shared_view m4.0.passes None, []) → Made k call reply m5
         made m5 give =
             let t = record_of in
-            let all = subst (λ (ks : List (Known C)). AllFit f.tells f.show t.setup t.turns (f.show core).state ks) (ap (λ (m : Sat). m.0.passes) homed) t.fit in
+            let all = subst (λ (ks : List (Known C)). AllFit f.tells f.show t.setup t.turns (f.show core).state ks) (ap (λ (m : SeatOf C). m.0.passes) homed) t.fit in
             let fit : Fits f.tells f.show t.setup t.turns (f.show core).state k = found_fit f t.setup t.turns core k.found (finds 0 k) all.0 in
-            let F : Sat → Sat = λ m. (shared_view m.0.passes None, []) in record {
+            let F : SeatOf C → SeatOf C = λ m. (shared_view m.0.passes None, []) in record {
               now = shown f call reply t.turns new k;
               idle = give ∙ ap F told_seat;
               number = refl;

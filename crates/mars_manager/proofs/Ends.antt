@@ -9,7 +9,7 @@ use native.Mathlib.Decide.{dec_le, ℕ_discrete}
 use lib.ListN.{get_elem?}
 use Rattle.std.proofs.lemmas.Bool.Decides.{nat_tests}
 use Rattle.caller_steps.specs.State.{State as CoreState}
-use Rattle.atomic_table.specs.Table.{State, Me, step, takes, gives, Allows, Splits, Joins, Final, Seen, opening, rest}
+use Rattle.atomic_table.specs.Table.{step, takes, gives, Allows, Splits, Joins, Final, Seen, opening, rest}
 use Rattle.atomic_table.specs.Seated.{TableId}
 use Rattle.atomic_table.proofs.Lists.{set_here, set_else, at_snoc, at_longer}
 use Rattle.mars_manager.specs.declared.view.Known.{Known}
@@ -21,8 +21,8 @@ use Rattle.caller_steps.specs.Run.{Turn, GoesAlong, AreOf, LastTurn}
 use Rattle.caller_steps.proofs.Running.{turn_none}
 use Rattle.mars_manager.specs.Pass.{AllFit, AreSo, times, newcomer, PassView, PassesView, AllOf, dealt, known_of}
 use Rattle.mars_manager.specs.Sharing.{CanShare, Since}
-use Rattle.mars_manager.specs.Seat.{view, shared_view, opener, newcomers, behind, front, joined, spent}
-use Rattle.mars_manager.specs.Rule.{Face, total, IsFree, IsHeld, IsKept, IsFresh, IsOpening, Rule, began, gives_turn}
+use Rattle.mars_manager.specs.Seat.{TableOf, SeatOf, view, shared_view, opener, newcomers, behind, front, joined, spent}
+use Rattle.mars_manager.specs.Rule.{Face, count, IsFree, IsHeld, IsKept, IsFresh, IsOpening, Rule, began, gives_turn}
 use Rattle.mars_manager.proofs.Past.{since_shared}
 use Rattle.mars_manager.proofs.Seats.{times_append, at_only, each_set, total_set, total_two, total_snoc, total_has}
 use Rattle.mars_manager.proofs.Turns.{out, some_same, some≢none, is_open, vacant≢shared, opening≢shared, vacant≢opening}
@@ -54,36 +54,21 @@ module _ {C : Type 0} where
       let t : times n (newcomers setup m (suc count)) ≡ 0 + times n (newcomers setup (suc m) count) = ap (λ b. (if b then 1 else 0) + times n (newcomers setup (suc m) count)) (ne_eqb m n (λ e. omega arith)) in omega arith
 
 module _ {C : Type 0} (f : Face C) (setup : Setup C) where
-  abbrev V : Type 0
-  V = View C
-
-  abbrev S : Type 0
-  S = Option C
-
-  abbrev St : Type 0
-  St = State (Option C) (View C)
-
-  abbrev Sat : Type 0
-  Sat = Me (Option C) (View C)
-
-  abbrev count : ℕ → List (View C) → ℕ
-  count n vs = total (λ (v : View C). times n v.passes) vs
-
   -- the rule holds at the start
   pub begins : Rule f setup (opening (0 ∷ 0 ∷ []) (None ∷ []) (opener Vacant setup))
   begins = inl (record { words = refl; homes = refl; views = refl })
 
-  stage_of : (s : St) (id : ℕ) (v : V) (stage : Stage) → s.views ≡ opener stage setup ∷ [] → get_elem? s.views id ≡ some v → (v.stage ≡ stage) × (id ≡ 0)
-  stage_of s id v stage e at = let at' = subst (λ l. get_elem? l id ≡ some v) e at in (ap (λ (u : V). u.stage) (sym (at_only (opener stage setup) id v at')), only_zero (opener stage setup) id v at')
+  stage_of : (s : TableOf C) (id : ℕ) (v : View C) (stage : Stage) → s.views ≡ opener stage setup ∷ [] → get_elem? s.views id ≡ some v → (v.stage ≡ stage) × (id ≡ 0)
+  stage_of s id v stage e at = let at' = subst (λ l. get_elem? l id ≡ some v) e at in (ap (λ (u : View C). u.stage) (sym (at_only (opener stage setup) id v at')), only_zero (opener stage setup) id v at')
 
-  is_fresh : (s : St) (id : ℕ) (v : V) → Rule f setup s → get_elem? s.views id ≡ some v → v.stage ≡ Vacant → IsFresh setup s × (id ≡ 0)
+  is_fresh : (s : TableOf C) (id : ℕ) (v : View C) → Rule f setup s → get_elem? s.views id ≡ some v → v.stage ≡ Vacant → IsFresh setup s × (id ≡ 0)
   is_fresh s id v rule at z =
       ⊎_elim
       (λ (x : IsFresh setup s). (x, (stage_of s id v Vacant x.views at).1))
       (λ (y : IsOpening setup s ⊎ IsKept f setup s). ⊎_elim (λ (x : IsOpening setup s). vacant≢opening (sym z ∙ (stage_of s id v Opening x.views at).0)) (λ (k : IsKept f setup s). vacant≢shared (sym z ∙ k.staged id v at)) y)
       rule
 
-  is_opening : (s : St) (id : ℕ) (v : V) → Rule f setup s → get_elem? s.views id ≡ some v → v.stage ≡ Opening → IsOpening setup s × (id ≡ 0)
+  is_opening : (s : TableOf C) (id : ℕ) (v : View C) → Rule f setup s → get_elem? s.views id ≡ some v → v.stage ≡ Opening → IsOpening setup s × (id ≡ 0)
   is_opening s id v rule at z =
       ⊎_elim
       (λ (x : IsFresh setup s). vacant≢opening (sym (stage_of s id v Vacant x.views at).0 ∙ z))
@@ -93,7 +78,7 @@ module _ {C : Type 0} (f : Face C) (setup : Setup C) where
   pub begins_keeps : (slots id : ℕ) → Allows (Rule f setup) slots id (opener Vacant setup, []) 0 (λ _. 1) (λ _. began (step slots 0 1 0 none) (opener Vacant setup, []) 1)
   begins_keeps slots id s rule wide at _ =
       let x = is_fresh s id (opener Vacant setup) rule at refl in
-      let w : V = opener Opening setup in (
+      let w : View C = opener Opening setup in (
         w,
         takes 0 None,
         subst (λ l. get_elem? l 0 ≡ some (some None)) (sym x.0.homes) refl,
@@ -122,10 +107,10 @@ module _ {C : Type 0} (f : Face C) (setup : Setup C) where
   opens_keeps slots id can few s rule wide at _ =
       let core = setup.first in
       let x = is_opening s id (opener Opening setup) rule at refl in
-      let w : V = opener Shared setup in
+      let w : View C = opener Shared setup in
       let views : set s.views id w ≡ w ∷ [] = ap (λ l. set l id w) x.0.views ∙ ap (λ i. set (opener Opening setup ∷ []) i w) x.1 in
       let words : set s.words 0 0 ≡ 0 ∷ 0 ∷ [] = ap (λ l. set l 0 0) x.0.words in
-      let only : (P : V → Type 0) → P w → (i : ℕ) (v : V) → get_elem? (set s.views id w) i ≡ some v → P v = λ P p i v e. subst P (at_only w i v (subst (λ l. get_elem? l i ≡ some v) views e)) p in (
+      let only : (P : View C → Type 0) → P w → (i : ℕ) (v : View C) → get_elem? (set s.views id w) i ≡ some v → P v = λ P p i v e. subst P (at_only w i v (subst (λ l. get_elem? l i ≡ some v) views e)) p in (
         w,
         gives,
         tt,
@@ -153,28 +138,28 @@ module _ {C : Type 0} (f : Face C) (setup : Setup C) where
         refl,
       )
 
-  same_at : (vs : List V) (i : ℕ) (v w : V) → get_elem? vs i ≡ some v → get_elem? vs i ≡ some w → v ≡ w
+  same_at : (vs : List (View C)) (i : ℕ) (v w : View C) → get_elem? vs i ≡ some v → get_elem? vs i ≡ some w → v ≡ w
   same_at vs i v w a b = some-injective v w (sym a ∙ b)
 
-  not_holder : (s : St) (core : C) (x : IsHeld core s) (id : ℕ) (v : V) → get_elem? s.views id ≡ some v → v.held ≡ None → x.seat ≢ id
-  not_holder s core x id v at idle e = some≢none core (sym x.holds ∙ ap (λ (u : V). u.held) (same_at s.views id x.holder v (subst (λ i. get_elem? s.views i ≡ some x.holder) e x.there) at) ∙ idle)
+  not_holder : (s : TableOf C) (core : C) (x : IsHeld core s) (id : ℕ) (v : View C) → get_elem? s.views id ≡ some v → v.held ≡ None → x.seat ≢ id
+  not_holder s core x id v at idle e = some≢none core (sym x.holds ∙ ap (λ (u : View C). u.held) (same_at s.views id x.holder v (subst (λ i. get_elem? s.views i ≡ some x.holder) e x.there) at) ∙ idle)
 
   -- the views after a pass was dealt out
-  after_deal : (P : ℕ → V → Type 0) (vs : List V) (id : ℕ) (left right : V) → P id left → ((j : ℕ) → P j right) → ((j : ℕ) (v : V) → get_elem? vs j ≡ some v → P j v) → (j : ℕ) (v : V) → get_elem? (set vs id left ++ right ∷ []) j ≡ some v → P j v
+  after_deal : (P : ℕ → View C → Type 0) (vs : List (View C)) (id : ℕ) (left right : View C) → P id left → ((j : ℕ) → P j right) → ((j : ℕ) (v : View C) → get_elem? vs j ≡ some v → P j v) → (j : ℕ) (v : View C) → get_elem? (set vs id left ++ right ∷ []) j ≡ some v → P j v
   after_deal P vs id left right a b each j v e =
       ⊎_elim
       (λ (there : get_elem? (set vs id left) j ≡ some v). each_set P vs id left a (λ j v _ e. each j v e) j v there)
       (λ (same : right ≡ v). subst (P j) same (b j))
       (at_snoc (set vs id left) right v j e)
 
-  dealt_by : (s : St) (id : ℕ) (k : Known C) (ks : List (Known C)) (h : IsKept f setup s) → get_elem? s.views id ≡ some (shared_view (k ∷ ks) None)
+  dealt_by : (s : TableOf C) (id : ℕ) (k : Known C) (ks : List (Known C)) (h : IsKept f setup s) → get_elem? s.views id ≡ some (shared_view (k ∷ ks) None)
       → IsKept f setup (record { words = s.words; homes = s.homes; views = set s.views id (shared_view ks None) ++ shared_view (k ∷ []) None ∷ [] })
   dealt_by s id k ks h at =
-      let v : V = shared_view (k ∷ ks) None in
-      let left : V = shared_view ks None in
-      let right : V = shared_view (k ∷ []) None in
+      let v : View C = shared_view (k ∷ ks) None in
+      let left : View C = shared_view ks None in
+      let right : View C = shared_view (k ∷ []) None in
       let fit = h.fit id v at in
-      let vs : List V = set s.views id left ++ right ∷ [] in
+      let vs : List (View C) = set s.views id left ++ right ∷ [] in
       let counts : (n : ℕ) → count n vs ≡ count n s.views = (λ n.
       let a = total_set (λ (v : View C). times n v.passes) s.views id v left at in
       let b = total_snoc (λ (v : View C). times n v.passes) (set s.views id left) right in
@@ -216,17 +201,17 @@ module _ {C : Type 0} (f : Face C) (setup : Setup C) where
   all_append turns state [] ls a b = b
   all_append turns state (k ∷ ks) ls a b = (a.0, all_append turns state ks ls a.1 b)
 
-  after_join : (P : ℕ → V → Type 0) (vs : List V) (id other : ℕ) (both gone : V) → P id both → P other gone → ((j : ℕ) (v : V) → get_elem? vs j ≡ some v → P j v) → (j : ℕ) (v : V) → get_elem? (set (set vs id both) other gone) j ≡ some v → P j v
+  after_join : (P : ℕ → View C → Type 0) (vs : List (View C)) (id other : ℕ) (both gone : View C) → P id both → P other gone → ((j : ℕ) (v : View C) → get_elem? vs j ≡ some v → P j v) → (j : ℕ) (v : View C) → get_elem? (set (set vs id both) other gone) j ≡ some v → P j v
   after_join P vs id other both gone a b each = each_set P (set vs id both) other gone b (λ j v _ e. each_set P vs id both a (λ j v _ e. each j v e) j v e)
 
-  gathered_by : (s : St) (id other : ℕ) (ks ls : List (Known C)) (h : IsKept f setup s) → get_elem? s.views id ≡ some (shared_view ks None) → other ≢ id → get_elem? s.views other ≡ some (shared_view ls None)
+  gathered_by : (s : TableOf C) (id other : ℕ) (ks ls : List (Known C)) (h : IsKept f setup s) → get_elem? s.views id ≡ some (shared_view ks None) → other ≢ id → get_elem? s.views other ≡ some (shared_view ls None)
       → IsKept f setup (record { words = s.words; homes = s.homes; views = set (set s.views id (shared_view (ks ++ ls) None)) other (shared_view [] None) })
   gathered_by s id other ks ls h at apart there =
-      let v : V = shared_view ks None in
-      let w : V = shared_view ls None in
-      let both : V = shared_view (ks ++ ls) None in
-      let rest : V = shared_view [] None in
-      let vs : List V = set (set s.views id both) other rest in
+      let v : View C = shared_view ks None in
+      let w : View C = shared_view ls None in
+      let both : View C = shared_view (ks ++ ls) None in
+      let rest : View C = shared_view [] None in
+      let vs : List (View C) = set (set s.views id both) other rest in
       let still = set_else s.views id other both apart ∙ there in
       let counts : (n : ℕ) → count n vs ≡ count n s.views = (λ n.
       let a = total_set (λ (v : View C). times n v.passes) s.views id v both at in
@@ -280,7 +265,7 @@ module _ {C : Type 0} (f : Face C) (setup : Setup C) where
   ends id ks ws xs all final =
       let s = final.0 in
       let at = final.1.1 in
-      let v : V = shared_view ks None in
+      let v : View C = shared_view ks None in
       let h : IsKept f setup s = is_open f setup s id v final.1.0 at refl in
       ⊎_elim
       (λ (x : IsFree h.core s). (h.core, final.4 0 (Some h.core) x.home, record { turns = h.turns; fit = h.fit id v at; since = h.since; run = h.run; whose = h.whose; ready = h.ready }))
@@ -294,21 +279,21 @@ module _ {C : Type 0} (f : Face C) (setup : Setup C) where
       h.place
 
   -- the moves at a given seat
-  pub begins_as : (slots id : ℕ) (m : Sat) → m ≡ (opener Vacant setup, []) → Allows (Rule f setup) slots id m 0 (λ _. 1) (λ _. began (step slots 0 1 0 none) m 1)
-  begins_as slots id m e = subst (λ (m : Sat). Allows (Rule f setup) slots id m 0 (λ _. 1) (λ _. began (step slots 0 1 0 none) m 1)) (sym e) (begins_keeps slots id)
+  pub begins_as : (slots id : ℕ) (m : SeatOf C) → m ≡ (opener Vacant setup, []) → Allows (Rule f setup) slots id m 0 (λ _. 1) (λ _. began (step slots 0 1 0 none) m 1)
+  begins_as slots id m e = subst (λ (m : SeatOf C). Allows (Rule f setup) slots id m 0 (λ _. 1) (λ _. began (step slots 0 1 0 none) m 1)) (sym e) (begins_keeps slots id)
 
-  pub opens_as : (slots id : ℕ) (core : C) (m : Sat) → m ≡ (opener Opening setup, out core) → core ≡ setup.first → CanShare f.tells setup.callers (f.show core) → setup.callers < 256
+  pub opens_as : (slots id : ℕ) (core : C) (m : SeatOf C) → m ≡ (opener Opening setup, out core) → core ≡ setup.first → CanShare f.tells setup.callers (f.show core) → setup.callers < 256
       → Allows (Rule f setup) slots id m 0 (λ _. 0) (λ _. gives_turn (step slots 0 0 0 none) m 0)
   opens_as slots id core m e same can few =
-      let now : C → Sat = λ c. (opener Opening setup, out c) in
-      subst (λ (m : Sat). Allows (Rule f setup) slots id m 0 (λ _. 0) (λ _. gives_turn (step slots 0 0 0 none) m 0)) (sym (e ∙ ap now same))
+      let now : C → SeatOf C = λ c. (opener Opening setup, out c) in
+      subst (λ (m : SeatOf C). Allows (Rule f setup) slots id m 0 (λ _. 0) (λ _. gives_turn (step slots 0 0 0 none) m 0)) (sym (e ∙ ap now same))
       (opens_keeps slots id (subst (λ c. CanShare f.tells setup.callers (f.show c)) same can) few)
 
-  pub deals_as : (id : ℕ) (k : Known C) (ks : List (Known C)) (v : V) → v ≡ shared_view (k ∷ ks) None → Splits (Rule f setup) id v (view v.stage (behind v.passes) v.held) (view v.stage (front v.passes) None)
-  deals_as id k ks v e = subst (λ (v : V). Splits (Rule f setup) id v (view v.stage (behind v.passes) v.held) (view v.stage (front v.passes) None)) (sym e) (deals_keeps id k ks)
+  pub deals_as : (id : ℕ) (k : Known C) (ks : List (Known C)) (v : View C) → v ≡ shared_view (k ∷ ks) None → Splits (Rule f setup) id v (view v.stage (behind v.passes) v.held) (view v.stage (front v.passes) None)
+  deals_as id k ks v e = subst (λ (v : View C). Splits (Rule f setup) id v (view v.stage (behind v.passes) v.held) (view v.stage (front v.passes) None)) (sym e) (deals_keeps id k ks)
 
-  pub gathers_as : (id other : ℕ) (ks ls : List (Known C)) (v w : V) → v ≡ shared_view ks None → w ≡ shared_view ls None → Joins (Rule f setup) id v other w (joined v w) spent
-  gathers_as id other ks ls v w e o = subst (λ (x : V × V). Joins (Rule f setup) id x.0 other x.1 (joined x.0 x.1) spent) (λ i. (sym e i, sym o i)) (gathers_keeps id other ks ls)
+  pub gathers_as : (id other : ℕ) (ks ls : List (Known C)) (v w : View C) → v ≡ shared_view ks None → w ≡ shared_view ls None → Joins (Rule f setup) id v other w (joined v w) spent
+  gathers_as id other ks ls v w e o = subst (λ (x : View C × View C). Joins (Rule f setup) id x.0 other x.1 (joined x.0 x.1) spent) (λ i. (sym e i, sym o i)) (gathers_keeps id other ks ls)
 
 module _ {C : Type 0} where
   -- the next pass to be dealt out
@@ -336,11 +321,11 @@ module _ {C : Type 0} where
 
 module _ {C : Type 0} (f : Face C) (setup : Setup C) where
   -- the opener's seat with the core, once it holds the turn
-  pub opening_seat : (m0 m1 m2 : Me (Option C) (View C)) (core : C) → m0 ≡ (opener Vacant setup, []) → m1 ≡ (view Opening m0.0.passes None, (0, None) ∷ []) → m2 ≡ (m1.0, (0, Some core) ∷ rest m1.1) → m2 ≡ (opener Opening setup, out core)
+  pub opening_seat : (m0 m1 m2 : SeatOf C) (core : C) → m0 ≡ (opener Vacant setup, []) → m1 ≡ (view Opening m0.0.passes None, (0, None) ∷ []) → m2 ≡ (m1.0, (0, Some core) ∷ rest m1.1) → m2 ≡ (opener Opening setup, out core)
   opening_seat m0 m1 m2 core e0 e1 e2 =
-      let F : Me (Option C) (View C) → Me (Option C) (View C) = λ m. (m.0, (0, Some core) ∷ rest m.1) in
-      let G : Me (Option C) (View C) → Me (Option C) (View C) = λ m. (view Opening m.0.passes None, (0, None) ∷ []) in
-      e2 ∙ ap F e1 ∙ ap (λ (m : Me (Option C) (View C)). F (G m)) e0
+      let F : SeatOf C → SeatOf C = λ m. (m.0, (0, Some core) ∷ rest m.1) in
+      let G : SeatOf C → SeatOf C = λ m. (view Opening m.0.passes None, (0, None) ∷ []) in
+      e2 ∙ ap F e1 ∙ ap (λ (m : SeatOf C). F (G m)) e0
 
   pub all_known : (core : C) (turns : List Turn) (ps : List (PassView C)) → AllFit f.tells f.show setup turns (f.show core).state (map known_of ps) → AreSo f.tells f.show setup turns (f.show core).state ps
   all_known core turns [] a = tt
@@ -361,17 +346,17 @@ module _ {C : Type 0} where
   one_more ks p ps rest all e is = append_assoc ks (p.known ∷ []) (map known_of ps) ∙ ap (λ (l : List (PassView C)). ks ++ map known_of l) (sym e) ∙ is
 
 module _ {C : Type 0} (f : Face C) (setup : Setup C) where
-  pub taken_all : (m : Me (Option C) (View C)) (ks : List (Known C)) (rest all : List (PassView C)) → m ≡ (shared_view ks None, []) → ks ++ map known_of rest ≡ map known_of all → length rest ≡ 0 → m ≡ (shared_view (map known_of all) None, [])
+  pub taken_all : (m : SeatOf C) (ks : List (Known C)) (rest all : List (PassView C)) → m ≡ (shared_view ks None, []) → ks ++ map known_of rest ≡ map known_of all → length rest ≡ 0 → m ≡ (shared_view (map known_of all) None, [])
   taken_all m ks rest all e is gone =
       let is_all : ks ≡ map known_of all = sym (append-nil ks) ∙ ap (λ (l : List (PassView C)). ks ++ map known_of l) (sym (nothing_left rest gone)) ∙ is in
-      let now : List (Known C) → Me (Option C) (View C) = λ ks. (shared_view ks None, []) in
+      let now : List (Known C) → SeatOf C = λ ks. (shared_view ks None, []) in
       e ∙ ap now is_all
 
   -- the core that is taken out of the slot at the end
-  pub last_core : (id : ℕ) (ks : List (Known C)) (m : Me (Option C) (View C)) (ws : List ℕ) (xs : List (Option C)) (o : Option C) → m ≡ (shared_view ks None, []) → ((n : ℕ) → n < setup.callers → 0 < times n ks)
+  pub last_core : (id : ℕ) (ks : List (Known C)) (m : SeatOf C) (ws : List ℕ) (xs : List (Option C)) (o : Option C) → m ≡ (shared_view ks None, []) → ((n : ℕ) → n < setup.callers → 0 < times n ks)
       → Final (Seen (Rule f setup) id m.0) ws xs → get_elem? xs 0 ≡ some o → (core : C) × (o ≡ Some core) × Ended f setup ks core
   last_core id ks m ws xs o e all final at =
-      let final' = subst (λ (m : Me (Option C) (View C)). Final (Seen (Rule f setup) id m.0) ws xs) e final in
+      let final' = subst (λ (m : SeatOf C). Final (Seen (Rule f setup) id m.0) ws xs) e final in
       let end = ends f setup id ks ws xs all final' in
       (end.0, some-injective o (Some end.0) (sym at ∙ end.1), end.2)
 

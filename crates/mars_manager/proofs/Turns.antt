@@ -12,7 +12,7 @@ use Rattle.caller_steps.specs.Prefix.{Grows}
 use Rattle.caller_steps.specs.Run.{Turn, Goes}
 use Rattle.caller_steps.proofs.Continuing.{grows_longer}
 use Rattle.caller_steps.proofs.Running.{all_of_append, turns_one, turn_own, turn_other, turn_grows}
-use Rattle.atomic_table.specs.Table.{State, Me, step, Act, keeps, takes, gives, stepped, Valid, carried_after, Allows}
+use Rattle.atomic_table.specs.Table.{step, Act, keeps, takes, gives, stepped, Valid, carried_after, Allows}
 use Rattle.atomic_table.proofs.Lists.{set_here, set_else, exchanged}
 use Rattle.mars_manager.specs.declared.view.Known.{Known}
 use Rattle.mars_manager.specs.declared.view.Stage.TheVariants.{Vacant, Opening, Shared}
@@ -20,8 +20,8 @@ use Rattle.mars_manager.specs.declared.view.View.{View}
 use Rattle.mars_manager.specs.declared.setup.Setup.{Setup}
 use Rattle.mars_manager.specs.Pass.{Fits, AllFit, times, finds, hears}
 use Rattle.mars_manager.specs.Sharing.{Since}
-use Rattle.mars_manager.specs.Seat.{shared_view, opener}
-use Rattle.mars_manager.specs.Rule.{Face, total, IsFree, IsHeld, IsKept, IsFresh, IsOpening, Rule, takes_turn, shown, tells_length, gives_turn, looks}
+use Rattle.mars_manager.specs.Seat.{TableOf, SeatOf, shared_view, opener}
+use Rattle.mars_manager.specs.Rule.{Face, count, IsFree, IsHeld, IsKept, IsFresh, IsOpening, Rule, takes_turn, shown, tells_length, gives_turn, looks}
 use Rattle.mars_manager.proofs.Seats.{times_first, inside, at_only, each_set, total_set, total_has, total_two}
 
 pub vacant≢shared : {X : Type 0} → Vacant ≡ Shared → X
@@ -57,41 +57,26 @@ pub record Moved {C : Type 0} (f : Face C) (setup : Setup C) (n : ℕ) (call : C
   pub goes : Since f.tells (f.show setup.first) (f.show core) → Goes f.tells (f.show setup.first).limits (f.show core).state n call reply (f.show new).state
 
 module _ {C : Type 0} (f : Face C) (setup : Setup C) where
-  abbrev V : Type 0
-  V = View C
-
-  abbrev S : Type 0
-  S = Option C
-
-  abbrev St : Type 0
-  St = State (Option C) (View C)
-
-  abbrev Sat : Type 0
-  Sat = Me (Option C) (View C)
-
-  abbrev count : ℕ → List (View C) → ℕ
-  count n vs = total (λ (v : View C). times n v.passes) vs
-
-  pub is_open : (s : St) (id : ℕ) (v : V) → Rule f setup s → get_elem? s.views id ≡ some v → v.stage ≡ Shared → IsKept f setup s
+  pub is_open : (s : TableOf C) (id : ℕ) (v : View C) → Rule f setup s → get_elem? s.views id ≡ some v → v.stage ≡ Shared → IsKept f setup s
   is_open s id v rule at two =
       ⊎_elim
-      (λ (x : IsFresh setup s). let e = at_only (opener Vacant setup) id v (subst (λ l. get_elem? l id ≡ some v) x.views at) in vacant≢shared (ap (λ (u : V). u.stage) e ∙ two))
+      (λ (x : IsFresh setup s). let e = at_only (opener Vacant setup) id v (subst (λ l. get_elem? l id ≡ some v) x.views at) in vacant≢shared (ap (λ (u : View C). u.stage) e ∙ two))
       (λ (y : IsOpening setup s ⊎ IsKept f setup s).
-      ⊎_elim (λ (x : IsOpening setup s). let e = at_only (opener Opening setup) id v (subst (λ l. get_elem? l id ≡ some v) x.views at) in opening≢shared (ap (λ (u : V). u.stage) e ∙ two)) (λ (k : IsKept f setup s). k) y)
+      ⊎_elim (λ (x : IsOpening setup s). let e = at_only (opener Opening setup) id v (subst (λ l. get_elem? l id ≡ some v) x.views at) in opening≢shared (ap (λ (u : View C). u.stage) e ∙ two)) (λ (k : IsKept f setup s). k) y)
       rule
 
   -- seats that stand for the same pass are the same seat
-  pub one_seat : (s : St) → IsKept f setup s → (n i j : ℕ) (v w : V) → get_elem? s.views i ≡ some v → get_elem? s.views j ≡ some w → 0 < times n v.passes → 0 < times n w.passes → i ≡ j
+  pub one_seat : (s : TableOf C) → IsKept f setup s → (n i j : ℕ) (v w : View C) → get_elem? s.views i ≡ some v → get_elem? s.views j ≡ some w → 0 < times n v.passes → 0 < times n w.passes → i ≡ j
   one_seat s h n i j v w e o a b = dite (ℕ_discrete i j) (λ (same : i ≡ j). same) (λ (ne : i ≢ j). let t = total_two (λ (v : View C). times n v.passes) s.views i j v w ne e o in let u = h.once n in absurd (omega arith))
 
-  same_at : (vs : List V) (i : ℕ) (v w : V) → get_elem? vs i ≡ some v → get_elem? vs i ≡ some w → v ≡ w
+  same_at : (vs : List (View C)) (i : ℕ) (v w : View C) → get_elem? vs i ≡ some v → get_elem? vs i ≡ some w → v ≡ w
   same_at vs i v w a b = some-injective v w (sym a ∙ b)
 
   -- the counts stay if a seat stands for the same passes after a step
-  same_count : (n : ℕ) (vs : List V) (id : ℕ) (v w : V) → get_elem? vs id ≡ some v → times n w.passes ≡ times n v.passes → count n (set vs id w) ≡ count n vs
+  same_count : (n : ℕ) (vs : List (View C)) (id : ℕ) (v w : View C) → get_elem? vs id ≡ some v → times n w.passes ≡ times n v.passes → count n (set vs id w) ≡ count n vs
   same_count n vs id v w at e = let t = total_set (λ (v : View C). times n v.passes) vs id v w at in omega arith
 
-  number_below : (s : St) → IsKept f setup s → (n i : ℕ) (v : V) → get_elem? s.views i ≡ some v → 0 < times n v.passes → n < setup.callers
+  number_below : (s : TableOf C) → IsKept f setup s → (n i : ℕ) (v : View C) → get_elem? s.views i ≡ some v → 0 < times n v.passes → n < setup.callers
   number_below s h n i v at has =
       let t = total_has (λ (v : View C). times n v.passes) s.views i v at in
       dite (dec_le setup.callers n) (λ (le : setup.callers ≤ n). let b = h.below n le in absurd (omega arith)) (λ (ge : ¬ (setup.callers ≤ n)). omega arith)
@@ -116,11 +101,11 @@ module _ {C : Type 0} (f : Face C) (setup : Setup C) where
   pub found_fit : (turns : List Turn) (core : C) (n : ℕ) (k : Known C) → Fits f.tells f.show setup turns (f.show core).state k → Fits f.tells f.show setup turns (f.show core).state (finds n k)
   found_fit turns core n k h = record { setup_is = h.setup_is; last = h.last; heard = h.heard }
 
-  turn_taken : (s : St) (id turn : ℕ) (k : Known C) (h : IsKept f setup s) → turn ≡ k.number + 1 → get_elem? s.views id ≡ some (shared_view (k ∷ []) None)
+  turn_taken : (s : TableOf C) (id turn : ℕ) (k : Known C) (h : IsKept f setup s) → turn ≡ k.number + 1 → get_elem? s.views id ≡ some (shared_view (k ∷ []) None)
       → (x : IsFree h.core s) → IsKept f setup (stepped s 0 turn id [] (shared_view (finds 0 k ∷ []) (Some h.core)) (takes 0 (Some h.core)))
   turn_taken s id turn k h is at x =
-      let v : V = shared_view (k ∷ []) None in
-      let w : V = shared_view (finds 0 k ∷ []) (Some h.core) in
+      let v : View C = shared_view (k ∷ []) None in
+      let w : View C = shared_view (finds 0 k ∷ []) (Some h.core) in
       let long : 0 < length s.words = (let t = h.two in omega arith) in record {
         core = h.core;
         turns = h.turns;
@@ -148,10 +133,10 @@ module _ {C : Type 0} (f : Face C) (setup : Setup C) where
         whose = h.whose;
       }
 
-  Taking : (s : St) (slots id turn : ℕ) (k : Known C) → ℕ → Type 0
-  Taking s slots id turn k x = (w : V) × (a : Act S) × Valid s.homes [] a × Rule f setup (stepped s 0 x id [] w a) × takes_turn f (step slots 0 0 turn none) (shared_view (k ∷ []) None, []) (get_or s.words 0 0) (w, carried_after [] a)
+  Taking : (s : TableOf C) (slots id turn : ℕ) (k : Known C) → ℕ → Type 0
+  Taking s slots id turn k x = (w : View C) × (a : Act (Option C)) × Valid s.homes [] a × Rule f setup (stepped s 0 x id [] w a) × takes_turn f (step slots 0 0 turn none) (shared_view (k ∷ []) None, []) (get_or s.words 0 0) (w, carried_after [] a)
 
-  hit : (s : St) (slots id turn : ℕ) (k : Known C) (h : IsKept f setup s) → turn ≡ k.number + 1 → get_elem? s.views id ≡ some (shared_view (k ∷ []) None) → get_or s.words 0 0 ≡ 0 → Taking s slots id turn k turn
+  hit : (s : TableOf C) (slots id turn : ℕ) (k : Known C) (h : IsKept f setup s) → turn ≡ k.number + 1 → get_elem? s.views id ≡ some (shared_view (k ∷ []) None) → get_or s.words 0 0 ≡ 0 → Taking s slots id turn k turn
   unfolding Taking
   hit s slots id turn k h is at free =
       ⊎_elim
@@ -173,13 +158,13 @@ module _ {C : Type 0} (f : Face C) (setup : Setup C) where
       h.place
 
   -- a try that finds another number: nothing changes but what the pass found
-  missed_by : (s : St) (id n : ℕ) (k : Known C) (h : IsKept f setup s) → n ≡ get_or s.words 0 0 → get_elem? s.views id ≡ some (shared_view (k ∷ []) None)
+  missed_by : (s : TableOf C) (id n : ℕ) (k : Known C) (h : IsKept f setup s) → n ≡ get_or s.words 0 0 → get_elem? s.views id ≡ some (shared_view (k ∷ []) None)
       → (x : IsHeld h.core s) → IsKept f setup (stepped s 0 n id [] (shared_view (finds n k ∷ []) None) keeps)
   missed_by s id n k h is at x =
-      let v : V = shared_view (k ∷ []) None in
-      let w : V = shared_view (finds n k ∷ []) None in
+      let v : View C = shared_view (k ∷ []) None in
+      let w : View C = shared_view (finds n k ∷ []) None in
       let long : 0 < length s.words = (let t = h.two in omega arith) in
-      let ne : x.seat ≢ id = (λ e. some≢none h.core (sym x.holds ∙ ap (λ (u : V). u.held) (same_at s.views id x.holder v (subst (λ i. get_elem? s.views i ≡ some x.holder) e x.there) at))) in record {
+      let ne : x.seat ≢ id = (λ e. some≢none h.core (sym x.holds ∙ ap (λ (u : View C). u.held) (same_at s.views id x.holder v (subst (λ i. get_elem? s.views i ≡ some x.holder) e x.there) at))) in record {
         core = h.core;
         turns = h.turns;
         two = length-set s.words 0 n ∙ h.two;
@@ -206,7 +191,7 @@ module _ {C : Type 0} (f : Face C) (setup : Setup C) where
         whose = h.whose;
       }
 
-  miss : (s : St) (slots id turn : ℕ) (k : Known C) (h : IsKept f setup s) → get_elem? s.views id ≡ some (shared_view (k ∷ []) None) → get_or s.words 0 0 ≢ 0 → Taking s slots id turn k (get_or s.words 0 0)
+  miss : (s : TableOf C) (slots id turn : ℕ) (k : Known C) (h : IsKept f setup s) → get_elem? s.views id ≡ some (shared_view (k ∷ []) None) → get_or s.words 0 0 ≢ 0 → Taking s slots id turn k (get_or s.words 0 0)
   unfolding Taking
   miss s slots id turn k h at taken =
       ⊎_elim
@@ -226,7 +211,7 @@ module _ {C : Type 0} (f : Face C) (setup : Setup C) where
                 let same : x.number ≡ m = omega arith in
                 let seat = one_seat s h m x.seat id x.holder (shared_view (k ∷ []) None) x.there at (subst (λ n. 0 < times n x.holder.passes) same x.has) (omega arith) in
                 let held = same_at s.views id x.holder (shared_view (k ∷ []) None) (subst (λ i. get_elem? s.views i ≡ some x.holder) seat x.there) at in
-                some≢none h.core (sym x.holds ∙ ap (λ (v : V). v.held) held)),
+                some≢none h.core (sym x.holds ∙ ap (λ (v : View C). v.held) held)),
             (
               λ given is.
                   let t = x.turn in
@@ -247,22 +232,22 @@ module _ {C : Type 0} (f : Face C) (setup : Setup C) where
       let h : IsKept f setup s = is_open s id (shared_view (k ∷ []) None) rule at refl in
       exchanged (get_or s.words 0 0) 0 turn (Taking s slots id turn k) (hit s slots id turn k h is at) (miss s slots id turn k h at)
 
-  holder_is : (s : St) (h : IsKept f setup s) (id : ℕ) (v : V) (core : C) → get_elem? s.views id ≡ some v → v.held ≡ Some core → (x : IsHeld h.core s) × (x.seat ≡ id) × (x.holder ≡ v) × (h.core ≡ core)
+  holder_is : (s : TableOf C) (h : IsKept f setup s) (id : ℕ) (v : View C) (core : C) → get_elem? s.views id ≡ some v → v.held ≡ Some core → (x : IsHeld h.core s) × (x.seat ≡ id) × (x.holder ≡ v) × (h.core ≡ core)
   holder_is s h id v core at held =
       ⊎_elim
       (λ (x : IsFree h.core s). some≢none core (sym held ∙ x.nobody id v at))
       (λ (x : IsHeld h.core s). dite (ℕ_discrete id x.seat)
       (λ (same : id ≡ x.seat). let is = same_at s.views id x.holder v (subst (λ i. get_elem? s.views i ≡ some x.holder) (sym same) x.there) at in
-      (x, sym same, is, some_same h.core core (sym x.holds ∙ ap (λ (u : V). u.held) is ∙ held)))
+      (x, sym same, is, some_same h.core core (sym x.holds ∙ ap (λ (u : View C). u.held) is ∙ held)))
       (λ (ne : id ≢ x.seat). some≢none core (sym held ∙ x.others id v ne at)))
       h.place
 
-  told_by : (s : St) (id told : ℕ) (k : Known C) (call : Call) (reply : Reply) (old new : C) (h : IsKept f setup s) → Moved f setup k.number call reply h.core new → told ≡ length ((f.show new).state.history) → get_elem? s.views id ≡ some (shared_view (k ∷ []) (Some old))
+  told_by : (s : TableOf C) (id told : ℕ) (k : Known C) (call : Call) (reply : Reply) (old new : C) (h : IsKept f setup s) → Moved f setup k.number call reply h.core new → told ≡ length ((f.show new).state.history) → get_elem? s.views id ≡ some (shared_view (k ∷ []) (Some old))
       → (x : IsHeld h.core s) → x.seat ≡ id → x.holder ≡ shared_view (k ∷ []) (Some old)
       → IsKept f setup (stepped s 1 told id ((0, Some new) ∷ []) (shared_view (shown f call reply h.turns new k ∷ []) (Some new)) keeps)
   told_by s id told k call reply old new h m is at x seat holder =
-      let v : V = shared_view (k ∷ []) (Some old) in
-      let w : V = shared_view (shown f call reply h.turns new k ∷ []) (Some new) in
+      let v : View C = shared_view (k ∷ []) (Some old) in
+      let w : View C = shared_view (shown f call reply h.turns new k ∷ []) (Some new) in
       let long : 1 < length s.words = (let t = h.two in omega arith) in
       let mine : Fits f.tells f.show setup h.turns (f.show h.core).state k = (h.fit id v at).0 in
       let goes = m.goes h.since in
@@ -281,7 +266,7 @@ module _ {C : Type 0} (f : Face C) (setup : Setup C) where
           turn = get_or-set_other s.words 1 0 told 0 (λ e. omega arith) ∙ x.turn;
           there = set_here s.views id w (inside s.views id v at);
           holds = refl;
-          has = subst (λ (u : V). 0 < times x.number u.passes) holder x.has;
+          has = subst (λ (u : View C). 0 < times x.number u.passes) holder x.has;
           others = λ i u ne e. x.others i u (λ z. ne (z ∙ seat)) (sym (set_else s.views id i w ne) ∙ e);
         });
         staged = each_set (λ i u. u.stage ≡ Shared) s.views id w refl (λ j u _ e. h.staged j u e);
@@ -308,14 +293,14 @@ module _ {C : Type 0} (f : Face C) (setup : Setup C) where
   pub tells_keeps : (slots id told : ℕ) (k : Known C) (call : Call) (reply : Reply) (old new : C) → Moved f setup k.number call reply old new → told ≡ length ((f.show new).state.history)
       → Allows (Rule f setup) slots id (shared_view (k ∷ []) (Some old), (0, Some new) ∷ []) 1 (λ _. told) (λ _. tells_length f call reply (step slots 1 told 0 none) (shared_view (k ∷ []) (Some old), (0, Some new) ∷ []) told)
   tells_keeps slots id told k call reply old new m is s rule wide at _ =
-      let v : V = shared_view (k ∷ []) (Some old) in
+      let v : View C = shared_view (k ∷ []) (Some old) in
       let h : IsKept f setup s = is_open s id v rule at refl in
       let x = holder_is s h id v old at refl in (
         shared_view (shown f call reply h.turns new k ∷ []) (Some new),
         keeps,
         tt,
         inr (inr (told_by s id told k call reply old new h (subst (λ c. Moved f setup k.number call reply c new) (sym x.3) m) is at x.0 x.1 x.2)),
-        λ was core held e. let now : C → Sat = λ c. (shared_view (shown f call reply h.turns c k ∷ []) (Some c), (0, Some new) ∷ []) in
+        λ was core held e. let now : C → SeatOf C = λ c. (shared_view (shown f call reply h.turns c k ∷ []) (Some c), (0, Some new) ∷ []) in
             let old_is : h.core ≡ was = x.3 ∙ some_same old was held in record {
               setup = setup;
               turns = h.turns;
@@ -327,12 +312,12 @@ module _ {C : Type 0} (f : Face C) (setup : Setup C) where
             },
       )
 
-  given_by : (s : St) (id : ℕ) (k : Known C) (core : C) (h : IsKept f setup s) → h.core ≡ core → get_elem? s.views id ≡ some (shared_view (k ∷ []) (Some core))
+  given_by : (s : TableOf C) (id : ℕ) (k : Known C) (core : C) (h : IsKept f setup s) → h.core ≡ core → get_elem? s.views id ≡ some (shared_view (k ∷ []) (Some core))
       → (x : IsHeld h.core s) → x.seat ≡ id
       → IsKept f setup (stepped s 0 0 id ((0, Some core) ∷ []) (shared_view (k ∷ []) None) gives)
   given_by s id k core h same at x seat =
-      let v : V = shared_view (k ∷ []) (Some core) in
-      let w : V = shared_view (k ∷ []) None in
+      let v : View C = shared_view (k ∷ []) (Some core) in
+      let w : View C = shared_view (k ∷ []) None in
       let long : 0 < length s.words = (let t = h.two in omega arith) in record {
         core = h.core;
         turns = h.turns;
@@ -358,17 +343,17 @@ module _ {C : Type 0} (f : Face C) (setup : Setup C) where
   pub gives_keeps : (slots id : ℕ) (k : Known C) (core : C)
       → Allows (Rule f setup) slots id (shared_view (k ∷ []) (Some core), (0, Some core) ∷ []) 0 (λ _. 0) (λ _. gives_turn (step slots 0 0 0 none) (shared_view (k ∷ []) (Some core), (0, Some core) ∷ []) 0)
   gives_keeps slots id k core s rule wide at _ =
-      let v : V = shared_view (k ∷ []) (Some core) in
+      let v : View C = shared_view (k ∷ []) (Some core) in
       let h : IsKept f setup s = is_open s id v rule at refl in
       let x = holder_is s h id v core at refl in
       (shared_view (k ∷ []) None, gives, tt, inr (inr (given_by s id k core h x.3 at x.0 x.1)), refl)
 
-  looked_by : (s : St) (id : ℕ) (k : Known C) (h : IsKept f setup s) → get_elem? s.views id ≡ some (shared_view (k ∷ []) None)
+  looked_by : (s : TableOf C) (id : ℕ) (k : Known C) (h : IsKept f setup s) → get_elem? s.views id ≡ some (shared_view (k ∷ []) None)
       → IsKept f setup (stepped s 1 (get_or s.words 1 0) id [] (shared_view (hears (get_or s.words 1 0) k ∷ []) None) keeps)
   looked_by s id k h at =
       let n : ℕ = get_or s.words 1 0 in
-      let v : V = shared_view (k ∷ []) None in
-      let w : V = shared_view (hears n k ∷ []) None in
+      let v : View C = shared_view (k ∷ []) None in
+      let w : View C = shared_view (hears n k ∷ []) None in
       let mine : Fits f.tells f.show setup h.turns (f.show h.core).state k = (h.fit id v at).0 in
       let long : 1 < length s.words = (let t = h.two in omega arith) in record {
         core = h.core;
@@ -382,7 +367,7 @@ module _ {C : Type 0} (f : Face C) (setup : Setup C) where
               home = x.home;
               nobody = each_set (λ i u. u.held ≡ None) s.views id w refl (λ j u _ e. x.nobody j u e);
             }))
-            (λ (x : IsHeld h.core s). let ne : x.seat ≢ id = (λ e. some≢none h.core (sym x.holds ∙ ap (λ (u : V). u.held) (same_at s.views id x.holder v (subst (λ i. get_elem? s.views i ≡ some x.holder) e x.there) at))) in inr (record {
+            (λ (x : IsHeld h.core s). let ne : x.seat ≢ id = (λ e. some≢none h.core (sym x.holds ∙ ap (λ (u : View C). u.held) (same_at s.views id x.holder v (subst (λ i. get_elem? s.views i ≡ some x.holder) e x.there) at))) in inr (record {
               number = x.number;
               seat = x.seat;
               holder = x.holder;
@@ -409,7 +394,7 @@ module _ {C : Type 0} (f : Face C) (setup : Setup C) where
   pub looks_keeps : (slots id : ℕ) (k : Known C)
       → Allows (Rule f setup) slots id (shared_view (k ∷ []) None, []) 1 (λ n. n) (looks (step slots 1 0 0 none) (shared_view (k ∷ []) None, []))
   looks_keeps slots id k s rule wide at _ =
-      let v : V = shared_view (k ∷ []) None in
+      let v : View C = shared_view (k ∷ []) None in
       let h : IsKept f setup s = is_open s id v rule at refl in
       let mine : Fits f.tells f.show setup h.turns (f.show h.core).state k = (h.fit id v at).0 in (
         shared_view (hears (get_or s.words 1 0) k ∷ []) None,
@@ -421,18 +406,18 @@ module _ {C : Type 0} (f : Face C) (setup : Setup C) where
 
   -- the moves at a given seat
 
-  pub takes_turn_as : (slots id turn : ℕ) (k : Known C) (m : Sat) → m ≡ (shared_view (k ∷ []) None, []) → turn ≡ k.number + 1
+  pub takes_turn_as : (slots id turn : ℕ) (k : Known C) (m : SeatOf C) → m ≡ (shared_view (k ∷ []) None, []) → turn ≡ k.number + 1
       → Allows (Rule f setup) slots id m 0 (λ n. either (eqb n 0) turn n) (takes_turn f (step slots 0 0 turn none) m)
-  takes_turn_as slots id turn k m e is = subst (λ (m : Sat). Allows (Rule f setup) slots id m 0 (λ n. either (eqb n 0) turn n) (takes_turn f (step slots 0 0 turn none) m)) (sym e) (takes_turn_keeps slots id turn k is)
+  takes_turn_as slots id turn k m e is = subst (λ (m : SeatOf C). Allows (Rule f setup) slots id m 0 (λ n. either (eqb n 0) turn n) (takes_turn f (step slots 0 0 turn none) m)) (sym e) (takes_turn_keeps slots id turn k is)
 
-  pub tells_as : (slots id told : ℕ) (k : Known C) (call : Call) (reply : Reply) (old new : C) (m : Sat) → m ≡ (shared_view (k ∷ []) (Some old), (0, Some new) ∷ []) → Moved f setup k.number call reply old new → told ≡ length ((f.show new).state.history)
+  pub tells_as : (slots id told : ℕ) (k : Known C) (call : Call) (reply : Reply) (old new : C) (m : SeatOf C) → m ≡ (shared_view (k ∷ []) (Some old), (0, Some new) ∷ []) → Moved f setup k.number call reply old new → told ≡ length ((f.show new).state.history)
       → Allows (Rule f setup) slots id m 1 (λ _. told) (λ _. tells_length f call reply (step slots 1 told 0 none) m told)
-  tells_as slots id told k call reply old new m e moved is = subst (λ (m : Sat). Allows (Rule f setup) slots id m 1 (λ _. told) (λ _. tells_length f call reply (step slots 1 told 0 none) m told)) (sym e) (tells_keeps slots id told k call reply old new moved is)
+  tells_as slots id told k call reply old new m e moved is = subst (λ (m : SeatOf C). Allows (Rule f setup) slots id m 1 (λ _. told) (λ _. tells_length f call reply (step slots 1 told 0 none) m told)) (sym e) (tells_keeps slots id told k call reply old new moved is)
 
-  pub gives_as : (slots id : ℕ) (k : Known C) (core : C) (m : Sat) → m ≡ (shared_view (k ∷ []) (Some core), (0, Some core) ∷ [])
+  pub gives_as : (slots id : ℕ) (k : Known C) (core : C) (m : SeatOf C) → m ≡ (shared_view (k ∷ []) (Some core), (0, Some core) ∷ [])
       → Allows (Rule f setup) slots id m 0 (λ _. 0) (λ _. gives_turn (step slots 0 0 0 none) m 0)
-  gives_as slots id k core m e = subst (λ (m : Sat). Allows (Rule f setup) slots id m 0 (λ _. 0) (λ _. gives_turn (step slots 0 0 0 none) m 0)) (sym e) (gives_keeps slots id k core)
+  gives_as slots id k core m e = subst (λ (m : SeatOf C). Allows (Rule f setup) slots id m 0 (λ _. 0) (λ _. gives_turn (step slots 0 0 0 none) m 0)) (sym e) (gives_keeps slots id k core)
 
-  pub looks_as : (slots id : ℕ) (k : Known C) (m : Sat) → m ≡ (shared_view (k ∷ []) None, [])
+  pub looks_as : (slots id : ℕ) (k : Known C) (m : SeatOf C) → m ≡ (shared_view (k ∷ []) None, [])
       → Allows (Rule f setup) slots id m 1 (λ n. n) (looks (step slots 1 0 0 none) m)
-  looks_as slots id k m e = subst (λ (m : Sat). Allows (Rule f setup) slots id m 1 (λ n. n) (looks (step slots 1 0 0 none) m)) (sym e) (looks_keeps slots id k)
+  looks_as slots id k m e = subst (λ (m : SeatOf C). Allows (Rule f setup) slots id m 1 (λ n. n) (looks (step slots 1 0 0 none) m)) (sym e) (looks_keeps slots id k)

@@ -5,10 +5,11 @@ use Rattle.array_shape.specs.declared.shape.Shape.{Shape}
 use Rattle.array_shape.specs.Places.{page_count}
 use Rattle.array_image.specs.Image.{data_of}
 use Rattle.array_image.proofs.Data.{length-data_of}
-use Rattle.eaw_device.specs.Fresh.{fresh_page, HasPages}
+use Rattle.eaw_device.specs.Fresh.{HasPages}
+use Rattle.record_slots.specs.Fresh.{fresh_page}
 use Rattle.page_store.specs.Pairs.{Pair}
 use Rattle.record_slots.specs.Places.{page_bytes, IsSuper}
-use Rattle.record_slots.specs.Super.{form_said, next_slot_said, next_page_said}
+use Rattle.record_slots.specs.Super.{form_said, next_slot_said, next_page_said, count_bytes}
 use Rattle.record_table.specs.Shown.{table_of, table_in}
 use Rattle.index_pages.specs.Page.{kind_said, level_said, count_said, link_said}
 use Rattle.btree_pages.proofs.Fresh.{fresh_tree}
@@ -19,11 +20,11 @@ unfolding form_said
 form_fresh = refl
 
 slot_fresh : next_slot_said (fresh_page 0) ≡ 0
-unfolding next_slot_said
+unfolding next_slot_said count_bytes
 slot_fresh = refl
 
 page_fresh : next_page_said (fresh_page 0) ≡ 2
-unfolding next_page_said
+unfolding next_page_said count_bytes
 page_fresh = refl
 
 kind_fresh : kind_said (fresh_page 1) ≡ 1

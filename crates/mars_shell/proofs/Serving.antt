@@ -1,5 +1,5 @@
 -- The work over the records of a store, from what a core makes of it.
-use Rattle.std.proofs.Common.{◌≡◌, ℕ, ◌+◌, ◌≤◌, inl, inr, ⊎_elim, List, [], ◌∷◌, length, take, ◌^◌, Bool, false, refl, sym, ap, subst, ◌∙◌, arith}
+use Rattle.std.proofs.Common.{◌≡◌, ℕ, ◌+◌, ◌≤◌, inl, inr, ⊎_elim, List, [], ◌∷◌, ◌++◌, length, take, ◌^◌, Bool, false, refl, sym, ap, subst, ◌∙◌, arith}
 use Rattle.std.specs.Prelude.{IsTrue}
 use Rattle.mars_base.proofs.Going as going
 use Rattle.array_shape.specs.declared.shape.Shape.{Shape}
@@ -7,7 +7,7 @@ use Rattle.eaw_face.specs.StoreView.{StoreView, LeavesOnly}
 use Rattle.page_store.specs.Index.{Index}
 use Rattle.record_table.specs.Does.{OpensWith}
 use Rattle.record_table.specs.Shown.{table_of, keys_of}
-use Rattle.history.specs.Legal.{records, with_doubt}
+use Rattle.history.specs.Legal.{records}
 use Rattle.caller_steps.specs.State.{State}
 use Rattle.caller_steps.specs.Room.{Limits}
 use Rattle.caller_steps.specs.Run.{Turn}
@@ -123,7 +123,7 @@ module _ (tells : Bool) (Opens : Shape → List ℕ → List ℕ → Type 0) (in
         -- in terms of the store
         opens_now : (more least : ℕ) (image : List ℕ) → least ≤ more → HasPrefixOf later.opens later.state more image → opens_of Opens old.shape index later.state least image
         opens_now more least image le has =
-            let table = records later.state.base (take has.count (with_doubt later.state.history later.state.doubt)) in
+            let table = records later.state.base (take has.count (later.state.history ++ later.state.doubt)) in
             record {
               count = has.count;
               at_least = omega (arith, le, has.at_least);

@@ -9,7 +9,7 @@ use Rattle.device_recovery.specs.Recovered.{HasNoVote}
 use Rattle.eaw_device.specs.Opens.{IsArray}
 use Rattle.page_store.specs.Index.{Index}
 use Rattle.record_table.specs.Shown.{table_of, keys_of}
-use Rattle.history.specs.Legal.{IsLegal, records, with_doubt}
+use Rattle.history.specs.Legal.{IsLegal, records}
 use Rattle.history.specs.declared.call.Reply.TheVariants.{Committed}
 use Rattle.caller_steps.specs.State.{State, opened}
 use Rattle.caller_steps.specs.Room.{Limits}
@@ -45,7 +45,7 @@ pub record HasAll (index : Index) (bytes : List ℕ) (state : State) : Type 0 wh
   pub keys : state.index ≡ index_of (keys_of index bytes)
 
 -- Callers took turns over an array whose records are sound: there is a run of steps from the state that was opened to the last one. Says
--- tells, of the limits of the array, the turns and the last state, what was written. The history, also with the transaction
+-- tells, of the limits of the array, the turns and the last state, what was written. The history, also with what is
 -- in doubt, is legal on the base and obeys the prefix law. At the end of all turns the data has exactly the records of the history.
 pub record TakesTurns (Says : Limits → List Turn → State → Type 0) (old : View) (ended : Ended) (new : View) : Type 0 where
   pub shape : Shape
@@ -55,7 +55,7 @@ pub record TakesTurns (Says : Limits → List Turn → State → Type 0) (old : 
   pub runs : Runs (limits_of shape) (begun_on (index_in shape old) (settled_data shape old.content.bytes)) turns final
   pub says : Says (limits_of shape) turns final
   pub base : final.base ≡ table_of (index_in shape old) (settled_data shape old.content.bytes)
-  pub legal : IsLegal final.base (with_doubt final.history final.doubt)
+  pub legal : IsLegal final.base (final.history ++ final.doubt)
   pub prefix_law : PrefixLaw shape old final new
   pub quiet : ended ≡ All → HasNoVote shape new.content.bytes
   pub left : ended ≡ All → HasAll (index_at (data_of shape new.content.bytes)) (data_of shape new.content.bytes) final

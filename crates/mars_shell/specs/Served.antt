@@ -1,5 +1,5 @@
 -- What is done over a store whose records are read first.
-use Rattle.std.specs.Prelude.{ℕ, ◌≡◌, List, [], length, Bool, true, false, IsTrue, Result, Ok, Err}
+use Rattle.std.specs.Prelude.{ℕ, ◌≡◌, List, [], ◌++◌, length, Bool, true, false, IsTrue, Result, Ok, Err}
 use Rattle.mars_base.specs.Causes.{Rose}
 use Rattle.array_shape.specs.declared.shape.Shape.{Shape}
 use Rattle.eaw_face.specs.Causes.{IsAlive}
@@ -9,7 +9,7 @@ use Rattle.record_slots.specs.Super.{form_said}
 use Rattle.page_store.specs.Index.{Index}
 use Rattle.record_table.specs.Does.{OpensWith}
 use Rattle.record_table.specs.Shown.{table_of}
-use Rattle.history.specs.Legal.{IsLegal, with_doubt}
+use Rattle.history.specs.Legal.{IsLegal}
 use Rattle.caller_steps.specs.State.{State}
 use Rattle.caller_steps.specs.Room.{Limits}
 use Rattle.caller_steps.specs.Run.{Turn}
@@ -56,7 +56,7 @@ pub record Served (Says : Limits → List Turn → State → Type 0) (Opens : Sh
   pub runs : Runs (limits_of old.shape) (begun_on index old.state.bytes) turns final
   pub says : Says (limits_of old.shape) turns final
   pub base : final.base ≡ table_of index old.state.bytes
-  pub legal : IsLegal final.base (with_doubt final.history final.doubt)
+  pub legal : IsLegal final.base (final.history ++ final.doubt)
   pub since : LeavesOnly (opens_of Opens old.shape index final 0) old new
   pub now : (image : List ℕ) → new.left_since new.moment image → opens_of Opens old.shape index final (length final.history) image
   pub left : ended ≡ All → IsAlive new × HasAll index new.state.bytes final

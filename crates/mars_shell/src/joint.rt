@@ -183,7 +183,7 @@ fn write_all_fates(text: &mut Vec<u8>, fates: &[Fates]) -> Result<(), NoMemory>
     ensures { OnOk result (text.new.items ≡ text.old.items ++ all_fate_lines 0 fates.now) }
 {
     for (caller, fates) in fates.iter().enumerate() {
-        write_fates(text, caller as u8, fates.items())?;
+        write_fates(text, caller as u8, fates.as_slice())?;
     }
     Ok(())
 }

@@ -1,3 +1,4 @@
+mod CountLemmas
 mod ServeLemmas
 mod ReadLemmas
 mod WriteLemmas

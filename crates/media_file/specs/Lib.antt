@@ -1,4 +1,5 @@
 pub mod Past
+pub mod Counted
 pub mod Transfer
 pub mod Shown
 pub mod Honest

@@ -1,5 +1,5 @@
 -- What a medium over a file shows.
-use Rattle.std.specs.Prelude.{ℕ, nat_le, if◌then◌else◌, [], length}
+use Rattle.std.specs.Prelude.{ℕ, ◌+◌, nat_le, if◌then◌else◌, [], length}
 use Rattle.pcm_media.specs.Images.{Content}
 use Rattle.pcm_media.specs.View.{View}
 use Rattle.media_file.specs.declared.calls.Calls as calls
@@ -15,8 +15,9 @@ abbrev pub opened : ℕ → Content → Content
 opened least first = if nat_le least (length first.bytes) then first else record { bytes = padded least first.bytes; unsettled = [] }
 
 module _ {C : Type 0} {g : calls.Ghosts C} where
+  -- it counts its own calls that failed, and those of the file
   abbrev pub shown : FileMedia C g → View
-  shown media = view_over (g.past media.calls) media.size media.moment media.faults
+  shown media = view_over (g.past media.calls) media.size media.moment (media.faults + (g.tally media.calls).failed)
 
   abbrev pub calls_of : FileMedia C g → C
   calls_of media = media.calls

@@ -1,5 +1,7 @@
 // What is asked of a file.
 ghost use Rattle.std.specs.Prelude.{◌≡◌, ◌≤◌, ◌⊎◌, List, ℕ, Bool, length, take, ◌+◌, Ok, IsTrue, IsOk, IfOk, MatchResult};
+ghost use Rattle.media_file.specs.declared.tally.Tally.{Tally};
+ghost use Rattle.media_file.specs.Counted.{tallied, part_of};
 ghost use Rattle.media_file.specs.Past.{Past, measured, came, stands, resized, synced, noted, IsHonest};
 
 /// Why a call of a file did not do its work.
@@ -18,6 +20,9 @@ pub trait Calls {
     /// What it held at first, and its calls since with their answers. Only clauses speak of it.
     ghost past: { Self → Past };
 
+    /// How many of its calls failed, and how many were interrupted. A call that answers Ok leaves both as they were.
+    ghost tally: { Self → Tally };
+
     /// Whether this many further calls, which write this many bytes in all, are sure to be done in full.
     ghost steady: { Self → ℕ → ℕ → Bool };
 
@@ -26,6 +31,7 @@ pub trait Calls {
         ensures noted { IsTrue trusted → MatchResult result
             (λ len. past self.new ≡ noted moment (measured len) (past self.old))
             (λ _. past self.new ≡ past self.old) }
+        ensures counted { tally self.new ≡ tallied result (tally self.old) }
         ensures steady { (calls more : ℕ) → IsTrue (steady self.old (calls + 1) more) → IsOk result × IsTrue (steady self.new calls more) };
 
     /// Reads bytes from `at` on, and returns how many came.
@@ -34,6 +40,7 @@ pub trait Calls {
         ensures noted { IsTrue trusted → MatchResult result
             (λ count. past self.new ≡ noted moment (came at (take count buf.new)) (past self.old))
             (λ _. past self.new ≡ past self.old) }
+        ensures counted { tally self.new ≡ tallied (part_of (length buf.old) result) (tally self.old) }
         ensures steady { (calls more : ℕ) → IsTrue (steady self.old (calls + 1) more) → (result ≡ Ok (length buf.old)) × IsTrue (steady self.new calls more) };
 
     /// Writes bytes at `at`, and returns how many were taken. If it fails, anything may stand in their place.
@@ -42,6 +49,7 @@ pub trait Calls {
         ensures noted { IsTrue trusted → MatchResult result
             (λ count. past self.new ≡ noted moment (stands at (take count bytes.now)) (past self.old))
             (λ _. (past self.new ≡ past self.old) ⊎ ((left : List ℕ) × (length left ≡ length bytes.now) × (past self.new ≡ noted moment (stands at left) (past self.old)))) }
+        ensures counted { tally self.new ≡ tallied (part_of (length bytes.now) result) (tally self.old) }
         ensures steady { (calls more : ℕ) → IsTrue (steady self.old (calls + 1) (length bytes.now + more)) → (result ≡ Ok (length bytes.now)) × IsTrue (steady self.new calls more) };
 
     /// Cuts it to `len` bytes, or extends it to them with zeros.
@@ -49,6 +57,7 @@ pub trait Calls {
         ensures noted { IsTrue trusted → MatchResult result
             (λ _. past self.new ≡ noted moment (resized len) (past self.old))
             (λ _. past self.new ≡ past self.old) }
+        ensures counted { tally self.new ≡ tallied result (tally self.old) }
         ensures steady { (calls more : ℕ) → IsTrue (steady self.old (calls + 1) more) → IsOk result × IsTrue (steady self.new calls more) };
 
     /// Waits until all that was written, and the length, are durable.
@@ -56,6 +65,7 @@ pub trait Calls {
         ensures noted { IsTrue trusted → MatchResult result
             (λ _. past self.new ≡ noted moment synced (past self.old))
             (λ _. past self.new ≡ past self.old) }
+        ensures counted { tally self.new ≡ tallied result (tally self.old) }
         ensures steady { (calls more : ℕ) → IsTrue (steady self.old (calls + 1) more) → IsOk result × IsTrue (steady self.new calls more) };
 
     /// If it is trusted, each call was answered from what the calls before it had made of the first content.

@@ -1,7 +1,7 @@
 // A file of the system.
-ghost use Rattle.std.specs.Prelude.{◌≡◌, true, IfOk, IsSome};
+ghost use Rattle.std.specs.Prelude.{◌≡◌, true, IfOk, IfSome, IsSome};
 
-use crate::{CallFault, Calls};
+use crate::{CallFault, Calls, Tally};
 use mars_base::Failed;
 use std::fs::{File, OpenOptions};
 use std::io;
@@ -15,9 +15,12 @@ use std::rt::Files;
 #[derive(Drop)]
 pub struct FileCalls {
     file: File,
+    tally: Tally,
 }
 
 impl FileCalls {
+    ghost use Rattle.media_file.specs.Counted.{no_faults};
+
     /// Opens the file at `path` and locks it. If there is none and `makes` is true, one is made, and is durable in its folder
     /// before this returns. If there is none and `makes` is false, the answer is None.
     ///
@@ -29,9 +32,13 @@ impl FileCalls {
         makes: bool,
     ) -> Result<Option<FileCalls>, Failed>
         ensures there { makes ≡ true → IfOk result IsSome }
+        ensures anew { IfOk result (λ found. IfSome found (λ file. file.tally ≡ no_faults)) }
     {
         match open_or_make(rt, path, makes) {
-            Ok(Some(file)) => Ok(Some(FileCalls { file })),
+            Ok(Some(file)) => Ok(Some(FileCalls {
+                file,
+                tally: Tally::new(),
+            })),
             Ok(None) => Ok(None),
             Err(_) => Err(Failed),
         }
@@ -84,32 +91,37 @@ impl Calls for FileCalls {
 
     ghost past = { λ _. record { first = record { bytes = []; unsettled = [] }; calls = [] } };
 
+    ghost tally = { λ file. file.tally };
+
     ghost steady = { λ _ _ _. false };
 
     ghost honest = { λ file told. absurd (false≢true told) };
 
     fn len(&mut self, _moment: u64) -> Result<u64, CallFault> {
-        match self.file.metadata() {
+        let answer = match self.file.metadata() {
             Ok(metadata) => Ok(metadata.len()),
             Err(error) => Err(fault_of(error)),
-        }
+        };
+        self.tally.count(answer)
     }
 
     fn read_at(&mut self, _moment: u64, at: u64, buf: &mut [u8]) -> Result<usize, CallFault> {
-        self.file.read_at(buf, at).map_err(fault_of)
+        let answer = self.file.read_at(buf, at).map_err(fault_of);
+        self.tally.count_part(buf.len(), answer)
     }
 
     fn write_at(&mut self, _moment: u64, at: u64, bytes: &[u8]) -> Result<usize, CallFault> {
-        self.file.write_at(bytes, at).map_err(fault_of)
+        let answer = self.file.write_at(bytes, at).map_err(fault_of);
+        self.tally.count_part(bytes.len(), answer)
     }
 
     fn set_len(&mut self, _moment: u64, len: u64) -> Result<(), CallFault> {
-        self.file.set_len(len).map_err(fault_of)
+        self.tally.count(self.file.set_len(len).map_err(fault_of))
     }
 
     // A later read needs the bytes and the length of the file, and `sync_data` makes both durable. It leaves out what nobody
     // reads, such as the time of the last access.
     fn sync_data(&mut self, _moment: u64) -> Result<(), CallFault> {
-        self.file.sync_data().map_err(fault_of)
+        self.tally.count(self.file.sync_data().map_err(fault_of))
     }
 }

@@ -34,7 +34,7 @@ impl<C: Calls + Drop> FileMedia<C> {
     pub fn over(calls: C, least: u64) -> Result<FileMedia<C>, Failed>
         requires { IsTrue C.trusted → (C.past calls).calls ≡ [] }
         ensures long { IfOk result (λ media. least ≤ (shown media).size) }
-        ensures anew { IfOk result (λ media. ((shown media).moment ≡ 0) × ((shown media).faults ≡ 0)) }
+        ensures anew { IfOk result (λ media. ((shown media).moment ≡ 0) × ((shown media).faults ≡ (C.tally calls).failed)) }
         ensures content { IsTrue C.trusted → IfOk result (λ media. (shown media).content ≡ opened least (C.past calls).first) }
         ensures ready { (more_calls more : ℕ) → IsTrue (C.steady calls (more_calls + 1 + 1 + 1) more) → IsOk result }
     {

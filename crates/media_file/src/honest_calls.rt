@@ -1,9 +1,9 @@
 // An honest file in memory.
-ghost use Rattle.std.specs.Prelude.{◌≡◌, ◌≤◌, ◌⊎◌, ℕ, List, [], length, true, IfOk, OnOk, OnErr};
-ghost use Rattle.media_file.specs.Past.{held, noted, stands};
+ghost use Rattle.std.specs.Prelude.{◌≡◌, ◌≤◌, ◌⊎◌, ℕ, List, [], length, take, true, IfOk, OnOk, OnErr, MatchResult};
+ghost use Rattle.media_file.specs.Past.{held, noted, measured, came, stands, resized, synced};
 ghost use Rattle.media_file.specs.Honest.{past_of, event_of, is_quiet};
 
-use crate::{Answer, CallFault, Calls, Done, HonestCall};
+use crate::{Answer, CallFault, Calls, Done, HonestCall, Tally};
 use mars_base::NoMemory;
 use std::alloc::Global;
 
@@ -17,16 +17,19 @@ pub struct HonestCalls {
     calls: Vec<HonestCall>,
     answers: Vec<Answer>,
     next: usize,
+    tally: Tally,
     ghost tells: { (held (past_of first.items calls.items)).bytes ≡ bytes.items },
 }
 
 impl HonestCalls {
     ghost use Rattle.pcm_media.specs.Replay.{at_rest};
     ghost use Rattle.media_file.specs.InMemory.{past_in};
+    ghost use Rattle.media_file.specs.Counted.{no_faults};
 
     /// A file with a copy of these bytes, all durable, of which no call has been made.
     pub fn new(alloc: Global, bytes: &[u8], answers: Vec<Answer>) -> Result<HonestCalls, NoMemory>
-        ensures { IfOk result (λ file. past_in file ≡ record { first = at_rest bytes.now; calls = [] }) }
+        ensures past { IfOk result (λ file. past_in file ≡ record { first = at_rest bytes.now; calls = [] }) }
+        ensures tally { IfOk result (λ file. file.tally ≡ no_faults) }
     {
         Ok(HonestCalls {
             alloc,
@@ -35,6 +38,7 @@ impl HonestCalls {
             calls: Vec::new(alloc),
             answers,
             next: 0,
+            tally: Tally::new(),
         })
     }
 
@@ -62,7 +66,7 @@ impl HonestCalls {
     // How many of `len` bytes the next call does, by the list of answers.
     fn answer(&mut self, len: usize) -> Result<usize, CallFault>
         ensures count { IfOk result (λ count. count ≤ len) }
-        ensures same { past_in self.new ≡ past_in self.old }
+        ensures same { (past_in self.new ≡ past_in self.old) × (self.new.tally ≡ self.old.tally) }
     {
         let Some(answer) = self.answers.get(self.next) else {
             return Ok(len);
@@ -82,6 +86,7 @@ impl HonestCalls {
         requires { is_quiet done ≡ true }
         ensures kept { OnOk result (past_in self.new ≡ noted moment (event_of done (held (past_in self.old))) (past_in self.old)) }
         ensures failed { OnErr result (past_in self.new ≡ past_in self.old) }
+        ensures tally { self.new.tally ≡ self.old.tally }
     {
         match self.calls.push(HonestCall { moment, done }) {
             Ok(()) => Ok(()),
@@ -93,6 +98,7 @@ impl HonestCalls {
     fn put(&mut self, moment: u64, at: u64, bytes: &[u8]) -> Result<(), CallFault>
         ensures put { OnOk result (past_in self.new ≡ noted moment (stands at bytes.now) (past_in self.old)) }
         ensures failed { OnErr result (past_in self.new ≡ past_in self.old) }
+        ensures tally { self.new.tally ≡ self.old.tally }
     {
         let place = at as usize;
         if place > self.bytes.len() || self.bytes.len() - place < bytes.len() {
@@ -111,12 +117,83 @@ impl HonestCalls {
 
     // Leaves at a place bytes that nobody wrote, if they fit and memory suffices.
     fn spoil(&mut self, moment: u64, at: u64, len: usize)
-        ensures { (past_in self.new ≡ past_in self.old)
+        ensures left { (past_in self.new ≡ past_in self.old)
             ⊎ ((left : List ℕ) × (length left ≡ len) × (past_in self.new ≡ noted moment (stands at left) (past_in self.old))) }
+        ensures tally { self.new.tally ≡ self.old.tally }
     {
         if let Ok(left) = vec![in self.alloc; 0xee; len] {
             let _ = self.put(moment, at, &left);
         }
+    }
+
+    fn measure(&mut self, moment: u64) -> Result<u64, CallFault>
+        ensures noted { MatchResult result
+            (λ len. past_in self.new ≡ noted moment (measured len) (past_in self.old))
+            (λ _. past_in self.new ≡ past_in self.old) }
+        ensures tally { self.new.tally ≡ self.old.tally }
+    {
+        self.answer(0)?;
+        self.keep(moment, Done::Measured)?;
+        Ok(self.bytes.len() as u64)
+    }
+
+    fn read(&mut self, moment: u64, at: u64, buf: &mut [u8]) -> Result<usize, CallFault>
+        ensures count { IfOk result (λ count. count ≤ length buf.old) }
+        ensures noted { MatchResult result
+            (λ count. past_in self.new ≡ noted moment (came at (take count buf.new)) (past_in self.old))
+            (λ _. past_in self.new ≡ past_in self.old) }
+        ensures tally { self.new.tally ≡ self.old.tally }
+    {
+        let count = self.answer(buf.len())?;
+        let place = (at as usize).min(self.bytes.len());
+        let count = count.min(self.bytes.len() - place);
+        self.keep(moment, Done::Read { at, count })?;
+        buf[..count].copy_from_slice(&self.bytes[place..place + count]);
+        Ok(count)
+    }
+
+    fn write(&mut self, moment: u64, at: u64, bytes: &[u8]) -> Result<usize, CallFault>
+        ensures count { IfOk result (λ count. count ≤ length bytes.now) }
+        ensures noted { MatchResult result
+            (λ count. past_in self.new ≡ noted moment (stands at (take count bytes.now)) (past_in self.old))
+            (λ _. (past_in self.new ≡ past_in self.old) ⊎ ((left : List ℕ) × (length left ≡ length bytes.now) × (past_in self.new ≡ noted moment (stands at left) (past_in self.old)))) }
+        ensures tally { self.new.tally ≡ self.old.tally }
+    {
+        match self.answer(bytes.len()) {
+            Ok(count) => {
+                self.put(moment, at, &bytes[..count])?;
+                Ok(count)
+            }
+            Err(fault) => {
+                self.spoil(moment, at, bytes.len());
+                Err(fault)
+            }
+        }
+    }
+
+    fn resize(&mut self, moment: u64, len: u64) -> Result<(), CallFault>
+        ensures noted { MatchResult result
+            (λ _. past_in self.new ≡ noted moment (resized len) (past_in self.old))
+            (λ _. past_in self.new ≡ past_in self.old) }
+        ensures tally { self.new.tally ≡ self.old.tally }
+    {
+        self.answer(0)?;
+        if self.calls.reserve(1).is_err() || self.bytes.resize(len as usize, 0).is_err() {
+            return Err(CallFault::Failed);
+        }
+        let done = Done::Resized { len };
+        self.calls.push_reserved(HonestCall { moment, done });
+        Ok(())
+    }
+
+    fn sync(&mut self, moment: u64) -> Result<(), CallFault>
+        ensures noted { MatchResult result
+            (λ _. past_in self.new ≡ noted moment synced (past_in self.old))
+            (λ _. past_in self.new ≡ past_in self.old) }
+        ensures tally { self.new.tally ≡ self.old.tally }
+    {
+        self.answer(0)?;
+        self.keep(moment, Done::Synced)
     }
 }
 
@@ -130,50 +207,34 @@ impl Calls for HonestCalls {
 
     ghost past = { past_in };
 
+    ghost tally = { λ file. file.tally };
+
     ghost steady = { λ _ _ _. false };
 
     ghost honest = { λ file told. honest_told (at_rest file.first.items) (reverse file.calls.items) };
 
     fn len(&mut self, moment: u64) -> Result<u64, CallFault> {
-        self.answer(0)?;
-        self.keep(moment, Done::Measured)?;
-        Ok(self.bytes.len() as u64)
+        let answer = self.measure(moment);
+        self.tally.count(answer)
     }
 
     fn read_at(&mut self, moment: u64, at: u64, buf: &mut [u8]) -> Result<usize, CallFault> {
-        let count = self.answer(buf.len())?;
-        let place = (at as usize).min(self.bytes.len());
-        let count = count.min(self.bytes.len() - place);
-        self.keep(moment, Done::Read { at, count })?;
-        buf[..count].copy_from_slice(&self.bytes[place..place + count]);
-        Ok(count)
+        let answer = self.read(moment, at, buf);
+        self.tally.count_part(buf.len(), answer)
     }
 
     fn write_at(&mut self, moment: u64, at: u64, bytes: &[u8]) -> Result<usize, CallFault> {
-        match self.answer(bytes.len()) {
-            Ok(count) => {
-                self.put(moment, at, &bytes[..count])?;
-                Ok(count)
-            }
-            Err(fault) => {
-                self.spoil(moment, at, bytes.len());
-                Err(fault)
-            }
-        }
+        let answer = self.write(moment, at, bytes);
+        self.tally.count_part(bytes.len(), answer)
     }
 
     fn set_len(&mut self, moment: u64, len: u64) -> Result<(), CallFault> {
-        self.answer(0)?;
-        if self.calls.reserve(1).is_err() || self.bytes.resize(len as usize, 0).is_err() {
-            return Err(CallFault::Failed);
-        }
-        let done = Done::Resized { len };
-        self.calls.push_reserved(HonestCall { moment, done });
-        Ok(())
+        let answer = self.resize(moment, len);
+        self.tally.count(answer)
     }
 
     fn sync_data(&mut self, moment: u64) -> Result<(), CallFault> {
-        self.answer(0)?;
-        self.keep(moment, Done::Synced)
+        let answer = self.sync(moment);
+        self.tally.count(answer)
     }
 }

@@ -8,6 +8,7 @@ mod file_media;
 mod honest_call;
 mod honest_calls;
 mod reading;
+mod tally;
 mod writing;
 
 pub use calls::{CallFault, Calls};
@@ -15,3 +16,4 @@ pub use file_calls::FileCalls;
 pub use file_media::FileMedia;
 pub use honest_call::{Answer, Done, HonestCall};
 pub use honest_calls::HonestCalls;
+pub use tally::Tally;

@@ -1,6 +1,7 @@
 // The reads of a file that serve one read of the medium: a part is followed by the rest, and an interrupted call is made again.
 ghost use Rattle.std.specs.Prelude.{◌≡◌, ◌+◌, ◌≤◌, ◌<◌, ◌^◌, [], ℕ, length, IsTrue, IsOk, OnOk};
 ghost use Rattle.mars_base.specs.Bytes.{range};
+ghost use Rattle.media_file.specs.Counted.{Tried};
 ghost use Rattle.media_file.specs.Past.{held, AreBefore};
 ghost use Rattle.media_file.specs.Transfer.{Serves};
 
@@ -15,6 +16,7 @@ pub fn read_all<C: Calls>(calls: &mut C, moment: u64, at: u64, buf: &mut [u8]) -
     ensures bytes { IsTrue C.trusted → OnOk result (buf.new ≡ range (held (C.past calls.old)).bytes at (length buf.old)) }
     ensures same { IsTrue C.trusted → held (C.past calls.new) ≡ held (C.past calls.old) }
     ensures serves { IsTrue C.trusted → Serves moment [] (C.past calls.old) (C.past calls.new) }
+    ensures tried { Tried (length buf.old) (C.tally calls.old) (C.tally calls.new) result }
     ensures steady { (more_calls more : ℕ) → IsTrue (C.steady calls.old (more_calls + 1) more) → IsOk result × IsTrue (C.steady calls.new more_calls more) }
 {
     let mut done = 0;

@@ -27,6 +27,7 @@ module _ (size room until m n : ℕ) (untils past bytes : List ℕ) (holds : Hol
         whole = omega (arith, holds.whole, ap length past_is, length-append past bytes, ap (λ (k : ℕ). k * size) count);
         moments = omega (arith, holds.moments);
         bytes = omega (arith, holds.bytes, ap length past_is, length-append past bytes, less);
+        first = λ none. absurd (omega (arith, count, none));
       }
 
   pub versions_more : (untils' past' : List ℕ) → untils' ≡ untils ++ until ∷ [] → past' ≡ past ++ bytes → versions size untils' past' ≡ versions size untils past ++ record { until = until; bytes = bytes } ∷ []

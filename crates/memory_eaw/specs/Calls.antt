@@ -1,8 +1,8 @@
 -- Which calls are counted, which of them fail, and what is kept of them.
-use Rattle.std.specs.Prelude.{ℕ, ◌≡◌, ◌-◌, ◌<◌, min, ◌↔◌, Bool, true, false, List, Result, Ok, Err, IsErrOf}
+use Rattle.std.specs.Prelude.{None, ℕ, ◌≡◌, ◌-◌, ◌<◌, min, ◌↔◌, Bool, true, false, List, Result, Ok, Err, IsErrOf}
 use Rattle.eaw_face.specs.StoreView.{StoreView, log_len}
 use Rattle.eaw_face.specs.Command.{Command, commit, abort, nested_top, partial_abort, atomic_write}
-use Rattle.eaw_face.specs.Causes.{IsAlive, Knows, HasRoom}
+use Rattle.eaw_face.specs.Causes.{IsAlive, Knows, room_for}
 use Rattle.eaw_face.specs.declared.fault.EawFault.{EawFault}
 use Rattle.eaw_face.specs.declared.fault.EawFault.TheVariants.{Media}
 use Rattle.memory_eaw.specs.Kept.{Kept, MustFail, MustFailChange, failed, called, changed}
@@ -27,7 +27,7 @@ HasWork store _ = Unit {0}
 pub record IsCounted (store : StoreView) (command : Command) : Type 0 where
   pub alive : IsAlive store
   pub knows : Knows store command
-  pub room : HasRoom store command
+  pub room : room_for store command None
   pub work : HasWork store command
 
 -- the commands that change the data

@@ -46,8 +46,9 @@ abbrev pub versions : ℕ → List ℕ → List ℕ → List Version
 versions size [] past = []
 versions size (until ∷ untils) past = record { until = until; bytes = take size past } ∷ versions size untils (drop size past)
 
--- each moment has a version of the data's size, and there is room for `room` more changes
+-- Each moment has a version of the data's size, and there is room for `room` more changes. No more was taken for them at first.
 pub record HoldsPast (size room : ℕ) (untils past : List ℕ) (untils_room past_room : ℕ) : Type 0 where
   pub whole : length past ≡ length untils * size
-  pub moments : length untils + room ≤ untils_room
+  pub moments : length untils + room ≡ untils_room
   pub bytes : length past + room * size ≤ past_room
+  pub first : length untils ≡ 0 → past_room ≡ room * size

@@ -16,11 +16,11 @@ pub record Log : Type 0 where
 abbrev pub IsWritePart : Shape → Part → Type 0
 IsWritePart shape part = IsPlaced shape part.0 (length part.1)
 
--- A number that is not live has nothing logged. There is room for as many parts as all loggers have entries for one number.
+-- A number that is not live has nothing logged. There is room for just as many parts as all loggers have entries for one number.
 pub record IsSoundLog (shape : Shape) (log : Log) : Type 0 where
   pub idle : log.is_live ≡ false → log.parts ≡ []
   pub few : length log.parts ≤ shape.loggers * shape.entries
-  pub room : shape.loggers * shape.entries ≤ log.room
+  pub room : log.room ≡ shape.loggers * shape.entries
   pub placed : All (IsWritePart shape) log.parts
 
 -- what it has logged, as the model has it

@@ -1,8 +1,8 @@
 -- What the steps of a command make of a store in memory, and why they stop.
-use Rattle.std.specs.Prelude.{ℕ, ◌≡◌, ◌⊎◌, Bool, true, false, List, [], ◌∷◌, get_or, slice_set}
+use Rattle.std.specs.Prelude.{Some, ℕ, ◌≡◌, ◌⊎◌, Bool, true, false, List, [], ◌∷◌, get_or, slice_set}
 use Rattle.array_shape.specs.Logged.{Part, applied}
 use Rattle.eaw_face.specs.StoreView.{StoreView}
-use Rattle.eaw_face.specs.Causes.{IsAlive, IsFirstFull}
+use Rattle.eaw_face.specs.Causes.{IsAlive, fit}
 use Rattle.eaw_face.specs.declared.fault.EawFault.{EawFault}
 use Rattle.eaw_face.specs.declared.fault.EawFault.TheVariants.{UnknownTid, LogFull, Dead}
 use Rattle.memory_eaw.specs.Kept.{failed, called, changed}
@@ -44,4 +44,4 @@ pub record IsFullBy (store : StoreView) (held needed : List (ℕ × ℕ)) (fault
   pub h : ℕ
   pub n : ℕ
   pub fault_is : fault ≡ LogFull g h n
-  pub first : IsFirstFull store held needed g h n
+  pub first : fit store held needed (Some (g, h, n))

@@ -1,5 +1,5 @@
 // An array in memory.
-ghost use Rattle.std.specs.Prelude.{ℕ, ◌≡◌, ◌≢◌, ◌+◌, ◌*◌, ◌^◌, ◌≤◌, ◌<◌, true, false, [], ◌∷◌, ◌++◌, length, take, drop, replicate, IfOk, IfErr, OnOk, OnErr, IsErrOf};
+ghost use Rattle.std.specs.Prelude.{ℕ, ◌≡◌, ◌≢◌, ◌+◌, ◌*◌, ◌^◌, ◌≤◌, ◌<◌, true, false, [], ◌∷◌, ◌++◌, length, take, drop, replicate, IfOk, IfErr, OnOk, OnErr, IsErrOf, None, vec_capacity};
 ghost use Rattle.mars_base.specs.Bytes.{put, range};
 ghost use Rattle.mars_base.specs.Costs.{Costs};
 ghost use Rattle.array_shape.specs.Places.{data_len};
@@ -9,7 +9,7 @@ ghost use Rattle.eaw_face.specs.State.{listed, edited, range_at, part_at};
 ghost use Rattle.eaw_face.specs.StoreView.{IsLive, log_len};
 ghost use Rattle.eaw_face.specs.Command.{log_write, log_edit, commit, abort, nested_top, partial_abort, atomic_write, log_read, read};
 ghost use Rattle.eaw_face.specs.Does.{Does};
-ghost use Rattle.eaw_face.specs.Causes.{Fit};
+ghost use Rattle.eaw_face.specs.Causes.{fit};
 ghost use Rattle.memory_eaw.specs.Kept.{fresh_kept, MustFail, MustFailChange};
 ghost use Rattle.memory_eaw.specs.Plain.{IsSound, SameStore};
 ghost use Rattle.memory_eaw.specs.Fresh.{IsFresh};
@@ -42,11 +42,12 @@ pub struct MemoryEaw {
 
 // `numbers` logs that are not live, each with this room.
 fn free_logs(alloc: Global, numbers: u8, room: usize) -> Result<Vec<PlainLog>, NoMemory>
-    ensures { IfOk result (λ logs. logs.items ≡ replicate numbers (record { is_live = false; parts = []; room = room })) }
+    ensures logs { IfOk result (λ logs. logs.items ≡ replicate numbers (record { is_live = false; parts = []; room = room })) }
+    ensures room { IfOk result (λ logs. vec_capacity logs ≡ numbers) }
 {
     let mut logs = Vec::with_capacity(alloc, usize::from(numbers))?;
     for _number in 0..numbers {
-        logs.push(PlainLog::new(alloc, room)?)?;
+        logs.push_reserved(PlainLog::new(alloc, room)?);
     }
     Ok(logs)
 }
@@ -121,7 +122,7 @@ impl MemoryEaw {
     fn check_room(&self, tid: u8, addr: u64, bytes: &[u8]) -> Result<(), EawFault>
         requires tid { tid < self.now.shape.numbers }
         requires inside { addr + length bytes.now ≤ data_len self.now.shape }
-        ensures fits { OnOk result (Fit (shown self.now) (listed ((shown self.now).ranges tid)) (ranges_of (parts_of_write addr bytes.now))) }
+        ensures fits { OnOk result (fit (shown self.now) (listed ((shown self.now).ranges tid)) (ranges_of (parts_of_write addr bytes.now)) None) }
         ensures full { IfErr result (IsFullBy (shown self.now) (listed ((shown self.now).ranges tid)) (ranges_of (parts_of_write addr bytes.now))) }
     {
         let log = &self.logs[usize::from(tid)];

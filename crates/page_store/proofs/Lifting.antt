@@ -41,8 +41,8 @@ pub record Makes (tells : Bool) (c : PageCommand) (d : Command) (old : PagesView
   pub allowed : old.store.is_dead ≡ false → IsAllowed old.store.shape c (outline_of old)
   pub ordered : old.store.is_dead ≡ false → IsOrdered (outline_of old)
   pub told : IsTrue tells → old.store.is_dead ≡ false → IsTold old.store
-  pub room : causes.HasRoom old.store d → HasRoom old c
-  pub full : (g h n : ℕ) → causes.IsFull old.store d g h n → IsFull old c g h n
+  pub room : causes.room_for old.store d None → HasRoom old c
+  pub full : (g h n : ℕ) → causes.room_for old.store d (Some (g, h, n)) → IsFull old c g h n
   pub number : (u : ℕ) → (named_by c ≡ Some u → ⊥) → causes.IsNumberOf d u → ⊥
 
 module _ (tells : Bool) (Opens : List ℕ → List ℕ → Type 0) (c : PageCommand) (d : Command) (old new : PagesView) (makes : Makes tells c d old) where
@@ -206,7 +206,7 @@ unchanged tells Opens c old p other cause = record {
 module _ (tells : Bool) (Opens : List ℕ → List ℕ → Type 0) (c : PageCommand) (d : Command) (t : ℕ) (old new : PagesView)
     (device_is : device c (outline_of old) ≡ if_live (outline_of old) t d)
     (alive : old.store.is_dead ≡ false) (allowed : IsAllowed old.store.shape c (outline_of old)) (ordered : IsOrdered (outline_of old)) (told : IsTrue tells → IsTold old.store)
-    (room : HasRoom old c) (full : (g h n : ℕ) → causes.IsFull old.store d g h n → IsFull old c g h n)
+    (room : HasRoom old c) (full : (g h n : ℕ) → causes.room_for old.store d (Some (g, h, n)) → IsFull old c g h n)
     (number : (u : ℕ) → (named_by c ≡ Some u → ⊥) → causes.IsNumberOf d u → ⊥) where
   makes_live : (log : List (ℕ × ℕ)) → old.store.ranges t ≡ Some log → Makes tells c d old
   makes_live log is = record {

@@ -30,7 +30,7 @@ NotMedia _ = Unit {0}
 -- a command of the store that reads, of a number that is live
 module _ (tells : Bool) (Opens : List ℕ → List ℕ → Type 0) (t : ℕ) (d : Command) (old new : StoreView)
     (same : (s : State) → model.after d s ≡ s) (same_ranges : (rs : Logs (ℕ × ℕ)) → model.ranges_after d rs ≡ rs)
-    (knows : causes.Knows old d) (room : (g h n : ℕ) → causes.IsFull old d g h n → ⊥) where
+    (knows : causes.Knows old d) (room : (g h n : ℕ) → causes.room_for old d (Some (g, h, n)) → ⊥) where
   cause_of : {T : Type 0} (r : Result T EawFault) → causes.Cause old d new.faults r → ReadCause old new.faults r
   cause_of (Ok x) cause = cause.0
   cause_of (Err (fault.UnknownTid t)) cause = absurd (cause.2 knows)

@@ -3,7 +3,7 @@ use Rattle.std.specs.Prelude.{ℕ, ◌≡◌, ◌<◌, ◌⊎◌, Bool, true, fa
 use Rattle.mars_base.specs.Causes.{Rose}
 use Rattle.eaw_face.specs.State.{listed}
 use Rattle.eaw_face.specs.StoreView.{StoreView, LeavesOnly}
-use Rattle.eaw_face.specs.Causes.{IsAlive, Fit, IsFirstFull}
+use Rattle.eaw_face.specs.Causes.{IsAlive, fit}
 use Rattle.eaw_face.specs.Does.{IsEither}
 use Rattle.page_store.specs.Edit.{edit_pos}
 use Rattle.page_store.specs.Outline.{outline_after, floor_in}
@@ -18,13 +18,13 @@ edits_at pages t addr len = edit_pos (floor_in (outline_of pages) t) (addr, len)
 
 -- A write that edits no part needs room for one, and a save needs one of the 32 places.
 abbrev pub HasRoom : PagesView → PageCommand → Type 0
-HasRoom pages (write_as t addr bytes) = edits_at pages t addr (length bytes) ≡ None → Fit pages.store (listed (pages.store.ranges t)) ((addr, length bytes) ∷ [])
+HasRoom pages (write_as t addr bytes) = edits_at pages t addr (length bytes) ≡ None → fit pages.store (listed (pages.store.ranges t)) ((addr, length bytes) ∷ []) None
 HasRoom pages (save t) = length (pages.counts t) < 32
 HasRoom pages _ = Unit {0}
 
 -- a write edits no part, and logger g has no room for one: it holds h, and n more are needed
 abbrev pub IsFull : PagesView → PageCommand → ℕ → ℕ → ℕ → Type 0
-IsFull pages (write_as t addr bytes) g h n = (edits_at pages t addr (length bytes) ≡ None) × IsFirstFull pages.store (listed (pages.store.ranges t)) ((addr, length bytes) ∷ []) g h n
+IsFull pages (write_as t addr bytes) g h n = (edits_at pages t addr (length bytes) ≡ None) × fit pages.store (listed (pages.store.ranges t)) ((addr, length bytes) ∷ []) (Some (g, h, n))
 IsFull pages _ g h n = ⊥
 
 -- a number has saved as often as it may

@@ -32,7 +32,7 @@ abbrev pub is_failed : {T : Type 0} → Result T PageFault → Bool
 is_failed (Err page.Media) = true
 is_failed _ = false
 
-abbrev pub is_check_failed : Result (Unit {0}) CheckFault → Bool
+abbrev pub is_check_failed : {T : Type 0} → Result T CheckFault → Bool
 is_check_failed (Err check.Media) = true
 is_check_failed _ = false
 

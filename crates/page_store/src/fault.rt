@@ -10,7 +10,7 @@ pub enum PageFault {
     #[error("the saves are full")]
     SavesFull,
     /// The medium failed in this call.
-    #[error("the media failed")]
+    #[error("the medium failed")]
     Media,
     /// An earlier call met a fault of the medium.
     #[error("the array is dead")]

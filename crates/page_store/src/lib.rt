@@ -17,5 +17,6 @@ pub use laws::{
     a_top_is_one_write, a_write_is_seen, back_restores, commands_are_the_stores, commands_keep,
     others_stay, parts_are_read, top_end_keeps_views, writes_edit_exactly,
 };
+pub use marks::SAVES_MAX;
 pub use pages::Pages;
 pub use room::SaveRoom;

@@ -6,13 +6,13 @@ ghost use Rattle.page_store.specs.Marked.{floor_at};
 use arrayvec::ArrayVec;
 use std::marker::Model;
 
-// The most saves that a transaction may have.
-const MOST_SAVES: usize = 32;
+/// The most saves of a number.
+pub const SAVES_MAX: usize = 32;
 
 // How many parts the log had at each save, and how many when an open top action began.
 #[derive(Drop)]
 pub struct Marks {
-    saves: ArrayVec<u32, MOST_SAVES>,
+    saves: ArrayVec<u32, SAVES_MAX>,
     top: Option<u32>,
 }
 

@@ -33,7 +33,7 @@ impl<M> Model for FusedMedia<M> {
 
 impl<M> FusedMedia<M> {
     /// A fuse in front of this medium that passes `passes` calls on.
-    pub fn new(inner: M, passes: u64) -> Self
+    pub fn wrap(inner: M, passes: u64) -> Self
         ensures { result ≡ record { inner = inner; passes = passes; blown = 0 } }
     {
         FusedMedia {

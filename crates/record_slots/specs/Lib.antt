@@ -1,4 +1,6 @@
 pub mod Text
 pub mod Slots
 pub mod Super
+pub mod IndexHead
+pub mod Fresh
 pub mod Places

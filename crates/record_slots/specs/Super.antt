@@ -1,5 +1,5 @@
--- What the 512 bytes of the super page say.
-use Rattle.std.specs.Prelude.{ℕ, ◌≡◌, List, [], ◌∷◌, ◌++◌, take, codes, slice_index}
+-- What the 512 bytes of the super page say, and the bytes that are written.
+use Rattle.std.specs.Prelude.{ℕ, ◌≡◌, List, [], ◌∷◌, ◌++◌, take, codes, replicate, slice_index}
 use Rattle.byteorder.specs.Endian.{little_from, little_bytes}
 use Rattle.record_slots.specs.declared.super_page.Super.{Super}
 
@@ -31,3 +31,7 @@ pub record SaysSuper (bytes : List ℕ) (front : Super) : Type 0 where
 -- bytes 8 to 15 of a super page with these counts
 unfoldable pub count_bytes : ℕ → ℕ → List ℕ
 count_bytes next_slot next_page = little_bytes 4 next_slot ++ little_bytes 4 next_page
+
+-- the 512 bytes of a super page: the mark, the form, the counts, and zeros
+abbrev pub super_bytes : Super → List ℕ
+super_bytes front = super_mark ++ front.form ∷ 0 ∷ 0 ∷ (count_bytes front.next_slot front.next_page ++ replicate 496 0)

@@ -1,12 +1,17 @@
-//! The value of a record, the slot of 64 bytes that holds it, and the super page.
+//! The value of a record, the slot of 64 bytes that holds it, the super page, the head of an index page, and the pages of data
+//! without records.
 #![tactic(auto)]
 
+mod fresh;
+mod index_head;
 mod laws;
 mod slot;
 mod super_page;
 mod value;
 
+pub use fresh::fresh_page;
+pub use index_head::{INDEX_HEAD_LEN, IndexHead, index_head_bytes, read_index_head};
 pub use laws::slot_round_trip;
 pub use slot::{SLOT_LEN, Slot, read_slot, write_slot};
-pub use super_page::{COUNTS_AT, COUNTS_LEN, Super, read_super, write_super_counts};
+pub use super_page::{COUNTS_AT, COUNTS_LEN, Super, read_super, write_super, write_super_counts};
 pub use value::{VALUE_MAX, Value};

@@ -1,5 +1,5 @@
 ghost use Rattle.std.specs.Prelude.{◌≡◌, IfSome, IfNone};
-ghost use Rattle.record_slots.specs.Super.{HasSuperMark, SaysSuper, count_bytes};
+ghost use Rattle.record_slots.specs.Super.{HasSuperMark, SaysSuper, count_bytes, super_bytes};
 
 use byteorder::{ByteOrder, LittleEndian};
 
@@ -38,6 +38,18 @@ pub fn read_super(bytes: &[u8; 512]) -> Option<Super>
         next_slot: LittleEndian::read_u32(&bytes[NEXT_SLOT_AT..]),
         next_page: LittleEndian::read_u32(&bytes[NEXT_PAGE_AT..]),
     })
+}
+
+/// Writes a super page, with zeros where it says nothing.
+pub fn write_super(front: &Super, out: &mut [u8; 512])
+    ensures { out.new ≡ super_bytes front.now }
+{
+    let mut counts = [0; COUNTS_LEN];
+    write_super_counts(front.next_slot, front.next_page, &mut counts);
+    out.fill(0);
+    out[..MARK.len()].copy_from_slice(&MARK);
+    out[FORM_AT] = front.form;
+    out[COUNTS_AT..COUNTS_AT + COUNTS_LEN].copy_from_slice(&counts);
 }
 
 /// Writes the eight bytes of the two counts, which stand in the super page from `COUNTS_AT` on.

@@ -12,7 +12,7 @@ use Rattle.record_slots.specs.declared.slot.Slot.{Slot}
 use Rattle.record_slots.specs.declared.slot.Slot.TheVariants.{Absent, Present}
 use Rattle.page_store.specs.Command.{write_as}
 use Rattle.page_store.specs.Does as page_does
-use Rattle.page_store.specs.Fits.{FitAll, IsFirstLacking, held_with, is_page_on}
+use Rattle.page_store.specs.Fits.{FitAll, IsFirstLacking, held_on, needed_on, is_page_on}
 use Rattle.page_store.specs.Index.{Action, Index, slots_of, index_pages_of, Grows, Gains}
 use Rattle.page_store.specs.Index as face
 use Rattle.page_store.specs.Inserts.{AllFit, LackPages, LackRoom, ComesTo, Inserts, is_insert_failed}
@@ -41,11 +41,11 @@ use Rattle.record_table.proofs.Wrote.{wrote, write_failed, write_short}
 
 -- stores of one shape whose parts lie at the same places
 module _ (a b : StoreView) (t : ℕ) (shape : b.shape ≡ a.shape) (ranges : listed (b.ranges t) ≡ listed (a.ranges t)) where
-  held_same : (pages : List ℕ) (g : ℕ) → held_with b t pages g ≡ held_with a t pages g
+  held_same : (pages : List ℕ) (g : ℕ) → held_on b t g + needed_on b pages g ≡ held_on a t g + needed_on a pages g
   held_same pages g = λ i. count_on (shape i) g (ranges i) + length (filter (is_page_on (shape i).loggers g) pages)
 
   fit_same : (pages : List ℕ) → FitAll b t pages → FitAll a t pages
-  fit_same pages fit g lt = subst (λ (s : Shape). held_with a t pages g ≤ s.entries) shape (subst (λ (n : ℕ). n ≤ b.shape.entries) (held_same pages g) (fit g (subst (λ (s : Shape). g < s.loggers) (sym shape) lt)))
+  fit_same pages fit g lt = subst (λ (s : Shape). held_on a t g + needed_on a pages g ≤ s.entries) shape (subst (λ (n : ℕ). n ≤ b.shape.entries) (held_same pages g) (fit g (subst (λ (s : Shape). g < s.loggers) (sym shape) lt)))
 
   pub lacking_same : (pages : List ℕ) (g h n : ℕ) → IsFirstLacking b t pages g h n → IsFirstLacking a t pages g h n
   lacking_same pages g h n lacks = record {
@@ -53,7 +53,7 @@ module _ (a b : StoreView) (t : ℕ) (shape : b.shape ≡ a.shape) (ranges : lis
     held_is = lacks.held_is ∙ (λ i. count_on (shape i) g (ranges i));
     needed_is = lacks.needed_is ∙ ap (λ (s : Shape). length (filter (is_page_on s.loggers g) pages)) shape;
     full = subst (λ (s : Shape). s.entries < h + n) shape lacks.full;
-    before = λ k lt. subst (λ (s : Shape). held_with a t pages k ≤ s.entries) shape (subst (λ (m : ℕ). m ≤ b.shape.entries) (held_same pages k) (lacks.before k lt));
+    before = λ k lt. subst (λ (s : Shape). held_on a t k + needed_on a pages k ≤ s.entries) shape (subst (λ (m : ℕ). m ≤ b.shape.entries) (held_same pages k) (lacks.before k lt));
   }
 
   all_same : (left : ℕ) (acts : List Action) → AllFit b t left acts → AllFit a t left acts

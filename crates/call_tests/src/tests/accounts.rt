@@ -79,7 +79,7 @@ fn pay_behind(
     passes: u64,
 ) -> Option<(Result<(), Refusal>, MemoryMedia)> {
     let media = media_of(alloc, image)?;
-    let mut core = open_bank(alloc, FusedMedia::new(media, passes))?;
+    let mut core = open_bank(alloc, FusedMedia::wrap(media, passes))?;
     let answer = transfer(&mut core, 0, 1, 2, 30);
     Some((answer, core.into_store().into_media().into_inner()))
 }

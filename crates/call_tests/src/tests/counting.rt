@@ -18,7 +18,7 @@ fn raise_behind(
     passes: u64,
 ) -> Option<(Result<u64, CountFault>, MemoryMedia)> {
     let media = media_of(alloc, image)?;
-    let mut counter = open(alloc, FusedMedia::new(media, passes))?;
+    let mut counter = open(alloc, FusedMedia::wrap(media, passes))?;
     let answer = counter.add_one();
     Some((answer, counter.into_media().into_inner()))
 }

@@ -1,4 +1,4 @@
-use Rattle.std.proofs.Common.{◌≤◌, ◌≡◌, ◌+◌, ◌-◌, ℕ, suc, false, List, Ok, Err, Result, refl, sym, ◌∙◌, ap, subst, arith}
+use Rattle.std.proofs.Common.{◌≤◌, ◌≡◌, ◌+◌, ◌-◌, ℕ, suc, false, List, None, Ok, Err, Result, refl, sym, ◌∙◌, ap, subst, arith}
 use Rattle.std.proofs.lemmas.Bool.{false≢true}
 use Rattle.array_shape.specs.declared.shape.Shape.{Shape}
 use Rattle.eaw_face.specs.State.{State}
@@ -10,9 +10,10 @@ use Rattle.index_pages.specs.Fetched.{IsFront}
 use Rattle.index_pages.specs.Page.{pairs_from, pair_said, pairs_said}
 use Rattle.index_pages.proofs.Looking.{looks_none, looks_next}
 use Rattle.index_pages.proofs.Reading.{from_step, from_end}
-use Rattle.btree_pages.specs.Checked.{high_of, AreNamed, IsFrontOf, TreeCause}
-use Rattle.btree_pages.specs.Tree.{IsTree, AreSound, next_low}
-use Rattle.btree_pages.proofs.Checks.{whole_left, named_step, named_here, ChildrenLeft, children_all, children_step, children_fail, inner_fails, inner_children}
+use Rattle.btree_pages.specs.Checked.{high_of, IsFrontOf}
+use Rattle.btree_pages.specs.Tree.{AreChildren, next_low, children_check, tree_from}
+use Rattle.index_pages.specs.Slots.{IsVerdict}
+use Rattle.btree_pages.proofs.Checks.{whole_left, named_step, named_here, ChildrenLeft, children_step, children_fail, inner_fails, inner_children}
 use Rattle.record_slots.specs.Places.{page_bytes}
 use Rattle.btree_pages.proofs.Telling.{not_damaged, not_passed, told_looks, told_cause, told_dead}
 use Rattle.btree_pages.proofs.checking.+under.Goals as goal
@@ -25,22 +26,22 @@ check_children-loop-i-init g t c =
       looks = looks_none g.S.EawStore.tells (g.S.EawStore.opens view.shape) (pages_of view c.args.pages.now);
       alive = c.requires.alive;
       named = (
-        λ a. subst (λ (ps : List Pair). AreNamed c.args.front.now.next_page ps) (sym e) a,
-        λ a. subst (λ (ps : List Pair). AreNamed c.args.front.now.next_page ps) e a,
+        λ a. subst (λ (ps : List Pair). AreChildren c.args.front.now.next_page ps) (sym e) a,
+        λ a. subst (λ (ps : List Pair). AreChildren c.args.front.now.next_page ps) e a,
       );
       left = λ told front. subst (λ (ps : List Pair). ChildrenLeft (c.args.level - 1) view.state.bytes (pairs_said c.args.bytes.now) ps (high_of c.args.high)) e
-          (children_all (c.args.level - 1) view.state.bytes (pairs_said c.args.bytes.now) (high_of c.args.high));
+          (λ verdict told. told);
     }
 
 pub check_children-overflow_cast-spot : goal.check_children-overflow_cast-spot
 check_children-overflow_cast-spot g t c =
-    let h = named_here c.args.bytes.now c.loop-i.i c.args.count (AreNamed c.args.front.now.next_page (pairs_said c.args.bytes.now)) c.args.front.now.next_page c.loop-i.invariant.named c.loop-i-test.true c.requires.named in
+    let h = named_here c.args.bytes.now c.loop-i.i c.args.count (AreChildren c.args.front.now.next_page (pairs_said c.args.bytes.now)) c.args.front.now.next_page c.loop-i.invariant.named c.loop-i-test.true c.requires.named in
     omega (arith, h.1, ap (λ (p : Pair). p.1) c.read_pair-low.ensures.pair, c.requires.front.pages, c.index_page_count-most.ensures.count, c.index_page_count-most.ensures.most)
 
 pub check_children-check_under-requires : goal.check_children-check_under-requires
 check_children-check_under-requires g t c κs within =
     let shape = c.loop-i.invariant.looks.shape in
-    let h = named_here c.args.bytes.now c.loop-i.i c.args.count (AreNamed c.args.front.now.next_page (pairs_said c.args.bytes.now)) c.args.front.now.next_page c.loop-i.invariant.named c.loop-i-test.true c.requires.named in (
+    let h = named_here c.args.bytes.now c.loop-i.i c.args.count (AreChildren c.args.front.now.next_page (pairs_said c.args.bytes.now)) c.args.front.now.next_page c.loop-i.invariant.named c.loop-i-test.true c.requires.named in (
       omega (arith, c.decreases, c.requires.inner),
       (
         within,
@@ -63,22 +64,22 @@ check_children-returns-in-Err-clause-cause g t c = λ told front.
     let left = subst (λ (ps : List Pair). ChildrenLeft (c.args.level - 1) view.state.bytes (pairs_said c.args.bytes.now) ps (high_of c.args.high)) (from_step c.args.bytes.now c.loop-i.i c.args.count c.loop-i-test.true)
     (c.loop-i.invariant.left told front) in
     let cause = c.in-Err.ensures.cause told (subst (λ (s : State). IsFrontOf s.bytes c.args.front.now) (sym same) front) in
-    let cause' : TreeCause (c.args.level - 1) view.state.bytes (pair_said c.args.bytes.now c.loop-i.i).1 (pair_said c.args.bytes.now c.loop-i.i).0 (next_low rest (high_of c.args.high)) e =
-    subst (λ (h : ℕ). TreeCause (c.args.level - 1) view.state.bytes (pair_said c.args.bytes.now c.loop-i.i).1 (pair_said c.args.bytes.now c.loop-i.i).0 h e) c.end_of.ensures
-    (subst (λ (p : Pair). TreeCause (c.args.level - 1) view.state.bytes p.1 p.0 (high_of c.end_of.result) e) c.read_pair-low.ensures.pair
-    (subst (λ (s : State). TreeCause (c.args.level - 1) s.bytes c.read_pair-low.result.1 c.read_pair-low.result.0 (high_of c.end_of.result) e) same cause)) in
+    let cause' : IsVerdict (tree_from (c.args.level - 1) view.state.bytes (pair_said c.args.bytes.now c.loop-i.i).1 (pair_said c.args.bytes.now c.loop-i.i).0 (next_low rest (high_of c.args.high))) e =
+    subst (λ (h : ℕ). IsVerdict (tree_from (c.args.level - 1) view.state.bytes (pair_said c.args.bytes.now c.loop-i.i).1 (pair_said c.args.bytes.now c.loop-i.i).0 h) e) c.end_of.ensures
+    (subst (λ (p : Pair). IsVerdict (tree_from (c.args.level - 1) view.state.bytes p.1 p.0 (high_of c.end_of.result)) e) c.read_pair-low.ensures.pair
+    (subst (λ (s : State). IsVerdict (tree_from (c.args.level - 1) s.bytes c.read_pair-low.result.1 c.read_pair-low.result.0 (high_of c.end_of.result)) e) same cause)) in
     children_fail (c.args.level - 1) view.state.bytes (pairs_said c.args.bytes.now) (pair_said c.args.bytes.now c.loop-i.i) rest (high_of c.args.high) left c.in-Err.fault cause'
 
 pub check_children-loop-i-preserved : goal.check_children-loop-i-preserved
 check_children-loop-i-preserved g t c =
     let view = g.S.EawStore.view c.args.pages.now.store in
     let mid = g.S.EawStore.view c.loop-i.pages.store in
-    let h = named_here c.args.bytes.now c.loop-i.i c.args.count (AreNamed c.args.front.now.next_page (pairs_said c.args.bytes.now)) c.args.front.now.next_page c.loop-i.invariant.named c.loop-i-test.true c.requires.named in
+    let h = named_here c.args.bytes.now c.loop-i.i c.args.count (AreChildren c.args.front.now.next_page (pairs_said c.args.bytes.now)) c.args.front.now.next_page c.loop-i.invariant.named c.loop-i-test.true c.requires.named in
     record {
       looks = looks_next g.S.EawStore.tells g.S.EawStore.opens false (pages_of view c.args.pages.now) (pages_of mid c.loop-i.pages) (pages_of (g.S.EawStore.view c.check_under.new.pages.store) c.check_under.new.pages)
           c.loop-i.invariant.looks c.in-Ok.ensures.looks;
       alive = (c.in-Ok.ensures.looks.still refl).dead ∙ c.loop-i.invariant.alive;
-      named = named_step c.args.bytes.now c.loop-i.i c.args.count (AreNamed c.args.front.now.next_page (pairs_said c.args.bytes.now)) c.args.front.now.next_page c.loop-i.invariant.named c.loop-i-test.true h.0 h.1;
+      named = named_step c.args.bytes.now c.loop-i.i c.args.count (AreChildren c.args.front.now.next_page (pairs_said c.args.bytes.now)) c.args.front.now.next_page c.loop-i.invariant.named c.loop-i-test.true h.0 h.1;
       left = λ told front.
           let same = (c.loop-i.invariant.looks.still refl).state told in
           let rest = pairs_from c.args.bytes.now (suc c.loop-i.i) (c.args.count - suc c.loop-i.i) in
@@ -86,10 +87,10 @@ check_children-loop-i-preserved g t c =
           let left = subst (λ (ps : List Pair). ChildrenLeft (c.args.level - 1) view.state.bytes (pairs_said c.args.bytes.now) ps (high_of c.args.high)) (from_step c.args.bytes.now c.loop-i.i c.args.count c.loop-i-test.true)
           (c.loop-i.invariant.left told front) in
           let cause = c.in-Ok.ensures.cause told (subst (λ (s : State). IsFrontOf s.bytes c.args.front.now) (sym same) front) in
-          let cause' : TreeCause (c.args.level - 1) view.state.bytes (pair_said c.args.bytes.now c.loop-i.i).1 (pair_said c.args.bytes.now c.loop-i.i).0 (next_low rest (high_of c.args.high)) r =
-          subst (λ (h : ℕ). TreeCause (c.args.level - 1) view.state.bytes (pair_said c.args.bytes.now c.loop-i.i).1 (pair_said c.args.bytes.now c.loop-i.i).0 h r) c.end_of.ensures
-          (subst (λ (p : Pair). TreeCause (c.args.level - 1) view.state.bytes p.1 p.0 (high_of c.end_of.result) r) c.read_pair-low.ensures.pair
-          (subst (λ (s : State). TreeCause (c.args.level - 1) s.bytes c.read_pair-low.result.1 c.read_pair-low.result.0 (high_of c.end_of.result) r) same cause)) in
+          let cause' : IsVerdict (tree_from (c.args.level - 1) view.state.bytes (pair_said c.args.bytes.now c.loop-i.i).1 (pair_said c.args.bytes.now c.loop-i.i).0 (next_low rest (high_of c.args.high))) r =
+          subst (λ (h : ℕ). IsVerdict (tree_from (c.args.level - 1) view.state.bytes (pair_said c.args.bytes.now c.loop-i.i).1 (pair_said c.args.bytes.now c.loop-i.i).0 h) r) c.end_of.ensures
+          (subst (λ (p : Pair). IsVerdict (tree_from (c.args.level - 1) view.state.bytes p.1 p.0 (high_of c.end_of.result)) r) c.read_pair-low.ensures.pair
+          (subst (λ (s : State). IsVerdict (tree_from (c.args.level - 1) s.bytes c.read_pair-low.result.1 c.read_pair-low.result.0 (high_of c.end_of.result)) r) same cause)) in
           let on : suc c.loop-i.i ≡ c.loop-i.i + 1 = omega arith in
           subst (λ (n : ℕ). ChildrenLeft (c.args.level - 1) view.state.bytes (pairs_said c.args.bytes.now) (pairs_from c.args.bytes.now n (c.args.count - n)) (high_of c.args.high)) on
           (children_step (c.args.level - 1) view.state.bytes (pairs_said c.args.bytes.now) (pair_said c.args.bytes.now c.loop-i.i) rest (high_of c.args.high) left cause');
@@ -98,8 +99,8 @@ check_children-loop-i-preserved g t c =
 pub check_children-returns-clause-cause : goal.check_children-returns-clause-cause
 check_children-returns-clause-cause g t c = λ told front.
     let view = g.S.EawStore.view c.args.pages.now.store in
-    (c.loop-i.invariant.left told front).sound
-    (subst (λ (ps : List Pair). AreSound (IsTree (c.args.level - 1) view.state.bytes) ps (high_of c.args.high)) (sym (from_end c.args.bytes.now c.loop-i.i c.args.count c.loop-i-test.false)) tt)
+    c.loop-i.invariant.left told front None
+    (subst (λ (ps : List Pair). children_check (tree_from (c.args.level - 1) view.state.bytes) ps (high_of c.args.high) None) (sym (from_end c.args.bytes.now c.loop-i.i c.args.count c.loop-i-test.false)) tt)
 
 pub check_page-returns-then-not-is_inner-clause-cause : goal.check_page-returns-then-not-is_inner-clause-cause
 check_page-returns-then-not-is_inner-clause-cause g t c = λ told front is.
@@ -183,7 +184,7 @@ check_under-returns g t c = record {
   looks = looks_next g.S.EawStore.tells g.S.EawStore.opens _ (pages_of (g.S.EawStore.view c.args.pages.now.store) c.args.pages.now) (pages_of (g.S.EawStore.view c.fetch_page.new.pages.store) c.fetch_page.new.pages) (pages_of (g.S.EawStore.view c.check_page.new.pages.store) c.check_page.new.pages) c.in-Ok.ensures.looks c.check_page.ensures.looks;
   cause = λ told front.
       let same = (c.in-Ok.ensures.looks.still refl).state told in
-      subst (λ (s : State). TreeCause c.args.level s.bytes c.args.spot.page c.args.spot.low (high_of c.args.spot.high) c.check_page.result) same
+      subst (λ (s : State). IsVerdict (tree_from c.args.level s.bytes c.args.spot.page c.args.spot.low (high_of c.args.spot.high)) c.check_page.result) same
       (c.check_page.ensures.cause told (subst (λ (s : State). IsFrontOf s.bytes c.args.front.now) (sym same) front)
       (subst (λ (s : State). c.fetch_page.new.bytes ≡ page_bytes s.bytes c.args.spot.page) (sym same) (c.in-Ok.ensures.bytes told)));
   dead = c.check_page.ensures.dead;

@@ -3,7 +3,8 @@ use Rattle.eaw_face.specs.Causes.{IsAlive}
 use Rattle.page_store.specs.Looks.{Looks}
 use Rattle.page_store.specs.Shown.{pages_of}
 use Rattle.index_pages.specs.Page.{pairs_from, pairs_said}
-use Rattle.btree_pages.specs.Checked.{high_of, AreNamed, IsFrontOf}
+use Rattle.btree_pages.specs.Checked.{high_of, IsFrontOf}
+use Rattle.btree_pages.specs.Tree.{AreChildren}
 use Rattle.btree_pages.proofs.Checks.{ChildrenLeft}
 use Rattle.btree_pages.proofs.checking.+under.Given as goal
 
@@ -22,7 +23,7 @@ invariant-check_children-loop-i g l = record {
   looks : Looks g.S.EawStore.tells (g.S.EawStore.opens (g.S.EawStore.view l.fn.pages.store).shape) false
       (pages_of (g.S.EawStore.view l.fn.pages.store) l.fn.pages) (pages_of (g.S.EawStore.view l.pages.store) l.pages);
   alive : IsAlive (g.S.EawStore.view l.pages.store);
-  named : AreNamed l.front.next_page (pairs_from l.bytes l.i (l.count - l.i)) ↔ AreNamed l.front.next_page (pairs_said l.bytes);
+  named : AreChildren l.front.next_page (pairs_from l.bytes l.i (l.count - l.i)) ↔ AreChildren l.front.next_page (pairs_said l.bytes);
   left : IsTrue g.S.EawStore.tells → IsFrontOf (g.S.EawStore.view l.fn.pages.store).state.bytes l.front
       → ChildrenLeft (l.level - 1) (g.S.EawStore.view l.fn.pages.store).state.bytes (pairs_said l.bytes) (pairs_from l.bytes l.i (l.count - l.i)) (high_of l.high);
 }

@@ -1,11 +1,10 @@
-use Rattle.std.proofs.Common.{◌∙◌, Bool, false, Err, refl, sym, ap, subst}
+use Rattle.std.proofs.Common.{◌∙◌, false, Err, refl, sym, ap, subst}
 use Rattle.array_shape.specs.declared.shape.Shape.{Shape}
 use Rattle.record_slots.specs.declared.super_page.Super.{Super}
-use Rattle.page_store.specs.Looks.{Looks}
 use Rattle.page_store.specs.Shown.{pages_of}
 use Rattle.index_pages.specs.Fetched.{IsFront}
 use Rattle.index_pages.proofs.Looking.{looks_next}
-use Rattle.btree_pages.proofs.Telling.{media_same, check_looks, dead_told, not_damaged, told_dead}
+use Rattle.btree_pages.proofs.Telling.{check_looks, dead_told, not_damaged, told_dead}
 use Rattle.btree_pages.proofs.checking.check.Goals as goal
 
 pub returns-in-Err-clause-looks : goal.returns-in-Err-clause-looks
@@ -31,8 +30,8 @@ pub check_page-requires : goal.check_page-requires
 check_page-requires g c = record { alive = (c.in-Ok-fetch_page.ensures.looks.still refl).dead ∙ (c.in-Ok.ensures.looks.still refl).dead ∙ c.in-Ok.ensures.cause; front = subst (λ (sh : Shape). IsFront sh c.in-Ok.front) (sym (c.in-Ok-fetch_page.ensures.looks.shape ∙ c.in-Ok.ensures.looks.shape)) c.in-Ok.ensures.front; level = c.if-level-gt-LEVEL_MAX.false }
 
 pub returns-clause-looks : goal.returns-clause-looks
-returns-clause-looks g c = subst (λ (b : Bool). Looks g.S.EawStore.tells (g.S.EawStore.opens (g.S.EawStore.view c.args.pages.now.store).shape) b (pages_of (g.S.EawStore.view c.args.pages.now.store) c.args.pages.now) (pages_of (g.S.EawStore.view c.check_page.new.pages.store) c.check_page.new.pages)) (media_same c.check_page.result)
-    (looks_next g.S.EawStore.tells g.S.EawStore.opens _ (pages_of (g.S.EawStore.view c.args.pages.now.store) c.args.pages.now) (pages_of (g.S.EawStore.view c.fetch_page.new.pages.store) c.fetch_page.new.pages) (pages_of (g.S.EawStore.view c.check_page.new.pages.store) c.check_page.new.pages) (looks_next g.S.EawStore.tells g.S.EawStore.opens false (pages_of (g.S.EawStore.view c.args.pages.now.store) c.args.pages.now) (pages_of (g.S.EawStore.view c.fetch_super.new.pages.store) c.fetch_super.new.pages) (pages_of (g.S.EawStore.view c.fetch_page.new.pages.store) c.fetch_page.new.pages) c.in-Ok.ensures.looks c.in-Ok-fetch_page.ensures.looks) c.check_page.ensures.looks)
+returns-clause-looks g c =
+    looks_next g.S.EawStore.tells g.S.EawStore.opens _ (pages_of (g.S.EawStore.view c.args.pages.now.store) c.args.pages.now) (pages_of (g.S.EawStore.view c.fetch_page.new.pages.store) c.fetch_page.new.pages) (pages_of (g.S.EawStore.view c.check_page.new.pages.store) c.check_page.new.pages) (looks_next g.S.EawStore.tells g.S.EawStore.opens false (pages_of (g.S.EawStore.view c.args.pages.now.store) c.args.pages.now) (pages_of (g.S.EawStore.view c.fetch_super.new.pages.store) c.fetch_super.new.pages) (pages_of (g.S.EawStore.view c.fetch_page.new.pages.store) c.fetch_page.new.pages) c.in-Ok.ensures.looks c.in-Ok-fetch_page.ensures.looks) c.check_page.ensures.looks
 
 pub returns-clause-dead : goal.returns-clause-dead
 returns-clause-dead g c = λ told. absurd (c.check_page.ensures.dead told)

@@ -1,14 +1,15 @@
-use Rattle.std.proofs.Common.{◌≡◌, ◌+◌, ◌-◌, ℕ, suc, false, List, Ok, Err, Result, refl, sym, ◌∙◌, ap, subst, arith}
+use Rattle.std.proofs.Common.{◌≡◌, ◌+◌, ◌-◌, ℕ, suc, false, List, None, Ok, Err, Result, refl, sym, ◌∙◌, ap, subst, arith}
 use Rattle.eaw_face.specs.State.{State}
-use Rattle.record_slots.specs.Places.{next_slot, AreGiven}
+use Rattle.record_slots.specs.Places.{next_slot}
 use Rattle.page_store.specs.Pairs.{Pair}
 use Rattle.page_store.specs.Shown.{pages_of}
 use Rattle.page_store.specs.declared.index_fault.CheckFault.{CheckFault}
 use Rattle.index_pages.specs.Page.{pairs_from, pair_said, pairs_said}
 use Rattle.index_pages.proofs.Looking.{looks_none, looks_next}
 use Rattle.index_pages.proofs.Reading.{from_step, from_end}
-use Rattle.index_pages.specs.Checked.{SlotCause}
-use Rattle.btree_pages.proofs.Checks.{whole_left, SlotsLeft, slots_all, slots_step, slots_fail}
+use Rattle.mars_base.specs.Check.{each}
+use Rattle.index_pages.specs.Slots.{slot_check, IsVerdict}
+use Rattle.btree_pages.proofs.Checks.{whole_left, SlotsLeft, slots_step, slots_fail}
 use Rattle.btree_pages.proofs.checking.check_slots.Goals as goal
 
 pub loop-i-init : goal.loop-i-init
@@ -18,7 +19,7 @@ loop-i-init g c =
       looks = looks_none g.S.EawStore.tells (g.S.EawStore.opens view.shape) (pages_of view c.args.pages.now);
       alive = c.requires.alive;
       left = λ told slots. subst (λ (ps : List Pair). SlotsLeft view.state.bytes c.args.page (pairs_said c.args.bytes.now) ps) (whole_left c.args.bytes.now c.args.count c.requires.count)
-          (slots_all view.state.bytes c.args.page (pairs_said c.args.bytes.now));
+          (λ verdict told. told);
     }
 
 pub returns-in-Err-clause-cause : goal.returns-in-Err-clause-cause
@@ -30,8 +31,8 @@ returns-in-Err-clause-cause g c = λ told slots.
     let left = subst (λ (ps : List Pair). SlotsLeft view.state.bytes c.args.page (pairs_said c.args.bytes.now) ps) (from_step c.args.bytes.now c.loop-i.i c.args.count c.loop-i-test.true)
     (c.loop-i.invariant.left told slots) in
     let cause = c.in-Err.ensures.cause told (slots ∙ ap (λ (s : State). next_slot s.bytes) (sym same)) in
-    let cause' : SlotCause view.state.bytes c.args.page (pair_said c.args.bytes.now c.loop-i.i) e =
-    subst (λ (p : Pair). SlotCause view.state.bytes c.args.page p e) c.read_pair-pair.ensures.pair (subst (λ (s : State). SlotCause s.bytes c.args.page c.read_pair-pair.result e) same cause) in
+    let cause' : IsVerdict (slot_check view.state.bytes c.args.page (pair_said c.args.bytes.now c.loop-i.i)) e =
+    subst (λ (p : Pair). IsVerdict (slot_check view.state.bytes c.args.page p) e) c.read_pair-pair.ensures.pair (subst (λ (s : State). IsVerdict (slot_check s.bytes c.args.page c.read_pair-pair.result) e) same cause) in
     slots_fail view.state.bytes c.args.page (pairs_said c.args.bytes.now) (pair_said c.args.bytes.now c.loop-i.i) rest left c.in-Err.fault cause'
 
 pub loop-i-preserved : goal.loop-i-preserved
@@ -49,8 +50,8 @@ loop-i-preserved g c =
           let left = subst (λ (ps : List Pair). SlotsLeft view.state.bytes c.args.page (pairs_said c.args.bytes.now) ps) (from_step c.args.bytes.now c.loop-i.i c.args.count c.loop-i-test.true)
           (c.loop-i.invariant.left told slots) in
           let cause = c.in-Ok.ensures.cause told (slots ∙ ap (λ (s : State). next_slot s.bytes) (sym same)) in
-          let cause' : SlotCause view.state.bytes c.args.page (pair_said c.args.bytes.now c.loop-i.i) r =
-          subst (λ (p : Pair). SlotCause view.state.bytes c.args.page p r) c.read_pair-pair.ensures.pair (subst (λ (s : State). SlotCause s.bytes c.args.page c.read_pair-pair.result r) same cause) in
+          let cause' : IsVerdict (slot_check view.state.bytes c.args.page (pair_said c.args.bytes.now c.loop-i.i)) r =
+          subst (λ (p : Pair). IsVerdict (slot_check view.state.bytes c.args.page p) r) c.read_pair-pair.ensures.pair (subst (λ (s : State). IsVerdict (slot_check s.bytes c.args.page c.read_pair-pair.result) r) same cause) in
           let on : suc c.loop-i.i ≡ c.loop-i.i + 1 = omega arith in
           subst (λ (n : ℕ). SlotsLeft view.state.bytes c.args.page (pairs_said c.args.bytes.now) (pairs_from c.args.bytes.now n (c.args.count - n))) on
           (slots_step view.state.bytes c.args.page (pairs_said c.args.bytes.now) (pair_said c.args.bytes.now c.loop-i.i) rest left cause');
@@ -59,4 +60,4 @@ loop-i-preserved g c =
 pub returns-clause-cause : goal.returns-clause-cause
 returns-clause-cause g c = λ told slots.
     let view = g.S.EawStore.view c.args.pages.now.store in
-    (c.loop-i.invariant.left told slots).given (subst (λ (ps : List Pair). AreGiven view.state.bytes ps) (sym (from_end c.args.bytes.now c.loop-i.i c.args.count c.loop-i-test.false)) tt)
+    c.loop-i.invariant.left told slots None (subst (λ (ps : List Pair). each (slot_check view.state.bytes c.args.page) ps None) (sym (from_end c.args.bytes.now c.loop-i.i c.args.count c.loop-i-test.false)) tt)

@@ -1,6 +1,6 @@
 use Rattle.std.proofs.Common.{◌↔◌, ◌-◌, ◌≤◌}
 use Rattle.page_store.specs.Pairs.{Rise}
-use Rattle.index_pages.specs.Chain.{key_end}
+use Rattle.index_pages.specs.Keys.{key_end}
 use Rattle.index_pages.specs.Page.{pairs_said, pairs_from}
 use Rattle.btree_pages.specs.Checked.{high_of, least_of}
 use Rattle.btree_pages.proofs.checking.rises.Given as goal

@@ -8,7 +8,8 @@ use Rattle.page_store.specs.Index.{slots_of, index_pages_of}
 use Rattle.index_pages.specs.Fetched.{IsFront}
 use Rattle.btree_pages.specs.declared.node.Node.{Node}
 use Rattle.btree_pages.specs.Index.{tree_below}
-use Rattle.btree_pages.specs.Writes.{IsRead, adding_pages, cutting_pages}
+use Rattle.btree_pages.specs.Writes.{IsRead, cutting_pages}
+use Rattle.index_pages.specs.Adding.{adding_pages}
 use Rattle.btree_pages.proofs.Below.{stands_first, sound_now, reached_now, living, child_err, stands_down, pages_full, cut_err, stands_cut, add_done, add_err}
 use Rattle.btree_pages.proofs.Rooted.{look_of_index, act_of_index, dead_fault, not_full, not_done, dead_act, room_for, full_with, not_zero, next_there}
 use Rattle.btree_pages.proofs.insertion.insert_below.Goals as goal

@@ -13,7 +13,7 @@ use Rattle.index_pages.proofs.Sizes.{index_pages_are}
 use Rattle.btree_pages.specs.Descent.{child_for}
 use Rattle.btree_pages.specs.Leaf.{bound_in, AtLeaf}
 use Rattle.btree_pages.specs.Node.{IsNode}
-use Rattle.btree_pages.specs.declared.page.Head.{Head}
+use Rattle.index_pages.specs.declared.page.Head.{Head}
 use Rattle.btree_pages.specs.declared.look.Leaf.{Leaf}
 use Rattle.index_pages.proofs.Causing.{look_cause}
 use Rattle.btree_pages.proofs.Descending.{Down, down_first, down_step, down_node, down_last}
@@ -60,7 +60,7 @@ returns-then-child-from-clause-cause g c =
           let inner : level_of bytes c.loop-step.page ≢ 0 = λ e. c.if-head-eq0.false (c.in-Ok.ensures.head.level ∙ ap level_said buf ∙ e) in
           let child : c.child_in-child.result.0 ≡ child_for (page_pairs bytes c.loop-step.page) c.args.key = c.child_in-child.ensures.child ∙ ap (λ (b : List ℕ). child_for (pairs_said b) c.args.key) buf in
           let next = down_step bytes c.args.key c.loop-step._step c.loop-step.page c.loop-step.bound (c.loop-step.invariant.down told alive) inner in
-          omega (arith, next.inside, child, (c.requires told alive).front.pages, index_pages_are view.shape bytes (g.met.S.EawStore.long c.args.pages.now.store told), c.index_page_count-count.ensures.count, c.if-child-from.true, c.from.ensures),
+          omega (arith, next.inside, child, (c.requires told alive).0.pages, index_pages_are view.shape bytes (g.met.S.EawStore.long c.args.pages.now.store told), c.index_page_count-count.ensures.count, c.if-child-from.true, c.from.ensures),
     )
 
 pub loop-step-preserved : goal.loop-step-preserved

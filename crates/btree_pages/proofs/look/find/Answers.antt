@@ -16,7 +16,7 @@ returns-then-slot-from-clause-cause g c =
           let at = c.in-Ok.ensures.leaf told in
           let some : found (pairs_said c.descend.new.bytes) c.args.key ≡ Some c.in-Some.slot = sym c.slot_in.ensures ∙ c.in-Some.is in
           let given = given_found view.state.bytes c.args.key c.in-Some.slot (pairs_said c.descend.new.bytes) at.given some in
-          omega (arith, given, (c.requires told c.in-Ok.ensures.cause).front.slots, slots_are view.shape view.state.bytes (g.met.S.EawStore.long c.args.pages.now.store told), c.index_page_count-count.ensures.all, c.if-slot-from.true, c.from.ensures),
+          omega (arith, given, (c.requires told c.in-Ok.ensures.cause).0.slots, slots_are view.shape view.state.bytes (g.met.S.EawStore.long c.args.pages.now.store told), c.index_page_count-count.ensures.all, c.if-slot-from.true, c.from.ensures),
     )
 
 pub returns-in-Err : goal.returns-in-Err

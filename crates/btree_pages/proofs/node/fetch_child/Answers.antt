@@ -32,7 +32,7 @@ returns-then-page-from-clause-cause g c = (
       let node = c.args.node.now in
       let page : c.child_of-page.result ≡ child_for node.pairs.items c.args.key = c.child_of-page.ensures ∙ ap (λ (ps : List Pair). child_for ps c.args.key) c.as_slice.ensures.value in
       let child = reached_child view.state.bytes c.args.key node.page node.level node.pairs.items (c.requires.sound told) (omega arith) (c.requires.reached told) c.requires.inner in
-      omega (arith, child.given, page, c.if-page-from.true, c.from.ensures, (c.requires.sound told).front.pages, index_pages_are view.shape view.state.bytes (g.met.S.EawStore.long c.args.pages.now.store told), c.index_page_count-count.ensures.count),
+      omega (arith, child.given, page, c.if-page-from.true, c.from.ensures, (c.requires.sound told).0.pages, index_pages_are view.shape view.state.bytes (g.met.S.EawStore.long c.args.pages.now.store told), c.index_page_count-count.ensures.count),
 )
 
 pub returns-in-Err-clause-cause : goal.returns-in-Err-clause-cause

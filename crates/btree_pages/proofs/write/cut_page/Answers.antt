@@ -4,10 +4,9 @@ use Rattle.page_store.specs.Pairs.{Pair, inserted}
 use Rattle.page_store.specs.Shown.{pages_of}
 use Rattle.index_pages.specs.Acts.{Acts}
 use Rattle.index_pages.specs.Keys.{key_at}
-use Rattle.btree_pages.specs.Node.{node_bytes}
+use Rattle.index_pages.specs.Written.{written_page}
 use Rattle.btree_pages.specs.Writes.{cutting_parts}
-use Rattle.btree_pages.proofs.Cutting.{all_behind, same_part, same_four}
-use Rattle.btree_pages.proofs.Parting.{page_there, super_there, part_in}
+use Rattle.index_pages.proofs.Parting.{all_behind, same_part, same_four, page_there, super_there, part_in}
 use Rattle.btree_pages.proofs.write.cut_page.Goals as goal
 
 pub returns-clause-acts : goal.returns-clause-acts
@@ -19,12 +18,12 @@ returns-clause-acts g c =
     let v1 = pages_of (V c.act_all.new.pages.store) c.act_all.new.pages in
     let front = c.args.front.now in
     let node = c.args.node.now in
-    let lower : c.whole_page.result.bytes.now ≡ node_bytes node.level (take 15 node.pairs.items) =
-    c.whole_page.ensures.bytes ∙ c.write_node.ensures ∙ ap (λ (ps : List Pair). node_bytes node.level (take 15 ps)) c.as_slice-pairs.ensures.value in
-    let upper : c.whole_page-2.result.bytes.now ≡ node_bytes node.level (drop 15 node.pairs.items) =
-    c.whole_page-2.ensures.bytes ∙ c.write_node-2.ensures ∙ ap (λ (ps : List Pair). node_bytes node.level ps) (all_behind c.as_slice-pairs.result.now 15) ∙ ap (λ (ps : List Pair). node_bytes node.level (drop 15 ps)) c.as_slice-pairs.ensures.value in
-    let named : c.whole_page-3.result.bytes.now ≡ node_bytes (node.level + 1) (inserted c.args.parent.pairs.items (key_at node.pairs.items 15) front.next_page) =
-    c.whole_page-3.ensures.bytes ∙ c.write_node-3.ensures ∙ ap (λ (ps : List Pair). node_bytes (node.level + 1) ps) (c.as_slice.ensures.value ∙ c.with_pair-above.ensures ∙ ap (λ (k : ℕ). inserted c.args.parent.pairs.items k front.next_page) c.middle_of.ensures) in
+    let lower : c.whole_page.result.bytes.now ≡ written_page node.level 0 (take 15 node.pairs.items) =
+    c.whole_page.ensures.bytes ∙ c.write_page.ensures ∙ ap (λ (ps : List Pair). written_page node.level 0 (take 15 ps)) c.as_slice-pairs.ensures.value in
+    let upper : c.whole_page-2.result.bytes.now ≡ written_page node.level 0 (drop 15 node.pairs.items) =
+    c.whole_page-2.ensures.bytes ∙ c.write_page-2.ensures ∙ ap (λ (ps : List Pair). written_page node.level 0 ps) (all_behind c.as_slice-pairs.result.now 15) ∙ ap (λ (ps : List Pair). written_page node.level 0 (drop 15 ps)) c.as_slice-pairs.ensures.value in
+    let named : c.whole_page-3.result.bytes.now ≡ written_page (node.level + 1) 0 (inserted c.args.parent.pairs.items (key_at node.pairs.items 15) front.next_page) =
+    c.whole_page-3.ensures.bytes ∙ c.write_page-3.ensures ∙ ap (λ (ps : List Pair). written_page (node.level + 1) 0 ps) (c.as_slice.ensures.value ∙ c.with_pair-above.ensures ∙ ap (λ (k : ℕ). inserted c.args.parent.pairs.items k front.next_page) c.middle_of.ensures) in
     let counts = c.front_part.ensures.bytes ∙ c.write_super_counts.ensures in
     subst (λ (ps : List ℕ). Acts T O c.args.tid ps (cutting_parts front node.page node.level node.pairs.items c.args.parent.page c.args.parent.pairs.items) v0 v1 c.act_all.result)
     (same_four _ _ _ _ _ _ _ _ c.whole_page.ensures.page c.whole_page-2.ensures.page c.whole_page-3.ensures.page c.front_part.ensures.page)
@@ -38,9 +37,9 @@ returns-clause-acts g c =
 
 pub act_all-requires : goal.act_all-requires
 act_all-requires g c =
-    let p0 = part_in (g.S.EawStore.view c.args.pages.now.store) (c.args.node.now.page) (0) 512 c.write_node.new.out c.whole_page.result.page c.whole_page.result.at c.whole_page.result.bytes.now c.whole_page.ensures.page c.whole_page.ensures.at c.whole_page.ensures.bytes c.write_node.array_long (omega arith) (omega arith) (page_there (g.S.EawStore.view c.args.pages.now.store).shape _ c.requires.node.inside) in
-    let p1 = part_in (g.S.EawStore.view c.args.pages.now.store) (c.args.front.now.next_page) (0) 512 c.write_node-2.new.out c.whole_page-2.result.page c.whole_page-2.result.at c.whole_page-2.result.bytes.now c.whole_page-2.ensures.page c.whole_page-2.ensures.at c.whole_page-2.ensures.bytes c.write_node-2.array_long (omega arith) (omega arith) (page_there (g.S.EawStore.view c.args.pages.now.store).shape _ c.requires.next) in
-    let p2 = part_in (g.S.EawStore.view c.args.pages.now.store) (c.args.parent.page) (0) 512 c.write_node-3.new.out c.whole_page-3.result.page c.whole_page-3.result.at c.whole_page-3.result.bytes.now c.whole_page-3.ensures.page c.whole_page-3.ensures.at c.whole_page-3.ensures.bytes c.write_node-3.array_long (omega arith) (omega arith) (page_there (g.S.EawStore.view c.args.pages.now.store).shape _ c.requires.parent.inside) in
+    let p0 = part_in (g.S.EawStore.view c.args.pages.now.store) (c.args.node.now.page) (0) 512 c.write_page.new.out c.whole_page.result.page c.whole_page.result.at c.whole_page.result.bytes.now c.whole_page.ensures.page c.whole_page.ensures.at c.whole_page.ensures.bytes c.write_page.array_long (omega arith) (omega arith) (page_there (g.S.EawStore.view c.args.pages.now.store).shape _ c.requires.node.inside) in
+    let p1 = part_in (g.S.EawStore.view c.args.pages.now.store) (c.args.front.now.next_page) (0) 512 c.write_page-2.new.out c.whole_page-2.result.page c.whole_page-2.result.at c.whole_page-2.result.bytes.now c.whole_page-2.ensures.page c.whole_page-2.ensures.at c.whole_page-2.ensures.bytes c.write_page-2.array_long (omega arith) (omega arith) (page_there (g.S.EawStore.view c.args.pages.now.store).shape _ c.requires.next) in
+    let p2 = part_in (g.S.EawStore.view c.args.pages.now.store) (c.args.parent.page) (0) 512 c.write_page-3.new.out c.whole_page-3.result.page c.whole_page-3.result.at c.whole_page-3.result.bytes.now c.whole_page-3.ensures.page c.whole_page-3.ensures.at c.whole_page-3.ensures.bytes c.write_page-3.array_long (omega arith) (omega arith) (page_there (g.S.EawStore.view c.args.pages.now.store).shape _ c.requires.parent.inside) in
     let pf = part_in (g.S.EawStore.view c.args.pages.now.store) (0) (8) 8 c.write_super_counts.new.out c.front_part.result.page c.front_part.result.at c.front_part.result.bytes.now c.front_part.ensures.page c.front_part.ensures.at c.front_part.ensures.bytes c.write_super_counts.array_long (omega arith) (omega arith) (super_there (g.S.EawStore.view c.args.pages.now.store).shape c.args.front.now c.requires.front) in
     record { tid = c.requires.tid; closed = c.requires.closed; few = omega arith; inside = (p0.0, p0.1, (p1.0, p1.1, (p2.0, p2.1, (pf.0, pf.1, tt)))) }
 

@@ -5,16 +5,15 @@ use Rattle.page_store.specs.Pairs.{Pair}
 use Rattle.page_store.specs.Shown.{pages_of, address}
 use Rattle.index_pages.specs.Acts.{Acts}
 use Rattle.index_pages.specs.Keys.{key_at}
-use Rattle.btree_pages.specs.Node.{node_bytes}
-use Rattle.btree_pages.proofs.Cutting.{all_behind}
-use Rattle.btree_pages.proofs.Parting.{page_there, super_there, next_less, part_in}
+use Rattle.index_pages.specs.Written.{written_page}
+use Rattle.index_pages.proofs.Parting.{all_behind, page_there, super_there, next_less, part_in}
 use Rattle.btree_pages.proofs.write.grow_root.Goals as goal
 
 pub act_all-requires : goal.act_all-requires
 act_all-requires g c =
-    let p0 = part_in (g.S.EawStore.view c.args.pages.now.store) (c.args.front.now.next_page) (0) 512 c.write_node.new.out c.whole_page.result.page c.whole_page.result.at c.whole_page.result.bytes.now c.whole_page.ensures.page c.whole_page.ensures.at c.whole_page.ensures.bytes c.write_node.array_long (omega arith) (omega arith) (page_there (g.S.EawStore.view c.args.pages.now.store).shape _ (next_less _ _ c.requires.next)) in
-    let p1 = part_in (g.S.EawStore.view c.args.pages.now.store) (c.args.front.now.next_page + 1) (0) 512 c.write_node-2.new.out c.whole_page-2.result.page c.whole_page-2.result.at c.whole_page-2.result.bytes.now c.whole_page-2.ensures.page c.whole_page-2.ensures.at c.whole_page-2.ensures.bytes c.write_node-2.array_long (omega arith) (omega arith) (page_there (g.S.EawStore.view c.args.pages.now.store).shape _ c.requires.next) in
-    let p2 = part_in (g.S.EawStore.view c.args.pages.now.store) (1) (0) 512 c.write_node-3.new.out c.whole_page-3.result.page c.whole_page-3.result.at c.whole_page-3.result.bytes.now c.whole_page-3.ensures.page c.whole_page-3.ensures.at c.whole_page-3.ensures.bytes c.write_node-3.array_long (omega arith) (omega arith) (page_there (g.S.EawStore.view c.args.pages.now.store).shape _ c.requires.root.inside) in
+    let p0 = part_in (g.S.EawStore.view c.args.pages.now.store) (c.args.front.now.next_page) (0) 512 c.write_page.new.out c.whole_page.result.page c.whole_page.result.at c.whole_page.result.bytes.now c.whole_page.ensures.page c.whole_page.ensures.at c.whole_page.ensures.bytes c.write_page.array_long (omega arith) (omega arith) (page_there (g.S.EawStore.view c.args.pages.now.store).shape _ (next_less _ _ c.requires.next)) in
+    let p1 = part_in (g.S.EawStore.view c.args.pages.now.store) (c.args.front.now.next_page + 1) (0) 512 c.write_page-2.new.out c.whole_page-2.result.page c.whole_page-2.result.at c.whole_page-2.result.bytes.now c.whole_page-2.ensures.page c.whole_page-2.ensures.at c.whole_page-2.ensures.bytes c.write_page-2.array_long (omega arith) (omega arith) (page_there (g.S.EawStore.view c.args.pages.now.store).shape _ c.requires.next) in
+    let p2 = part_in (g.S.EawStore.view c.args.pages.now.store) (1) (0) 512 c.write_page-3.new.out c.whole_page-3.result.page c.whole_page-3.result.at c.whole_page-3.result.bytes.now c.whole_page-3.ensures.page c.whole_page-3.ensures.at c.whole_page-3.ensures.bytes c.write_page-3.array_long (omega arith) (omega arith) (page_there (g.S.EawStore.view c.args.pages.now.store).shape _ c.requires.root.inside) in
     let pf = part_in (g.S.EawStore.view c.args.pages.now.store) (0) (8) 8 c.write_super_counts.new.out c.front_part.result.page c.front_part.result.at c.front_part.result.bytes.now c.front_part.ensures.page c.front_part.ensures.at c.front_part.ensures.bytes c.write_super_counts.array_long (omega arith) (omega arith) (super_there (g.S.EawStore.view c.args.pages.now.store).shape c.args.front.now c.requires.front) in
     record { tid = c.requires.tid; closed = c.requires.closed; few = omega arith; inside = (p0.0, p0.1, (p1.0, p1.1, (p2.0, p2.1, (pf.0, pf.1, tt)))) }
 
@@ -26,12 +25,12 @@ returns g c =
     let v1 = pages_of (V c.act_all.new.pages.store) c.act_all.new.pages in
     let next = c.args.front.now.next_page in
     let pairs = c.args.root.now.items in
-    let lower : c.whole_page.result.bytes.now ≡ node_bytes c.args.level (take 15 c.args.root.now.items) =
-    c.whole_page.ensures.bytes ∙ c.write_node.ensures ∙ ap (λ (ps : List Pair). node_bytes c.args.level (take 15 ps)) c.as_slice-pairs.ensures.value in
-    let upper : c.whole_page-2.result.bytes.now ≡ node_bytes c.args.level (drop 15 c.args.root.now.items) =
-    c.whole_page-2.ensures.bytes ∙ c.write_node-2.ensures ∙ ap (λ (ps : List Pair). node_bytes c.args.level ps) (all_behind c.as_slice-pairs.result.now 15) ∙ ap (λ (ps : List Pair). node_bytes c.args.level (drop 15 ps)) c.as_slice-pairs.ensures.value in
-    let named : c.whole_page-3.result.bytes.now ≡ node_bytes (c.args.level + 1) ((0, c.args.front.now.next_page) ∷ (key_at c.args.root.now.items 15, c.args.front.now.next_page + 1) ∷ []) =
-    c.whole_page-3.ensures.bytes ∙ c.write_node-3.ensures ∙ (λ i. node_bytes (c.args.level + 1) ((0, c.from.ensures i) ∷ (c.middle_of.ensures i, c.from-2.ensures i) ∷ [])) in
+    let lower : c.whole_page.result.bytes.now ≡ written_page c.args.level 0 (take 15 c.args.root.now.items) =
+    c.whole_page.ensures.bytes ∙ c.write_page.ensures ∙ ap (λ (ps : List Pair). written_page c.args.level 0 (take 15 ps)) c.as_slice-pairs.ensures.value in
+    let upper : c.whole_page-2.result.bytes.now ≡ written_page c.args.level 0 (drop 15 c.args.root.now.items) =
+    c.whole_page-2.ensures.bytes ∙ c.write_page-2.ensures ∙ ap (λ (ps : List Pair). written_page c.args.level 0 ps) (all_behind c.as_slice-pairs.result.now 15) ∙ ap (λ (ps : List Pair). written_page c.args.level 0 (drop 15 ps)) c.as_slice-pairs.ensures.value in
+    let named : c.whole_page-3.result.bytes.now ≡ written_page (c.args.level + 1) 0 ((0, c.args.front.now.next_page) ∷ (key_at c.args.root.now.items 15, c.args.front.now.next_page + 1) ∷ []) =
+    c.whole_page-3.ensures.bytes ∙ c.write_page-3.ensures ∙ (λ i. written_page (c.args.level + 1) 0 ((0, c.from.ensures i) ∷ (c.middle_of.ensures i, c.from-2.ensures i) ∷ [])) in
     let more : c.args.front.now.next_page + 1 + 1 ≡ c.args.front.now.next_page + 2 = omega arith in
     let counts : c.front_part.result.bytes.now ≡ count_bytes c.args.front.now.next_slot (c.args.front.now.next_page + 2) = c.front_part.ensures.bytes ∙ c.write_super_counts.ensures ∙ ap (count_bytes c.args.front.now.next_slot) more in
     record {

@@ -1,67 +1,95 @@
-use Rattle.std.proofs.Common.{refl, ◌≡◌, ◌+◌, ◌≤◌, true, [], ⊎_elim, sym, ◌∙◌, subst, arith}
-use Rattle.std.proofs.lemmas.Bool.{cases_eq}
+use Rattle.std.proofs.Common.{refl, ◌≡◌, ◌+◌, ◌*◌, ◌≤◌, ℕ, true, [], sym, ◌∙◌, subst, arith}
 use Rattle.std.proofs.lemmas.Result.{err_from_is_err_and}
 use Rattle.pcm_media.proofs.Left.{same_bytes}
 use Rattle.array_image.specs.Decided.{decided}
 use Rattle.array_image.specs.Standing.{IsGoodRow}
-use Rattle.array_image.proofs.Calls.{goes_on, ends_with}
+use Rattle.array_image.proofs.Calls.{goes_on, hands_on}
 use Rattle.device_recovery.proofs.Done.{all_done}
 use Rattle.device_recovery.specs.Table.{row_in, RowsAre, decided_in}
-use Rattle.device_recovery.specs.Recovered.{AllGood, IsFirstBadAt}
+use Rattle.device_recovery.specs.Recovered.{IsFirstBad}
+use Rattle.device_recovery.proofs.Order.{place_of_row, before_more, before_all, lower_number}
 use Rattle.device_recovery.proofs.checking.check_rows.Goals as goal
 
-pub returns-in_err-check_number : goal.returns-in_err-check_number
-returns-in_err-check_number g c =
+pub loop-nth-preserved : goal.loop-nth-preserved
+loop-nth-preserved g c =
     let m = g.M.Media in
     let shape = c.args.shape.now in
     let base = (m.view c.args.media.now).content.bytes in
-    let so_far = c.loop-tid.invariant in
+    let so_far = c.loop-nth.invariant in
+    let at = c.nth_row-at.result in
+    let is = c.nth_row-at.ensures in
+    record {
+      does = goes_on m.tells [] [] _ _ _ (λ told i out. out) so_far.does c.in_ok-is_bad.ensures.does refl;
+      good = λ told. before_more shape.loggers (λ h t. decided shape base h t ≡ true → IsGoodRow shape base h t) c.loop-nth.nth at.logger at.tid is.logger is.tid (so_far.good told)
+          (subst (λ image. decided shape image at.logger at.tid ≡ true → IsGoodRow shape image at.logger at.tid) (same_bytes _ _ (so_far.does.touched told)) (c.in_ok-is_bad.ensures.none told c.if-branch.false));
+      idle = λ none. c.in_ok-is_bad.ensures.idle (none at.logger at.tid is.one_logger is.one_number) ∙ so_far.idle none;
+      fits = before_more shape.loggers (λ h t. decided_in shape c.args.rows.now h t ≡ true → (row_in c.args.rows.now h t).first + (row_in c.args.rows.now h t).count ≤ shape.entries) c.loop-nth.nth at.logger at.tid is.logger is.tid so_far.fits
+          (c.in_ok-is_bad.ensures.fits c.if-branch.false);
+    }
+
+pub is_bad-requires-clause-rows : goal.is_bad-requires-clause-rows
+is_bad-requires-clause-rows g c told =
+    let shape = c.args.shape.now in
+    subst (λ image. RowsAre shape image shape.numbers c.args.rows.now) (sym (same_bytes _ _ (c.loop-nth.invariant.does.touched told))) (c.requires.rows told)
+
+pub returns-in_err-is_bad : goal.returns-in_err-is_bad
+returns-in_err-is_bad g c =
+    let m = g.M.Media in
+    let at = c.nth_row-at.result in
+    let is = c.nth_row-at.ensures in
     let p = err_from_is_err_and c.from_residual.result c.from_residual.ensures.1 in
     rw (p.1, p.2) (record {
       good = λ told. tt;
-      bad = λ told h t is.
-          let found = c.in_err-check_number.ensures.bad told h t is in
-          record {
-            number = omega (arith, found.0);
-            here = subst (λ k. IsFirstBadAt shape base h k) (sym found.0) (subst (λ image. IsFirstBadAt shape image h c.loop-tid.tid) (same_bytes _ _ (so_far.does.touched told)) found.1);
-            before = subst (λ k. AllGood shape base k) (sym found.0) (so_far.good told);
-          };
-      idle = λ none. c.in_err-check_number.ensures.idle (λ h lt. none h c.loop-tid.tid lt (omega arith)) ∙ so_far.idle none;
+      bad = λ told h t is. cc;
+      idle = λ none. c.in_err-is_bad.ensures.idle (none at.logger at.tid is.one_logger is.one_number) ∙ c.loop-nth.invariant.idle none;
       fits = tt;
-      does = ends_with m.tells [] [] _ _ _ (λ told i out. out) so_far.does _ c.in_err-check_number.ensures.does;
+      does = hands_on m.tells [] [] _ _ _ (λ told i out. out) c.loop-nth.invariant.does _ refl c.in_err-is_bad.ensures.does;
     })
 
-pub loop-tid-preserved : goal.loop-tid-preserved
-loop-tid-preserved g c =
+pub returns-then-branch : goal.returns-then-branch
+returns-then-branch g c =
     let m = g.M.Media in
     let shape = c.args.shape.now in
     let base = (m.view c.args.media.now).content.bytes in
+    let so_far = c.loop-nth.invariant in
+    let at = c.nth_row-at.result in
+    let is = c.nth_row-at.ensures in
+    let here = place_of_row shape.loggers c.loop-nth.nth at.logger at.tid is.logger is.tid in
+    let read = goes_on m.tells [] [] _ _ _ (λ told i out. out) so_far.does c.in_ok-is_bad.ensures.does refl in
     record {
-      does = goes_on m.tells [] [] _ _ _ (λ told i out. out) c.loop-tid.invariant.does c.in_ok-check_number.ensures.does refl;
-      good = λ told h t lt lt'. ⊎_elim
-          (λ is. subst (λ k. decided shape base h k ≡ true → IsGoodRow shape base h k) (sym is)
-          (subst (λ image. decided shape image h c.loop-tid.tid ≡ true → IsGoodRow shape image h c.loop-tid.tid) (same_bytes _ _ (c.loop-tid.invariant.does.touched told)) (c.in_ok-check_number.ensures.good told h lt)))
-          (λ ne. c.loop-tid.invariant.good told h t lt (omega arith))
-          (cases_eq t c.loop-tid.tid);
-      idle = λ none. c.in_ok-check_number.ensures.idle (λ h lt. none h c.loop-tid.tid lt (omega arith)) ∙ c.loop-tid.invariant.idle none;
-      fits = λ h t lt lt'. ⊎_elim
-          (λ is. subst (λ k. decided_in shape c.args.rows.now h k ≡ true → (row_in c.args.rows.now h k).first + (row_in c.args.rows.now h k).count ≤ shape.entries) (sym is) (c.in_ok-check_number.ensures.fits h lt))
-          (λ ne. c.loop-tid.invariant.fits h t lt (omega arith))
-          (cases_eq t c.loop-tid.tid);
+      good = λ told. tt;
+      bad = λ told h t named.
+          let logger : at.logger ≡ h = cc in
+          let tid : at.tid ≡ t = cc in
+          let same = same_bytes _ _ (so_far.does.touched told) in
+          let bad = c.in_ok-is_bad.ensures.some told c.if-branch.true in
+          let found : IsFirstBad shape base at.logger at.tid = record {
+            number = is.one_number;
+            here = record {
+              logger = is.one_logger;
+              is_decided = subst (λ image. decided shape image at.logger at.tid ≡ true) same bad.0;
+              bad = subst (λ image. IsGoodRow shape image at.logger at.tid → ⊥) same bad.1;
+              below = λ k lt. so_far.good told k at.tid (omega (arith, lt, is.one_logger)) (omega (arith, here, lt));
+            };
+            before = λ k u lt lt'. so_far.good told k u lt (lower_number shape.loggers c.loop-nth.nth at.logger at.tid k u here lt lt');
+          } in
+          subst (λ k. IsFirstBad shape base k t) logger (subst (λ k. IsFirstBad shape base at.logger k) tid found);
+      idle = λ none. c.in_ok-is_bad.ensures.idle (none at.logger at.tid is.one_logger is.one_number) ∙ so_far.idle none;
+      fits = tt;
+      does = all_done m.tells _ _ _ _ read;
     }
-
-pub check_number-requires-clause-rows : goal.check_number-requires-clause-rows
-check_number-requires-clause-rows g c told =
-    let shape = c.args.shape.now in
-    subst (λ image. RowsAre shape image shape.numbers c.args.rows.now) (sym (same_bytes _ _ (c.loop-tid.invariant.does.touched told))) (c.requires.rows told)
 
 pub returns : goal.returns
 returns g c =
-    let so_far = c.loop-tid.invariant in
+    let m = g.M.Media in
+    let shape = c.args.shape.now in
+    let base = (m.view c.args.media.now).content.bytes in
+    let so_far = c.loop-nth.invariant in
+    let all : c.loop-nth.nth ≡ shape.loggers * shape.numbers = omega arith in
     record {
-      good = λ told h t lt lt'. so_far.good told h t lt (omega arith);
+      good = λ told. before_all shape.loggers (λ h t. decided shape base h t ≡ true → IsGoodRow shape base h t) c.loop-nth.nth shape.numbers all (so_far.good told);
       bad = λ told. tt;
       idle = so_far.idle;
-      fits = λ h t lt lt'. so_far.fits h t lt (omega arith);
-      does = all_done g.M.Media.tells _ _ _ _ so_far.does;
+      fits = before_all shape.loggers (λ h t. decided_in shape c.args.rows.now h t ≡ true → (row_in c.args.rows.now h t).first + (row_in c.args.rows.now h t).count ≤ shape.entries) c.loop-nth.nth shape.numbers all so_far.fits;
+      does = all_done m.tells _ _ _ _ so_far.does;
     }

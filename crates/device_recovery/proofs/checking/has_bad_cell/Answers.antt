@@ -5,7 +5,7 @@ use Rattle.pcm_media.proofs.Left.{same_bytes}
 use Rattle.array_image.specs.Image.{cell_of, cell_head, IsGoodCell}
 use Rattle.array_image.proofs.Calls.{goes_on, hands_on}
 use Rattle.device_recovery.proofs.Done.{all_done}
-use Rattle.device_recovery.proofs.Read.{owned_is, owned_from}
+use Rattle.device_recovery.proofs.Read.{owned_same, owned_is, owned_from}
 use Rattle.device_recovery.proofs.checking.has_bad_cell.Goals as goal
 
 pub returns-in_err-head : goal.returns-in_err-head
@@ -18,8 +18,8 @@ returns-in_err-head g c =
       does = hands_on m.tells [] [] _ _ _ (λ told i out. out) c.loop-entry.invariant.does _ refl c.in_err-head.ensures.does;
     })
 
-pub returns-then-not-is_owned : goal.returns-then-not-is_owned
-returns-then-not-is_owned g c =
+pub returns-then-not-has_part : goal.returns-then-not-has_part
+returns-then-not-has_part g c =
     let m = g.M.Media in
     let shape = c.args.shape.now in
     let base = (m.view c.args.media.now).content.bytes in
@@ -30,7 +30,7 @@ returns-then-not-is_owned g c =
       some = λ told is.
           let head : c.in_ok-head.head ≡ cell_head (cell_of shape base c.args.logger c.args.tid entry) =
           c.in_ok-head.ensures.head told ∙ (λ i. cell_head (cell_of shape (same_bytes _ _ (c.loop-entry.invariant.does.touched told) i) c.args.logger c.args.tid entry)) in
-          (entry, omega arith, omega arith, λ good. false≢true (c.if-not-is_owned.ensures.1 (owned_from shape c.args.logger (cell_of shape base c.args.logger c.args.tid entry) c.in_ok-head.head head good)));
+          (entry, omega arith, omega arith, λ good. false≢true (c.if-not-has_part.ensures.1 (owned_same shape c.new.result.shape c.args.logger c.new.result.number _ _ (sym c.new.ensures.shape) (sym c.new.ensures.number) (owned_from shape c.args.logger (cell_of shape base c.args.logger c.args.tid entry) c.in_ok-head.head head good))));
       does = all_done g.M.Media.tells _ _ _ _ read;
     }
 
@@ -44,7 +44,7 @@ loop-entry-preserved g c =
           let head : c.in_ok-head.head ≡ cell_head (cell_of c.args.shape.now base c.args.logger c.args.tid c.loop-entry.entry) =
           c.in_ok-head.ensures.head told ∙ (λ i. cell_head (cell_of c.args.shape.now (same_bytes _ _ (c.loop-entry.invariant.does.touched told) i) c.args.logger c.args.tid c.loop-entry.entry)) in
           ⊎_elim
-          (λ is. subst (λ k. IsGoodCell c.args.shape.now c.args.logger (cell_of c.args.shape.now base c.args.logger c.args.tid k)) (sym is) (owned_is c.args.shape.now c.args.logger (cell_of c.args.shape.now base c.args.logger c.args.tid c.loop-entry.entry) c.in_ok-head.head head (c.if-not-is_owned.ensures.0 refl)))
+          (λ is. subst (λ k. IsGoodCell c.args.shape.now c.args.logger (cell_of c.args.shape.now base c.args.logger c.args.tid k)) (sym is) (owned_is c.args.shape.now c.args.logger (cell_of c.args.shape.now base c.args.logger c.args.tid c.loop-entry.entry) c.in_ok-head.head head (owned_same c.new.result.shape c.args.shape.now c.new.result.number c.args.logger _ _ c.new.ensures.shape c.new.ensures.number (c.if-not-has_part.ensures.0 refl))))
           (λ ne. c.loop-entry.invariant.good told e from (omega arith))
           (cases_eq e c.loop-entry.entry);
     }

@@ -15,9 +15,10 @@ pub loop-tid-preserved : goal.loop-tid-preserved
 loop-tid-preserved c =
     let log = c.in_ok-new.field-0 in
     let old = c.loop-tid.logs.items in
-    let items = c.in_ok-push.ensures.items in
-    let free : IsFree c.args.shape.now log = record { kept = c.in_ok-new.ensures.kept; is_free = c.in_ok-new.ensures.free } in
+    let items = c.push_reserved.ensures.items in
+    let free : IsFree c.args.shape.now log = record { kept = c.in_ok-new.ensures.kept; room = c.in_ok-new.ensures.room; is_free = c.in_ok-new.ensures.free } in
     record {
+      room = c.push_reserved.ensures.capacity ∙ c.loop-tid.invariant.room;
       many = ap length items ∙ length-append old (log ∷ []) ∙ ap (λ (n : ℕ). n + 1) c.loop-tid.invariant.many;
       free = λ t x got. each_more (IsFree c.args.shape.now) old log c.loop-tid.invariant.free free t x (ap (λ (l : List Log). slice_get l t) (sym items) ∙ got);
     }

@@ -26,6 +26,7 @@ returns-in_err-shape g c =
     rw (p.1, p.2) (record {
       settled = tt;
       free = tt;
+      room = tt;
       cause = read.cause;
       unwritten = reading_leaves m.tells old new fault read.does.touched;
       keeps = reading_keeps m.tells old new _ read.does;
@@ -92,6 +93,7 @@ returns-in-Err g c =
     record {
       settled = tt;
       free = tt;
+      room = tt;
       cause = λ told. (c.in_ok-shape.shape, read.shape told, read.sized);
       unwritten = read.does.touched;
       keeps = reading_keeps m.tells (m.view c.args.media.now) (m.view c.read_header.new.media) _ read.does;
@@ -102,7 +104,7 @@ returns-in-Err g c =
     }
 
 pub returns-in-Ok-settle-clause-free : goal.returns-in-Ok-settle-clause-free
-returns-in-Ok-settle-clause-free g c = c.in-Ok.ensures
+returns-in-Ok-settle-clause-free g c = c.in-Ok.ensures.free
 
 pub returns-in-Ok-settle-clause-cause : goal.returns-in-Ok-settle-clause-cause
 returns-in-Ok-settle-clause-cause g c = tt
@@ -136,3 +138,9 @@ returns-in-Err-settle-clause-kept g c = λ ne. c.in-Err-settle.ensures.kept ne �
 
 pub returns-in-Err-settle-clause-early : goal.returns-in-Err-settle-clause-early
 returns-in-Err-settle-clause-early g c = λ is. absurd (subst IsOfRecovery is c.in-Err-settle.ensures.fault)
+
+pub returns-in-Ok-settle-clause-room : goal.returns-in-Ok-settle-clause-room
+returns-in-Ok-settle-clause-room g c = c.in-Ok.ensures.room
+
+pub returns-in-Err-settle-clause-room : goal.returns-in-Err-settle-clause-room
+returns-in-Err-settle-clause-room g c = tt

@@ -16,6 +16,8 @@ returns-else-is_of_key-clause-cause g c = λ told slots.
     let view = g.S.EawStore.view c.args.pages.now.store in
     inr (
       omega (arith, c.if-pair-from.false, c.from.ensures, slots),
-      carries_not view.state.bytes c.args.pair.0 c.args.pair.1 c.in-Ok.said (c.in-Ok.ensures.said told) (λ is. false≢true (sym c.if-is_of_key.false ∙ c.is_of_key.ensures.1 is)),
-      sym (slot_page_is view.shape view.state.bytes (g.met.S.EawStore.long c.args.pages.now.store told) c.index_page_count-count.result c.args.pair.1 c.index_page_count-count.ensures.all),
+      (
+        carries_not view.state.bytes c.args.pair.0 c.args.pair.1 c.in-Ok.said (c.in-Ok.ensures.said told) (λ is. false≢true (sym c.if-is_of_key.false ∙ c.is_of_key.ensures.1 is)),
+        sym (slot_page_is view.shape view.state.bytes (g.met.S.EawStore.long c.args.pages.now.store told) c.index_page_count-count.result c.args.pair.1 c.index_page_count-count.ensures.all),
+      ),
     )

@@ -6,7 +6,9 @@ use Rattle.page_store.specs.Shown.{pages_of}
 use Rattle.page_store.specs.declared.index_fault.CheckFault.{CheckFault}
 use Rattle.index_pages.specs.Page.{pairs_said, link_said}
 use Rattle.index_pages.proofs.Looking.{looks_next}
-use Rattle.key_list.specs.Checked.{low_of, PairsCause}
+use Rattle.index_pages.specs.Slots.{IsVerdict}
+use Rattle.key_list.specs.Chain.{pairs_check}
+use Rattle.key_list.specs.Checked.{low_of}
 use Rattle.key_list.proofs.Testing.{ChainLeft, chain_all, chain_none, head_fails, pairs_fail, link_fails, link_ends, link_on, checked_err}
 use Rattle.key_list.proofs.checking.check.Goals as goal
 
@@ -46,7 +48,7 @@ returns-in-Err-check_pairs-clause-cause g c =
     checked_err T view c.in-Err-check_pairs.fault alive c.in-Err-check_pairs.ensures.dead (λ told bad e.
     (let r : Result (Option ℕ) CheckFault = Err c.in-Err-check_pairs.fault in
     pairs_fail b c.fetch_page.new.bytes c.loop-step.page (low_of c.loop-step.last) n (buf told) (left told) c.in-Some.ensures.head c.in-Err-check_pairs.fault bad e
-    (subst (λ (s : State). PairsCause s.bytes c.loop-step.page (low_of c.loop-step.last) (pairs_said c.fetch_page.new.bytes) r) (same2 told) (c.in-Err-check_pairs.ensures.cause told (slots told)))))
+    (subst (λ (s : State). IsVerdict (pairs_check s.bytes c.loop-step.page (low_of c.loop-step.last) (pairs_said c.fetch_page.new.bytes)) r) (same2 told) (c.in-Err-check_pairs.ensures.cause told (slots told)))))
 
 pub returns-then-head-eq0-clause-cause : goal.returns-then-head-eq0-clause-cause
 returns-then-head-eq0-clause-cause g c =
@@ -67,8 +69,8 @@ returns-then-head-eq0-clause-cause g c =
     let slots = λ (told : IsTrue g.S.EawStore.tells). (c.in-Ok.ensures.says told).next_slot ∙ ap (λ (s : State). next_slot s.bytes) (sym (same2 told)) in
     let well = λ (told : IsTrue g.S.EawStore.tells).
     (let r : Result (Option ℕ) CheckFault = Ok c.in-Ok-check_pairs.last in
-    subst (λ (s : State). PairsCause s.bytes c.loop-step.page (low_of c.loop-step.last) (pairs_said c.fetch_page.new.bytes) r) (same2 told) (c.in-Ok-check_pairs.ensures.cause told (slots told))) in
-    (alive, λ told. link_ends b c.fetch_page.new.bytes c.loop-step.page (low_of c.loop-step.last) n (buf told) (left told) c.in-Some.ensures.head c.in-Ok-check_pairs.last (well told) (sym c.in-Some.ensures.says.link ∙ c.if-head-eq0.true))
+    subst (λ (s : State). IsVerdict (pairs_check s.bytes c.loop-step.page (low_of c.loop-step.last) (pairs_said c.fetch_page.new.bytes)) r) (same2 told) (c.in-Ok-check_pairs.ensures.cause told (slots told))) in
+    (alive, λ told. link_ends b c.fetch_page.new.bytes c.loop-step.page (low_of c.loop-step.last) n (buf told) (left told) c.in-Some.ensures.head (well told) (sym c.in-Some.ensures.says.link ∙ c.if-head-eq0.true))
 
 pub returns-then-head-lt2-clause-cause : goal.returns-then-head-lt2-clause-cause
 returns-then-head-lt2-clause-cause g c =
@@ -89,10 +91,10 @@ returns-then-head-lt2-clause-cause g c =
     let slots = λ (told : IsTrue g.S.EawStore.tells). (c.in-Ok.ensures.says told).next_slot ∙ ap (λ (s : State). next_slot s.bytes) (sym (same2 told)) in
     let well = λ (told : IsTrue g.S.EawStore.tells).
     (let r : Result (Option ℕ) CheckFault = Ok c.in-Ok-check_pairs.last in
-    subst (λ (s : State). PairsCause s.bytes c.loop-step.page (low_of c.loop-step.last) (pairs_said c.fetch_page.new.bytes) r) (same2 told) (c.in-Ok-check_pairs.ensures.cause told (slots told))) in (
+    subst (λ (s : State). IsVerdict (pairs_check s.bytes c.loop-step.page (low_of c.loop-step.last) (pairs_said c.fetch_page.new.bytes)) r) (same2 told) (c.in-Ok-check_pairs.ensures.cause told (slots told))) in (
       alive,
-      λ told. link_fails b c.fetch_page.new.bytes c.loop-step.page (low_of c.loop-step.last) n (buf told) (left told) c.in-Some.ensures.head c.in-Ok-check_pairs.last (well told) (λ link.
-          let to = link (λ e. c.if-head-eq0.false (c.in-Some.ensures.says.link ∙ e)) in omega (arith, to.0, c.if-head-lt2.true, c.in-Some.ensures.says.link)),
+      λ told. link_fails b c.fetch_page.new.bytes c.loop-step.page (low_of c.loop-step.last) n (buf told) (left told) c.in-Some.ensures.head (well told)
+          (λ e. c.if-head-eq0.false (c.in-Some.ensures.says.link ∙ e)) (λ to. omega (arith, to.0, c.if-head-lt2.true, c.in-Some.ensures.says.link)),
     )
 
 pub returns-then-head-front-clause-cause : goal.returns-then-head-front-clause-cause
@@ -114,10 +116,10 @@ returns-then-head-front-clause-cause g c =
     let slots = λ (told : IsTrue g.S.EawStore.tells). (c.in-Ok.ensures.says told).next_slot ∙ ap (λ (s : State). next_slot s.bytes) (sym (same2 told)) in
     let well = λ (told : IsTrue g.S.EawStore.tells).
     (let r : Result (Option ℕ) CheckFault = Ok c.in-Ok-check_pairs.last in
-    subst (λ (s : State). PairsCause s.bytes c.loop-step.page (low_of c.loop-step.last) (pairs_said c.fetch_page.new.bytes) r) (same2 told) (c.in-Ok-check_pairs.ensures.cause told (slots told))) in (
+    subst (λ (s : State). IsVerdict (pairs_check s.bytes c.loop-step.page (low_of c.loop-step.last) (pairs_said c.fetch_page.new.bytes)) r) (same2 told) (c.in-Ok-check_pairs.ensures.cause told (slots told))) in (
       alive,
-      λ told. link_fails b c.fetch_page.new.bytes c.loop-step.page (low_of c.loop-step.last) n (buf told) (left told) c.in-Some.ensures.head c.in-Ok-check_pairs.last (well told) (λ link.
-          let to = link (λ e. c.if-head-eq0.false (c.in-Some.ensures.says.link ∙ e)) in omega (arith, to.1, c.if-head-front.true, c.in-Some.ensures.says.link, (c.in-Ok.ensures.says told).next_page)),
+      λ told. link_fails b c.fetch_page.new.bytes c.loop-step.page (low_of c.loop-step.last) n (buf told) (left told) c.in-Some.ensures.head (well told)
+          (λ e. c.if-head-eq0.false (c.in-Some.ensures.says.link ∙ e)) (λ to. omega (arith, to.1, c.if-head-front.true, c.in-Some.ensures.says.link, (c.in-Ok.ensures.says told).next_page)),
     )
 
 pub loop-step-preserved : goal.loop-step-preserved
@@ -139,7 +141,7 @@ loop-step-preserved g c =
     let slots = λ (told : IsTrue g.S.EawStore.tells). (c.in-Ok.ensures.says told).next_slot ∙ ap (λ (s : State). next_slot s.bytes) (sym (same2 told)) in
     let well = λ (told : IsTrue g.S.EawStore.tells).
     (let r : Result (Option ℕ) CheckFault = Ok c.in-Ok-check_pairs.last in
-    subst (λ (s : State). PairsCause s.bytes c.loop-step.page (low_of c.loop-step.last) (pairs_said c.fetch_page.new.bytes) r) (same2 told) (c.in-Ok-check_pairs.ensures.cause told (slots told))) in
+    subst (λ (s : State). IsVerdict (pairs_check s.bytes c.loop-step.page (low_of c.loop-step.last) (pairs_said c.fetch_page.new.bytes)) r) (same2 told) (c.in-Ok-check_pairs.ensures.cause told (slots told))) in
     let looks3 = looks_next T E false (pages_of view c.args.pages.now) (pages_of (V c.fetch_page.new.pages.store) c.fetch_page.new.pages) (pages_of (V c.check_pairs.new.pages.store) c.check_pairs.new.pages) looks2 c.in-Ok-check_pairs.ensures.looks in
     record {
       inside = omega (arith, c.if-head-front.false, c.in-Ok.ensures.front.pages);
@@ -147,7 +149,7 @@ loop-step-preserved g c =
       alive = (looks3.still refl).dead ∙ alive;
       low = c.in-Ok-check_pairs.ensures.low;
       left = λ told.
-          let next = link_on b c.fetch_page.new.bytes c.loop-step.page (low_of c.loop-step.last) n (buf told) (left told) c.in-Some.ensures.head c.in-Ok-check_pairs.last (well told) (λ e. c.if-head-eq0.false (c.in-Some.ensures.says.link ∙ e))
+          let next = link_on b c.fetch_page.new.bytes c.loop-step.page (low_of c.loop-step.last) n (buf told) (left told) c.in-Some.ensures.head (well told) (λ e. c.if-head-eq0.false (c.in-Some.ensures.says.link ∙ e)) c.in-Ok-check_pairs.last c.in-Ok-check_pairs.ensures.behind
           (omega (arith, c.if-head-lt2.false, c.in-Some.ensures.says.link), omega (arith, c.if-head-front.false, c.in-Some.ensures.says.link, (c.in-Ok.ensures.says told).next_page)) in
           subst (λ (x : ℕ). ChainLeft b x (low_of c.in-Ok-check_pairs.last) (c.in-Ok.front.next_page - (c.loop-step._step + 1))) (sym c.in-Some.ensures.says.link)
           (subst (λ (m : ℕ). ChainLeft b (link_said c.fetch_page.new.bytes) (low_of c.in-Ok-check_pairs.last) (c.in-Ok.front.next_page - m)) (let e : suc c.loop-step._step ≡ c.loop-step._step + 1 = omega arith in e) next);

@@ -3,7 +3,7 @@ use Rattle.eaw_face.specs.Causes.{IsAlive}
 use Rattle.page_store.specs.Index.{index_pages_of}
 use Rattle.page_store.specs.Looks.{Looks}
 use Rattle.page_store.specs.Shown.{pages_of}
-use Rattle.index_pages.specs.Chain.{key_end}
+use Rattle.index_pages.specs.Keys.{key_end}
 use Rattle.key_list.specs.Checked.{low_of}
 use Rattle.key_list.proofs.Testing.{ChainLeft}
 use Rattle.key_list.proofs.checking.check.Given as goal

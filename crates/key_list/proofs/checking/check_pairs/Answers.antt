@@ -1,4 +1,4 @@
-use Rattle.std.proofs.Common.{◌≡◌, ◌+◌, ◌-◌, ℕ, suc, false, List, Ok, Err, Result, refl, sym, ◌∙◌, ap, subst, arith}
+use Rattle.std.proofs.Common.{◌≡◌, ◌+◌, ◌-◌, ℕ, suc, false, List, None, Ok, Err, Result, refl, sym, ◌∙◌, ap, subst, arith}
 use Rattle.eaw_face.specs.State.{State}
 use Rattle.record_slots.specs.Places.{next_slot}
 use Rattle.page_store.specs.Pairs.{Pair}
@@ -7,8 +7,10 @@ use Rattle.page_store.specs.declared.index_fault.CheckFault.{CheckFault}
 use Rattle.index_pages.specs.Page.{pairs_from, pair_said, pairs_said, count_said}
 use Rattle.index_pages.proofs.Looking.{looks_none, looks_next}
 use Rattle.index_pages.proofs.Reading.{from_first, from_step, from_end}
-use Rattle.key_list.specs.Checked.{low_of, PairCause}
-use Rattle.key_list.proofs.Testing.{PairsLeft, left_all, left_step, left_fails, left_none}
+use Rattle.index_pages.specs.Slots.{IsVerdict}
+use Rattle.key_list.specs.Chain.{behind, pair_check, pairs_check}
+use Rattle.key_list.specs.Checked.{low_of}
+use Rattle.key_list.proofs.Testing.{PairsLeft, left_step, left_fails}
 use Rattle.key_list.proofs.checking.check_pairs.Goals as goal
 
 pub loop-i-init : goal.loop-i-init
@@ -21,7 +23,8 @@ loop-i-init g c =
       alive = c.requires.alive;
       low = c.requires.low;
       left = λ told slots. subst (λ (ps : List Pair). PairsLeft view.state.bytes c.args.page (low_of c.args.last) (pairs_said c.args.bytes.now) (low_of c.args.last) ps) all
-          (left_all view.state.bytes c.args.page (low_of c.args.last) (pairs_said c.args.bytes.now));
+          (λ verdict told. told);
+      ends = ap (λ (ps : List Pair). behind (low_of c.args.last) ps) (sym all);
     }
 
 pub returns-in-Err-clause-cause : goal.returns-in-Err-clause-cause
@@ -33,10 +36,10 @@ returns-in-Err-clause-cause g c = λ told slots.
     let e : Result (Unit {0}) CheckFault = Err c.in-Err.fault in
     let left = subst (λ (ps : List Pair). PairsLeft view.state.bytes c.args.page (low_of c.args.last) (pairs_said c.args.bytes.now) (low_of c.loop-i.last) ps)
     (from_step c.args.bytes.now c.loop-i.i c.args.count c.loop-i-test.true) (c.loop-i.invariant.left told slots) in
-    let cause : PairCause mid.state.bytes c.args.page (low_of c.loop-i.last) c.read_pair-key.result e = c.in-Err.ensures.cause told (slots ∙ ap (λ (s : State). next_slot s.bytes) (sym same)) in
-    let cause' : PairCause view.state.bytes c.args.page (low_of c.loop-i.last) (pair_said c.args.bytes.now c.loop-i.i) e =
-    subst (λ (p : Pair). PairCause view.state.bytes c.args.page (low_of c.loop-i.last) p e) c.read_pair-key.ensures.pair
-    (subst (λ (s : State). PairCause s.bytes c.args.page (low_of c.loop-i.last) c.read_pair-key.result e) same cause) in
+    let cause : IsVerdict (pair_check mid.state.bytes c.args.page (low_of c.loop-i.last) c.read_pair-key.result) e = c.in-Err.ensures.cause told (slots ∙ ap (λ (s : State). next_slot s.bytes) (sym same)) in
+    let cause' : IsVerdict (pair_check view.state.bytes c.args.page (low_of c.loop-i.last) (pair_said c.args.bytes.now c.loop-i.i)) e =
+    subst (λ (p : Pair). IsVerdict (pair_check view.state.bytes c.args.page (low_of c.loop-i.last) p) e) c.read_pair-key.ensures.pair
+    (subst (λ (s : State). IsVerdict (pair_check s.bytes c.args.page (low_of c.loop-i.last) c.read_pair-key.result) e) same cause) in
     left_fails view.state.bytes c.args.page (low_of c.args.last) (pairs_said c.args.bytes.now) (low_of c.loop-i.last) (pair_said c.args.bytes.now c.loop-i.i) rest left c.in-Err.fault cause'
 
 pub loop-i-preserved : goal.loop-i-preserved
@@ -48,16 +51,21 @@ loop-i-preserved g c =
           c.loop-i.invariant.looks c.in-Ok.ensures.looks;
       alive = (c.in-Ok.ensures.looks.still refl).dead ∙ c.loop-i.invariant.alive;
       low = c.read_pair-key.ensures.small.0;
+      ends =
+          let on : suc c.loop-i.i ≡ c.loop-i.i + 1 = omega arith in
+          subst (λ (p : Pair). behind (suc p.0) (pairs_from c.args.bytes.now (c.loop-i.i + 1) (c.args.count - (c.loop-i.i + 1))) ≡ behind (low_of c.args.last) (pairs_said c.args.bytes.now)) (sym c.read_pair-key.ensures.pair)
+          (subst (λ (n : ℕ). behind (suc (pair_said c.args.bytes.now c.loop-i.i).0) (pairs_from c.args.bytes.now n (c.args.count - n)) ≡ behind (low_of c.args.last) (pairs_said c.args.bytes.now)) on
+          (ap (λ (ps : List Pair). behind (low_of c.loop-i.last) ps) (sym (from_step c.args.bytes.now c.loop-i.i c.args.count c.loop-i-test.true)) ∙ c.loop-i.invariant.ends));
       left = λ told slots.
           let same = (c.loop-i.invariant.looks.still refl).state told in
           let rest = pairs_from c.args.bytes.now (suc c.loop-i.i) (c.args.count - suc c.loop-i.i) in
           let r : Result (Unit {0}) CheckFault = Ok tt in
           let left = subst (λ (ps : List Pair). PairsLeft view.state.bytes c.args.page (low_of c.args.last) (pairs_said c.args.bytes.now) (low_of c.loop-i.last) ps)
           (from_step c.args.bytes.now c.loop-i.i c.args.count c.loop-i-test.true) (c.loop-i.invariant.left told slots) in
-          let cause : PairCause mid.state.bytes c.args.page (low_of c.loop-i.last) c.read_pair-key.result r = c.in-Ok.ensures.cause told (slots ∙ ap (λ (s : State). next_slot s.bytes) (sym same)) in
-          let cause' : PairCause view.state.bytes c.args.page (low_of c.loop-i.last) (pair_said c.args.bytes.now c.loop-i.i) r =
-          subst (λ (p : Pair). PairCause view.state.bytes c.args.page (low_of c.loop-i.last) p r) c.read_pair-key.ensures.pair
-          (subst (λ (s : State). PairCause s.bytes c.args.page (low_of c.loop-i.last) c.read_pair-key.result r) same cause) in
+          let cause : IsVerdict (pair_check mid.state.bytes c.args.page (low_of c.loop-i.last) c.read_pair-key.result) r = c.in-Ok.ensures.cause told (slots ∙ ap (λ (s : State). next_slot s.bytes) (sym same)) in
+          let cause' : IsVerdict (pair_check view.state.bytes c.args.page (low_of c.loop-i.last) (pair_said c.args.bytes.now c.loop-i.i)) r =
+          subst (λ (p : Pair). IsVerdict (pair_check view.state.bytes c.args.page (low_of c.loop-i.last) p) r) c.read_pair-key.ensures.pair
+          (subst (λ (s : State). IsVerdict (pair_check s.bytes c.args.page (low_of c.loop-i.last) c.read_pair-key.result) r) same cause) in
           let next = left_step view.state.bytes c.args.page (low_of c.args.last) (pairs_said c.args.bytes.now) (low_of c.loop-i.last) (pair_said c.args.bytes.now c.loop-i.i) rest left cause' in
           let on : suc c.loop-i.i ≡ c.loop-i.i + 1 = omega arith in
           subst (λ (p : Pair). PairsLeft view.state.bytes c.args.page (low_of c.args.last) (pairs_said c.args.bytes.now) (suc p.0) (pairs_from c.args.bytes.now (c.loop-i.i + 1) (c.args.count - (c.loop-i.i + 1)))) (sym c.read_pair-key.ensures.pair)
@@ -67,6 +75,10 @@ loop-i-preserved g c =
 pub returns-clause-cause : goal.returns-clause-cause
 returns-clause-cause g c = λ told slots.
     let view = g.S.EawStore.view c.args.pages.now.store in
-    left_none view.state.bytes c.args.page (low_of c.args.last) (pairs_said c.args.bytes.now) c.loop-i.last c.loop-i.invariant.low
-    (subst (λ (ps : List Pair). PairsLeft view.state.bytes c.args.page (low_of c.args.last) (pairs_said c.args.bytes.now) (low_of c.loop-i.last) ps)
-    (from_end c.args.bytes.now c.loop-i.i c.args.count c.loop-i-test.false) (c.loop-i.invariant.left told slots))
+    let left = subst (λ (ps : List Pair). PairsLeft view.state.bytes c.args.page (low_of c.args.last) (pairs_said c.args.bytes.now) (low_of c.loop-i.last) ps)
+    (from_end c.args.bytes.now c.loop-i.i c.args.count c.loop-i-test.false) (c.loop-i.invariant.left told slots) in
+    left None c.loop-i.invariant.low
+
+pub returns-clause-behind : goal.returns-clause-behind
+returns-clause-behind g c =
+    ap (λ (ps : List Pair). behind (low_of c.loop-i.last) ps) (sym (from_end c.args.bytes.now c.loop-i.i c.args.count c.loop-i-test.false)) ∙ c.loop-i.invariant.ends

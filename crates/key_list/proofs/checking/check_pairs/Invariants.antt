@@ -3,8 +3,9 @@ use Rattle.eaw_face.specs.Causes.{IsAlive}
 use Rattle.record_slots.specs.Places.{next_slot}
 use Rattle.page_store.specs.Looks.{Looks}
 use Rattle.page_store.specs.Shown.{pages_of}
-use Rattle.index_pages.specs.Chain.{key_end}
+use Rattle.index_pages.specs.Keys.{key_end}
 use Rattle.index_pages.specs.Page.{pairs_from, pairs_said}
+use Rattle.key_list.specs.Chain.{behind}
 use Rattle.key_list.specs.Checked.{low_of}
 use Rattle.key_list.proofs.Testing.{PairsLeft}
 use Rattle.key_list.proofs.checking.check_pairs.Given as goal
@@ -16,5 +17,6 @@ invariant-loop-i g l = record {
       (pages_of (g.S.EawStore.view l.fn.pages.store) l.fn.pages) (pages_of (g.S.EawStore.view l.pages.store) l.pages);
   alive : IsAlive (g.S.EawStore.view l.pages.store);
   low : low_of l.last ≤ key_end;
+  ends : behind (low_of l.last) (pairs_from l.bytes l.i (l.count - l.i)) ≡ behind (low_of l.fn.last) (pairs_said l.bytes);
   left : IsTrue g.S.EawStore.tells → l.slots ≡ next_slot (g.S.EawStore.view l.fn.pages.store).state.bytes → PairsLeft (g.S.EawStore.view l.fn.pages.store).state.bytes l.page (low_of l.fn.last) (pairs_said l.bytes) (low_of l.last) (pairs_from l.bytes l.i (l.count - l.i));
 }

@@ -1,6 +1,6 @@
 use Rattle.std.proofs.Common.{◌^◌, sym, ◌∙◌}
-use Rattle.index_pages.specs.Chain.{pairs_of_chain}
-use Rattle.index_pages.proofs.ChainFacts.{sound_chain_rises}
+use Rattle.key_list.specs.Chain.{pairs_of_chain}
+use Rattle.key_list.specs.ChainFacts.{sound_chain_rises}
 use Rattle.key_list.proofs.Walking.{found_next, found_other, found_none}
 use Rattle.key_list.proofs.look.find.Goals as goal
 

@@ -33,7 +33,7 @@ returns-then-slot-from-clause-cause g c =
           let some : next (page_pairs bytes c.loop-step.page) c.args.from ≡ Some (c.in-Some.key, c.in-Some.slot) =
           ap (λ (b : List ℕ). next (pairs_said b) c.args.from) (sym buf) ∙ sym c.next_pair.ensures ∙ c.in-Some.is in
           let given = next_slot_given bytes c.args.from c.loop-step._step c.loop-step.page (c.in-Some.key, c.in-Some.slot) (c.loop-step.invariant.chain told alive) some in
-          omega (arith, given, (c.requires told alive).front.slots, slots_are view.shape bytes (g.met.S.EawStore.long c.args.pages.now.store told), c.index_page_count-count.ensures.all),
+          omega (arith, given, (c.requires told alive).0.slots, slots_are view.shape bytes (g.met.S.EawStore.long c.args.pages.now.store told), c.index_page_count-count.ensures.all),
     )
 
 pub returns-in-Some-clause-next : goal.returns-in-Some-clause-next
@@ -78,7 +78,7 @@ returns-clause-cause g c =
       alive,
       λ told.
           let at = c.loop-step.invariant.chain told alive in
-          omega (arith, at.left, (c.requires told alive).front.pages, index_pages_are view.shape view.state.bytes (g.met.S.EawStore.long c.args.pages.now.store told), c.index_page_count-count.ensures.count, c.loop-step-test.false),
+          omega (arith, at.left, (c.requires told alive).0.pages, index_pages_are view.shape view.state.bytes (g.met.S.EawStore.long c.args.pages.now.store told), c.index_page_count-count.ensures.count, c.loop-step-test.false),
     )
 
 pub returns-then-slot-from-clause-looks : goal.returns-then-slot-from-clause-looks

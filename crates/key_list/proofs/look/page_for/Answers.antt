@@ -6,8 +6,8 @@ use Rattle.page_store.specs.Index.{index_pages_of}
 use Rattle.page_store.specs.Shown.{pages_of}
 use Rattle.record_slots.specs.Places.{page_bytes}
 use Rattle.index_pages.specs.Page.{count_said, link_said, pairs_said, pair_said, page_pairs}
-use Rattle.index_pages.specs.Chain.{first_key}
-use Rattle.index_pages.specs.declared.page.LeafHead.{LeafHead}
+use Rattle.key_list.specs.Chain.{first_key}
+use Rattle.index_pages.specs.declared.page.Head.{Head}
 use Rattle.index_pages.proofs.Looking.{looks_next}
 use Rattle.index_pages.proofs.Sizes.{index_pages_are}
 use Rattle.key_list.specs.Linked.{IsLinked}
@@ -18,7 +18,7 @@ use Rattle.key_list.proofs.look.page_for.Goals as goal
 pub returns-in-Err-clause-cause : goal.returns-in-Err-clause-cause
 returns-in-Err-clause-cause g c =
     let view = g.S.EawStore.view c.args.pages.now.store in
-    look_cause LeafHead ℕ g.S.EawStore.tells view view (IsLinked (index_pages_of view.shape) (page_bytes view.state.bytes 1)) 1 c.in-Err.fault (still_same g.S.EawStore.tells view)
+    look_cause Head ℕ g.S.EawStore.tells view view (IsLinked (index_pages_of view.shape) (page_bytes view.state.bytes 1)) 1 c.in-Err.fault (still_same g.S.EawStore.tells view)
     (λ told alive. first_linked view.state.bytes (index_pages_of view.shape) (c.requires told alive) (index_pages_are view.shape view.state.bytes (g.met.S.EawStore.long c.args.pages.now.store told)))
     c.in-Err.ensures.cause
 
@@ -40,7 +40,7 @@ returns-in-Err-read_page-clause-cause g c =
     let view = g.S.EawStore.view c.args.pages.now.store in
     let mid = g.S.EawStore.view c.loop-step.pages.store in
     let still = c.loop-step.invariant.looks.still refl in
-    look_cause LeafHead ℕ g.S.EawStore.tells view mid (IsLinked (index_pages_of mid.shape) (page_bytes mid.state.bytes c.loop-step.behind)) c.loop-step.behind c.in-Err-read_page.fault still
+    look_cause Head ℕ g.S.EawStore.tells view mid (IsLinked (index_pages_of mid.shape) (page_bytes mid.state.bytes c.loop-step.behind)) c.loop-step.behind c.in-Err-read_page.fault still
     (λ told alive.
     let pages = index_pages_are view.shape view.state.bytes (g.met.S.EawStore.long c.args.pages.now.store told) in
     let linked = place_linked view.state.bytes (index_pages_of view.shape) c.args.key c.loop-step._step c.loop-step.page c.loop-step.behind (c.requires told alive) pages (c.loop-step.invariant.place told) c.if-behind-eq0.false in

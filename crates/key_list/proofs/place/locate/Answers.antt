@@ -3,8 +3,8 @@ use Rattle.eaw_face.specs.State.{State}
 use Rattle.page_store.specs.Index.{index_pages_of}
 use Rattle.page_store.specs.Shown.{pages_of}
 use Rattle.record_slots.specs.Places.{page_bytes}
-use Rattle.index_pages.specs.declared.page.LeafHead.{LeafHead}
-use Rattle.index_pages.specs.Ways.{page_of_key}
+use Rattle.index_pages.specs.declared.page.Head.{Head}
+use Rattle.key_list.specs.Chain.{page_of_key}
 use Rattle.index_pages.proofs.Looking.{looks_next}
 use Rattle.index_pages.proofs.Sizes.{index_pages_are}
 use Rattle.key_list.specs.Linked.{IsLinked}
@@ -21,7 +21,7 @@ returns-in-Err-read_page-clause-cause g c =
     let looks = looks_next g.S.EawStore.tells g.S.EawStore.opens false (pages_of view c.args.pages.now) (pages_of (V c.fetch_super.new.pages.store) c.fetch_super.new.pages) (pages_of mid c.page_for.new.pages)
     c.in-Ok.ensures.looks c.in-Ok-page_for.ensures.looks in
     let still = looks.still refl in
-    look_cause LeafHead Located g.S.EawStore.tells view mid (IsLinked (index_pages_of mid.shape) (page_bytes mid.state.bytes c.in-Ok-page_for.page)) c.in-Ok-page_for.page c.in-Err-read_page.fault still
+    look_cause Head Located g.S.EawStore.tells view mid (IsLinked (index_pages_of mid.shape) (page_bytes mid.state.bytes c.in-Ok-page_for.page)) c.in-Ok-page_for.page c.in-Err-read_page.fault still
     (λ told alive.
     let pages = index_pages_are view.shape view.state.bytes (g.met.S.EawStore.long c.args.pages.now.store told) in
     let page : c.in-Ok-page_for.page ≡ page_of_key view.state.bytes c.args.key = c.in-Ok-page_for.ensures.page told ∙ ap (λ (s : State). page_of_key s.bytes c.args.key) ((c.in-Ok.ensures.looks.still refl).state told) in

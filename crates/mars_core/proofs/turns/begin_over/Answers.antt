@@ -54,14 +54,14 @@ invariant_of-result g c =
     let V = g.S.EawStore.view in
     opened_keeps g.S.EawStore.tells g.S.EawStore.opens g.K.KeyIndex.index (pages_of (V c.args.records.store) c.args.records) (pages_of (V c.scan.new.self.store) c.scan.new.self) (laws_at g c.scan.new.self.store)
     (g.met.K.KeyIndex.rises (V c.args.records.store).state.bytes) c.requires.alive c.requires.sound c.requires.idle c.requires.unsaved c.in-Ok-scan.ensures.looks c.in-Ok-scan.ensures.does.done
-    c.in-Ok-scan.base c.in-Ok-scan.ensures.rows c.in-Ok.seats (c.in-Ok.ensures.0 ∙ ap (λ (h : Shape). h.numbers) c.shape.ensures) c.in-Ok.ensures.1 c.new-2.result c.new-2.ensures
+    c.in-Ok-scan.base c.in-Ok-scan.ensures.rows c.in-Ok.seats (c.in-Ok.ensures.0 ∙ ap (λ (h : Shape). h.numbers) c.shape.ensures) c.in-Ok.ensures.1 c.new-2.result c.new-2.ensures c.none.result c.none.ensures
 
 pub returns-clause-begins : goal.returns-clause-begins
 returns-clause-begins g c =
     let V = g.S.EawStore.view in
     opened_begins g.S.EawStore.tells g.S.EawStore.opens g.K.KeyIndex.index (pages_of (V c.args.records.store) c.args.records) (pages_of (V c.scan.new.self.store) c.scan.new.self) (laws_at g c.scan.new.self.store)
     (g.met.K.KeyIndex.rises (V c.args.records.store).state.bytes) c.requires.alive c.requires.sound c.requires.idle c.requires.unsaved c.in-Ok-scan.ensures.looks c.in-Ok-scan.ensures.does.done
-    c.in-Ok-scan.base c.in-Ok-scan.ensures.rows c.in-Ok.seats (c.in-Ok.ensures.0 ∙ ap (λ (h : Shape). h.numbers) c.shape.ensures) c.in-Ok.ensures.1 c.new-2.result c.new-2.ensures
+    c.in-Ok-scan.base c.in-Ok-scan.ensures.rows c.in-Ok.seats (c.in-Ok.ensures.0 ∙ ap (λ (h : Shape). h.numbers) c.shape.ensures) c.in-Ok.ensures.1 c.new-2.result c.new-2.ensures c.none.result c.none.ensures
 
 pub returns-in-Err-clause-begins : goal.returns-in-Err-clause-begins
 returns-in-Err-clause-begins g c = tt

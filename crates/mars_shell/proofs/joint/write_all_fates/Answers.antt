@@ -10,7 +10,7 @@ loop-caller-init c = refl
 
 pub loop-caller-preserved : goal.loop-caller-preserved
 loop-caller-preserved c =
-    ap (λ (text : List ℕ). text ++ all_fate_lines (c.loop-caller.caller + 1) (drop (c.loop-caller.caller + 1) c.args.fates.now)) (c.in_ok-write_fates.ensures ∙ ap (λ (fates : List Fate). c.loop-caller.text.items ++ fate_lines c.loop-caller.caller 1 fates) (c.items.ensures ∙ c.index-fates-caller.is))
+    ap (λ (text : List ℕ). text ++ all_fate_lines (c.loop-caller.caller + 1) (drop (c.loop-caller.caller + 1) c.args.fates.now)) (c.in_ok-write_fates.ensures ∙ ap (λ (fates : List Fate). c.loop-caller.text.items ++ fate_lines c.loop-caller.caller 1 fates) (c.as_slice.ensures ∙ c.index-fates-caller.is))
     ∙ ap (λ (n : ℕ). (c.loop-caller.text.items ++ fate_lines c.loop-caller.caller 1 (slice_index_or c.args.fates.now c.loop-caller.caller c.index-fates-caller.result)) ++ all_fate_lines n (drop n c.args.fates.now)) (let e : c.loop-caller.caller + 1 ≡ suc c.loop-caller.caller = omega arith in e)
     ∙ one_more c.loop-caller.text.items c.args.fates.now c.loop-caller.caller c.index-fates-caller.result (omega (arith, c.loop-caller-test.true)) ∙ c.loop-caller.invariant
 

@@ -15,7 +15,7 @@ returns-then-touched-mask-ne0-clause-busy c =
     let small : mask_of c.args.call.now < 2 ^ 64 = subst (λ (n : ℕ). n < 2 ^ 64) c.mask_of-mask.ensures c.mask_of-mask.type_inv in
     let some : bit_and c.touched.result (mask_of c.args.call.now) ≢ 0 = subst (λ (n : ℕ). bit_and c.touched.result n ≢ 0) c.mask_of-mask.ensures c.if-touched-mask-ne0.true in
     let meet = masks_meet (calls_at c.args.self.now c.loop-other.other) c.touched.result c.args.call.now c.touched.ensures small some in
-    ((c.if-other-caller.true, meet.0, meet.1, meet.2), c.loop-other.invariant)
+    ((c.if-other-caller.true, meet), c.loop-other.invariant)
 
 pub loop-other-preserved : goal.loop-other-preserved
 loop-other-preserved c = elim c.else-other-caller.branch [

@@ -1,6 +1,7 @@
 use Rattle.std.proofs.Common.{◌<◌, ℕ, ◌+◌, List, Option, Some, None, nat_eq, length, Result, Err, ap, subst, sym, ◌∙◌, refl}
 use Rattle.std.specs.Prelude.{IsNone}
 use Rattle.std.specs.Map.{update}
+use Rattle.std.specs.Option.{option_to_list}
 use Rattle.eaw_face.specs.Causes.{IsAlive}
 use Rattle.page_store.specs.Shown.{pages_of}
 use Rattle.history.specs.Rows.{table_of}
@@ -51,39 +52,39 @@ pub invariant_of-self-in-Ok-commit : goal.invariant_of-self-in-Ok-commit
 invariant_of-self-in-Ok-commit g c = committed_keeps g.S.EawStore.tells g.S.EawStore.opens g.K.KeyIndex.index g.met.S.EawStore.one_data (pages_of (g.S.EawStore.view c.self.inside.records.store) c.self.inside.records) (pages_of (g.S.EawStore.view c.commit.new.self.store) c.commit.new.self)
     (laws_at g c.self.inside.records.store) (laws_at g c.commit.new.self.store) (state_at g.K.KeyIndex.index (g.S.EawStore.view c.self.inside.records.store) (table_of c.self.inside.base) c.self.inside.history (live_in c.self.inside.seats) c.self.inside.doubt) (state_at g.K.KeyIndex.index (g.S.EawStore.view c.commit.new.self.store) (table_of c.self.inside.base) c.push.new.self (live_in c.take.new.self) c.self.inside.doubt) (record { indexed = refl; dead = refl }) (record { indexed = refl; dead = refl })
     refl (length c.self.inside.seats) (length c.take.new.self) c.take.ensures.out.count c.self.inside.base c.self.invariant
-    (subst (λ (h : Held g.row.S.Denot). IsAlive (g.S.EawStore.view h.records.store)) (sym c.self.view_is) c.requires.alive) c.args.caller c.in-Some.live (sym c.take.ensures.live ∙ c.in-Some.is) (record { caller = c.args.caller; calls = c.into_calls.result; at = length c.items.result.now + 1 }) (λ j. record { caller = c.args.caller; calls = c.into_calls.ensures j; at = length (c.items.ensures j) + 1 }) c.in-Ok-commit.ensures.does c.take.ensures.out.live c.in-Ok.ensures.ok refl
+    (subst (λ (h : Held g.row.S.Denot). IsAlive (g.S.EawStore.view h.records.store)) (sym c.self.view_is) c.requires.alive) c.args.caller c.in-Some.live (sym c.take.ensures.live ∙ c.in-Some.is) (record { caller = c.args.caller; calls = c.into_calls.result; at = length c.as_slice.result.now + 1 }) (λ j. record { caller = c.args.caller; calls = c.into_calls.ensures j; at = length (c.as_slice.ensures j) + 1 }) c.in-Ok-commit.ensures.does c.take.ensures.out.live c.in-Ok.ensures.ok refl
 
 pub returns-in-Ok-commit : goal.returns-in-Ok-commit
 returns-in-Ok-commit g c = record {
   steps = subst (λ (h : Held g.row.S.Denot). Steps g.S.EawStore.tells c.args.caller Commit (core_of g.S.EawStore.opens g.K.KeyIndex.index (g.S.EawStore.view h.records.store) h)
       (core_of g.S.EawStore.opens g.K.KeyIndex.index (g.S.EawStore.view c.commit.new.self.store)
-      (record { records = c.commit.new.self; base = c.self.inside.base; seats = c.take.new.self; history = c.push.new.self; doubt = c.self.inside.doubt })) (Committed (length c.items.result.now + 1))) c.self.view_is
+      (record { records = c.commit.new.self; base = c.self.inside.base; seats = c.take.new.self; history = c.push.new.self; doubt = c.self.inside.doubt })) (Committed (length c.as_slice.result.now + 1))) c.self.view_is
       (committed_steps g.S.EawStore.tells g.S.EawStore.opens g.K.KeyIndex.index g.met.S.EawStore.one_data (pages_of (g.S.EawStore.view c.self.inside.records.store) c.self.inside.records) (pages_of (g.S.EawStore.view c.commit.new.self.store) c.commit.new.self)
       (laws_at g c.self.inside.records.store) (laws_at g c.commit.new.self.store) (state_at g.K.KeyIndex.index (g.S.EawStore.view c.self.inside.records.store) (table_of c.self.inside.base) c.self.inside.history (live_in c.self.inside.seats) c.self.inside.doubt) (state_at g.K.KeyIndex.index (g.S.EawStore.view c.commit.new.self.store) (table_of c.self.inside.base) c.push.new.self (live_in c.take.new.self) c.self.inside.doubt) (record { indexed = refl; dead = refl }) (record { indexed = refl; dead = refl })
       refl (length c.self.inside.seats) (length c.take.new.self) c.take.ensures.out.count c.self.inside.base c.self.invariant
-      (subst (λ (h : Held g.row.S.Denot). IsAlive (g.S.EawStore.view h.records.store)) (sym c.self.view_is) c.requires.alive) c.args.caller c.in-Some.live (sym c.take.ensures.live ∙ c.in-Some.is) (record { caller = c.args.caller; calls = c.into_calls.result; at = length c.items.result.now + 1 }) (λ j. record { caller = c.args.caller; calls = c.into_calls.ensures j; at = length (c.items.ensures j) + 1 }) c.in-Ok-commit.ensures.does c.take.ensures.out.live c.in-Ok.ensures.ok refl (length c.items.result.now + 1) (ap (λ (hs : List Done). length hs + 1) c.items.ensures));
+      (subst (λ (h : Held g.row.S.Denot). IsAlive (g.S.EawStore.view h.records.store)) (sym c.self.view_is) c.requires.alive) c.args.caller c.in-Some.live (sym c.take.ensures.live ∙ c.in-Some.is) (record { caller = c.args.caller; calls = c.into_calls.result; at = length c.as_slice.result.now + 1 }) (λ j. record { caller = c.args.caller; calls = c.into_calls.ensures j; at = length (c.as_slice.ensures j) + 1 }) c.in-Ok-commit.ensures.does c.take.ensures.out.live c.in-Ok.ensures.ok refl (length c.as_slice.result.now + 1) (ap (λ (hs : List Done). length hs + 1) c.as_slice.ensures));
 }
 
 pub invariant_of-self-in-Err-commit : goal.invariant_of-self-in-Err-commit
 invariant_of-self-in-Err-commit g c = doubted_keeps g.S.EawStore.tells g.S.EawStore.opens g.K.KeyIndex.index g.met.S.EawStore.one_data (pages_of (g.S.EawStore.view c.self.inside.records.store) c.self.inside.records) (pages_of (g.S.EawStore.view c.commit.new.self.store) c.commit.new.self)
-    (laws_at g c.self.inside.records.store) (laws_at g c.commit.new.self.store) (state_at g.K.KeyIndex.index (g.S.EawStore.view c.self.inside.records.store) (table_of c.self.inside.base) c.self.inside.history (live_in c.self.inside.seats) c.self.inside.doubt) (state_at g.K.KeyIndex.index (g.S.EawStore.view c.commit.new.self.store) (table_of c.self.inside.base) c.pop.new.self (live_in c.take.new.self) c.pop.result) (record { indexed = refl; dead = refl }) (record { indexed = refl; dead = refl })
+    (laws_at g c.self.inside.records.store) (laws_at g c.commit.new.self.store) (state_at g.K.KeyIndex.index (g.S.EawStore.view c.self.inside.records.store) (table_of c.self.inside.base) c.self.inside.history (live_in c.self.inside.seats) c.self.inside.doubt) (state_at g.K.KeyIndex.index (g.S.EawStore.view c.commit.new.self.store) (table_of c.self.inside.base) c.pop.new.self (live_in c.take.new.self) c.holding.result) (record { indexed = refl; dead = refl }) (record { indexed = refl; dead = refl })
     refl (length c.self.inside.seats) (length c.take.new.self) c.take.ensures.out.count c.self.inside.base c.self.invariant
-    (subst (λ (h : Held g.row.S.Denot). IsAlive (g.S.EawStore.view h.records.store)) (sym c.self.view_is) c.requires.alive) c.args.caller c.in-Some.live (sym c.take.ensures.live ∙ c.in-Some.is) (record { caller = c.args.caller; calls = c.into_calls.result; at = length c.items.result.now + 1 }) (λ j. record { caller = c.args.caller; calls = c.into_calls.ensures j; at = length (c.items.ensures j) + 1 }) (subst (λ (f : TableFault). (let r : Result (Unit {0}) TableFault = Err f in Does g.S.EawStore.tells (g.S.EawStore.opens (g.S.EawStore.view c.self.inside.records.store).shape) g.K.KeyIndex.index (commit c.args.caller)
-    (pages_of (g.S.EawStore.view c.self.inside.records.store) c.self.inside.records) (pages_of (g.S.EawStore.view c.commit.new.self.store) c.commit.new.self) r)) (commit_fails g.S.EawStore.tells g.K.KeyIndex.index (pages_of (g.S.EawStore.view c.self.inside.records.store) c.self.inside.records) c.args.caller (subst (λ (h : Held g.row.S.Denot). IsAlive (g.S.EawStore.view h.records.store)) (sym c.self.view_is) c.requires.alive) c.in-Err-commit.fault c.in-Err-commit.ensures.does.cause) c.in-Err-commit.ensures.does) c.take.ensures.out.live (sym (last_is c.self.inside.history c.pop.new.self (record { caller = c.args.caller; calls = c.into_calls.result; at = length c.items.result.now + 1 }) c.pop.result (sym c.in-Ok.ensures.ok ∙ c.pop.ensures.last) (λ none. sym c.in-Ok.ensures.ok ∙ c.pop.ensures.empty.0 (subst (λ (o : Option Done). IsNone o) (sym none) refl))).0) (last_is c.self.inside.history c.pop.new.self (record { caller = c.args.caller; calls = c.into_calls.result; at = length c.items.result.now + 1 }) c.pop.result (sym c.in-Ok.ensures.ok ∙ c.pop.ensures.last) (λ none. sym c.in-Ok.ensures.ok ∙ c.pop.ensures.empty.0 (subst (λ (o : Option Done). IsNone o) (sym none) refl))).1 (λ told. c.commit.ensures.due told (subst (λ (h : Held g.row.S.Denot). IsAlive (g.S.EawStore.view h.records.store)) (sym c.self.view_is) c.requires.alive) (c.in-Err-commit.is ∙ ap (λ (f : TableFault). (let r : Result (Unit {0}) TableFault = Err f in r)) (commit_fails g.S.EawStore.tells g.K.KeyIndex.index (pages_of (g.S.EawStore.view c.self.inside.records.store) c.self.inside.records) c.args.caller (subst (λ (h : Held g.row.S.Denot). IsAlive (g.S.EawStore.view h.records.store)) (sym c.self.view_is) c.requires.alive) c.in-Err-commit.fault c.in-Err-commit.ensures.does.cause)))
+    (subst (λ (h : Held g.row.S.Denot). IsAlive (g.S.EawStore.view h.records.store)) (sym c.self.view_is) c.requires.alive) c.args.caller c.in-Some.live (sym c.take.ensures.live ∙ c.in-Some.is) (record { caller = c.args.caller; calls = c.into_calls.result; at = length c.as_slice.result.now + 1 }) (λ j. record { caller = c.args.caller; calls = c.into_calls.ensures j; at = length (c.as_slice.ensures j) + 1 }) (subst (λ (f : TableFault). (let r : Result (Unit {0}) TableFault = Err f in Does g.S.EawStore.tells (g.S.EawStore.opens (g.S.EawStore.view c.self.inside.records.store).shape) g.K.KeyIndex.index (commit c.args.caller)
+    (pages_of (g.S.EawStore.view c.self.inside.records.store) c.self.inside.records) (pages_of (g.S.EawStore.view c.commit.new.self.store) c.commit.new.self) r)) (commit_fails g.S.EawStore.tells g.K.KeyIndex.index (pages_of (g.S.EawStore.view c.self.inside.records.store) c.self.inside.records) c.args.caller (subst (λ (h : Held g.row.S.Denot). IsAlive (g.S.EawStore.view h.records.store)) (sym c.self.view_is) c.requires.alive) c.in-Err-commit.fault c.in-Err-commit.ensures.does.cause) c.in-Err-commit.ensures.does) c.take.ensures.out.live (sym (last_is c.self.inside.history c.pop.new.self (record { caller = c.args.caller; calls = c.into_calls.result; at = length c.as_slice.result.now + 1 }) c.pop.result (sym c.in-Ok.ensures.ok ∙ c.pop.ensures.last) (λ none. sym c.in-Ok.ensures.ok ∙ c.pop.ensures.empty.0 (subst (λ (o : Option Done). IsNone o) (sym none) refl))).0) (c.holding.ensures ∙ ap option_to_list (last_is c.self.inside.history c.pop.new.self (record { caller = c.args.caller; calls = c.into_calls.result; at = length c.as_slice.result.now + 1 }) c.pop.result (sym c.in-Ok.ensures.ok ∙ c.pop.ensures.last) (λ none. sym c.in-Ok.ensures.ok ∙ c.pop.ensures.empty.0 (subst (λ (o : Option Done). IsNone o) (sym none) refl))).1) (λ told. c.commit.ensures.due told (subst (λ (h : Held g.row.S.Denot). IsAlive (g.S.EawStore.view h.records.store)) (sym c.self.view_is) c.requires.alive) (c.in-Err-commit.is ∙ ap (λ (f : TableFault). (let r : Result (Unit {0}) TableFault = Err f in r)) (commit_fails g.S.EawStore.tells g.K.KeyIndex.index (pages_of (g.S.EawStore.view c.self.inside.records.store) c.self.inside.records) c.args.caller (subst (λ (h : Held g.row.S.Denot). IsAlive (g.S.EawStore.view h.records.store)) (sym c.self.view_is) c.requires.alive) c.in-Err-commit.fault c.in-Err-commit.ensures.does.cause)))
 
 pub returns-in-Err-commit : goal.returns-in-Err-commit
 returns-in-Err-commit g c = record {
   steps = subst (λ (r : Reply). Steps g.S.EawStore.tells c.args.caller Commit (core_of g.S.EawStore.opens g.K.KeyIndex.index (g.S.EawStore.view c.args.self.now.records.store) c.args.self.now)
       (core_of g.S.EawStore.opens g.K.KeyIndex.index (g.S.EawStore.view c.commit.new.self.store)
-      (record { records = c.commit.new.self; base = c.self.inside.base; seats = c.take.new.self; history = c.pop.new.self; doubt = c.pop.result })) r) (sym (c.reply_to.ensures ∙ ap reply_to (commit_fails g.S.EawStore.tells g.K.KeyIndex.index (pages_of (g.S.EawStore.view c.self.inside.records.store) c.self.inside.records) c.args.caller (subst (λ (h : Held g.row.S.Denot). IsAlive (g.S.EawStore.view h.records.store)) (sym c.self.view_is) c.requires.alive) c.in-Err-commit.fault c.in-Err-commit.ensures.does.cause)))
+      (record { records = c.commit.new.self; base = c.self.inside.base; seats = c.take.new.self; history = c.pop.new.self; doubt = c.holding.result })) r) (sym (c.reply_to.ensures ∙ ap reply_to (commit_fails g.S.EawStore.tells g.K.KeyIndex.index (pages_of (g.S.EawStore.view c.self.inside.records.store) c.self.inside.records) c.args.caller (subst (λ (h : Held g.row.S.Denot). IsAlive (g.S.EawStore.view h.records.store)) (sym c.self.view_is) c.requires.alive) c.in-Err-commit.fault c.in-Err-commit.ensures.does.cause)))
       (subst (λ (h : Held g.row.S.Denot). Steps g.S.EawStore.tells c.args.caller Commit (core_of g.S.EawStore.opens g.K.KeyIndex.index (g.S.EawStore.view h.records.store) h)
       (core_of g.S.EawStore.opens g.K.KeyIndex.index (g.S.EawStore.view c.commit.new.self.store)
-      (record { records = c.commit.new.self; base = c.self.inside.base; seats = c.take.new.self; history = c.pop.new.self; doubt = c.pop.result })) reply.Media) c.self.view_is
+      (record { records = c.commit.new.self; base = c.self.inside.base; seats = c.take.new.self; history = c.pop.new.self; doubt = c.holding.result })) reply.Media) c.self.view_is
       (doubted_steps g.S.EawStore.tells g.S.EawStore.opens g.K.KeyIndex.index g.met.S.EawStore.one_data (pages_of (g.S.EawStore.view c.self.inside.records.store) c.self.inside.records) (pages_of (g.S.EawStore.view c.commit.new.self.store) c.commit.new.self)
-      (laws_at g c.self.inside.records.store) (laws_at g c.commit.new.self.store) (state_at g.K.KeyIndex.index (g.S.EawStore.view c.self.inside.records.store) (table_of c.self.inside.base) c.self.inside.history (live_in c.self.inside.seats) c.self.inside.doubt) (state_at g.K.KeyIndex.index (g.S.EawStore.view c.commit.new.self.store) (table_of c.self.inside.base) c.pop.new.self (live_in c.take.new.self) c.pop.result) (record { indexed = refl; dead = refl }) (record { indexed = refl; dead = refl })
+      (laws_at g c.self.inside.records.store) (laws_at g c.commit.new.self.store) (state_at g.K.KeyIndex.index (g.S.EawStore.view c.self.inside.records.store) (table_of c.self.inside.base) c.self.inside.history (live_in c.self.inside.seats) c.self.inside.doubt) (state_at g.K.KeyIndex.index (g.S.EawStore.view c.commit.new.self.store) (table_of c.self.inside.base) c.pop.new.self (live_in c.take.new.self) c.holding.result) (record { indexed = refl; dead = refl }) (record { indexed = refl; dead = refl })
       refl (length c.self.inside.seats) (length c.take.new.self) c.take.ensures.out.count c.self.inside.base c.self.invariant
-      (subst (λ (h : Held g.row.S.Denot). IsAlive (g.S.EawStore.view h.records.store)) (sym c.self.view_is) c.requires.alive) c.args.caller c.in-Some.live (sym c.take.ensures.live ∙ c.in-Some.is) (record { caller = c.args.caller; calls = c.into_calls.result; at = length c.items.result.now + 1 }) (λ j. record { caller = c.args.caller; calls = c.into_calls.ensures j; at = length (c.items.ensures j) + 1 }) (subst (λ (f : TableFault). (let r : Result (Unit {0}) TableFault = Err f in Does g.S.EawStore.tells (g.S.EawStore.opens (g.S.EawStore.view c.self.inside.records.store).shape) g.K.KeyIndex.index (commit c.args.caller)
-      (pages_of (g.S.EawStore.view c.self.inside.records.store) c.self.inside.records) (pages_of (g.S.EawStore.view c.commit.new.self.store) c.commit.new.self) r)) (commit_fails g.S.EawStore.tells g.K.KeyIndex.index (pages_of (g.S.EawStore.view c.self.inside.records.store) c.self.inside.records) c.args.caller (subst (λ (h : Held g.row.S.Denot). IsAlive (g.S.EawStore.view h.records.store)) (sym c.self.view_is) c.requires.alive) c.in-Err-commit.fault c.in-Err-commit.ensures.does.cause) c.in-Err-commit.ensures.does) c.take.ensures.out.live (sym (last_is c.self.inside.history c.pop.new.self (record { caller = c.args.caller; calls = c.into_calls.result; at = length c.items.result.now + 1 }) c.pop.result (sym c.in-Ok.ensures.ok ∙ c.pop.ensures.last) (λ none. sym c.in-Ok.ensures.ok ∙ c.pop.ensures.empty.0 (subst (λ (o : Option Done). IsNone o) (sym none) refl))).0) (last_is c.self.inside.history c.pop.new.self (record { caller = c.args.caller; calls = c.into_calls.result; at = length c.items.result.now + 1 }) c.pop.result (sym c.in-Ok.ensures.ok ∙ c.pop.ensures.last) (λ none. sym c.in-Ok.ensures.ok ∙ c.pop.ensures.empty.0 (subst (λ (o : Option Done). IsNone o) (sym none) refl))).1 (λ told. c.commit.ensures.due told (subst (λ (h : Held g.row.S.Denot). IsAlive (g.S.EawStore.view h.records.store)) (sym c.self.view_is) c.requires.alive) (c.in-Err-commit.is ∙ ap (λ (f : TableFault). (let r : Result (Unit {0}) TableFault = Err f in r)) (commit_fails g.S.EawStore.tells g.K.KeyIndex.index (pages_of (g.S.EawStore.view c.self.inside.records.store) c.self.inside.records) c.args.caller (subst (λ (h : Held g.row.S.Denot). IsAlive (g.S.EawStore.view h.records.store)) (sym c.self.view_is) c.requires.alive) c.in-Err-commit.fault c.in-Err-commit.ensures.does.cause)))));
+      (subst (λ (h : Held g.row.S.Denot). IsAlive (g.S.EawStore.view h.records.store)) (sym c.self.view_is) c.requires.alive) c.args.caller c.in-Some.live (sym c.take.ensures.live ∙ c.in-Some.is) (record { caller = c.args.caller; calls = c.into_calls.result; at = length c.as_slice.result.now + 1 }) (λ j. record { caller = c.args.caller; calls = c.into_calls.ensures j; at = length (c.as_slice.ensures j) + 1 }) (subst (λ (f : TableFault). (let r : Result (Unit {0}) TableFault = Err f in Does g.S.EawStore.tells (g.S.EawStore.opens (g.S.EawStore.view c.self.inside.records.store).shape) g.K.KeyIndex.index (commit c.args.caller)
+      (pages_of (g.S.EawStore.view c.self.inside.records.store) c.self.inside.records) (pages_of (g.S.EawStore.view c.commit.new.self.store) c.commit.new.self) r)) (commit_fails g.S.EawStore.tells g.K.KeyIndex.index (pages_of (g.S.EawStore.view c.self.inside.records.store) c.self.inside.records) c.args.caller (subst (λ (h : Held g.row.S.Denot). IsAlive (g.S.EawStore.view h.records.store)) (sym c.self.view_is) c.requires.alive) c.in-Err-commit.fault c.in-Err-commit.ensures.does.cause) c.in-Err-commit.ensures.does) c.take.ensures.out.live (sym (last_is c.self.inside.history c.pop.new.self (record { caller = c.args.caller; calls = c.into_calls.result; at = length c.as_slice.result.now + 1 }) c.pop.result (sym c.in-Ok.ensures.ok ∙ c.pop.ensures.last) (λ none. sym c.in-Ok.ensures.ok ∙ c.pop.ensures.empty.0 (subst (λ (o : Option Done). IsNone o) (sym none) refl))).0) (c.holding.ensures ∙ ap option_to_list (last_is c.self.inside.history c.pop.new.self (record { caller = c.args.caller; calls = c.into_calls.result; at = length c.as_slice.result.now + 1 }) c.pop.result (sym c.in-Ok.ensures.ok ∙ c.pop.ensures.last) (λ none. sym c.in-Ok.ensures.ok ∙ c.pop.ensures.empty.0 (subst (λ (o : Option Done). IsNone o) (sym none) refl))).1) (λ told. c.commit.ensures.due told (subst (λ (h : Held g.row.S.Denot). IsAlive (g.S.EawStore.view h.records.store)) (sym c.self.view_is) c.requires.alive) (c.in-Err-commit.is ∙ ap (λ (f : TableFault). (let r : Result (Unit {0}) TableFault = Err f in r)) (commit_fails g.S.EawStore.tells g.K.KeyIndex.index (pages_of (g.S.EawStore.view c.self.inside.records.store) c.self.inside.records) c.args.caller (subst (λ (h : Held g.row.S.Denot). IsAlive (g.S.EawStore.view h.records.store)) (sym c.self.view_is) c.requires.alive) c.in-Err-commit.fault c.in-Err-commit.ensures.does.cause)))));
 }
 
 pub is_live-requires : goal.is_live-requires

@@ -2,12 +2,12 @@ use Rattle.std.proofs.Common.{◌≡◌, ℕ, ◌+◌, ◌-◌, ◌%◌, ◌<◌
 use Rattle.caller_steps.specs.Prefix.{Grows}
 use Rattle.caller_steps.proofs.Continuing.{grows_none}
 use mathlib.Core.Option.{none}
-use Rattle.atomic_table.specs.Table.{Me, rest, Allows, step}
+use Rattle.atomic_table.specs.Table.{rest, Allows, step}
 use Rattle.mars_manager.specs.declared.view.Known.{Known}
 use Rattle.mars_manager.specs.declared.view.View.{View}
 use Rattle.mars_manager.specs.Pass.{PassView, told_of, times, finds}
 use Rattle.mars_manager.specs.Sharing.{MarsView, Called, Commits, IsLegalIn}
-use Rattle.mars_manager.specs.Seat.{first_of}
+use Rattle.mars_manager.specs.Seat.{SeatOf, first_of}
 use Rattle.mars_manager.specs.Rule.{face, Rule, tells_length, AreAbove}
 use Rattle.mars_manager.proofs.Seats.{times_first}
 use Rattle.mars_manager.proofs.Turns.{takes_turn_as, tells_as, gives_as}
@@ -28,24 +28,24 @@ returns-then-found-ne0-clause-again g c =
     let i = c.pass.invariant in
     let e = c.compare_exchange-found.ensures in
     let missed = e.2.1 c.if-found-ne0.true in
-    let known : i.0 ≡ c.args.pass.now.known = sym (ap (λ (m : Me (Option g.row.C.Denot) (View g.row.C.Denot)). first_of m.0.passes) i.1) ∙ ap (λ (p : PassView g.row.C.Denot). p.known) c.pass.view_is in (
+    let known : i.0 ≡ c.args.pass.now.known = sym (ap (λ (m : SeatOf g.row.C.Denot). first_of m.0.passes) i.1) ∙ ap (λ (p : PassView g.row.C.Denot). p.known) c.pass.view_is in (
       (
         (λ same.
             let ne = c.if-found-ne0.true in
             let number = ap (λ (k : Known g.row.C.Denot). k.number) known in
             let none = missed.2 i.0.number (omega arith) in
             let first = times_first i.0 [] in
-            let same_times = ap (λ (m : Me (Option g.row.C.Denot) (View g.row.C.Denot)). times i.0.number m.0.passes) i.1 in
+            let same_times = ap (λ (m : SeatOf g.row.C.Denot). times i.0.number m.0.passes) i.1 in
             omega arith),
         (λ setup is.
             let ne = c.if-found-ne0.true in
-            let above = (subst (λ (ks : List (Known g.row.C.Denot)). AreAbove c.compare_exchange-found.result ks) (ap (λ (m : Me (Option g.row.C.Denot) (View g.row.C.Denot)). m.0.passes) i.1) missed.3).0 setup (ap (λ (k : Known g.row.C.Denot). k.setup) known ∙ is) in
+            let above = (subst (λ (ks : List (Known g.row.C.Denot)). AreAbove c.compare_exchange-found.result ks) (ap (λ (m : SeatOf g.row.C.Denot). m.0.passes) i.1) missed.3).0 setup (ap (λ (k : Known g.row.C.Denot). k.setup) known ∙ is) in
             omega arith),
       ),
       (let one : c.compare_exchange-found.result - 1 + 1 ≡ c.compare_exchange-found.result = (let ne = c.if-found-ne0.true in omega arith) in
           let cast : (c.compare_exchange-found.result - 1) % 256 ≡ c.compare_exchange-found.result - 1 = (let few = missed.1 in omega arith) in
-          ap (λ (m : Me (Option g.row.C.Denot) (View g.row.C.Denot)). first_of m.0.passes) missed.0
-          ∙ ap (λ (m : Me (Option g.row.C.Denot) (View g.row.C.Denot)). first_of (map (finds c.compare_exchange-found.result) m.0.passes)) i.1
+          ap (λ (m : SeatOf g.row.C.Denot). first_of m.0.passes) missed.0
+          ∙ ap (λ (m : SeatOf g.row.C.Denot). first_of (map (finds c.compare_exchange-found.result) m.0.passes)) i.1
           ∙ (λ j. finds (sym one j) (known j))),
     )
 
@@ -54,10 +54,10 @@ returns-then-found-ne0-clause-seen g c =
     let i = c.pass.invariant in
     let e = c.compare_exchange-found.ensures in
     let missed = e.2.1 c.if-found-ne0.true in
-    let known : i.0 ≡ c.args.pass.now.known = sym (ap (λ (m : Me (Option g.row.C.Denot) (View g.row.C.Denot)). first_of m.0.passes) i.1) ∙ ap (λ (p : PassView g.row.C.Denot). p.known) c.pass.view_is in
+    let known : i.0 ≡ c.args.pass.now.known = sym (ap (λ (m : SeatOf g.row.C.Denot). first_of m.0.passes) i.1) ∙ ap (λ (p : PassView g.row.C.Denot). p.known) c.pass.view_is in
     let same : first_of c.compare_exchange-found.new.seat.me.0.passes ≡ finds c.compare_exchange-found.result c.args.pass.now.known =
-    ap (λ (m : Me (Option g.row.C.Denot) (View g.row.C.Denot)). first_of m.0.passes) missed.0
-    ∙ ap (λ (m : Me (Option g.row.C.Denot) (View g.row.C.Denot)). first_of (map (finds c.compare_exchange-found.result) m.0.passes)) i.1
+    ap (λ (m : SeatOf g.row.C.Denot). first_of m.0.passes) missed.0
+    ∙ ap (λ (m : SeatOf g.row.C.Denot). first_of (map (finds c.compare_exchange-found.result) m.0.passes)) i.1
     ∙ ap (finds c.compare_exchange-found.result) known in
     subst (λ (k : Known g.row.C.Denot). Grows c.args.pass.now.known.seen k.seen) (sym same) (grows_none c.args.pass.now.known.seen)
 
@@ -65,7 +65,7 @@ pub exchange-requires : goal.exchange-requires
 exchange-requires g c =
     let e = c.compare_exchange-found.ensures in
     let took = e.2.0 c.if-found-ne0.false in
-    let carried = ap (λ (m : Me (Option g.row.C.Denot) (View g.row.C.Denot)). m.1) took.now in (
+    let carried = ap (λ (m : SeatOf g.row.C.Denot). m.1) took.now in (
       e.0 ∙ ap (λ (p : PassView g.row.C.Denot). p.table) c.pass.view_is ∙ c.requires ∙ sym (ap (λ (m : MarsView g.row.C.Denot). m.table) c.self.view_is),
       (Some took.core, carried ∙ ap (λ (l : List (ℕ × Option g.row.C.Denot)). (0, Some took.core) ∷ rest l) (sym carried)),
     )
@@ -77,7 +77,7 @@ step-reply-requires g c =
     let took = c.compare_exchange-found.ensures.2.0 c.if-found-ne0.false in
     let core = core_is f _ _ c.unwrap-core.result _ took c.exchange.ensures.2 c.unwrap-core.ensures in
     let has = times_first i.0 [] in
-    let same_times = ap (λ (m : Me (Option g.row.C.Denot) (View g.row.C.Denot)). times i.0.number m.0.passes) i.1 in
+    let same_times = ap (λ (m : SeatOf g.row.C.Denot). times i.0.number m.0.passes) i.1 in
     let few : i.0.number < (g.C.Core.view took.core).limits.callers = took.few i.0.number (omega arith) in
     subst (λ (n : ℕ). n < (g.C.Core.view c.unwrap-core.result).limits.callers) i.2 (subst (λ (x : g.row.C.Denot). i.0.number < (g.C.Core.view x).limits.callers) core few)
 
@@ -130,8 +130,8 @@ returns g c =
     let took = e.2.0 c.if-found-ne0.false in
     let made = made f _ _ _ _ i.0 c.unwrap-core.result c.step-reply.new.self _ i.1 took c.exchange.ensures.2 c.unwrap-core.ensures c.exchange.ensures.3 c.exchange-2.ensures.3
     _ c.args.call.now c.step-reply.result i.2 c.step-reply.ensures.steps c.step-reply.ensures.dead _ c.tell.ensures.told _ c.store.ensures.2 in
-    let known : i.0 ≡ c.args.pass.now.known = sym (ap (λ (m : Me (Option g.row.C.Denot) (View g.row.C.Denot)). first_of m.0.passes) i.1) ∙ ap (λ (p : PassView g.row.C.Denot). p.known) c.pass.view_is in
-    let after : made.now ≡ first_of c.store.new.seat.me.0.passes = sym (ap (λ (m : Me (Option g.row.C.Denot) (View g.row.C.Denot)). first_of m.0.passes) made.idle) in
+    let known : i.0 ≡ c.args.pass.now.known = sym (ap (λ (m : SeatOf g.row.C.Denot). first_of m.0.passes) i.1) ∙ ap (λ (p : PassView g.row.C.Denot). p.known) c.pass.view_is in
+    let after : made.now ≡ first_of c.store.new.seat.me.0.passes = sym (ap (λ (m : SeatOf g.row.C.Denot). first_of m.0.passes) made.idle) in
     let call = c.args.call.now in
     let reply = c.step-reply.result in record {
       table = c.store.ensures.0 ∙ c.tell.ensures.same.0 ∙ c.exchange-2.ensures.0 ∙ c.exchange.ensures.0 ∙ e.0 ∙ ap (λ (p : PassView g.row.C.Denot). p.table) c.pass.view_is;

@@ -1,10 +1,9 @@
 use Rattle.std.proofs.Common.{ℕ, ◌<◌, List, [], ◌∷◌, ◌++◌, Option, refl, sym, ap, ◌∙◌, subst, arith, map}
 use Rattle.std.specs.Option.{IsSome}
-use Rattle.atomic_table.specs.Table.{Me}
 use Rattle.mars_manager.specs.declared.view.View.{View}
 use Rattle.mars_manager.specs.Pass.{PassView, AllOf, HasEach, times, known_of}
 use Rattle.mars_manager.specs.Sharing.{MarsView, Since, AreGathered}
-use Rattle.mars_manager.specs.Seat.{view}
+use Rattle.mars_manager.specs.Seat.{SeatOf, view}
 use Rattle.mars_manager.specs.Rule.{face}
 use Rattle.mars_manager.proofs.Ends.{gathers_as, one_more, all_known, taken_all, last_core, ended_as}
 use Rattle.mars_manager.proofs.mars.Mars.close.Goals as goal
@@ -27,9 +26,9 @@ join_seat-requires g c =
     let mine = (subst (λ (l : List (PassView g.row.C.Denot)). AllOf c.args.passes.table l) c.in-Some.ensures.steps.0 i.left).0 in (
       i.table ∙ c.requires.own ∙ sym (ap (λ (m : MarsView g.row.C.Denot). m.table) c.self.view_is),
       seat.table ∙ mine ∙ c.requires.own ∙ sym (ap (λ (m : MarsView g.row.C.Denot). m.table) c.self.view_is),
-      ap (λ (m : Me (Option g.row.C.Denot) (View g.row.C.Denot)). m.1) seat.me,
+      ap (λ (m : SeatOf g.row.C.Denot). m.1) seat.me,
       (let w = c.self.invariant.0 in omega arith),
-      gathers_as f key _ _ i.taken.0 (c.in-Some.pass.known ∷ []) _ _ (ap (λ (m : Me (Option g.row.C.Denot) (View g.row.C.Denot)). m.0) i.taken.1) (ap (λ (m : Me (Option g.row.C.Denot) (View g.row.C.Denot)). m.0) seat.me),
+      gathers_as f key _ _ i.taken.0 (c.in-Some.pass.known ∷ []) _ _ (ap (λ (m : SeatOf g.row.C.Denot). m.0) i.taken.1) (ap (λ (m : SeatOf g.row.C.Denot). m.0) seat.me),
     )
 
 pub loop-pass-preserved : goal.loop-pass-preserved
@@ -38,7 +37,7 @@ loop-pass-preserved g c =
     let seat = c.into_seat.ensures in
     let left = subst (λ (l : List (PassView g.row.C.Denot)). AllOf c.args.passes.table l) c.in-Some.ensures.steps.0 i.left in
     let j = c.join_seat.ensures in
-    let J : Me (Option g.row.C.Denot) (View g.row.C.Denot) × Me (Option g.row.C.Denot) (View g.row.C.Denot) → Me (Option g.row.C.Denot) (View g.row.C.Denot) = λ p. (view p.0.0.stage (p.0.0.passes ++ p.1.0.passes) p.0.0.held, p.0.1) in record {
+    let J : SeatOf g.row.C.Denot × SeatOf g.row.C.Denot → SeatOf g.row.C.Denot = λ p. (view p.0.0.stage (p.0.0.passes ++ p.1.0.passes) p.0.0.held, p.0.1) in record {
       table = j.0 ∙ i.table;
       taken = (i.taken.0 ++ c.in-Some.pass.known ∷ [], j.2 ∙ (λ k. J (i.taken.1 k, seat.me k)), one_more i.taken.0 c.in-Some.pass _ _ c.args.passes.list c.in-Some.ensures.steps.0 i.taken.2);
       left = left.1;

@@ -1,5 +1,6 @@
-use Rattle.std.proofs.Common.{[], ◌∷◌, length, ap}
+use Rattle.std.proofs.Common.{◌≡◌, ◌+◌, [], ◌∷◌, length, ap, arith, rules}
 use Rattle.std.proofs.lemmas.Result.{err_from_is_err_and}
+use Rattle.media_file.proofs.CountLemmas.{cause_failed}
 use Rattle.media_file.proofs.ShowLemmas.{writes_stopped}
 use Rattle.media_file.proofs.file_media.FileMediaMedia.write.Goals as goal
 
@@ -9,5 +10,21 @@ returns-in_err-tick-clause-does g c =
     let was = c.args.self.now in
     let now = c.tick.new.self in
     let e = c.in_err-tick.ensures in
-    rw p.1 (writes_stopped g.C.Calls.trusted ((c.args.at, length c.args.bytes.now) ∷ []) (g.C.Calls.past was.calls) (g.C.Calls.past now.calls) was.size was.moment now.moment was.faults now.faults
-    now.size p.0 e.size (ap g.C.Calls.past e.calls) e.later.0 e.later.1 e.counted)
+    let same : (g.C.Calls.tally now.calls).failed ≡ (g.C.Calls.tally was.calls).failed = ap (λ (calls : g.row.C.Denot). (g.C.Calls.tally calls).failed) e.calls in
+    rw p.1 (writes_stopped g.C.Calls.trusted ((c.args.at, length c.args.bytes.now) ∷ []) (g.C.Calls.past was.calls) (g.C.Calls.past now.calls) was.size was.moment now.moment (was.faults + (g.C.Calls.tally was.calls).failed) (now.faults + (g.C.Calls.tally now.calls).failed)
+    now.size p.0 e.size (ap g.C.Calls.past e.calls) e.later.0 (omega (arith, same, e.later.1)) (omega (arith, same, e.counted)))
+
+pub returns-in-Err-clause-does : goal.returns-in-Err-clause-does
+returns-in-Err-clause-does g c =
+    let was = c.args.self.now in
+    let ticked = c.tick.new.self in
+    let now = c.fault.new.self in
+    let tick = c.in_ok-tick.ensures in
+    let fault = c.fault.ensures in
+    record {
+      size = search rules;
+      cause = cause_failed (length c.args.bytes.now) was.faults now.faults (g.C.Calls.tally was.calls) (g.C.Calls.tally ticked.calls) (g.C.Calls.tally c.write_all.new.calls) (g.C.Calls.tally now.calls) c.fault.result
+          (ap g.C.Calls.tally tick.calls) (ap g.C.Calls.tally fault.calls) c.in-Err.ensures.tried (omega (arith, tick.faults, fault.later)) (omega (arith, tick.faults, fault.counted));
+      touched = search rules;
+      time = search rules;
+    }

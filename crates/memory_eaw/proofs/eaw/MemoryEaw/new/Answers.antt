@@ -15,7 +15,7 @@ pub returns-clause-store : goal.returns-clause-store
 returns-clause-store c = record {
   shape_is = refl;
   bytes_are = c.in_ok-from_slice.ensures.items;
-  free = λ t. ap (λ (logs : List Log). outline (logged logs) t) c.in_ok-free_logs.ensures ∙ ap (option_map ranges_of) (logged-replicate c.args.shape.numbers t _);
+  free = λ t. ap (λ (logs : List Log). outline (logged logs) t) c.in_ok-free_logs.ensures.logs ∙ ap (option_map ranges_of) (logged-replicate c.args.shape.numbers t _);
   alive = refl;
   no_fault = ap (λ (k : Kept). k.faults) c.in_ok-new.ensures;
   first = ap (λ (k : Kept). k.moment) c.in_ok-new.ensures;

@@ -2,7 +2,7 @@ use Rattle.std.proofs.Common.{◌≡◌, ℕ, ◌-◌, ◌<◌, Bool, true, List
 use Rattle.std.specs.Prelude.{IsTrue, if◌then◌else◌}
 use Rattle.std.proofs.lemmas.List.{length-set}
 use Rattle.eaw_face.specs.StoreView.{StoreView}
-use Rattle.eaw_face.specs.Causes.{IsFull, IsNumberOf}
+use Rattle.eaw_face.specs.Causes.{room_for, IsNumberOf}
 use Rattle.eaw_face.specs.Command.{Command, commit, abort}
 use Rattle.page_store.specs.State.{with_one}
 use Rattle.page_store.specs.Command.{end}
@@ -23,7 +23,7 @@ use Rattle.page_store.proofs.pages.Pages.end.Goals as goal
 abbrev ended : Bool → ℕ → Command
 ended b t = if b then commit t else abort t
 
-never_full : (store : StoreView) (b : Bool) (t g h n : ℕ) → IsFull store (ended b t) g h n → ⊥
+never_full : (store : StoreView) (b : Bool) (t g h n : ℕ) → room_for store (ended b t) (Some (g, h, n)) → ⊥
 never_full store true t g h n full = full
 never_full store false t g h n full = full
 

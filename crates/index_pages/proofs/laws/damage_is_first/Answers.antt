@@ -1,8 +1,0 @@
-use Rattle.index_pages.proofs.FailingFacts.{damaged_chain_is_not_sound, one_damaged_of_chain}
-use Rattle.index_pages.proofs.laws.damage_is_first.Goals as goal
-
-pub returns-clause-sound : goal.returns-clause-sound
-returns-clause-sound c = damaged_chain_is_not_sound
-
-pub returns-clause-one : goal.returns-clause-one
-returns-clause-one c = one_damaged_of_chain

@@ -1,0 +1,95 @@
+// The action that adds a pair, and the parts that other actions share with it.
+ghost use Rattle.std.specs.Prelude.{◌≡◌, ◌+◌, ◌<◌, None, IsErrOf, length};
+ghost use Rattle.eaw_face.specs.Causes.{IsAlive};
+ghost use Rattle.page_store.specs.Index.{slots_of, index_pages_of};
+ghost use Rattle.page_store.specs.Pairs.{inserted};
+ghost use Rattle.page_store.specs.Shown.{pages_of, top_in};
+ghost use Rattle.index_pages.specs.Acts.{Acts};
+ghost use Rattle.index_pages.specs.Adding.{adding_pages, adding_parts};
+ghost use Rattle.index_pages.specs.Fetched.{IsFront};
+
+use crate::action::{PagePart, act_all};
+use crate::fetch::{SLOTS_IN_PAGE, index_page_count};
+use crate::page::{PAGE_LEN, Pairs, write_page};
+use crate::place::place_of;
+use eaw_face::EawStore;
+use page_store::{PageFault, Pages};
+use record_slots::{COUNTS_AT, COUNTS_LEN, SLOT_LEN, Slot, Super, write_slot, write_super_counts};
+
+/// A page of level 0 as it was read: its link and its pairs.
+#[derive(Drop)]
+pub struct LeafPage {
+    pub page: u32,
+    pub link: u32,
+    pub pairs: Pairs,
+}
+
+/// Adds a pair of the key and the next slot to a page of level 0 that has room, as one nested top action of three parts: the slot, which
+/// is absent under the key, the page, and the counts of the super page.
+pub fn add_pair<S: EawStore>(
+    pages: &mut Pages<S>,
+    tid: u8,
+    key: u64,
+    front: &Super,
+    leaf: LeafPage,
+) -> Result<(), PageFault>
+    requires tid { tid < (S.view pages.old.store).shape.numbers }
+    requires closed { IsAlive (S.view pages.old.store) → top_in pages.old.marks tid ≡ None }
+    requires front { IsFront (S.view pages.old.store).shape front.now }
+    requires inside { leaf.page < index_pages_of (S.view pages.old.store).shape }
+    requires room { length leaf.pairs.items < 30 }
+    requires slot { front.now.next_slot < slots_of (S.view pages.old.store).shape }
+    ensures acts { Acts S.tells (S.opens (S.view pages.old.store).shape) tid (adding_pages (index_pages_of (S.view pages.old.store).shape) front.now leaf.page)
+        (adding_parts (index_pages_of (S.view pages.old.store).shape) front.now leaf.page leaf.link leaf.pairs.items key)
+        (pages_of (S.view pages.old.store) pages.old) (pages_of (S.view pages.new.store) pages.new) result }
+    ensures dead { IsErrOf result PageFault.Dead → pages.new ≡ pages.old }
+{
+    let LeafPage { page, link, pairs } = leaf;
+    let pairs = with_pair(pairs, key, front.next_slot);
+    let mut slot = [0; SLOT_LEN];
+    write_slot(&Slot::Absent { key }, &mut slot);
+    let mut bytes = [0; PAGE_LEN];
+    write_page(0, link, pairs.as_slice(), &mut bytes);
+    let mut counts = [0; COUNTS_LEN];
+    write_super_counts(front.next_slot + 1, front.next_page, &mut counts);
+    let slot_part = PagePart {
+        page: index_page_count(pages) + front.next_slot / SLOTS_IN_PAGE,
+        at: front.next_slot % SLOTS_IN_PAGE * SLOT_LEN as u32,
+        bytes: &slot,
+    };
+    let parts = [slot_part, whole_page(page, &bytes), front_part(&counts)];
+    act_all(pages, tid, &parts)
+}
+
+/// The pairs of a page that has room, with one more in its place.
+pub fn with_pair(pairs: Pairs, key: u64, to: u32) -> Pairs
+    requires { length pairs.items < 30 }
+    ensures { result.items ≡ inserted pairs.items key to }
+{
+    let mut pairs = pairs;
+    let place = place_of(pairs.as_slice(), key);
+    pairs.insert(place, (key, u64::from(to)));
+    pairs
+}
+
+/// A whole page as a part.
+pub fn whole_page(page: u32, bytes: &[u8; PAGE_LEN]) -> PagePart<'_>
+    ensures page { result.page ≡ page }
+    ensures at { result.at ≡ 0 }
+    ensures bytes { result.bytes.now ≡ bytes.now }
+{
+    PagePart { page, at: 0, bytes }
+}
+
+/// The counts of the super page as a part.
+pub fn front_part(counts: &[u8; COUNTS_LEN]) -> PagePart<'_>
+    ensures page { result.page ≡ 0 }
+    ensures at { result.at ≡ 8 }
+    ensures bytes { result.bytes.now ≡ counts.now }
+{
+    PagePart {
+        page: 0,
+        at: COUNTS_AT as u32,
+        bytes: counts,
+    }
+}

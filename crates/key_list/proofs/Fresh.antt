@@ -1,0 +1,34 @@
+-- An index of no pairs.
+use Rattle.std.proofs.Common.{◌≡◌, ℕ, zero, suc, ◌≤◌, true, nat_eq, List, [], ◌++◌, refl, sym, ap, subst, arith}
+use Rattle.std.proofs.lemmas.Bool.Decides.{nat_tests}
+use Rattle.index_pages.proofs.PageFacts.{no_pairs}
+use Rattle.index_pages.specs.Keys.{key_end}
+use Rattle.key_list.specs.Seen.{IsChainPage, IsChain, sound_by_pages}
+use Rattle.key_list.specs.Chain.{chain_pieces, IsSoundChain, pairs_of_chain}
+use Rattle.index_pages.specs.Page.{pairs_from, pairs_said, kind_of, level_of, count_of, link_of, page_pairs}
+use Rattle.index_pages.specs.Pieces.{joined}
+use Rattle.page_store.specs.Pairs.{Pair, Rise}
+use Rattle.record_slots.specs.Places.{page_bytes, next_page, IsSuper, AreGiven}
+
+chain_of_one : (n : ℕ) (bytes : List ℕ) → 1 ≤ n → IsChainPage bytes 1 0 → link_of bytes 1 ≡ 0 → page_pairs bytes 1 ≡ [] → IsChain n bytes 1 0 × (joined (chain_pieces n bytes 1 0) ≡ [])
+chain_of_one zero bytes some page link no_ones = absurd (omega arith)
+chain_of_one (suc n) bytes some page link no_ones =
+    let b : nat_eq (link_of bytes 1) 0 ≡ true = grind (arith, nat_tests) in
+    ((page, λ other. absurd (other link)), rw b (ap (λ (ps : List Pair). ps ++ []) no_ones))
+
+pub fresh_chain : (bytes : List ℕ) → IsSuper 0 bytes → kind_of bytes 1 ≡ 1 → level_of bytes 1 ≡ 0 → link_of bytes 1 ≡ 0 → count_of bytes 1 ≡ 0
+    → IsSoundChain bytes × (pairs_of_chain bytes ≡ [])
+unfolding pairs_of_chain
+fresh_chain bytes front kind level link none =
+    let none_there = no_pairs bytes 1 none in
+    let page : IsChainPage bytes 1 0 = record {
+      kind = kind;
+      level = level;
+      most = omega arith;
+      some = λ zero_is. (refl, link);
+      rises = subst (λ (ps : List Pair). Rise 0 key_end ps) (sym none_there) (omega arith);
+      given = subst (λ (ps : List Pair). AreGiven bytes ps) (sym none_there) tt;
+      link = λ other. absurd (other link);
+    } in
+    let c = chain_of_one (next_page bytes) bytes (omega (arith, front.some_pages)) page link none_there in
+    (sound_by_pages bytes front c.0, c.1)
