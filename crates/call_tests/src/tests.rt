@@ -1,0 +1,7 @@
+mod accounts;
+mod arrays;
+mod counting;
+mod histories;
+mod lists;
+mod opening;
+mod texts;

@@ -1,0 +1,153 @@
+ghost use Rattle.std.specs.Prelude.{◌≡◌, ◌<◌, IsTrue};
+ghost use Rattle.caller_steps.specs.Sound.{IsSound};
+
+use super::arrays::{CHOICES, fresh, media_of};
+use super::opening::open_bank;
+use bank::{Refusal, balance, transfer};
+use caller_steps::{Core as Steps, prefix_law};
+use history::Call;
+use pcm_media::{FusedMedia, MemoryMedia};
+use record_slots::Value;
+use std::alloc::Global;
+use std::process::Abort;
+use std::test::Fail;
+
+// Makes an account, by a transaction of its own.
+fn open_account<C: Steps>(core: &mut C, account: u64, value: Value)
+    requires { 0 < (C.view core.old).limits.callers }
+    ensures { (C.view core.new).limits ≡ (C.view core.old).limits }
+{
+    let _ = core.step(0, &Call::Begin);
+    let _ = core.step(
+        0,
+        &Call::Put {
+            key: account,
+            value,
+        },
+    );
+    let _ = core.step(0, &Call::Commit);
+}
+
+// An array with 100 in the account 1 and 50 in the account 2.
+fn with_accounts(alloc: Global) -> Option<MemoryMedia> {
+    let mut core = open_bank(alloc, fresh(alloc)?)?;
+    open_both(&mut core)?;
+    Some(core.into_store().into_media())
+}
+
+fn open_both<C: Steps>(core: &mut C) -> Option<()>
+    requires { 0 < (C.view core.old).limits.callers }
+{
+    open_account(core, 1, Value::of(b"100")?);
+    open_account(core, 2, Value::of(b"50")?);
+    Some(())
+}
+
+// What both accounts have.
+fn both<C: Steps>(core: &mut C) -> Option<(u64, u64)>
+    requires inside { 0 < (C.view core.old).limits.callers }
+    requires sound { IsTrue C.tells → IsSound (C.view core.old).state }
+{
+    prefix_law::<C>();
+    let one = balance(core, 0, 1).ok()?;
+    let other = balance(core, 0, 2).ok()?;
+    Some((one, other))
+}
+
+// What both accounts have in an image that a loss of power may leave.
+fn balances(alloc: Global, media: &MemoryMedia, choice: &[u8]) -> Option<(u64, u64)> {
+    let mut core = open_bank(alloc, media.leave(choice).ok()?)?;
+    both(&mut core)
+}
+
+// The answers to a transfer of 30 from the account 1, of 71 more, and of one into no account.
+fn pay_thrice<C: Steps>(core: &mut C) -> [Result<(), Refusal>; 3]
+    requires inside { 0 < (C.view core.old).limits.callers }
+    requires sound { IsTrue C.tells → IsSound (C.view core.old).state }
+{
+    prefix_law::<C>();
+    let done = transfer(core, 0, 1, 2, 30);
+    let insufficient = transfer(core, 0, 1, 2, 71);
+    let unknown = transfer(core, 0, 1, 3, 1);
+    [done, insufficient, unknown]
+}
+
+// A transfer of 30 behind a fuse: its answer and the medium as it is then, or `None` if the array was not opened.
+fn pay_behind(
+    alloc: Global,
+    image: &[u8],
+    passes: u64,
+) -> Option<(Result<(), Refusal>, MemoryMedia)> {
+    let media = media_of(alloc, image)?;
+    let mut core = open_bank(alloc, FusedMedia::wrap(media, passes))?;
+    let answer = transfer(&mut core, 0, 1, 2, 30);
+    Some((answer, core.into_store().into_media().into_inner()))
+}
+
+// What becomes of a transfer that loses power.
+enum Fate {
+    Unopened,
+    Refused,
+    Done,
+    /// An image has other balances than it may have.
+    Wrong,
+}
+
+fn fate_behind(alloc: Global, image: &[u8], passes: u64) -> Fate {
+    let Some((answer, media)) = pay_behind(alloc, image, passes) else {
+        return Fate::Unopened;
+    };
+    for choice in CHOICES {
+        if !may_be_left(balances(alloc, &media, choice), &answer) {
+            return Fate::Wrong;
+        }
+    }
+    if answer.is_ok() {
+        Fate::Done
+    } else {
+        Fate::Refused
+    }
+}
+
+// Whether an image may have these balances behind this answer.
+fn may_be_left(balances: Option<(u64, u64)>, answer: &Result<(), Refusal>) -> bool {
+    match balances {
+        Some((70, 80)) => true,
+        Some((100, 50)) => answer.is_err(),
+        _ => false,
+    }
+}
+
+fn three_answers(alloc: Global) -> Option<[Result<(), Refusal>; 3]> {
+    let mut core = open_bank(alloc, with_accounts(alloc)?)?;
+    Some(pay_thrice(&mut core))
+}
+
+#[test]
+fn moves_and_refuses(rt: HostRuntime) -> Result<(), Fail> {
+    let answers = three_answers(rt.alloc()).ok_or("accounts")?;
+    let wanted = [
+        Ok(()),
+        Err(Refusal::Insufficient { balance: 70 }),
+        Err(Refusal::NoAccount { account: 3 }),
+    ];
+    assert!(rt; answers == wanted);
+    Ok(())
+}
+
+#[test]
+fn keeps_the_sum_wherever_power_is_lost(rt: HostRuntime) -> Result<(), Fail> {
+    let media = with_accounts(rt.alloc()).ok_or("accounts")?;
+    let mut was_refused = false;
+    let mut was_done = false;
+    for passes in 0..64 {
+        match fate_behind(rt.alloc(), media.bytes(), passes) {
+            Fate::Unopened => {}
+            Fate::Refused => was_refused = true,
+            Fate::Done => was_done = true,
+            Fate::Wrong => panic!(rt; "power lost after {passes} calls"),
+        }
+    }
+    assert!(rt; was_refused && was_done);
+    Ok(())
+}

@@ -1,0 +1,29 @@
+// Arrays in memory.
+use array_shape::Shape;
+use eaw_device::format;
+use pcm_media::MemoryMedia;
+use std::alloc::Global;
+
+// Room for the record of what is asked of a medium; past it the record grows.
+const CALLS: u64 = 256;
+
+const WRITTEN: u64 = 65_536;
+
+/// Bytes for what is not sure behind a loss of power. Where none are said, a read's bytes stay.
+pub const CHOICES: [&[u8]; 4] = [b"", b"\x00", b"\xFF", b"\xC3\x01"];
+
+/// A fresh array of the least numbers; `None` where memory is short.
+pub fn fresh(alloc: Global) -> Option<MemoryMedia> {
+    let shape = Shape::new(1, 1, 8, 4).ok()?;
+    let zeros = vec![in alloc; 0; shape.media_len() as usize].ok()?;
+    let mut media = media_of(alloc, &zeros)?;
+    match format(&mut media, &shape) {
+        Ok(()) => Some(media),
+        Err(_) => None,
+    }
+}
+
+/// A medium with these bytes, none of whose calls has been made.
+pub fn media_of(alloc: Global, bytes: &[u8]) -> Option<MemoryMedia> {
+    MemoryMedia::new(alloc, bytes, CALLS, WRITTEN).ok()
+}

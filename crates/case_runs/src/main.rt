@@ -1,0 +1,45 @@
+//! Plays the cases that the files of a folder say, and tells of each that does not come to what it says. The folder is the first
+//! argument, or else the one in which the program runs. How cases are written, in files whose names end in `.cases`, stands at the head
+//! of the crate `case_files`. Begin with `playing`: a case of whole runs makes each run once for each call that is to fail, over memory
+//! (`once`) or over a file (`over_file`); a case of calls of pages goes over plain memory and over an array (`page_cases`).
+#![tactic(auto)]
+
+mod file_bytes;
+mod image;
+mod once;
+mod over_file;
+mod page_answers;
+mod page_cases;
+mod page_steps;
+mod page_stores;
+mod plain;
+mod playing;
+mod progress;
+mod tally;
+mod way;
+
+use crate::tally::{Tally, play_folder};
+use anyhow::{Result, ensure};
+use std::env;
+
+fn main(rt: HostRuntime) -> Result<()> {
+    let folder = env::args(&rt)?.nth(1);
+    let folder = match &folder {
+        Some(folder) => folder.as_str(),
+        None => ".",
+    };
+    let Tally {
+        passed,
+        failed,
+        plays,
+    } = play_folder(&rt, folder)?;
+    println!(rt;
+        "{} runs, {} of them over a file",
+        plays.runs, plays.over_file
+    )?;
+    println!(rt; "{} of them over the plain store as well", plays.over_plain)?;
+    println!(rt; "{} plays of calls of pages", plays.of_pages)?;
+    println!(rt; "{passed} cases passed")?;
+    ensure!(failed == 0, "{failed} cases failed");
+    Ok(())
+}

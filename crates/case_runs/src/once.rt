@@ -1,0 +1,98 @@
+// One run of a case.
+use crate::image::media_of;
+use case_files::{CaseFault, Ran, Run, TroubleKind};
+use mars_shell::{OpenGate, Status, fault_text, run};
+use outside::{MemorySink, MemorySource};
+use pcm_media::{FusedMedia, Media, MemoryMedia};
+use std::alloc::Global;
+use std::sync::Wait;
+use std::thread::Threads;
+
+// Room for most answers; past it the sink grows.
+const TEXT: u64 = 4096;
+
+/// What a run with this status came to.
+pub fn ran_with(
+    alloc: Global,
+    status: Status,
+    sink: MemorySink,
+    media: MemoryMedia,
+    has_failed: bool,
+) -> Result<Ran, CaseFault> {
+    let mut buf = [0; 64];
+    let len = fault_text(&status, &mut buf);
+    Ok(Ran {
+        status: u64::from(status.number()),
+        fault: Vec::from_slice(alloc, &buf[..len])?,
+        sink,
+        has_failed,
+        media,
+    })
+}
+
+/// Makes a run over an image in memory, of whose calls the one of number `fails` fails.
+pub fn run_over_memory<R: AllocGlobal + Threads + Wait + Sync>(
+    rt: &R,
+    asked: &Run,
+    image: &[u8],
+    nth: u64,
+    fails: Option<u64>,
+) -> Result<Ran, CaseFault> {
+    let mut media = media_of(rt.alloc(), image)?;
+    if let Some(call) = fails {
+        media.fail(call)?;
+    }
+    let mut sink = sink_of(rt.alloc(), asked, nth)?;
+    let (status, media) = run_over(rt, asked, nth, &mut sink, media)?;
+    let has_failed = has_failed(&media);
+    ran_with(rt.alloc(), status, sink, media, has_failed)
+}
+
+fn has_failed(media: &MemoryMedia) -> bool {
+    for record in media.calls() {
+        if !record.is_done {
+            return true;
+        }
+    }
+    false
+}
+
+/// The call of a medium, or of a file, that is to fail.
+pub fn failing_call(asked: &Run, nth: u64) -> Option<u64> {
+    match asked.trouble.kind {
+        TroubleKind::Medium => Some(nth),
+        TroubleKind::Nothing | TroubleKind::Read | TroubleKind::Write | TroubleKind::Power => None,
+    }
+}
+
+/// A sink for the answers of a run. Where writes are to fail, the `nth` does.
+pub fn sink_of(alloc: Global, asked: &Run, nth: u64) -> Result<MemorySink, CaseFault> {
+    let mut sink = MemorySink::new(alloc, TEXT)?;
+    if let TroubleKind::Write = asked.trouble.kind {
+        sink.fail(nth)?;
+    }
+    Ok(sink)
+}
+
+/// Makes a run over a medium. Where power is lost, that is behind `nth` calls.
+pub fn run_over<R: AllocGlobal + Threads + Wait + Sync, M: Media + Drop + Send>(
+    rt: &R,
+    asked: &Run,
+    nth: u64,
+    sink: &mut MemorySink,
+    media: M,
+) -> Result<(Status, M), CaseFault> {
+    let mut source = MemorySource::new(rt.alloc(), &asked.input)?;
+    if let TroubleKind::Read = asked.trouble.kind {
+        source.fail(nth)?;
+    }
+    let passes = match asked.trouble.kind {
+        TroubleKind::Power => nth,
+        TroubleKind::Nothing | TroubleKind::Read | TroubleKind::Write | TroubleKind::Medium => {
+            u64::MAX
+        }
+    };
+    let media = FusedMedia::wrap(media, passes);
+    let (status, media) = run(rt, &asked.words, &mut source, sink, media, &OpenGate);
+    Ok((status, media.into_inner()))
+}

@@ -1,0 +1,79 @@
+// A gate that compares the places to which callers come with those that are wanted.
+use super::holds::Holds;
+use mars_shell::{Gate, Place};
+use std::sync::atomic::{AtomicU64, Ordering};
+
+/// The places of one caller in their order, and to how many it has come.
+#[derive(Drop)]
+pub struct Way<'a> {
+    places: &'a [Place],
+    came: AtomicU64,
+}
+
+impl<'a> Way<'a> {
+    pub fn new(places: &'a [Place]) -> Self {
+        Way {
+            places,
+            came: AtomicU64::new(0),
+        }
+    }
+
+    // Whether this is the next place.
+    fn goes_on(&self, place: Place) -> bool {
+        let number = self.came.fetch_add(1, Ordering::SeqCst);
+        for (n, wanted) in self.places.iter().enumerate() {
+            if n as u64 == number {
+                return *wanted == place;
+            }
+        }
+        false
+    }
+
+    fn is_ended(&self) -> bool {
+        self.came.load(Ordering::SeqCst) == self.places.len() as u64
+    }
+}
+
+/// Holds callers, and watches the ways of all of them, in the order of callers.
+#[derive(Drop)]
+pub struct Watch<'a> {
+    holds: &'a Holds<'a>,
+    ways: &'a [Way<'a>],
+    astray: AtomicU64,
+}
+
+impl<'a> Watch<'a> {
+    pub fn new(holds: &'a Holds<'a>, ways: &'a [Way<'a>]) -> Self {
+        Watch {
+            holds,
+            ways,
+            astray: AtomicU64::new(0),
+        }
+    }
+
+    /// Whether each caller has come to its places, all of them in their order, and to no other.
+    pub fn is_as_wanted(&self) -> bool {
+        self.astray.load(Ordering::SeqCst) == 0 && self.ways.iter().all(Way::is_ended)
+    }
+}
+
+fn caller_at(place: Place) -> u8 {
+    match place {
+        Place::Began { caller, .. }
+        | Place::Answered { caller, .. }
+        | Place::Ended { caller, .. } => caller,
+    }
+}
+
+impl Gate for Watch<'_> {
+    fn at(&self, place: Place) {
+        let is_wanted = match self.ways.get(usize::from(caller_at(place))) {
+            Some(way) => way.goes_on(place),
+            None => false,
+        };
+        if !is_wanted {
+            self.astray.fetch_add(1, Ordering::SeqCst);
+        }
+        self.holds.at(place);
+    }
+}

@@ -1,0 +1,67 @@
+// A core over the records of an array whose reads can be held.
+ghost use Rattle.std.specs.Prelude.{◌≡◌, ◌≤◌, ℕ, None, IfSome};
+ghost use Rattle.eaw_face.specs.Causes.{IsAlive};
+ghost use Rattle.mars_manager.specs.Sharing.{CanShare};
+
+use super::held_media::{HeldMedia, Hold};
+use array_shape::Shape;
+use btree_pages::BTreePages;
+use caller_steps::Core as Steps;
+use eaw_device::{Eaw, format};
+use eaw_face::EawStore;
+use mars_core::Core;
+use page_store::SaveRoom;
+use pcm_media::MemoryMedia;
+use std::alloc::Global;
+use std::sync::Arc;
+
+// Room for the record of what is asked of a medium; past it the record grows.
+const CALLS: u64 = 512;
+
+const WRITTEN: u64 = 16_384;
+
+type Store = Eaw<HeldMedia<MemoryMedia>>;
+
+/// Callers that take turns on the records of an array.
+pub type Callers = Core<Store, BTreePages>;
+
+/// A core of three callers over a fresh array; `None` where memory is short.
+pub fn fresh(alloc: Global, hold: Arc<Hold, Global>) -> Option<Callers>
+    ensures { IfSome result (λ core. CanShare ⟦<Callers as Steps>⟧.tells 3 (⟦<Callers as Steps>⟧.view core)) }
+{
+    opened(alloc, fresh_store(alloc, hold)?)
+}
+
+fn fresh_store(alloc: Global, hold: Arc<Hold, Global>) -> Option<Store>
+    ensures alive { IfSome result (λ store. IsAlive (⟦<Store as EawStore>⟧.view store)) }
+    ensures free { IfSome result (λ store. (t : ℕ) → (⟦<Store as EawStore>⟧.view store).ranges t ≡ None) }
+    ensures enough { IfSome result (λ store. 3 ≤ (⟦<Store as EawStore>⟧.view store).shape.numbers) }
+{
+    let shape = Shape::new(1, 3, 8, 4).ok()?;
+    let zeros = vec![in alloc; 0; shape.media_len() as usize].ok()?;
+    let mut media = MemoryMedia::new(alloc, &zeros, CALLS, WRITTEN).ok()?;
+    if format(&mut media, &shape).is_err() {
+        return None;
+    }
+    let Ok(store) = Eaw::attach(alloc, HeldMedia::new(media, hold)) else {
+        return None;
+    };
+    if store.shape().numbers < 3 {
+        return None;
+    }
+    Some(store)
+}
+
+// A core of three callers at least over the records of a store.
+fn opened<S: EawStore + Drop>(alloc: Global, store: S) -> Option<Core<S, BTreePages>>
+    requires alive { IsAlive (S.view store) }
+    requires free { (t : ℕ) → (S.view store).ranges t ≡ None }
+    requires enough { 3 ≤ (S.view store).shape.numbers }
+    ensures shared { IfSome result (λ core. CanShare ⟦<Core<S, BTreePages> as Steps>⟧.tells 3 (⟦<Core<S, BTreePages> as Steps>⟧.view core)) }
+{
+    let room = SaveRoom::new(alloc).ok()?;
+    match Core::attach(alloc, room, store) {
+        Ok(core) => Some(core),
+        Err(_) => None,
+    }
+}
