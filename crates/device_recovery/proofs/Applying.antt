@@ -12,7 +12,7 @@ use Rattle.array_image.specs.Standing.{IsGoodRow}
 use Rattle.array_image.proofs.Data.{outside_list, applied_more}
 use Rattle.array_image.proofs.Rows.{parts_same}
 use Rattle.array_image.proofs.Standing.{not_decided_parts}
-use Rattle.device_recovery.specs.Recovered.{AllGood}
+use Rattle.device_recovery.proofs.Goods.{AllGood}
 use Rattle.device_recovery.proofs.Frames.{SameFrame, decided_placed, data_frame}
 use Rattle.device_recovery.proofs.Order.{joined_rows}
 

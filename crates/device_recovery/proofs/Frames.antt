@@ -15,7 +15,7 @@ use Rattle.array_image.proofs.Data.{data_outside, all_fit_in, all_placed, joined
 use Rattle.array_image.proofs.Rows.{parts_same, parts_owned}
 use Rattle.array_image.proofs.Deciding.{decides_same}
 use Rattle.array_image.proofs.Frames.{data_rows, data_cells}
-use Rattle.device_recovery.specs.Recovered.{AllGood}
+use Rattle.device_recovery.proofs.Goods.{AllGood}
 
 pub record SameFrame (shape : Shape) (old new : List ℕ) : Type 0 where
   pub long : length new ≡ length old

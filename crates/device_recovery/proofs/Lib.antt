@@ -1,5 +1,6 @@
 pub mod Done
 pub mod Order
+pub mod Goods
 pub mod Frames
 pub mod Finding
 pub mod Clearing

@@ -16,9 +16,10 @@ use Rattle.array_image.proofs.Joined.{joined_same}
 use Rattle.array_image.proofs.Headers.{AreBehind, places_behind, header_stays}
 use Rattle.array_image.proofs.Frames.{left_within}
 use Rattle.device_recovery.specs.Table.{RowsAre}
-use Rattle.device_recovery.specs.Recovered.{AllGood, HasNoVote, KeepsSense, SettlesLike, number_votes, voted_places, recovered_places}
+use Rattle.device_recovery.specs.Recovered.{HasNoVote, KeepsSense, SettlesLike, number_votes, voted_places, recovered_places}
 use Rattle.device_recovery.proofs.Frames.{SameFrame, decided_placed, data_frame, frame_lawful, applying_settles}
 use Rattle.device_recovery.proofs.Clearing.{votes_away, cleared_data, cleared_lawful, cleared_settles}
+use Rattle.device_recovery.proofs.Goods.{AllGood}
 use Rattle.device_recovery.proofs.Votes.{same_votes}
 
 -- if nothing was unsettled before writes in these ranges

@@ -1,6 +1,7 @@
 -- What recovery finds, says and writes.
 use Rattle.std.specs.Prelude.{ℕ, ◌≡◌, ◌+◌, ◌*◌, ◌<◌, Bool, true, false, ◌&&◌, not, if◌then◌else◌, List, [], ◌∷◌, ◌++◌, length}
 use Rattle.mars_base.specs.Bytes.{range}
+use Rattle.mars_base.specs.Check.{Check, test, unless, each}
 use Rattle.pcm_media.specs.Images.{Content, MayLeave}
 use Rattle.array_shape.specs.declared.shape.Shape.{Shape}
 use Rattle.array_shape.specs.Places.{row_at}
@@ -13,22 +14,17 @@ use Rattle.device_recovery.specs.declared.report.Report.{Report}
 use Rattle.device_recovery.specs.declared.report.RecoverFault.{RecoverFault}
 use Rattle.device_recovery.specs.declared.report.RecoverFault.TheVariants.{Media}
 
--- each decided row of the numbers below n is good
-abbrev pub AllGood : Shape → List ℕ → ℕ → Type 0
-AllGood shape image n = (g t : ℕ) → g < shape.loggers → t < n → decided shape image g t ≡ true → IsGoodRow shape image g t
+-- the rows of an array, each as its logger and number: by rising number, then rising logger
+abbrev pub rows_of : Shape → List (ℕ × ℕ)
+rows_of shape = joined (λ t. joined (λ g. (g, t) ∷ []) 0 shape.loggers) 0 shape.numbers
 
--- the row of logger g is the first decided row of number t that is not good
-pub record IsFirstBadAt (shape : Shape) (image : List ℕ) (g t : ℕ) : Type 0 where
-  pub logger : g < shape.loggers
-  pub is_decided : decided shape image g t ≡ true
-  pub bad : IsGoodRow shape image g t → ⊥
-  pub below : (h : ℕ) → h < g → decided shape image h t ≡ true → IsGoodRow shape image h t
+-- a decided row is good
+abbrev pub row_good : Shape → List ℕ → ℕ × ℕ → Check (ℕ × ℕ)
+row_good shape image r = unless (not (decided shape image r.0 r.1)) (test (IsGoodRow shape image r.0 r.1) r)
 
--- it is the first of all rows, by rising number, then rising logger
-pub record IsFirstBad (shape : Shape) (image : List ℕ) (g t : ℕ) : Type 0 where
-  pub number : t < shape.numbers
-  pub here : IsFirstBadAt shape image g t
-  pub before : AllGood shape image t
+-- each decided row is good, or this is the first that is not
+abbrev pub rows_good : Shape → List ℕ → Check (ℕ × ℕ)
+rows_good shape image = each (row_good shape image) (rows_of shape)
 
 -- a row, as its logger and number
 abbrev pub row_name : ℕ → ℕ → ℕ × ℕ

@@ -1,5 +1,5 @@
 // Looks for decided rows that name cells without a part.
-ghost use Rattle.std.specs.Prelude.{◌≡◌, ◌↔◌, ◌+◌, ◌*◌, ◌<◌, ◌≤◌, [], ℕ, true, false, IsTrue, IfOk, IfErr, OnOk};
+ghost use Rattle.std.specs.Prelude.{◌≡◌, ◌↔◌, ◌+◌, ◌*◌, ◌<◌, ◌≤◌, [], ℕ, true, false, Some, None, IsTrue, IfOk, IfErr, OnOk};
 ghost use Rattle.pcm_media.specs.View.{Writes};
 ghost use Rattle.array_shape.specs.Places.{media_len};
 ghost use Rattle.array_image.specs.Image.{row_of, cell_of, cell_head, IsGoodCell};
@@ -7,7 +7,7 @@ ghost use Rattle.array_image.specs.Decided.{decided};
 ghost use Rattle.array_image.specs.Standing.{IsGoodRow};
 ghost use Rattle.device_recovery.specs.Table.{row_in, RowsAre, decided_in};
 ghost use Rattle.pcm_media.specs.Answer.{media_answer};
-ghost use Rattle.device_recovery.specs.Recovered.{AllGood, IsFirstBad, is_of_media};
+ghost use Rattle.device_recovery.specs.Recovered.{rows_good, is_of_media};
 ghost use Rattle.device_recovery.specs.declared.report.RecoverFault.TheVariants.{BadRow};
 
 use crate::report::RecoverFault;
@@ -101,8 +101,8 @@ pub(crate) fn check_rows<M: Media>(
 ) -> Result<(), RecoverFault>
     requires size { (M.view media.old).size ≡ media_len shape.now }
     requires rows { IsTrue M.tells → RowsAre shape.now (M.view media.old).content.bytes shape.now.numbers rows.now }
-    ensures good { IsTrue M.tells → OnOk result (AllGood shape.now (M.view media.old).content.bytes shape.now.numbers) }
-    ensures bad { IsTrue M.tells → IfErr result (λ fault. (g t : ℕ) → fault ≡ BadRow g t → IsFirstBad shape.now (M.view media.old).content.bytes g t) }
+    ensures good { IsTrue M.tells → OnOk result (rows_good shape.now (M.view media.old).content.bytes None) }
+    ensures bad { IsTrue M.tells → IfErr result (λ fault. (g t : ℕ) → fault ≡ BadRow g t → rows_good shape.now (M.view media.old).content.bytes (Some (g, t))) }
     ensures idle { ((g t : ℕ) → g < shape.now.loggers → t < shape.now.numbers → decided_in shape.now rows.now g t ≡ false) → (M.view media.new).moment ≡ (M.view media.old).moment }
     ensures fits { OnOk result ((g t : ℕ) → g < shape.now.loggers → t < shape.now.numbers → decided_in shape.now rows.now g t ≡ true → (row_in rows.now g t).first + (row_in rows.now g t).count ≤ shape.now.entries) }
     ensures does { Writes M.tells [] (M.view media.old) (M.view media.new) (media_answer is_of_media result) }

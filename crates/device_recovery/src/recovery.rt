@@ -1,5 +1,5 @@
 // Recovery of an array.
-ghost use Rattle.std.specs.Prelude.{◌≡◌, ◌+◌, ◌<◌, ◌≤◌, ◌⊎◌, [], ℕ, List, true, IsTrue, IfOk, IfErr, OnOk, OnErr};
+ghost use Rattle.std.specs.Prelude.{◌≡◌, ◌+◌, ◌<◌, ◌≤◌, ◌⊎◌, [], ℕ, List, true, Some, None, IsTrue, IfOk, IfErr, OnOk, OnErr};
 ghost use Rattle.mars_base.specs.Costs.{Costs};
 ghost use Rattle.pcm_media.specs.Images.{MayLeave, IsOutside, Touched};
 ghost use Rattle.pcm_media.specs.View.{View, LeavesOnly, Writes};
@@ -9,7 +9,7 @@ ghost use Rattle.array_image.specs.Decided.{settled_data};
 ghost use Rattle.array_image.specs.Standing.{IsLawful, IsClean};
 ghost use Rattle.device_recovery.specs.Table.{row_in, RowsAre, decided_in};
 ghost use Rattle.pcm_media.specs.Answer.{media_answer};
-ghost use Rattle.device_recovery.specs.Recovered.{AllGood, IsFirstBad, HasNoVote, Counts, quiet_calls, KeepsSense, SettlesLike, recovered_places, is_of_media};
+ghost use Rattle.device_recovery.specs.Recovered.{rows_good, HasNoVote, Counts, quiet_calls, KeepsSense, SettlesLike, recovered_places, is_of_media};
 ghost use Rattle.device_recovery.specs.declared.report.RecoverFault.TheVariants.{BadRow};
 
 use crate::checking::check_rows;
@@ -36,10 +36,10 @@ pub fn recover<M: Media>(media: &mut M, shape: &Shape) -> Result<Report, Recover
     ensures counts { IsTrue M.tells → IfOk result (Counts shape.now (M.view media.old).content.bytes) }
     ensures sure { IsTrue M.tells → OnOk result ((i : ℕ) → IsOutside (M.view media.new).content.unsettled i) }
     // It succeeds only if each decided row is good. The row that it refuses is the first one that is not good.
-    ensures good { IsTrue M.tells → OnOk result (AllGood shape.now (M.view media.old).content.bytes shape.now.numbers) }
-    ensures bad { IsTrue M.tells → IfErr result (λ fault. (g t : ℕ) → fault ≡ BadRow g t → IsFirstBad shape.now (M.view media.old).content.bytes g t) }
+    ensures good { IsTrue M.tells → OnOk result (rows_good shape.now (M.view media.old).content.bytes None) }
+    ensures bad { IsTrue M.tells → IfErr result (λ fault. (g t : ℕ) → fault ≡ BadRow g t → rows_good shape.now (M.view media.old).content.bytes (Some (g, t))) }
     ensures unwritten { IsTrue M.tells → IfErr result (λ fault. (g t : ℕ) → fault ≡ BadRow g t → Touched [] (M.view media.old).content (M.view media.new).content) }
-    ensures spared { IsTrue M.tells → OnErr result (Touched [] (M.view media.old).content (M.view media.new).content ⊎ AllGood shape.now (M.view media.old).content.bytes shape.now.numbers) }
+    ensures spared { IsTrue M.tells → OnErr result (Touched [] (M.view media.old).content (M.view media.new).content ⊎ rows_good shape.now (M.view media.old).content.bytes None) }
     ensures idle { IsTrue M.tells → HasNoVote shape.now (M.view media.old).content.bytes → Touched [] (M.view media.old).content (M.view media.new).content }
     ensures costs { IsTrue M.tells → HasNoVote shape.now (M.view media.old).content.bytes → Costs true (quiet_calls shape.now) (M.view media.old).moment (M.view media.new).moment result }
     ensures any_moment { IsTrue M.tells → ((image : List ℕ) → MayLeave (M.view media.old).content image → IsLawful shape.now image)
@@ -59,8 +59,8 @@ pub fn recover<M: Media>(media: &mut M, shape: &Shape) -> Result<Report, Recover
 fn read_sound<M: Media>(media: &mut M, shape: &Shape) -> Result<[Row; ROWS_MAX], RecoverFault>
     requires size { (M.view media.old).size ≡ media_len shape.now }
     ensures rows { IsTrue M.tells → IfOk result (RowsAre shape.now (M.view media.old).content.bytes shape.now.numbers) }
-    ensures good { IsTrue M.tells → OnOk result (AllGood shape.now (M.view media.old).content.bytes shape.now.numbers) }
-    ensures bad { IsTrue M.tells → IfErr result (λ fault. (g t : ℕ) → fault ≡ BadRow g t → IsFirstBad shape.now (M.view media.old).content.bytes g t) }
+    ensures good { IsTrue M.tells → OnOk result (rows_good shape.now (M.view media.old).content.bytes None) }
+    ensures bad { IsTrue M.tells → IfErr result (λ fault. (g t : ℕ) → fault ≡ BadRow g t → rows_good shape.now (M.view media.old).content.bytes (Some (g, t))) }
     ensures fits { IfOk result (λ rows. (g t : ℕ) → g < shape.now.loggers → t < shape.now.numbers → decided_in shape.now rows g t ≡ true → (row_in rows g t).first + (row_in rows g t).count ≤ shape.now.entries) }
     ensures sure { IsTrue M.tells → OnOk result ((i : ℕ) → IsOutside (M.view media.new).content.unsettled i) }
     ensures costs { IsTrue M.tells → HasNoVote shape.now (M.view media.old).content.bytes → Costs true (quiet_calls shape.now) (M.view media.old).moment (M.view media.new).moment result }
@@ -78,7 +78,7 @@ fn settle<M: Media>(media: &mut M, shape: &Shape, rows: &[Row; ROWS_MAX]) -> Res
     requires fits { (g t : ℕ) → g < shape.now.loggers → t < shape.now.numbers → decided_in shape.now rows.now g t ≡ true → (row_in rows.now g t).first + (row_in rows.now g t).count ≤ shape.now.entries }
     requires sure { IsTrue M.tells → (i : ℕ) → IsOutside (M.view media.old).content.unsettled i }
     requires rows { IsTrue M.tells → RowsAre shape.now (M.view media.old).content.bytes shape.now.numbers rows.now }
-    requires good { IsTrue M.tells → AllGood shape.now (M.view media.old).content.bytes shape.now.numbers }
+    requires good { IsTrue M.tells → rows_good shape.now (M.view media.old).content.bytes None }
     ensures clean { IsTrue M.tells → OnOk result (IsClean shape.now (M.view media.new).content) }
     ensures settled { IsTrue M.tells → OnOk result (data_of shape.now (M.view media.new).content.bytes ≡ settled_data shape.now (M.view media.old).content.bytes) }
     ensures sure { IsTrue M.tells → OnOk result ((i : ℕ) → IsOutside (M.view media.new).content.unsettled i) }

@@ -1,5 +1,5 @@
 // Writes the parts of decided rows into the data, and clears the votes.
-ghost use Rattle.std.specs.Prelude.{◌≡◌, ◌+◌, ◌<◌, ◌≤◌, [], ℕ, true, false, IsTrue, OnOk};
+ghost use Rattle.std.specs.Prelude.{◌≡◌, ◌+◌, ◌<◌, ◌≤◌, [], ℕ, true, false, None, IsTrue, OnOk};
 ghost use Rattle.pcm_media.specs.View.{Writes};
 ghost use Rattle.array_shape.specs.Places.{media_len};
 ghost use Rattle.array_shape.specs.Logged.{applied, places_of};
@@ -7,7 +7,7 @@ ghost use Rattle.array_image.specs.Image.{row_of, data_of};
 ghost use Rattle.array_image.specs.Decided.{decided, number_parts, all_decided, settled_data};
 ghost use Rattle.array_image.specs.Standing.{IsGoodRow};
 ghost use Rattle.device_recovery.specs.Table.{row_in, RowsAre, decided_in};
-ghost use Rattle.device_recovery.specs.Recovered.{AllGood, HasNoVote, number_votes, voted_places};
+ghost use Rattle.device_recovery.specs.Recovered.{rows_good, HasNoVote, number_votes, voted_places};
 
 use crate::rows::{nth_row, row_count};
 use crate::table::{ROWS_MAX, is_decided, row_in};
@@ -26,7 +26,7 @@ pub(crate) fn settle_data<M: Media>(
     requires size { (M.view media.old).size ≡ media_len shape.now }
     requires fits { (g t : ℕ) → g < shape.now.loggers → t < shape.now.numbers → decided_in shape.now rows.now g t ≡ true → (row_in rows.now g t).first + (row_in rows.now g t).count ≤ shape.now.entries }
     requires rows { IsTrue M.tells → RowsAre shape.now (M.view media.old).content.bytes shape.now.numbers rows.now }
-    requires good { IsTrue M.tells → AllGood shape.now (M.view media.old).content.bytes shape.now.numbers }
+    requires good { IsTrue M.tells → rows_good shape.now (M.view media.old).content.bytes None }
     ensures applied { IsTrue M.tells → OnOk result (((M.view media.new).content.unsettled ≡ []) × (data_of shape.now (M.view media.new).content.bytes ≡ settled_data shape.now (M.view media.old).content.bytes)) }
     ensures does { Writes M.tells (places_of shape.now (all_decided shape.now (M.view media.old).content.bytes)) (M.view media.old) (M.view media.new) result }
 {

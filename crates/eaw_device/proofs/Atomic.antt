@@ -52,8 +52,8 @@ module _ (tells : Bool) (Opens : Shape → List ℕ → List ℕ → Type 0) (ol
     live = subst IsSome (sym (ap (λ (ranges : Logs (ℕ × ℕ)). ranges t) first.done.ranges ∙ with_here old.ranges t (Some (listed (old.ranges t) ++ ranges_of (parts_of_write addr bytes))))) refl;
   }
 
-  room : fit old [] (ranges_of (parts_of_write addr bytes)) None
-  room = subst (λ (log : Option (List (ℕ × ℕ))). fit old (listed log) (ranges_of (parts_of_write addr bytes)) None) free first.cause.2
+  room : fit old.shape [] (ranges_of (parts_of_write addr bytes)) None
+  room = subst (λ (log : Option (List (ℕ × ℕ))). fit old.shape (listed log) (ranges_of (parts_of_write addr bytes)) None) free first.cause.2
 
   pub mid_ranges : listed (mid.ranges t) ≡ ranges_of (parts_of_write addr bytes)
   mid_ranges =
@@ -148,6 +148,6 @@ write_fails tells Opens old new t addr bytes free small fault does = record {
 
     because : (fault : EawFault) → (let r : Result ℕ EawFault = Err fault in Cause old (log_write t addr bytes) new.faults r) → (let r : Result (Unit {0}) EawFault = Err fault in Cause old (atomic_write t addr bytes) new.faults r)
     because (UnknownTid u) cause = absurd (cause.2 small)
-    because (LogFull g h n) cause = (cause.0, tt, subst (λ rs. fit old rs (ranges_of (parts_of_write addr bytes)) (Some (g, h, n))) none cause.2)
-    because Media cause = (cause.0, tt, subst (λ rs. fit old rs (ranges_of (parts_of_write addr bytes)) None) none cause.2, cause.3)
+    because (LogFull g h n) cause = (cause.0, tt, subst (λ rs. fit old.shape rs (ranges_of (parts_of_write addr bytes)) (Some (g, h, n))) none cause.2)
+    because Media cause = (cause.0, tt, subst (λ rs. fit old.shape rs (ranges_of (parts_of_write addr bytes)) None) none cause.2, cause.3)
     because Dead cause = cause

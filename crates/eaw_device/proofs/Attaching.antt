@@ -1,6 +1,6 @@
 -- Why an opening was refused, and the header of what it leaves.
 use Rattle.std.proofs.Common.{◌≡◌, ◌≢◌, ℕ, ◌≤◌, ◌⊎◌, inl, inr, ⊎_elim, Bool, List, [], Err, Result, refl, sym, ◌∙◌, subst, arith}
-use Rattle.std.specs.Prelude.{IsTrue, OnOk, OnErr}
+use Rattle.std.specs.Prelude.{IsTrue, OnOk, OnErr, Some, None}
 use Rattle.mars_base.specs.Causes.{Rose}
 use Rattle.pcm_media.specs.Images.{Content, IsOutside, Touched}
 use Rattle.pcm_media.specs.View.{View, Writes}
@@ -16,7 +16,7 @@ use Rattle.array_image.proofs.Calls.{SoFar}
 use Rattle.array_image.proofs.Headers.{AreBehind, places_behind, header_stays}
 use Rattle.device_recovery.specs.declared.report.RecoverFault.{RecoverFault}
 use Rattle.device_recovery.specs.declared.report.RecoverFault.TheVariants as recovery
-use Rattle.device_recovery.specs.Recovered.{AllGood, IsFirstBad, recovered_places, voted_places}
+use Rattle.device_recovery.specs.Recovered.{rows_good, recovered_places, voted_places}
 use Rattle.pcm_media.specs.Answer.{media_answer}
 use Rattle.device_recovery.specs.Recovered as recovered
 use Rattle.device_recovery.proofs.Clearing.{votes_away}
@@ -55,7 +55,7 @@ cause_on tells old mid faults (BadRow g t) size touched later cause = λ told.
       found.0,
       subst (λ b. SaysShape (header_of b) found.0) same found.1,
       sym size ∙ found.2,
-      subst (λ b. IsFirstBad found.0 b g t) same found.3,
+      subst (λ b. rows_good found.0 b (Some (g, t))) same found.3,
     )
 cause_on tells old mid faults Media size touched later cause = omega (arith, cause, later)
 cause_on tells old mid faults NoMemory size touched later cause = λ told.
@@ -77,7 +77,7 @@ holds_before old mid size touched holds =
       record {
         header = subst (λ b. SaysShape (header_of b) holds.0) same holds.1.header;
         sized = sym size ∙ holds.1.sized;
-        good = subst (λ b. AllGood holds.0 b holds.0.numbers) same holds.1.good;
+        good = subst (λ b. rows_good holds.0 b None) same holds.1.good;
       },
     )
 
@@ -91,14 +91,14 @@ leaves_on tells old mid new NoMemory size touched leaves = λ told. touched_afte
 -- what recovery says of its refusal
 module _ (tells : Bool) (shape : Shape) (old new : View) where
   pub refusal_cause : (T : Type 0) (fault : RecoverFault) → old.size ≡ media_len shape → (IsTrue tells → SaysShape (header_of old.content.bytes) shape)
-      → (IsTrue tells → (g t : ℕ) → fault ≡ recovery.BadRow g t → IsFirstBad shape old.content.bytes g t)
+      → (IsTrue tells → (g t : ℕ) → fault ≡ recovery.BadRow g t → rows_good shape old.content.bytes (Some (g, t)))
       → (let r : Result T RecoverFault = Err fault in OnErr (media_answer recovered.is_of_media r) (Rose old.faults new.faults))
       → AttachCause tells old new.faults (recovery_fault fault)
   refusal_cause T (recovery.BadRow g t) size header bad rose = λ told. (shape, header told, size, bad told g t refl)
   refusal_cause T recovery.Media size header bad rose = rose
 
   pub refusal_leaves : (T : Type 0) (fault : RecoverFault) → old.size ≡ media_len shape → (IsTrue tells → SaysShape (header_of old.content.bytes) shape)
-      → (IsTrue tells → let r : Result T RecoverFault = Err fault in OnErr r (Touched [] old.content new.content ⊎ AllGood shape old.content.bytes shape.numbers))
+      → (IsTrue tells → let r : Result T RecoverFault = Err fault in OnErr r (Touched [] old.content new.content ⊎ rows_good shape old.content.bytes None))
       → (IsTrue tells → (g t : ℕ) → fault ≡ recovery.BadRow g t → Touched [] old.content new.content) → AttachLeaves tells old new (recovery_fault fault)
   refusal_leaves T (recovery.BadRow g t) size header spared unwritten = λ told. unwritten told g t refl
   refusal_leaves T recovery.Media size header spared unwritten = λ told. ⊎_elim (λ none. inl none) (λ good. inr (shape, record { header = header told; sized = size; good = good })) (spared told)

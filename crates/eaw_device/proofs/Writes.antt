@@ -68,7 +68,7 @@ module _ (tells : Bool) (old : View) (shape : Shape) (logs : List Log) (is_dead 
   needed g = count_on-ranges_of shape g (parts_of_write addr bytes) ∙ length-write_parts_on shape g addr bytes
 
   -- what a log without room says
-  pub first_full : (g h n : ℕ) → cells_fit shape log.held addr (length bytes) (Some (g, h, n)) → fit (view_of old shape logs is_dead) (listed (option_map ranges_in (entries_at logs t))) (ranges_of (parts_of_write addr bytes)) (Some (g, h, n))
+  pub first_full : (g h n : ℕ) → cells_fit shape log.held addr (length bytes) (Some (g, h, n)) → fit shape (listed (option_map ranges_in (entries_at logs t))) (ranges_of (parts_of_write addr bytes)) (Some (g, h, n))
   first_full g h n said = record {
     logger = said.logger;
     held_is = said.held_is ∙ sym (counted g said.logger);
@@ -81,7 +81,7 @@ module _ (tells : Bool) (old : View) (shape : Shape) (logs : List Log) (is_dead 
   }
 
   module _ (room : cells_fit shape log.held addr (length bytes) None) where
-    pub fits : fit (view_of old shape logs is_dead) (listed (option_map ranges_in (entries_at logs t))) (ranges_of (parts_of_write addr bytes)) None
+    pub fits : fit shape (listed (option_map ranges_in (entries_at logs t))) (ranges_of (parts_of_write addr bytes)) None
     fits g lt = omega (arith, room g lt, counted g lt, needed g)
 
     pub write_parts_fit : (g : ℕ) → g < shape.loggers → slice_index log.held g + length (write_parts_on shape g addr bytes) ≤ shape.entries

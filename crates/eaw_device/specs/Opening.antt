@@ -1,5 +1,5 @@
 -- What an opening finds before there is a store.
-use Rattle.std.specs.Prelude.{ℕ, ◌≡◌, ◌+◌, ◌*◌, Bool, false, IsTrue, List, length, slice_get, vec_capacity}
+use Rattle.std.specs.Prelude.{ℕ, None, ◌≡◌, ◌+◌, ◌*◌, Bool, false, IsTrue, List, length, slice_get, vec_capacity}
 use Rattle.std.specs.Option.{ForSome}
 use Rattle.pcm_media.specs.View.{View}
 use Rattle.array_shape.specs.declared.shape.Shape.{Shape}
@@ -7,7 +7,7 @@ use Rattle.array_shape.specs.Places.{media_len}
 use Rattle.row_bytes.specs.Header.{SaysShape}
 use Rattle.array_image.specs.Image.{data_of}
 use Rattle.array_image.specs.Decided.{settled_data}
-use Rattle.device_recovery.specs.Recovered.{AllGood, HasNoVote}
+use Rattle.device_recovery.specs.Recovered.{rows_good, HasNoVote}
 use Rattle.eaw_device.specs.Opens.{header_of, opening_calls}
 use Rattle.eaw_device.specs.Sound.{IsSure}
 use Rattle.eaw_device.specs.Logs.{IsKept}
@@ -29,7 +29,7 @@ pub record Settled (tells : Bool) (old : View) (shape : Shape) (new : View) : Ty
   pub shape_is : IsTrue tells → SaysShape (header_of old.content.bytes) shape
   pub sized : old.size ≡ media_len shape
   pub size : new.size ≡ old.size
-  pub good : IsTrue tells → AllGood shape old.content.bytes shape.numbers
+  pub good : IsTrue tells → rows_good shape old.content.bytes None
   pub bytes : IsTrue tells → data_of shape new.content.bytes ≡ settled_data shape old.content.bytes
   pub sure : IsTrue tells → IsSure shape new.content
   pub faults : new.faults ≡ old.faults

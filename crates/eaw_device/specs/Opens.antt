@@ -1,5 +1,5 @@
 -- What an image of an array opens with, and what an opening finds.
-use Rattle.std.specs.Prelude.{ℕ, ◌≡◌, ◌+◌, ◌*◌, ◌≤◌, ◌⊎◌, Bool, false, IsTrue, List, [], None}
+use Rattle.std.specs.Prelude.{ℕ, ◌≡◌, ◌+◌, ◌*◌, ◌≤◌, ◌⊎◌, Bool, false, IsTrue, List, [], Some, None}
 use Rattle.mars_base.specs.Causes.{Rose}
 use Rattle.mars_base.specs.Moments.{Elapses}
 use Rattle.mars_base.specs.Bytes.{range}
@@ -11,7 +11,7 @@ use Rattle.row_bytes.specs.Header.{HasMark, SaysShape, IsBadIn}
 use Rattle.array_image.specs.Image.{data_of}
 use Rattle.array_image.specs.Decided.{settled_data}
 use Rattle.array_image.specs.Standing.{StandsFor}
-use Rattle.device_recovery.specs.Recovered.{AllGood, IsFirstBad, HasNoVote}
+use Rattle.device_recovery.specs.Recovered.{rows_good, HasNoVote}
 use Rattle.eaw_face.specs.StoreView.{StoreView}
 use Rattle.eaw_device.specs.declared.fault.AttachFault.{AttachFault}
 use Rattle.eaw_device.specs.declared.fault.AttachFault.TheVariants.{NotMars, BadShape, BadRow, Media, NoMemory}
@@ -50,7 +50,7 @@ OpensWithin tells media now = IsTrue tells → (shape : Shape) → SaysShape (he
 pub record Attached (tells : Bool) (media : View) (store : StoreView) : Type 0 where
   pub shape_is : IsTrue tells → SaysShape (header_of media.content.bytes) store.shape
   pub sized : media.size ≡ media_len store.shape
-  pub good : IsTrue tells → AllGood store.shape media.content.bytes store.shape.numbers
+  pub good : IsTrue tells → rows_good store.shape media.content.bytes None
   pub bytes : IsTrue tells → store.state.bytes ≡ settled_data store.shape media.content.bytes
   pub free : (t : ℕ) → store.ranges t ≡ None
   pub unlogged : (t : ℕ) → store.state.logs t ≡ None
@@ -66,7 +66,7 @@ FindsData tells media store = IsTrue tells → (shape : Shape) (bytes : List ℕ
 pub record IsArray (shape : Shape) (media : View) : Type 0 where
   pub header : SaysShape (header_of media.content.bytes) shape
   pub sized : media.size ≡ media_len shape
-  pub good : AllGood shape media.content.bytes shape.numbers
+  pub good : rows_good shape media.content.bytes None
 
 -- the medium holds an array of some shape
 abbrev pub HoldsArray : View → Type 0
@@ -75,7 +75,7 @@ HoldsArray media = (shape : Shape) × IsArray shape media
 -- the medium would hold an array, but a decided row is bad, and this is the first one
 abbrev pub HasBadRow : View → ℕ → ℕ → Type 0
 HasBadRow media g t =
-    (shape : Shape) × SaysShape (header_of media.content.bytes) shape × (media.size ≡ media_len shape) × IsFirstBad shape media.content.bytes g t
+    (shape : Shape) × SaysShape (header_of media.content.bytes) shape × (media.size ≡ media_len shape) × rows_good shape media.content.bytes (Some (g, t))
 
 -- why a medium is not opened, after which `faults` faults are counted
 abbrev pub AttachCause : Bool → View → ℕ → AttachFault → Type 0

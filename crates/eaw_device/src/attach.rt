@@ -1,5 +1,5 @@
 // The steps of an opening, on the medium alone.
-ghost use Rattle.std.specs.Prelude.{◌≡◌, ◌≢◌, ◌≤◌, [], true, IsTrue, IfOk, IfErr, OnOk};
+ghost use Rattle.std.specs.Prelude.{◌≡◌, ◌≢◌, ◌≤◌, [], true, None, IsTrue, IfOk, IfErr, OnOk};
 ghost use Rattle.mars_base.specs.Costs.{Costs};
 ghost use Rattle.pcm_media.specs.View.{Writes};
 ghost use Rattle.array_shape.specs.Places.{media_len};
@@ -7,7 +7,7 @@ ghost use Rattle.row_bytes.specs.Header.{SaysShape};
 ghost use Rattle.array_image.specs.Image.{data_of};
 ghost use Rattle.array_image.specs.Decided.{settled_data};
 ghost use Rattle.array_image.specs.Standing.{IsClean};
-ghost use Rattle.device_recovery.specs.Recovered.{AllGood, HasNoVote, quiet_calls};
+ghost use Rattle.device_recovery.specs.Recovered.{rows_good, HasNoVote, quiet_calls};
 ghost use Rattle.eaw_device.specs.Opens.{header_of, AttachCause, AttachLeaves, KeepsData};
 ghost use Rattle.pcm_media.specs.Answer.{media_answer};
 ghost use Rattle.eaw_device.specs.Attaching.{AllSay, IsOfHeader, IsOfRecovery, is_of_media};
@@ -43,7 +43,7 @@ pub(crate) fn settle<M: Media>(media: &mut M, shape: &Shape) -> Result<(), Attac
     ensures clean { IsTrue M.tells → OnOk result (IsClean shape.now (M.view media.new).content) }
     ensures header { IsTrue M.tells → OnOk result (AllSay shape.now (M.view media.new).content) }
     ensures settled { IsTrue M.tells → OnOk result (data_of shape.now (M.view media.new).content.bytes ≡ settled_data shape.now (M.view media.old).content.bytes) }
-    ensures good { IsTrue M.tells → OnOk result (AllGood shape.now (M.view media.old).content.bytes shape.now.numbers) }
+    ensures good { IsTrue M.tells → OnOk result (rows_good shape.now (M.view media.old).content.bytes None) }
     ensures cause { IfErr result (AttachCause M.tells (M.view media.old) (M.view media.new).faults) }
     ensures fault { IfErr result IsOfRecovery }
     ensures unwritten { IfErr result (AttachLeaves M.tells (M.view media.old) (M.view media.new)) }

@@ -3,6 +3,7 @@ use Rattle.std.specs.Prelude.{ℕ, ◌≡◌, ◌<◌, true, false, List, [], So
 use Rattle.mars_base.specs.Causes.{Rose}
 use Rattle.mars_base.specs.Check.{Check, pass}
 use Rattle.mars_base.specs.Room.{room}
+use Rattle.array_shape.specs.declared.shape.Shape.{Shape}
 use Rattle.array_shape.specs.Parts.{parts_of_write}
 use Rattle.array_shape.specs.Logged.{ranges_of}
 use Rattle.eaw_face.specs.State.{listed, count_on}
@@ -40,13 +41,13 @@ IsNumberOf (log_read t) u = u ≡ t
 IsNumberOf (read addr len) u = ⊥
 
 -- the test for room at each logger, for its share of `needed` besides its share of `held`
-abbrev pub fit : StoreView → (held needed : List (ℕ × ℕ)) → Check (ℕ × ℕ × ℕ)
-fit store held needed = room store.shape.loggers store.shape.entries (λ g. count_on store.shape g held) (λ g. count_on store.shape g needed)
+abbrev pub fit : Shape → (held needed : List (ℕ × ℕ)) → Check (ℕ × ℕ × ℕ)
+fit shape held needed = room shape.loggers shape.entries (λ g. count_on shape g held) (λ g. count_on shape g needed)
 
 -- the test for the room that a command needs: a write needs an entry for each of its parts
 abbrev pub room_for : StoreView → Command → Check (ℕ × ℕ × ℕ)
-room_for store (log_write t addr bytes) = fit store (listed (store.ranges t)) (ranges_of (parts_of_write addr bytes))
-room_for store (atomic_write t addr bytes) = fit store [] (ranges_of (parts_of_write addr bytes))
+room_for store (log_write t addr bytes) = fit store.shape (listed (store.ranges t)) (ranges_of (parts_of_write addr bytes))
+room_for store (atomic_write t addr bytes) = fit store.shape [] (ranges_of (parts_of_write addr bytes))
 room_for store _ = pass
 
 -- why a command gets this answer, after which `faults` faults are counted

@@ -24,6 +24,7 @@ use Rattle.mars_shell.specs.Statuses.{Counts, IsEarly}
 use Rattle.mars_shell.specs.declared.status.Status.{Status}
 use Rattle.mars_shell.specs.declared.status.Status.TheVariants.{Good, Usage, TooLong, ReadFault, WriteFault, MediaFault, NoMemory, Damaged, BadRow, NotMars, BadShape}
 use Rattle.row_bytes.proofs.OneShape.{one_shape}
+use Rattle.device_recovery.proofs.Goods.{rows_exclude}
 use Rattle.mars_shell.proofs.Forming.{damage_is_no_soundness}
 
 -- what the words ask for, at a status other than Usage
@@ -73,7 +74,7 @@ no_bad_row : (media : View) (shape : Shape) (g t : ℕ) → IsArray shape media 
 no_bad_row media shape g t array row =
     let same : shape ≡ row.0 = one_shape (header_of media.content.bytes) shape row.0 array.header row.1 in
     let own = subst (λ (s : Shape). IsArray s media) same array in
-    row.3.here.bad (own.good g t row.3.here.logger row.3.number row.3.here.is_decided)
+    rows_exclude row.0 media.content.bytes (g, t) own.good row.3
 
 pub no_damage : (media : View) (shape : Shape) (page : ℕ) → HoldsRecords shape media → IsDamaged media page → ⊥
 no_damage media shape page holds is =

@@ -39,7 +39,7 @@ module _ (old : Plain) (sound : IsSound old) (t : ℕ) (lt : t < old.shape.numbe
   is_live known = is_live_from old.logs t (omega (arith, sound.numbers)) known.live
 
   module _ (new : Plain) where
-    pub does_written : (n addr : ℕ) (bytes : List ℕ) → fit (view_of old) (listed ((view_of old).ranges t)) (ranges_of (parts_of_write addr bytes)) None
+    pub does_written : (n addr : ℕ) (bytes : List ℕ) → fit (view_of old).shape (listed ((view_of old).ranges t)) (ranges_of (parts_of_write addr bytes)) None
         → new ≡ relogged t true ((log_at old.logs t).parts ++ parts_of_write addr bytes) (called_plain old) → Does true IsData (log_write t addr bytes) (view_of old) (view_of new) (answer n)
     does_written n addr bytes fit is =
         does_done n old new (log_write t addr bytes) (alive, lt, fit) (ap (λ (p : Plain). p.shape) is) (omega (arith, ap (λ (p : Plain). p.kept.faults) is))
@@ -132,7 +132,7 @@ module _ (old : Plain) (sound : IsSound old) (t : ℕ) (lt : t < old.shape.numbe
         (λ none counted. omega (arith, none, counted.work, left, log_len_is old sound t lt)) (λ some. fine (omega (arith, some, left))) refl same
 
 -- a write that commits by itself
-pub does_put : (old new : Plain) (t addr : ℕ) (bytes : List ℕ) → IsAlive (view_of old) → fit (view_of old) [] (ranges_of (parts_of_write addr bytes)) None → new ≡ changed_plain (put old.bytes addr bytes) old → Does true IsData (atomic_write t addr bytes) (view_of old) (view_of new) done
+pub does_put : (old new : Plain) (t addr : ℕ) (bytes : List ℕ) → IsAlive (view_of old) → fit (view_of old).shape [] (ranges_of (parts_of_write addr bytes)) None → new ≡ changed_plain (put old.bytes addr bytes) old → Does true IsData (atomic_write t addr bytes) (view_of old) (view_of new) done
 does_put old new t addr bytes alive fit is =
     does_done (tt {0}) old new (atomic_write t addr bytes) (alive, tt, fit) (ap (λ (p : Plain). p.shape) is) (omega (arith, ap (λ (p : Plain). p.kept.faults) is))
     (record {

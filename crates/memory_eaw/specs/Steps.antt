@@ -44,4 +44,4 @@ pub record IsFullBy (store : StoreView) (held needed : List (ℕ × ℕ)) (fault
   pub h : ℕ
   pub n : ℕ
   pub fault_is : fault ≡ LogFull g h n
-  pub first : fit store held needed (Some (g, h, n))
+  pub first : fit store.shape held needed (Some (g, h, n))

@@ -122,7 +122,7 @@ impl MemoryEaw {
     fn check_room(&self, tid: u8, addr: u64, bytes: &[u8]) -> Result<(), EawFault>
         requires tid { tid < self.now.shape.numbers }
         requires inside { addr + length bytes.now ≤ data_len self.now.shape }
-        ensures fits { OnOk result (fit (shown self.now) (listed ((shown self.now).ranges tid)) (ranges_of (parts_of_write addr bytes.now)) None) }
+        ensures fits { OnOk result (fit (shown self.now).shape (listed ((shown self.now).ranges tid)) (ranges_of (parts_of_write addr bytes.now)) None) }
         ensures full { IfErr result (IsFullBy (shown self.now) (listed ((shown self.now).ranges tid)) (ranges_of (parts_of_write addr bytes.now))) }
     {
         let log = &self.logs[usize::from(tid)];

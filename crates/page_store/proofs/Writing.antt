@@ -68,8 +68,8 @@ module _ (tells : Bool) (old : PagesView) (t addr : ℕ) (bytes : List ℕ) (pla
         allowed = λ alive. placed;
         ordered = ordered;
         told = told;
-        room = λ fits none'. subst (λ (rs : List (ℕ × ℕ)). causes.fit old.store (listed (old.store.ranges t)) rs None) one fits;
-        full = λ g h n full. (none, subst (λ (rs : List (ℕ × ℕ)). causes.fit old.store (listed (old.store.ranges t)) rs (Some (g, h, n))) one full);
+        room = λ fits none'. subst (λ (rs : List (ℕ × ℕ)). causes.fit old.store.shape (listed (old.store.ranges t)) rs None) one fits;
+        full = λ g h n full. (none, subst (λ (rs : List (ℕ × ℕ)). causes.fit old.store.shape (listed (old.store.ranges t)) rs (Some (g, h, n))) one full);
         number = λ u ne same. ne (ap Some (sym same));
       }
 

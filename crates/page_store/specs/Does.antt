@@ -18,13 +18,13 @@ edits_at pages t addr len = edit_pos (floor_in (outline_of pages) t) (addr, len)
 
 -- A write that edits no part needs room for one, and a save needs one of the 32 places.
 abbrev pub HasRoom : PagesView → PageCommand → Type 0
-HasRoom pages (write_as t addr bytes) = edits_at pages t addr (length bytes) ≡ None → fit pages.store (listed (pages.store.ranges t)) ((addr, length bytes) ∷ []) None
+HasRoom pages (write_as t addr bytes) = edits_at pages t addr (length bytes) ≡ None → fit pages.store.shape (listed (pages.store.ranges t)) ((addr, length bytes) ∷ []) None
 HasRoom pages (save t) = length (pages.counts t) < 32
 HasRoom pages _ = Unit {0}
 
 -- a write edits no part, and logger g has no room for one: it holds h, and n more are needed
 abbrev pub IsFull : PagesView → PageCommand → ℕ → ℕ → ℕ → Type 0
-IsFull pages (write_as t addr bytes) g h n = (edits_at pages t addr (length bytes) ≡ None) × fit pages.store (listed (pages.store.ranges t)) ((addr, length bytes) ∷ []) (Some (g, h, n))
+IsFull pages (write_as t addr bytes) g h n = (edits_at pages t addr (length bytes) ≡ None) × fit pages.store.shape (listed (pages.store.ranges t)) ((addr, length bytes) ∷ []) (Some (g, h, n))
 IsFull pages _ g h n = ⊥
 
 -- a number has saved as often as it may

@@ -1,3 +1,4 @@
+use eaw_face::EawFault;
 use thiserror::Error;
 
 /// Why a call of pages was refused.
@@ -18,4 +19,28 @@ pub enum PageFault {
     /// A page that was read breaks the layout. Look-ups in a sound index answer it only over a store that does not tell its data.
     #[error("page {page} is damaged")]
     Damaged { page: u32 },
+}
+
+// Pages ask the store for no number that it does not know.
+impl From<EawFault> for PageFault {
+    ghost use Rattle.std.specs.Prelude.{◌≡◌};
+    ghost use Rattle.page_store.specs.Told.{told_as};
+
+    ghost from_gives = { λ fault told. told ≡ told_as fault };
+
+    fn from(fault: EawFault) -> Self {
+        match fault {
+            EawFault::LogFull {
+                logger,
+                held,
+                needed,
+            } => PageFault::LogFull {
+                logger,
+                held,
+                needed,
+            },
+            EawFault::Media => PageFault::Media,
+            EawFault::Dead | EawFault::UnknownTid { .. } => PageFault::Dead,
+        }
+    }
 }

@@ -14,7 +14,7 @@ ghost use Rattle.page_store.specs.Fits.{FitAll, LacksRoom, is_page_on};
 ghost use Rattle.page_store.specs.Kept.{IsOrdered};
 ghost use Rattle.page_store.specs.Reads.{Reads};
 ghost use Rattle.page_store.specs.Shown.{IsInPage, IsUnmarked, address, counts_in, outline_of, top_in, pages_of, state_of};
-ghost use Rattle.page_store.specs.Told.{IsKnown, TellsAs, DoesWhereLive, told_as};
+ghost use Rattle.page_store.specs.Told.{IsKnown, TellsAs, DoesWhereLive};
 ghost use Rattle.page_store.specs.State.{view_of};
 
 use crate::fault::PageFault;
@@ -307,27 +307,7 @@ fn told<T: Drop>(answer: Result<T, EawFault>) -> Result<(), PageFault>
 {
     match answer {
         Ok(_) => Ok(()),
-        Err(fault) => Err(page_fault(fault)),
-    }
-}
-
-fn page_fault(fault: EawFault) -> PageFault
-    requires { IsKnown fault }
-    ensures { result ≡ told_as fault }
-{
-    match fault {
-        EawFault::UnknownTid { .. } => unreachable!(),
-        EawFault::LogFull {
-            logger,
-            held,
-            needed,
-        } => PageFault::LogFull {
-            logger,
-            held,
-            needed,
-        },
-        EawFault::Media => PageFault::Media,
-        EawFault::Dead => PageFault::Dead,
+        Err(fault) => Err(PageFault::from(fault)),
     }
 }
 

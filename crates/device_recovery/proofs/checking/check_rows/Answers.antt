@@ -6,7 +6,7 @@ use Rattle.array_image.specs.Standing.{IsGoodRow}
 use Rattle.array_image.proofs.Calls.{goes_on, hands_on}
 use Rattle.device_recovery.proofs.Done.{all_done}
 use Rattle.device_recovery.specs.Table.{row_in, RowsAre, decided_in}
-use Rattle.device_recovery.specs.Recovered.{IsFirstBad}
+use Rattle.device_recovery.proofs.Goods.{IsFirstBad, good_rows, first_bad}
 use Rattle.device_recovery.proofs.Order.{place_of_row, before_more, before_all, lower_number}
 use Rattle.device_recovery.proofs.checking.check_rows.Goals as goal
 
@@ -64,16 +64,14 @@ returns-then-branch g c =
           let same = same_bytes _ _ (so_far.does.touched told) in
           let bad = c.in_ok-is_bad.ensures.some told c.if-branch.true in
           let found : IsFirstBad shape base at.logger at.tid = record {
+            logger = is.one_logger;
             number = is.one_number;
-            here = record {
-              logger = is.one_logger;
-              is_decided = subst (λ image. decided shape image at.logger at.tid ≡ true) same bad.0;
-              bad = subst (λ image. IsGoodRow shape image at.logger at.tid → ⊥) same bad.1;
-              below = λ k lt. so_far.good told k at.tid (omega (arith, lt, is.one_logger)) (omega (arith, here, lt));
-            };
+            is_decided = subst (λ image. decided shape image at.logger at.tid ≡ true) same bad.0;
+            bad = subst (λ image. IsGoodRow shape image at.logger at.tid → ⊥) same bad.1;
+            below = λ k lt. so_far.good told k at.tid (omega (arith, lt, is.one_logger)) (omega (arith, here, lt));
             before = λ k u lt lt'. so_far.good told k u lt (lower_number shape.loggers c.loop-nth.nth at.logger at.tid k u here lt lt');
           } in
-          subst (λ k. IsFirstBad shape base k t) logger (subst (λ k. IsFirstBad shape base at.logger k) tid found);
+          first_bad shape base h t (subst (λ k. IsFirstBad shape base k t) logger (subst (λ k. IsFirstBad shape base at.logger k) tid found));
       idle = λ none. c.in_ok-is_bad.ensures.idle (none at.logger at.tid is.one_logger is.one_number) ∙ so_far.idle none;
       fits = tt;
       does = all_done m.tells _ _ _ _ read;
@@ -87,7 +85,7 @@ returns g c =
     let so_far = c.loop-nth.invariant in
     let all : c.loop-nth.nth ≡ shape.loggers * shape.numbers = omega arith in
     record {
-      good = λ told. before_all shape.loggers (λ h t. decided shape base h t ≡ true → IsGoodRow shape base h t) c.loop-nth.nth shape.numbers all (so_far.good told);
+      good = λ told. good_rows shape base (before_all shape.loggers (λ h t. decided shape base h t ≡ true → IsGoodRow shape base h t) c.loop-nth.nth shape.numbers all (so_far.good told));
       bad = λ told. tt;
       idle = so_far.idle;
       fits = before_all shape.loggers (λ h t. decided_in shape c.args.rows.now h t ≡ true → (row_in c.args.rows.now h t).first + (row_in c.args.rows.now h t).count ≤ shape.entries) c.loop-nth.nth shape.numbers all so_far.fits;

@@ -1,11 +1,11 @@
 use Rattle.std.proofs.Common.{◌≡◌, true, Ok, List, [], refl, ◌∙◌, sym, ap, subst, arith}
-use Rattle.std.specs.Prelude.{IsTrue}
+use Rattle.std.specs.Prelude.{IsTrue, Some, None}
 use Rattle.std.proofs.lemmas.Result.{err_from_is_err_and}
 use Rattle.pcm_media.specs.Images.{Content}
 use Rattle.pcm_media.proofs.Left.{same_bytes}
 use Rattle.array_image.proofs.Calls.{none_yet, goes_on, ends_with, hands_on}
 use Rattle.device_recovery.specs.Table.{RowsAre}
-use Rattle.device_recovery.specs.Recovered.{AllGood, IsFirstBad}
+use Rattle.device_recovery.specs.Recovered.{rows_good}
 use Rattle.mars_base.proofs.Costing.{costs_all}
 use Rattle.device_recovery.proofs.Lists.{none_decided}
 use Rattle.device_recovery.proofs.Moments.{none_unsettled}
@@ -61,7 +61,7 @@ returns-in_err-check_rows g c =
     rw (p.1, p.2) (record {
       rows = λ told. tt;
       good = λ told. tt;
-      bad = λ told h t is. subst (λ bytes. IsFirstBad shape bytes h t) (same_bytes _ _ (rows.does.touched told) ∙ same_bytes _ _ (barrier.does.touched told)) (checked.bad told h t is);
+      bad = λ told h t is. subst (λ bytes. rows_good shape bytes (Some (h, t))) (same_bytes _ _ (rows.does.touched told) ∙ same_bytes _ _ (barrier.does.touched told)) (checked.bad told h t is);
       fits = tt;
       sure = λ told. tt;
       costs = λ told none.
@@ -85,7 +85,7 @@ returns g c =
     λ told. subst (λ bytes. RowsAre shape bytes shape.numbers c.in_ok-rows.rows) (same_bytes _ _ (barrier.does.touched told)) (rows.rows told) in
     record {
       rows = are;
-      good = λ told. subst (λ bytes. AllGood shape bytes shape.numbers) (same_bytes _ _ (rows.does.touched told) ∙ same_bytes _ _ (barrier.does.touched told)) (checked.good told);
+      good = λ told. subst (λ bytes. rows_good shape bytes None) (same_bytes _ _ (rows.does.touched told) ∙ same_bytes _ _ (barrier.does.touched told)) (checked.good told);
       bad = λ told. tt;
       fits = checked.fits;
       sure = λ told i.

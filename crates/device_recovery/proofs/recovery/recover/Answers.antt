@@ -1,5 +1,5 @@
 use Rattle.std.proofs.Common.{refl, inl, inr, ◌≡◌, ℕ, ◌∙◌, [], List, length, sym, ap, subst, arith}
-use Rattle.std.specs.Prelude.{IsTrue}
+use Rattle.std.specs.Prelude.{IsTrue, None}
 use Rattle.std.proofs.lemmas.Result.{err_from_is_err_and}
 use Rattle.mars_base.proofs.Going.{then}
 use Rattle.pcm_media.specs.Images.{IsOutside}
@@ -11,7 +11,7 @@ use Rattle.array_image.specs.Standing.{IsLawful}
 use Rattle.array_image.proofs.Calls.{none_yet, goes_on, ends_with, hands_on}
 use Rattle.device_recovery.proofs.Done.{all_done}
 use Rattle.device_recovery.specs.Table.{RowsAre}
-use Rattle.device_recovery.specs.Recovered.{AllGood, HasNoVote, recovered_places}
+use Rattle.device_recovery.specs.Recovered.{rows_good, HasNoVote, recovered_places}
 use Rattle.device_recovery.proofs.Clearing.{no_vote_settled}
 use Rattle.device_recovery.proofs.Lists.{decided_count, dropped_count, no_vote, no_count}
 use Rattle.device_recovery.proofs.Moments.{clean_from, reading_law, sense_law}
@@ -75,7 +75,7 @@ settle-requires-clause-rows g c told =
 
 pub settle-requires-clause-good : goal.settle-requires-clause-good
 settle-requires-clause-good g c told =
-    subst (λ bytes. AllGood c.args.shape.now bytes c.args.shape.now.numbers) (sym (same_bytes _ _ (c.in_ok-rows.ensures.does.touched told))) (c.in_ok-rows.ensures.good told)
+    subst (λ bytes. rows_good c.args.shape.now bytes None) (sym (same_bytes _ _ (c.in_ok-rows.ensures.does.touched told))) (c.in_ok-rows.ensures.good told)
 
 pub returns-in_err-settle : goal.returns-in_err-settle
 returns-in_err-settle g c =

@@ -7,6 +7,7 @@ use Rattle.array_shape.specs.Logged.{applied, places_of}
 use Rattle.array_image.specs.Image.{cell_of, parts_from, data_of, IsGoodCell}
 use Rattle.array_image.specs.Decided.{settled_data}
 use Rattle.array_image.proofs.Calls.{goes_on, hands_on, barrier_keeps, then_barrier}
+use Rattle.device_recovery.proofs.Goods.{all_good}
 use Rattle.device_recovery.proofs.Read.{table_decided}
 use Rattle.device_recovery.proofs.Applying.{rows_settled, row_skipped, still_good, parts_within, row_applied}
 use Rattle.device_recovery.proofs.settling.settle_data.Goals as goal
@@ -43,7 +44,7 @@ apply-requires-clause-good g c told e from below =
     let long : length base ≡ media_len shape = g.met.M.Media.long c.args.media.now told ∙ c.requires.size in
     let so = sym (table_decided shape base c.args.rows.now (c.requires.rows told) at.logger at.tid is.one_logger is.one_number) ∙ sym c.if-not-is_decided.ensures in
     let row = c.row_in-row.ensures ∙ c.requires.rows told at.logger at.tid is.one_logger is.one_number in
-    let good = still_good shape base c.loop-nth.nth at.logger at.tid is.logger is.tid long (c.requires.good told) cur (c.loop-nth.invariant.does.touched told).bytes is.one_logger is.one_number c.row_in-row.result row so e from below in
+    let good = still_good shape base c.loop-nth.nth at.logger at.tid is.logger is.tid long (all_good shape base (c.requires.good told)) cur (c.loop-nth.invariant.does.touched told).bytes is.one_logger is.one_number c.row_in-row.result row so e from below in
     subst (λ (p : Shape × ℕ). IsGoodCell p.0 p.1 (cell_of p.0 cur p.1 at.tid e)) (λ i. (sym c.new-logger.ensures.shape i, sym c.new-logger.ensures.number i)) good
 
 pub returns-in_err-apply-clause-does : goal.returns-in_err-apply-clause-does
@@ -63,7 +64,7 @@ returns-in_err-apply-clause-does g c =
     let so = sym (table_decided shape base c.args.rows.now (c.requires.rows told) at.logger at.tid is.one_logger is.one_number) ∙ sym c.if-not-is_decided.ensures in
     let row_is = c.row_in-row.ensures ∙ c.requires.rows told at.logger at.tid is.one_logger is.one_number in
     subst (λ rs. IsOutside rs i) (sym places)
-    (parts_within shape base c.loop-nth.nth at.logger at.tid is.logger is.tid long (c.requires.good told) cur (c.loop-nth.invariant.does.touched told).bytes is.one_logger is.one_number row row_is so i out))
+    (parts_within shape base c.loop-nth.nth at.logger at.tid is.logger is.tid long (all_good shape base (c.requires.good told)) cur (c.loop-nth.invariant.does.touched told).bytes is.one_logger is.one_number row row_is so i out))
     c.loop-nth.invariant.does c.from_residual.result c.from_residual.ensures.0 c.in_err-apply.ensures.does
 
 pub loop-nth-preserved : goal.loop-nth-preserved
@@ -84,14 +85,14 @@ loop-nth-preserved g c =
           let so = sym (table_decided shape base c.args.rows.now (c.requires.rows told) at.logger at.tid is.one_logger is.one_number) ∙ sym c.if-not-is_decided.ensures in
           let row_is = c.row_in-row.ensures ∙ c.requires.rows told at.logger at.tid is.one_logger is.one_number in
           subst (λ rs. IsOutside rs i) (sym places)
-          (parts_within shape base c.loop-nth.nth at.logger at.tid is.logger is.tid long (c.requires.good told) cur (c.loop-nth.invariant.does.touched told).bytes is.one_logger is.one_number row row_is so i out))
+          (parts_within shape base c.loop-nth.nth at.logger at.tid is.logger is.tid long (all_good shape base (c.requires.good told)) cur (c.loop-nth.invariant.does.touched told).bytes is.one_logger is.one_number row row_is so i out))
           c.loop-nth.invariant.does c.in_ok-apply.ensures.does refl;
       applied = λ told.
           let long : length base ≡ media_len shape = g.met.M.Media.long c.args.media.now told ∙ c.requires.size in
           let so = sym (table_decided shape base c.args.rows.now (c.requires.rows told) at.logger at.tid is.one_logger is.one_number) ∙ sym c.if-not-is_decided.ensures in
           let row_is = c.row_in-row.ensures ∙ c.requires.rows told at.logger at.tid is.one_logger is.one_number in
           let new = (m.view c.apply.new.media).content.bytes in
-          row_applied shape base c.loop-nth.nth at.logger at.tid is.logger is.tid long (c.requires.good told) cur (c.loop-nth.invariant.does.touched told).bytes is.one_logger is.one_number row row_is so new (c.loop-nth.invariant.applied told)
+          row_applied shape base c.loop-nth.nth at.logger at.tid is.logger is.tid long (all_good shape base (c.requires.good told)) cur (c.loop-nth.invariant.does.touched told).bytes is.one_logger is.one_number row row_is so new (c.loop-nth.invariant.applied told)
           ((λ i. data_of (sym logger.shape i) new) ∙ c.in_ok-apply.ensures.data_after told ∙ (λ i. applied (parts_from (logger.shape i) cur (logger.number i) at.tid row.first row.count) (data_of (logger.shape i) cur)));
     }
 

@@ -1,9 +1,10 @@
 use Rattle.std.proofs.Common.{refl, ◌∙◌, sym, ap, subst, ℕ, List, arith}
+use Rattle.std.specs.Prelude.{None}
 use Rattle.std.proofs.lemmas.Result.{err_from_is_err_and}
 use Rattle.pcm_media.proofs.Left.{same_bytes}
 use Rattle.row_bytes.specs.Header.{SaysShape}
 use Rattle.array_image.specs.Decided.{settled_data}
-use Rattle.device_recovery.specs.Recovered.{AllGood, HasNoVote}
+use Rattle.device_recovery.specs.Recovered.{rows_good, HasNoVote}
 use Rattle.eaw_device.specs.Opens.{header_of, opening_calls}
 use Rattle.eaw_device.specs.Attaching.{IsOfHeader, IsOfRecovery}
 use Rattle.row_bytes.proofs.OneShape.{one_shape}
@@ -45,7 +46,7 @@ returns-in-Ok-settle-clause-settled g c =
       shape_is = c.in_ok-shape.ensures.shape;
       sized = c.in_ok-shape.ensures.sized;
       size = done.size ∙ read.size;
-      good = λ told. subst (λ b. AllGood shape b shape.numbers) (same_bytes _ _ (read.touched told)) (done.good told);
+      good = λ told. subst (λ b. rows_good shape b None) (same_bytes _ _ (read.touched told)) (done.good told);
       bytes = λ told. done.settled told ∙ ap (λ (b : List ℕ). settled_data shape b) (same_bytes _ _ (read.touched told));
       sure = λ told. record { clean = done.clean told; header = done.header told };
       faults = done.faults ∙ c.in_ok-shape.ensures.does.cause.kept;

@@ -14,7 +14,7 @@ pub returns-clause-does : goal.returns-clause-does
 returns-clause-does c =
     let self = c.args.self.now in
     does_put (plain_of self) (plain_of c.put.new.self) c.args.tid c.args.addr c.args.bytes.now c.in_ok-check_alive.ensures.alive
-    (subst (λ (held : List (ℕ × ℕ)). fit (shown self) held (ranges_of (parts_of_write c.args.addr c.args.bytes.now)) None) (ap listed c.requires.free) c.in_ok-check_room.ensures.fits)
+    (subst (λ (held : List (ℕ × ℕ)). fit (shown self).shape held (ranges_of (parts_of_write c.args.addr c.args.bytes.now)) None) (ap listed c.requires.free) c.in_ok-check_room.ensures.fits)
     (c.put.ensures ∙ ap with c.in_ok-change.ensures.done.1)
   where
     with : Plain → Plain
