@@ -19,8 +19,7 @@ use crate::look::ROOT;
 use crate::page::read_node_head;
 use eaw_face::EawStore;
 use index_pages::{
-    LEVEL_MAX, PAGE_LEN, check_fault, check_slot, fetch_page, fetch_super, index_page_count,
-    read_pair,
+    LEVEL_MAX, PAGE_LEN, check_fault, check_slot, fetch_page, fetch_super, read_pair,
 };
 use page_store::{CheckFault, Pages};
 use record_slots::Super;
@@ -159,7 +158,6 @@ fn check_children<S: EawStore>(
         → IsVerdict (children_check (tree_from (level - 1) (S.view pages.old.store).state.bytes) (pairs_said bytes.now) (high_of high)) result }
     ensures dead { IsErrOf result CheckFault.Dead → ⊥ }
 {
-    let _most = index_page_count(pages);
     for i in 0..count {
         let (low, child) = read_pair(bytes, i);
         let spot = Spot {

@@ -47,7 +47,6 @@ pub fn read_node<S: EawStore>(
     ensures bytes { IsTrue S.tells → OnOk result (bytes.new ≡ page_bytes (S.view pages.old.store).state.bytes page) }
     ensures dead { IsErrOf result PageFault.Dead → pages.new ≡ pages.old }
 {
-    let _count = index_page_count(pages);
     fetch_page(pages, page, bytes)?;
     let Some(head) = read_node_head(bytes) else {
         return Err(PageFault::Damaged { page });

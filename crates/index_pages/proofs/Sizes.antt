@@ -1,6 +1,7 @@
 -- Where pages and slots lie in the data of an array.
-use Rattle.std.proofs.Common.{◌≡◌, ℕ, ◌+◌, ◌*◌, ◌/◌, ◌%◌, List, Result, Ok, Err, length, ◌∙◌, ap, arith}
+use Rattle.std.proofs.Common.{◌≡◌, ℕ, ◌+◌, ◌*◌, ◌/◌, ◌%◌, ◌≤◌, List, Result, Ok, Err, length, ◌∙◌, ap, arith}
 use Rattle.std.specs.Prelude.{OnOk}
+use Rattle.std.proofs.lemmas.Nat.{mul-le}
 use Rattle.mars_base.specs.Bytes.{range}
 use Rattle.array_shape.specs.declared.shape.Shape.{Shape}
 use Rattle.array_shape.specs.Places.{data_len}
@@ -34,3 +35,9 @@ module _ (shape : Shape) (bytes : List ℕ) (long : length bytes ≡ data_len sh
 
   pub slot_page_is : (half slot : ℕ) → half + half ≡ array.page_count shape → slot_page bytes slot ≡ half + slot / 8
   slot_page_is half slot all = omega (arith, pages_are)
+
+-- no array has more index pages
+pub index_pages_most : (shape : Shape) → index_pages_of shape ≤ 16384
+index_pages_most shape =
+    let most : shape.loggers * shape.pages ≤ 8 * 4096 = mul-le shape.loggers shape.pages 8 4096 shape.in_range.most_loggers shape.in_range.most_pages in
+    omega (arith, most)

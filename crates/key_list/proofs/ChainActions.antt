@@ -11,7 +11,7 @@ use Rattle.key_list.specs.ChainFacts.{chain_tiles, rise_behind, first_from, some
 use Rattle.index_pages.proofs.Given.{given_inserted, inserted_local, same_local, above_zero}
 use Rattle.index_pages.proofs.Halves.{given_take, joined_two}
 use Rattle.key_list.specs.Chain.{behind, first_key, chain_pieces, IsSoundChain, pairs_of_chain, chain_page_for, page_of_key}
-use Rattle.key_list.specs.Seen.{IsChainPage, IsChain, pages_of_sound, sound_by_pages}
+use Rattle.key_list.specs.Seen.{IsChainPage, IsChain, pages_of_sound, sound_by_pages, pieces_have}
 use Rattle.key_list.specs.Resting.{page_kept, joined_from}
 use Rattle.key_list.specs.Changes.{TakesPairInChain, SplitsPage}
 use Rattle.index_pages.specs.Keys.{key_at, key_end}
@@ -267,15 +267,14 @@ pub sound_chain_takes : (old new : List ℕ) (key to : ℕ) → IsSoundChain old
     → found (pairs_of_chain old) key ≡ None → TakesPairInChain old new (page_of_key old key) key to
     → ((x : ℕ) → 1 ≤ x → x < next_page old → x ≢ page_of_key old key → page_bytes new x ≡ page_bytes old x)
     → IsSoundChain new × (pairs_of_chain new ≡ inserted (pairs_of_chain old) key to)
-unfolding pairs_of_chain
 sound_chain_takes old new key to sound keeps front same lt none takes kept =
-    let none' = sym (chain_finds (next_page old) old 1 0 0 key (pages_of_sound old sound) (omega arith)) ∙ none in
+    let none' = sym (chain_finds (next_page old) old 1 0 0 key (pages_of_sound old sound) (omega arith)) ∙ ap (λ (ps : List Pair). found ps key) (pieces_have old) ∙ none in
     let r = chain_graft old new keeps (λ ps. inserted ps key to) key (inserted_local key to) (page_of_key old key) 0
     (page_takes old new keeps (page_of_key old key) key to lt takes none' kept) kept
     (next_page old) 1 0 (omega arith, omega (arith, sound.0.some_pages)) (pages_of_sound old sound) (omega arith) refl in
     let e : above (next_page old) 0 ≡ next_page new = above_zero (next_page old) ∙ sym same in (
       sound_by_pages new front (subst (λ (n : ℕ). IsChain n new 1 0) e r.0),
-      ap (λ (n : ℕ). joined (chain_pieces n new 1 0)) (sym e) ∙ r.1 0,
+      sym (pieces_have new) ∙ ap (λ (n : ℕ). joined (chain_pieces n new 1 0)) (sym e) ∙ r.1 0 ∙ ap (λ (ps : List Pair). inserted ps key to) (pieces_have old),
     )
 
 module _ (old new : List ℕ) (keeps : Keeps old new) (q key : ℕ) (lt : key < key_end) (two : 2 ≤ next_page old) where
@@ -356,16 +355,14 @@ module _ (old new : List ℕ) (keeps : Keeps old new) (q key : ℕ) (lt : key < 
 pub sound_chain_splits : (old new : List ℕ) (key : ℕ) → IsSoundChain old → Keeps old new → IsSuper 0 new → key < key_end → SplitsPage old new (page_of_key old key)
     → ((x : ℕ) → 1 ≤ x → x < next_page old → x ≢ page_of_key old key → page_bytes new x ≡ page_bytes old x)
     → IsSoundChain new × (pairs_of_chain new ≡ pairs_of_chain old)
-unfolding pairs_of_chain
 sound_chain_splits old new key sound keeps front lt splits kept =
     let r = chain_graft old new keeps (λ ps. ps) key (same_local key) (page_of_key old key) 1
     (page_splits old new keeps (page_of_key old key) key lt sound.0.some_pages splits kept) kept
     (next_page old) 1 0 (omega arith, omega (arith, sound.0.some_pages)) (pages_of_sound old sound) (omega arith) refl in
     let e : above (next_page old) 1 ≡ next_page new = above_one (next_page old) ∙ sym splits.one_more in (
       sound_by_pages new front (subst (λ (n : ℕ). IsChain n new 1 0) e r.0),
-      ap (λ (n : ℕ). joined (chain_pieces n new 1 0)) (sym e) ∙ r.1 0,
+      sym (pieces_have new) ∙ ap (λ (n : ℕ). joined (chain_pieces n new 1 0)) (sym e) ∙ r.1 0 ∙ pieces_have old,
     )
 
 pub sound_chain_finds : (bytes : List ℕ) (key : ℕ) → IsSoundChain bytes → found (pairs_of_chain bytes) key ≡ found (page_pairs bytes (page_of_key bytes key)) key
-unfolding pairs_of_chain
-sound_chain_finds bytes key sound = chain_finds (next_page bytes) bytes 1 0 0 key (pages_of_sound bytes sound) (omega arith)
+sound_chain_finds bytes key sound = ap (λ (ps : List Pair). found ps key) (sym (pieces_have bytes)) ∙ chain_finds (next_page bytes) bytes 1 0 0 key (pages_of_sound bytes sound) (omega arith)

@@ -1,9 +1,9 @@
 -- An index of no pairs.
-use Rattle.std.proofs.Common.{◌≡◌, ℕ, zero, suc, ◌≤◌, true, nat_eq, List, [], ◌++◌, refl, sym, ap, subst, arith}
+use Rattle.std.proofs.Common.{◌≡◌, ℕ, zero, suc, ◌≤◌, true, nat_eq, List, [], ◌++◌, refl, sym, ◌∙◌, ap, subst, arith}
 use Rattle.std.proofs.lemmas.Bool.Decides.{nat_tests}
 use Rattle.index_pages.proofs.PageFacts.{no_pairs}
 use Rattle.index_pages.specs.Keys.{key_end}
-use Rattle.key_list.specs.Seen.{IsChainPage, IsChain, sound_by_pages}
+use Rattle.key_list.specs.Seen.{IsChainPage, IsChain, sound_by_pages, pieces_have}
 use Rattle.key_list.specs.Chain.{chain_pieces, IsSoundChain, pairs_of_chain}
 use Rattle.index_pages.specs.Page.{kind_of, level_of, count_of, link_of, page_pairs}
 use Rattle.index_pages.specs.Pieces.{joined}
@@ -18,7 +18,6 @@ chain_of_one (suc n) bytes some page link no_ones =
 
 pub fresh_chain : (bytes : List ℕ) → IsSuper 0 bytes → kind_of bytes 1 ≡ 1 → level_of bytes 1 ≡ 0 → link_of bytes 1 ≡ 0 → count_of bytes 1 ≡ 0
     → IsSoundChain bytes × (pairs_of_chain bytes ≡ [])
-unfolding pairs_of_chain
 fresh_chain bytes front kind level link none =
     let none_there = no_pairs bytes 1 none in
     let page : IsChainPage bytes 1 0 = record {
@@ -31,4 +30,4 @@ fresh_chain bytes front kind level link none =
       link = λ other. absurd (other link);
     } in
     let c = chain_of_one (next_page bytes) bytes (omega (arith, front.some_pages)) page link none_there in
-    (sound_by_pages bytes front c.0, c.1)
+    (sound_by_pages bytes front c.0, sym (pieces_have bytes) ∙ c.1)

@@ -8,7 +8,7 @@ use Rattle.index_pages.specs.Page.{page_pairs, link_of, count_of, count_said, pa
 use Rattle.index_pages.proofs.Reading.{from_first}
 use Rattle.index_pages.specs.Pieces.{joined}
 use Rattle.key_list.specs.Chain.{behind, chain_pieces, first_key, IsSoundChain, pairs_of_chain, chain_page_for, page_of_key}
-use Rattle.key_list.specs.Seen.{IsChain, IsChainPage, pages_of_sound}
+use Rattle.key_list.specs.Seen.{IsChain, IsChainPage, pages_of_sound, pieces_have}
 use Rattle.index_pages.proofs.Rising.{next-none, next-some, found-below}
 use Rattle.key_list.specs.ChainFacts.{chain_head}
 use Rattle.key_list.specs.Linked.{IsLinked}
@@ -23,7 +23,6 @@ pub record Next (bytes : List ℕ) (from steps page : ℕ) : Type 0 where
   pub answers : next (pairs_of_chain bytes) from ≡ next (joined (chain_pieces (suc n) bytes page start)) from
 
 pub next_first : (bytes : List ℕ) (from : ℕ) → IsSoundChain bytes → Next bytes from 0 1
-unfolding pairs_of_chain
 next_first bytes from sound =
     let e : next_page bytes ≡ suc (next_page bytes - 1) = omega (arith, sound.0.some_pages) in
     record {
@@ -32,7 +31,7 @@ next_first bytes from sound =
       start = 0;
       chain = subst (λ (n : ℕ). IsChain n bytes 1 0) e (pages_of_sound bytes sound);
       left = omega arith;
-      answers = ap (λ (n : ℕ). next (joined (chain_pieces n bytes 1 0)) from) e;
+      answers = ap (λ (ps : List Pair). next ps from) (sym (pieces_have bytes)) ∙ ap (λ (n : ℕ). next (joined (chain_pieces n bytes 1 0)) from) e;
     }
 
 -- a page of the chain is linked as it has to be

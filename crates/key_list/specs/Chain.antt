@@ -1,11 +1,11 @@
 -- The chain: it begins in page 1 and follows the links. Link 0 ends it.
-use Rattle.std.specs.Prelude.{ℕ, zero, suc, ◌≡◌, ◌<◌, ◌≤◌, nat_eq, nat_lt, if◌then◌else◌, List, [], ◌∷◌, Some, None}
+use Rattle.std.specs.Prelude.{ℕ, zero, suc, ◌≡◌, ◌<◌, ◌≤◌, nat_eq, nat_lt, if◌then◌else◌, List, [], ◌∷◌, ◌++◌, Some, None}
 use Rattle.mars_base.specs.Check.{Check, test, both, unless}
 use Rattle.record_slots.specs.Places.{page_bytes, next_page, IsSuper}
 use Rattle.page_store.specs.Pairs.{Pair}
 use Rattle.index_pages.specs.Keys.{key_end}
 use Rattle.index_pages.specs.Page.{kind_said, level_said, count_said, link_said, link_of, page_pairs}
-use Rattle.index_pages.specs.Pieces.{Piece, joined}
+use Rattle.index_pages.specs.Pieces.{Piece}
 use Rattle.index_pages.specs.Slots.{slot_check}
 
 -- the least key that may come after these pairs
@@ -48,6 +48,14 @@ IsSoundChain bytes = chain_check bytes None
 abbrev pub IsFirstDamagedOfChain : List ℕ → ℕ → Type 0
 IsFirstDamagedOfChain bytes page = chain_check bytes (Some page)
 
+-- the pairs of the first n pages of a chain from this one on
+abbrev pub chain_pairs : ℕ → List ℕ → ℕ → List Pair
+chain_pairs zero bytes page = []
+chain_pairs (suc n) bytes page = page_pairs bytes page ++ (if nat_eq (link_of bytes page) 0 then [] else chain_pairs n bytes (link_of bytes page))
+
+unfoldable pub pairs_of_chain : List ℕ → List Pair
+pairs_of_chain bytes = chain_pairs (next_page bytes) bytes 1
+
 -- the key of the first pair
 abbrev pub first_key : List Pair → ℕ
 first_key [] = 0
@@ -62,9 +70,6 @@ chain_pieces (suc n) bytes page low =
 
 abbrev pub pieces_of_chain : List ℕ → List Piece
 pieces_of_chain bytes = chain_pieces (next_page bytes) bytes 1 0
-
-unfoldable pub pairs_of_chain : List ℕ → List Pair
-pairs_of_chain bytes = joined (pieces_of_chain bytes)
 
 -- the last page of a chain whose first key is not above the key, or its first page if there is none
 abbrev pub chain_page_for : ℕ → List ℕ → ℕ → ℕ → ℕ

@@ -1,11 +1,11 @@
 -- What a sound chain's pairs are.
-use Rattle.std.proofs.Common.{◌≡◌, ℕ, zero, suc, ◌<◌, ◌≤◌, true, false, nat_eq, inl, inr, List, [], ◌∷◌, length, refl, arith}
+use Rattle.std.proofs.Common.{◌≡◌, ℕ, zero, suc, ◌<◌, ◌≤◌, true, false, nat_eq, inl, inr, List, [], ◌∷◌, length, refl, subst, arith}
 use Rattle.std.proofs.lemmas.Bool.Decides.{eqb_tells}
 use Rattle.index_pages.proofs.Tiling.{joined_rises}
 use Rattle.index_pages.proofs.PageFacts.{length-page_pairs, rise_wide}
 use Rattle.index_pages.specs.Keys.{key_end}
 use Rattle.key_list.specs.Chain.{behind, first_key, chain_pieces, IsSoundChain, pieces_of_chain, pairs_of_chain}
-use Rattle.key_list.specs.Seen.{IsChainPage, IsChain, pages_of_sound}
+use Rattle.key_list.specs.Seen.{IsChainPage, IsChain, pages_of_sound, pieces_have}
 use Rattle.index_pages.specs.Page.{count_of, link_of, page_pairs}
 use Rattle.index_pages.specs.Pieces.{low_of, Tile}
 use Rattle.page_store.specs.Pairs.{Pair, Rise}
@@ -75,5 +75,5 @@ sound_chain_tiles bytes sound =
     chain_tiles (next_page bytes) bytes 1 0 0 (pages_of_sound bytes sound) head.rises (omega arith)
 
 pub sound_chain_rises : (bytes : List ℕ) → IsSoundChain bytes → Rise 0 key_end (pairs_of_chain bytes)
-unfolding pairs_of_chain
-sound_chain_rises bytes sound = joined_rises 0 key_end (pieces_of_chain bytes) (sound_chain_tiles bytes sound)
+sound_chain_rises bytes sound =
+    subst (λ (ps : List Pair). Rise 0 key_end ps) (pieces_have bytes) (joined_rises 0 key_end (pieces_of_chain bytes) (sound_chain_tiles bytes sound))

@@ -8,7 +8,7 @@ use Rattle.index_pages.specs.Keys.{key_end}
 use Rattle.index_pages.specs.Page.{page_pairs, pairs_said, kind_said, level_said, count_said, link_said, link_of}
 use Rattle.index_pages.specs.Pieces.{joined}
 use Rattle.key_list.specs.Chain.{behind, chain_pieces, first_key, IsSoundChain, pairs_of_chain}
-use Rattle.key_list.specs.Seen.{IsChainPage, IsChain, pages_of_sound, sound_by_pages}
+use Rattle.key_list.specs.Seen.{IsChainPage, IsChain, pages_of_sound, sound_by_pages, pieces_have}
 use Rattle.index_pages.specs.Ways.{Keeps, IsOwn}
 use Rattle.index_pages.proofs.Kept.{given_kept}
 use Rattle.index_pages.proofs.Fronts.{super_rests}
@@ -60,13 +60,12 @@ module _ (old new : List ℕ) (keeps : Keeps old new) (same : (x : ℕ) → 1 �
 
 -- writes into slots leave a sound chain as it is
 pub sound_chain_rests : (old new : List ℕ) → IsSoundChain old → KeepsIndex old new → IsSoundChain new × (pairs_of_chain new ≡ pairs_of_chain old)
-unfolding pairs_of_chain
 sound_chain_rests old new sound keeps =
     let front = super_rests 0 old new sound.0 keeps in
     let pages = sound.0 in
     let r = chain_rests old new front.1 (λ x some lt. keeps.pages x (omega (arith, pages.pages))) (next_page old) 1 0 (omega arith, omega (arith, pages.some_pages)) (pages_of_sound old sound) in (
       sound_by_pages new front.0 (subst (λ (n : ℕ). IsChain n new 1 0) (sym front.2) r.0),
-      ap (λ (n : ℕ). joined (chain_pieces n new 1 0)) front.2 ∙ r.1 0,
+      sym (pieces_have new) ∙ ap (λ (n : ℕ). joined (chain_pieces n new 1 0)) front.2 ∙ r.1 0 ∙ pieces_have old,
     )
 
 chain_given : (n : ℕ) (bytes : List ℕ) (page low from : ℕ) → IsChain n bytes page low → AreGiven bytes (joined (chain_pieces n bytes page from))
@@ -81,8 +80,7 @@ chain_given (suc n) bytes page low from c =
     ]
 
 pub sound_chain_given : (bytes : List ℕ) → IsSoundChain bytes → AreGiven bytes (pairs_of_chain bytes)
-unfolding pairs_of_chain
-sound_chain_given bytes sound = chain_given (next_page bytes) bytes 1 0 0 (pages_of_sound bytes sound)
+sound_chain_given bytes sound = subst (λ (ps : List Pair). AreGiven bytes ps) (pieces_have bytes) (chain_given (next_page bytes) bytes 1 0 0 (pages_of_sound bytes sound))
 
 pub sound_chain_counts : (bytes : List ℕ) → IsSoundChain bytes → HasCounts bytes
 sound_chain_counts bytes sound = record { slots = sound.0.slots; some = sound.0.some_pages; pages = sound.0.pages }

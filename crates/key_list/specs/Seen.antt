@@ -1,5 +1,5 @@
 -- A chain that passes its check, page by page, as the lemmas of the chain speak of it.
-use Rattle.std.proofs.Common.{◌≡◌, ◌≢◌, ℕ, zero, suc, ◌<◌, ◌≤◌, true, false, nat_eq, inl, inr, List, [], ◌∷◌, None}
+use Rattle.std.proofs.Common.{◌≡◌, ◌≢◌, ℕ, zero, suc, ◌<◌, ◌≤◌, true, false, nat_eq, inl, inr, List, [], ◌∷◌, None, ◌++◌, refl, ap}
 use Rattle.std.proofs.lemmas.Bool.Decides.{eqb_tells}
 use Rattle.mars_base.specs.Check.{Check, test, both, unless, IsSingle}
 use Rattle.mars_base.proofs.Checks.{test_single, both_single, unless_single, excludes, one_bad}
@@ -7,9 +7,10 @@ use Rattle.record_slots.specs.Places.{page_bytes, next_page, AreGiven, IsSuper}
 use Rattle.page_store.specs.Pairs.{Pair, Rise}
 use Rattle.index_pages.specs.Keys.{key_end}
 use Rattle.index_pages.specs.Page.{kind_of, level_of, count_of, link_of, page_pairs}
+use Rattle.index_pages.specs.Pieces.{joined}
 use Rattle.index_pages.specs.Slots.{slot_check}
 use Rattle.index_pages.proofs.Slotted.{slot_single}
-use Rattle.key_list.specs.Chain.{behind, IsChainHead, pair_check, pairs_check, chain_from, chain_check, IsSoundChain, IsFirstDamagedOfChain}
+use Rattle.key_list.specs.Chain.{behind, IsChainHead, pair_check, pairs_check, chain_from, chain_check, IsSoundChain, IsFirstDamagedOfChain, chain_pairs, pairs_of_chain, first_key, chain_pieces, pieces_of_chain}
 
 -- a page of a chain, when all keys before it are below the lower bound
 pub record IsChainPage (bytes : List ℕ) (page low : ℕ) : Type 0 where
@@ -77,6 +78,21 @@ pages_of_sound bytes sound = chain_seen (next_page bytes) bytes 1 0 sound.1
 
 pub sound_by_pages : (bytes : List ℕ) → IsSuper 0 bytes → IsChain (next_page bytes) bytes 1 0 → IsSoundChain bytes
 sound_by_pages bytes front pages = (front, chain_passes (next_page bytes) bytes 1 0 pages)
+
+joined_pieces : (n : ℕ) (bytes : List ℕ) (page low : ℕ) → joined (chain_pieces n bytes page low) ≡ chain_pairs n bytes page
+joined_pieces zero bytes page low = refl
+joined_pieces (suc n) bytes page low =
+    elim (eqb_tells (link_of bytes page) 0) [
+      | inl last ↦ let b : nat_eq (link_of bytes page) 0 ≡ true = last.0 in rw b refl
+      | inr more ↦
+          let b : nat_eq (link_of bytes page) 0 ≡ false = more.0 in
+          rw b (ap (λ (ps : List Pair). page_pairs bytes page ++ ps) (joined_pieces n bytes (link_of bytes page) (first_key (page_pairs bytes (link_of bytes page)))))
+    ]
+
+-- the pieces have the pairs
+pub pieces_have : (bytes : List ℕ) → joined (pieces_of_chain bytes) ≡ pairs_of_chain bytes
+unfolding pairs_of_chain
+pieces_have bytes = joined_pieces (next_page bytes) bytes 1 0
 
 pairs_single : (bytes : List ℕ) (page low : ℕ) (ps : List Pair) → IsSingle (pairs_check bytes page low ps)
 pairs_single bytes page low [] = test_single (low ≤ key_end) page

@@ -5,13 +5,14 @@ ghost use Rattle.page_store.specs.Index.{KeepsIndex};
 ghost use Rattle.page_store.specs.Pairs.{Rise, found, inserted};
 ghost use Rattle.index_pages.specs.Keys.{key_end};
 ghost use Rattle.index_pages.specs.Page.{kind_of, level_of, count_of, link_of, page_pairs};
-ghost use Rattle.index_pages.specs.Pieces.{Tile};
+ghost use Rattle.index_pages.specs.Pieces.{joined, Tile};
 ghost use Rattle.index_pages.specs.Ways.{Keeps};
 ghost use Rattle.key_list.specs.Chain.{IsSoundChain, IsFirstDamagedOfChain, pieces_of_chain, pairs_of_chain, page_of_key};
 ghost use Rattle.key_list.specs.Changes.{TakesPairInChain, SplitsPage};
 
-/// The pages of a sound chain tile all keys. Its pairs rise strictly, with slots that are given and carry the keys.
+/// The pages of a sound chain tile all keys, and have its pairs. These rise strictly, with slots that are given and carry the keys.
 pub fn chain_rises()
+    ensures pairs { (bytes : List ℕ) → joined (pieces_of_chain bytes) ≡ pairs_of_chain bytes }
     ensures tiles { (bytes : List ℕ) → IsSoundChain bytes → Tile 0 key_end (pieces_of_chain bytes) }
     ensures rises { (bytes : List ℕ) → IsSoundChain bytes → Rise 0 key_end (pairs_of_chain bytes) }
     ensures given { (bytes : List ℕ) → IsSoundChain bytes → AreGiven bytes (pairs_of_chain bytes) }

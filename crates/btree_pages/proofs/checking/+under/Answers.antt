@@ -9,6 +9,7 @@ use Rattle.page_store.specs.declared.index_fault.CheckFault.{CheckFault}
 use Rattle.index_pages.specs.Fetched.{IsFront}
 use Rattle.index_pages.specs.Page.{pairs_from, pair_said, pairs_said}
 use Rattle.index_pages.proofs.Looking.{looks_none, looks_next}
+use Rattle.index_pages.proofs.Sizes.{index_pages_most}
 use Rattle.index_pages.proofs.Reading.{from_step, from_end}
 use Rattle.btree_pages.specs.Checked.{high_of, IsFrontOf}
 use Rattle.btree_pages.specs.Tree.{AreChildren, next_low, children_check, tree_from}
@@ -36,7 +37,7 @@ check_children-loop-i-init g t c =
 pub check_children-overflow_cast-spot : goal.check_children-overflow_cast-spot
 check_children-overflow_cast-spot g t c =
     let h = named_here c.args.bytes.now c.loop-i.i c.args.count (AreChildren c.args.front.now.next_page (pairs_said c.args.bytes.now)) c.args.front.now.next_page c.loop-i.invariant.named c.loop-i-test.true c.requires.named in
-    omega (arith, h.1, ap (λ (p : Pair). p.1) c.read_pair-low.ensures.pair, c.requires.front.pages, c.index_page_count-most.ensures.count, c.index_page_count-most.ensures.most)
+    omega (arith, h.1, ap (λ (p : Pair). p.1) c.read_pair-low.ensures.pair, c.requires.front.pages, index_pages_most (g.S.EawStore.view c.args.pages.now.store).shape)
 
 pub check_children-check_under-requires : goal.check_children-check_under-requires
 check_children-check_under-requires g t c κs within =
