@@ -1,5 +1,5 @@
 -- How calls of a file in memory are answered.
-use Rattle.std.specs.Prelude.{ℕ, ◌≡◌, min, List, [], ◌∷◌, Result, Ok, Err, IsOk}
+use Rattle.std.specs.Prelude.{ℕ, ◌≡◌, min, List, [], ◌∷◌, Result, Err, IsOk}
 use Rattle.media_file.specs.declared.calls.CallFault.{CallFault}
 use Rattle.media_file.specs.declared.calls.CallFault.TheVariants as fault
 use Rattle.media_file.specs.declared.honest_call.Answer.{Answer}

@@ -17,7 +17,7 @@ opened least first = if nat_le least (length first.bytes) then first else record
 module _ {C : Type 0} {g : calls.Ghosts C} where
   -- it counts its own calls that failed, and those of the file
   abbrev pub shown : FileMedia C g → View
-  shown media = view_over (g.past media.calls) media.size media.moment (media.faults + (g.tally media.calls).failed)
+  shown media = view_over (g.past media.calls) media.size media.moment (media.faults + (g.faults media.calls).failed)
 
   abbrev pub calls_of : FileMedia C g → C
   calls_of media = media.calls

@@ -9,7 +9,7 @@ use mars_base::Failed;
 /// The length of the file in bytes.
 pub fn measure<C: Calls>(calls: &mut C, moment: u64) -> Result<u64, Failed>
     ensures noted { IsTrue C.trusted → IfOk result (λ len. C.past calls.new ≡ noted moment (measured len) (C.past calls.old)) }
-    ensures tried { Tried 0 (C.tally calls.old) (C.tally calls.new) result }
+    ensures tried { Tried 0 (C.faults calls.old) (C.faults calls.new) result }
     ensures steady { (more_calls more : ℕ) → IsTrue (C.steady calls.old (more_calls + 1) more) → IsOk result × IsTrue (C.steady calls.new more_calls more) }
 {
     'turns: for _ in 0..u64::MAX {
@@ -25,7 +25,7 @@ pub fn measure<C: Calls>(calls: &mut C, moment: u64) -> Result<u64, Failed>
 /// Cuts the file to `len` bytes, or extends it to them with zeros.
 pub fn resize<C: Calls>(calls: &mut C, moment: u64, len: u64) -> Result<(), Failed>
     ensures noted { IsTrue C.trusted → OnOk result (C.past calls.new ≡ noted moment (resized len) (C.past calls.old)) }
-    ensures tried { Tried 0 (C.tally calls.old) (C.tally calls.new) result }
+    ensures tried { Tried 0 (C.faults calls.old) (C.faults calls.new) result }
     ensures steady { (more_calls more : ℕ) → IsTrue (C.steady calls.old (more_calls + 1) more) → IsOk result × IsTrue (C.steady calls.new more_calls more) }
 {
     'turns: for _ in 0..u64::MAX {
@@ -43,7 +43,7 @@ pub fn sync<C: Calls>(calls: &mut C, moment: u64) -> Result<(), Failed>
     ensures noted { IsTrue C.trusted → MatchResult result
         (λ _. C.past calls.new ≡ noted moment synced (C.past calls.old))
         (λ _. C.past calls.new ≡ C.past calls.old) }
-    ensures tried { Tried 0 (C.tally calls.old) (C.tally calls.new) result }
+    ensures tried { Tried 0 (C.faults calls.old) (C.faults calls.new) result }
     ensures steady { (more_calls more : ℕ) → IsTrue (C.steady calls.old (more_calls + 1) more) → IsOk result × IsTrue (C.steady calls.new more_calls more) }
 {
     'turns: for _ in 0..u64::MAX {

@@ -1,7 +1,7 @@
 // What is asked of a file.
 ghost use Rattle.std.specs.Prelude.{◌≡◌, ◌≤◌, ◌⊎◌, List, ℕ, Bool, length, take, ◌+◌, Ok, IsTrue, IsOk, IfOk, MatchResult};
-ghost use Rattle.media_file.specs.declared.tally.Tally.{Tally};
-ghost use Rattle.media_file.specs.Counted.{tallied, part_of};
+ghost use Rattle.media_file.specs.declared.call_faults.CallFaults.{CallFaults};
+ghost use Rattle.media_file.specs.Counted.{after_answer, part_of};
 ghost use Rattle.media_file.specs.Past.{Past, measured, came, stands, resized, synced, noted, IsHonest};
 
 /// Why a call of a file did not do its work.
@@ -21,7 +21,7 @@ pub trait Calls {
     ghost past: { Self → Past };
 
     /// How many of its calls failed, and how many were interrupted. A call that answers Ok leaves both as they were.
-    ghost tally: { Self → Tally };
+    ghost faults: { Self → CallFaults };
 
     /// Whether this many further calls, which write this many bytes in all, are sure to be done in full.
     ghost steady: { Self → ℕ → ℕ → Bool };
@@ -31,7 +31,7 @@ pub trait Calls {
         ensures noted { IsTrue trusted → MatchResult result
             (λ len. past self.new ≡ noted moment (measured len) (past self.old))
             (λ _. past self.new ≡ past self.old) }
-        ensures counted { tally self.new ≡ tallied result (tally self.old) }
+        ensures counted { faults self.new ≡ after_answer result (faults self.old) }
         ensures steady { (calls more : ℕ) → IsTrue (steady self.old (calls + 1) more) → IsOk result × IsTrue (steady self.new calls more) };
 
     /// Reads bytes from `at` on, and returns how many came.
@@ -40,7 +40,7 @@ pub trait Calls {
         ensures noted { IsTrue trusted → MatchResult result
             (λ count. past self.new ≡ noted moment (came at (take count buf.new)) (past self.old))
             (λ _. past self.new ≡ past self.old) }
-        ensures counted { tally self.new ≡ tallied (part_of (length buf.old) result) (tally self.old) }
+        ensures counted { faults self.new ≡ after_answer (part_of (length buf.old) result) (faults self.old) }
         ensures steady { (calls more : ℕ) → IsTrue (steady self.old (calls + 1) more) → (result ≡ Ok (length buf.old)) × IsTrue (steady self.new calls more) };
 
     /// Writes bytes at `at`, and returns how many were taken. If it fails, anything may stand in their place.
@@ -49,7 +49,7 @@ pub trait Calls {
         ensures noted { IsTrue trusted → MatchResult result
             (λ count. past self.new ≡ noted moment (stands at (take count bytes.now)) (past self.old))
             (λ _. (past self.new ≡ past self.old) ⊎ ((left : List ℕ) × (length left ≡ length bytes.now) × (past self.new ≡ noted moment (stands at left) (past self.old)))) }
-        ensures counted { tally self.new ≡ tallied (part_of (length bytes.now) result) (tally self.old) }
+        ensures counted { faults self.new ≡ after_answer (part_of (length bytes.now) result) (faults self.old) }
         ensures steady { (calls more : ℕ) → IsTrue (steady self.old (calls + 1) (length bytes.now + more)) → (result ≡ Ok (length bytes.now)) × IsTrue (steady self.new calls more) };
 
     /// Cuts it to `len` bytes, or extends it to them with zeros.
@@ -57,7 +57,7 @@ pub trait Calls {
         ensures noted { IsTrue trusted → MatchResult result
             (λ _. past self.new ≡ noted moment (resized len) (past self.old))
             (λ _. past self.new ≡ past self.old) }
-        ensures counted { tally self.new ≡ tallied result (tally self.old) }
+        ensures counted { faults self.new ≡ after_answer result (faults self.old) }
         ensures steady { (calls more : ℕ) → IsTrue (steady self.old (calls + 1) more) → IsOk result × IsTrue (steady self.new calls more) };
 
     /// Waits until all that was written, and the length, are durable.
@@ -65,7 +65,7 @@ pub trait Calls {
         ensures noted { IsTrue trusted → MatchResult result
             (λ _. past self.new ≡ noted moment synced (past self.old))
             (λ _. past self.new ≡ past self.old) }
-        ensures counted { tally self.new ≡ tallied result (tally self.old) }
+        ensures counted { faults self.new ≡ after_answer result (faults self.old) }
         ensures steady { (calls more : ℕ) → IsTrue (steady self.old (calls + 1) more) → IsOk result × IsTrue (steady self.new calls more) };
 
     /// If it is trusted, each call was answered from what the calls before it had made of the first content.

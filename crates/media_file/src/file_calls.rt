@@ -1,7 +1,7 @@
 // A file of the system.
 ghost use Rattle.std.specs.Prelude.{◌≡◌, ◌≤◌, IfOk, IfSome, IsNone, IsSome};
 
-use crate::{CallFault, Calls, Tally};
+use crate::{CallFault, CallFaults, Calls};
 use mars_base::Failed;
 use std::fs::{File, OpenOptions};
 use std::io;
@@ -15,7 +15,7 @@ use std::rt::Files;
 #[derive(Drop)]
 pub struct FileCalls {
     file: File,
-    tally: Tally,
+    faults: CallFaults,
 }
 
 impl FileCalls {
@@ -32,12 +32,12 @@ impl FileCalls {
         least: u64,
     ) -> Result<Option<FileCalls>, Failed>
         ensures there { 1 ≤ least → IfOk result IsSome }
-        ensures anew { IfOk result (λ found. IfSome found (λ file. file.tally ≡ no_faults)) }
+        ensures anew { IfOk result (λ found. IfSome found (λ file. file.faults ≡ no_faults)) }
     {
         match open_or_make(rt, path, least) {
             Ok(Some(file)) => Ok(Some(FileCalls {
                 file,
-                tally: Tally::new(),
+                faults: CallFaults::new(),
             })),
             Ok(None) => Ok(None),
             Err(_) => Err(Failed),
@@ -99,7 +99,7 @@ impl Calls for FileCalls {
 
     ghost past = { λ _. record { first = record { bytes = []; unsettled = [] }; calls = [] } };
 
-    ghost tally = { λ file. file.tally };
+    ghost faults = { λ file. file.faults };
 
     ghost steady = { λ _ _ _. false };
 
@@ -110,26 +110,26 @@ impl Calls for FileCalls {
             Ok(metadata) => Ok(metadata.len()),
             Err(error) => Err(fault_of(error)),
         };
-        self.tally.count(answer)
+        self.faults.count(answer)
     }
 
     fn read_at(&mut self, _moment: u64, at: u64, buf: &mut [u8]) -> Result<usize, CallFault> {
         let answer = self.file.read_at(buf, at).map_err(fault_of);
-        self.tally.count_part(buf.len(), answer)
+        self.faults.count_part(buf.len(), answer)
     }
 
     fn write_at(&mut self, _moment: u64, at: u64, bytes: &[u8]) -> Result<usize, CallFault> {
         let answer = self.file.write_at(bytes, at).map_err(fault_of);
-        self.tally.count_part(bytes.len(), answer)
+        self.faults.count_part(bytes.len(), answer)
     }
 
     fn set_len(&mut self, _moment: u64, len: u64) -> Result<(), CallFault> {
-        self.tally.count(self.file.set_len(len).map_err(fault_of))
+        self.faults.count(self.file.set_len(len).map_err(fault_of))
     }
 
     // A later read needs the bytes and the length of the file, and `sync_data` makes both durable. It leaves out what nobody
     // reads, such as the time of the last access.
     fn sync_data(&mut self, _moment: u64) -> Result<(), CallFault> {
-        self.tally.count(self.file.sync_data().map_err(fault_of))
+        self.faults.count(self.file.sync_data().map_err(fault_of))
     }
 }

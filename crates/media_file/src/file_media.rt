@@ -13,8 +13,8 @@ use pcm_media::Media;
 use std::fs::File;
 use std::rt::Files;
 
-/// A medium over a file that nobody else changes. It tells its bytes if its calls are trusted. It counts its faults. For each
-/// of its calls it makes one call of the file, if the file does that one in full.
+/// A medium over a file that nobody else changes. It tells its bytes if its calls are trusted. Its faults are its own calls that
+/// failed and those of the file that did. For each of its calls it makes one call of the file, if the file does that one in full.
 #[derive(Drop)]
 pub struct FileMedia<C: Calls> {
     calls: C,
@@ -34,7 +34,7 @@ impl<C: Calls + Drop> FileMedia<C> {
     pub fn over(calls: C, least: u64) -> Result<FileMedia<C>, Failed>
         requires { IsTrue C.trusted → (C.past calls).calls ≡ [] }
         ensures long { IfOk result (λ media. least ≤ (shown media).size) }
-        ensures anew { IfOk result (λ media. ((shown media).moment ≡ 0) × ((shown media).faults ≡ (C.tally calls).failed)) }
+        ensures anew { IfOk result (λ media. ((shown media).moment ≡ 0) × ((shown media).faults ≡ (C.faults calls).failed)) }
         ensures content { IsTrue C.trusted → IfOk result (λ media. (shown media).content ≡ opened least (C.past calls).first) }
         ensures ready { (more_calls more : ℕ) → IsTrue (C.steady calls (more_calls + 1 + 1 + 1) more) → IsOk result }
     {

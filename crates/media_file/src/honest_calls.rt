@@ -1,12 +1,12 @@
 // An honest file in memory.
 ghost use Rattle.std.specs.Prelude.{◌≡◌, ◌-◌, ◌≤◌, ◌⊎◌, ℕ, min, List, [], length, take, drop, replicate, true, false, if◌then◌else◌, is_ok, IfOk, OnOk, OnErr, MatchResult};
 ghost use Rattle.media_file.specs.Past.{held, noted, measured, came, stands, resized, synced};
-ghost use Rattle.media_file.specs.Counted.{tallied, part_of};
+ghost use Rattle.media_file.specs.Counted.{after_answer, part_of};
 ghost use Rattle.media_file.specs.AsListed.{next_of, Obeys, part_done};
 ghost use Rattle.media_file.specs.Honest.{past_of, event_of, is_quiet};
 
 use crate::answer_list::AnswerList;
-use crate::{Answer, CallFault, Calls, Done, HonestCall, Tally};
+use crate::{Answer, CallFault, CallFaults, Calls, Done, HonestCall};
 use mars_base::NoMemory;
 use std::alloc::Global;
 
@@ -24,7 +24,7 @@ pub struct HonestCalls {
     calls: Vec<HonestCall>,
     answers: AnswerList,
     as_listed: bool,
-    tally: Tally,
+    faults: CallFaults,
     ghost tells: { (held (past_of first.items calls.items)).bytes ≡ bytes.items },
 }
 
@@ -36,7 +36,7 @@ impl HonestCalls {
     /// A file with a copy of these bytes, all durable, of which no call has been made.
     pub fn new(alloc: Global, bytes: &[u8], answers: Vec<Answer>) -> Result<HonestCalls, NoMemory>
         ensures past { IfOk result (λ file. past_in file ≡ record { first = at_rest bytes.now; calls = [] }) }
-        ensures anew { IfOk result (λ file. (file.tally ≡ no_faults) × (file.answers ≡ answers.items) × (file.as_listed ≡ true)) }
+        ensures anew { IfOk result (λ file. (file.faults ≡ no_faults) × (file.answers ≡ answers.items) × (file.as_listed ≡ true)) }
     {
         Ok(HonestCalls {
             alloc,
@@ -45,7 +45,7 @@ impl HonestCalls {
             calls: Vec::new(alloc),
             answers: AnswerList::new(answers),
             as_listed: true,
-            tally: Tally::new(),
+            faults: CallFaults::new(),
         })
     }
 
@@ -77,12 +77,19 @@ impl HonestCalls {
         self.as_listed
     }
 
+    /// How many of its calls failed, and how many were interrupted.
+    pub fn faults(&self) -> CallFaults
+        ensures { result ≡ self.now.faults }
+    {
+        self.faults
+    }
+
     // How many of `len` bytes the next call does, by the list of answers.
     fn answer(&mut self, len: usize) -> Result<usize, CallFault>
         ensures count { IfOk result (λ count. count ≡ part_done (next_of self.old.answers) len) }
         ensures obeys { Obeys (next_of self.old.answers) result }
         ensures rest { self.new.answers ≡ drop 1 self.old.answers }
-        ensures same { (past_in self.new ≡ past_in self.old) × (self.new.tally ≡ self.old.tally) × (self.new.as_listed ≡ self.old.as_listed) }
+        ensures same { (past_in self.new ≡ past_in self.old) × (self.new.faults ≡ self.old.faults) × (self.new.as_listed ≡ self.old.as_listed) }
     {
         match self.answers.take() {
             Answer::Whole => Ok(len),
@@ -96,7 +103,7 @@ impl HonestCalls {
     fn fail(&mut self) -> CallFault
         ensures failed { result ≡ CallFault.Failed }
         ensures not_listed { self.new.as_listed ≡ false }
-        ensures same { (past_in self.new ≡ past_in self.old) × (self.new.tally ≡ self.old.tally) × (self.new.answers ≡ self.old.answers) }
+        ensures same { (past_in self.new ≡ past_in self.old) × (self.new.faults ≡ self.old.faults) × (self.new.answers ≡ self.old.answers) }
     {
         self.as_listed = false;
         CallFault::Failed
@@ -108,7 +115,7 @@ impl HonestCalls {
         ensures kept { OnOk result (past_in self.new ≡ noted moment (event_of done (held (past_in self.old))) (past_in self.old)) }
         ensures failed { OnErr result (past_in self.new ≡ past_in self.old) }
         ensures listed { self.new.as_listed ≡ (if is_ok result then self.old.as_listed else false) }
-        ensures same { (self.new.tally ≡ self.old.tally) × (self.new.answers ≡ self.old.answers) }
+        ensures same { (self.new.faults ≡ self.old.faults) × (self.new.answers ≡ self.old.answers) }
     {
         match self.calls.push(HonestCall { moment, done }) {
             Ok(()) => Ok(()),
@@ -121,7 +128,7 @@ impl HonestCalls {
         ensures put { OnOk result (past_in self.new ≡ noted moment (stands at bytes.now) (past_in self.old)) }
         ensures failed { OnErr result (past_in self.new ≡ past_in self.old) }
         ensures listed { self.new.as_listed ≡ (if is_ok result then self.old.as_listed else false) }
-        ensures same { (self.new.tally ≡ self.old.tally) × (self.new.answers ≡ self.old.answers) }
+        ensures same { (self.new.faults ≡ self.old.faults) × (self.new.answers ≡ self.old.answers) }
     {
         let place = at as usize;
         if place > self.bytes.len() || self.bytes.len() - place < bytes.len() {
@@ -144,7 +151,7 @@ impl HonestCalls {
             ⊎ (past_in self.new ≡ noted moment (stands at (replicate len SPOILT)) (past_in self.old)) }
         ensures spoilt { self.new.as_listed ≡ true →
             (self.old.as_listed ≡ true) × (past_in self.new ≡ noted moment (stands at (replicate len SPOILT)) (past_in self.old)) }
-        ensures same { (self.new.tally ≡ self.old.tally) × (self.new.answers ≡ self.old.answers) }
+        ensures same { (self.new.faults ≡ self.old.faults) × (self.new.answers ≡ self.old.answers) }
     {
         match vec![in self.alloc; SPOILT; len] {
             Ok(left) => {
@@ -160,7 +167,7 @@ impl HonestCalls {
         ensures noted { MatchResult result
             (λ len. past_in self.new ≡ noted moment (measured len) (past_in self.old))
             (λ _. past_in self.new ≡ past_in self.old) }
-        ensures tally { self.new.tally ≡ self.old.tally }
+        ensures faults { self.new.faults ≡ self.old.faults }
         ensures takes { Takes self.old self.new result }
     {
         self.answer(0)?;
@@ -173,7 +180,7 @@ impl HonestCalls {
         ensures noted { MatchResult result
             (λ count. past_in self.new ≡ noted moment (came at (take count buf.new)) (past_in self.old))
             (λ _. past_in self.new ≡ past_in self.old) }
-        ensures tally { self.new.tally ≡ self.old.tally }
+        ensures faults { self.new.faults ≡ self.old.faults }
         ensures part { IfOk result (λ count. count ≡ min (part_done (next_of self.old.answers) (length buf.old)) (length (held (past_in self.old)).bytes - at)) }
         ensures takes { Takes self.old self.new result }
     {
@@ -190,7 +197,7 @@ impl HonestCalls {
         ensures noted { MatchResult result
             (λ count. past_in self.new ≡ noted moment (stands at (take count bytes.now)) (past_in self.old))
             (λ _. (past_in self.new ≡ past_in self.old) ⊎ ((left : List ℕ) × (length left ≡ length bytes.now) × (past_in self.new ≡ noted moment (stands at left) (past_in self.old)))) }
-        ensures tally { self.new.tally ≡ self.old.tally }
+        ensures faults { self.new.faults ≡ self.old.faults }
         ensures part { IfOk result (λ count. count ≡ part_done (next_of self.old.answers) (length bytes.now)) }
         ensures spoilt { self.new.as_listed ≡ true → OnErr result (past_in self.new ≡ noted moment (stands at (replicate (length bytes.now) SPOILT)) (past_in self.old)) }
         ensures takes { Takes self.old self.new result }
@@ -211,7 +218,7 @@ impl HonestCalls {
         ensures noted { MatchResult result
             (λ _. past_in self.new ≡ noted moment (resized len) (past_in self.old))
             (λ _. past_in self.new ≡ past_in self.old) }
-        ensures tally { self.new.tally ≡ self.old.tally }
+        ensures faults { self.new.faults ≡ self.old.faults }
         ensures takes { Takes self.old self.new result }
     {
         self.answer(0)?;
@@ -227,7 +234,7 @@ impl HonestCalls {
         ensures noted { MatchResult result
             (λ _. past_in self.new ≡ noted moment synced (past_in self.old))
             (λ _. past_in self.new ≡ past_in self.old) }
-        ensures tally { self.new.tally ≡ self.old.tally }
+        ensures faults { self.new.faults ≡ self.old.faults }
         ensures takes { Takes self.old self.new result }
     {
         self.answer(0)?;
@@ -245,7 +252,7 @@ impl Calls for HonestCalls {
 
     ghost past = { past_in };
 
-    ghost tally = { λ file. file.tally };
+    ghost faults = { λ file. file.faults };
 
     ghost steady = { λ _ _ _. false };
 
@@ -255,11 +262,11 @@ impl Calls for HonestCalls {
         ensures noted { MatchResult result
             (λ len. past_in self.new ≡ noted moment (measured len) (past_in self.old))
             (λ _. past_in self.new ≡ past_in self.old) }
-        ensures counted { self.new.tally ≡ tallied result self.old.tally }
+        ensures counted { self.new.faults ≡ after_answer result self.old.faults }
         ensures takes { Takes self.old self.new result }
     {
         let answer = self.measure(moment);
-        self.tally.count(answer)
+        self.faults.count(answer)
     }
 
     fn read_at(&mut self, moment: u64, at: u64, buf: &mut [u8]) -> Result<usize, CallFault>
@@ -267,12 +274,12 @@ impl Calls for HonestCalls {
         ensures noted { MatchResult result
             (λ count. past_in self.new ≡ noted moment (came at (take count buf.new)) (past_in self.old))
             (λ _. past_in self.new ≡ past_in self.old) }
-        ensures counted { self.new.tally ≡ tallied (part_of (length buf.old) result) self.old.tally }
+        ensures counted { self.new.faults ≡ after_answer (part_of (length buf.old) result) self.old.faults }
         ensures part { IfOk result (λ count. count ≡ min (part_done (next_of self.old.answers) (length buf.old)) (length (held (past_in self.old)).bytes - at)) }
         ensures takes { Takes self.old self.new result }
     {
         let answer = self.read(moment, at, buf);
-        self.tally.count_part(buf.len(), answer)
+        self.faults.count_part(buf.len(), answer)
     }
 
     fn write_at(&mut self, moment: u64, at: u64, bytes: &[u8]) -> Result<usize, CallFault>
@@ -280,34 +287,34 @@ impl Calls for HonestCalls {
         ensures noted { MatchResult result
             (λ count. past_in self.new ≡ noted moment (stands at (take count bytes.now)) (past_in self.old))
             (λ _. (past_in self.new ≡ past_in self.old) ⊎ ((left : List ℕ) × (length left ≡ length bytes.now) × (past_in self.new ≡ noted moment (stands at left) (past_in self.old)))) }
-        ensures counted { self.new.tally ≡ tallied (part_of (length bytes.now) result) self.old.tally }
+        ensures counted { self.new.faults ≡ after_answer (part_of (length bytes.now) result) self.old.faults }
         ensures part { IfOk result (λ count. count ≡ part_done (next_of self.old.answers) (length bytes.now)) }
         ensures spoilt { self.new.as_listed ≡ true → OnErr result (past_in self.new ≡ noted moment (stands at (replicate (length bytes.now) SPOILT)) (past_in self.old)) }
         ensures takes { Takes self.old self.new result }
     {
         let answer = self.write(moment, at, bytes);
-        self.tally.count_part(bytes.len(), answer)
+        self.faults.count_part(bytes.len(), answer)
     }
 
     fn set_len(&mut self, moment: u64, len: u64) -> Result<(), CallFault>
         ensures noted { MatchResult result
             (λ _. past_in self.new ≡ noted moment (resized len) (past_in self.old))
             (λ _. past_in self.new ≡ past_in self.old) }
-        ensures counted { self.new.tally ≡ tallied result self.old.tally }
+        ensures counted { self.new.faults ≡ after_answer result self.old.faults }
         ensures takes { Takes self.old self.new result }
     {
         let answer = self.resize(moment, len);
-        self.tally.count(answer)
+        self.faults.count(answer)
     }
 
     fn sync_data(&mut self, moment: u64) -> Result<(), CallFault>
         ensures noted { MatchResult result
             (λ _. past_in self.new ≡ noted moment synced (past_in self.old))
             (λ _. past_in self.new ≡ past_in self.old) }
-        ensures counted { self.new.tally ≡ tallied result self.old.tally }
+        ensures counted { self.new.faults ≡ after_answer result self.old.faults }
         ensures takes { Takes self.old self.new result }
     {
         let answer = self.sync(moment);
-        self.tally.count(answer)
+        self.faults.count(answer)
     }
 }

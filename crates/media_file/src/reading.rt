@@ -16,7 +16,7 @@ pub fn read_all<C: Calls>(calls: &mut C, moment: u64, at: u64, buf: &mut [u8]) -
     ensures bytes { IsTrue C.trusted → OnOk result (buf.new ≡ range (held (C.past calls.old)).bytes at (length buf.old)) }
     ensures same { IsTrue C.trusted → held (C.past calls.new) ≡ held (C.past calls.old) }
     ensures serves { IsTrue C.trusted → Serves moment [] (C.past calls.old) (C.past calls.new) }
-    ensures tried { Tried (length buf.old) (C.tally calls.old) (C.tally calls.new) result }
+    ensures tried { Tried (length buf.old) (C.faults calls.old) (C.faults calls.new) result }
     ensures steady { (more_calls more : ℕ) → IsTrue (C.steady calls.old (more_calls + 1) more) → IsOk result × IsTrue (C.steady calls.new more_calls more) }
 {
     let mut done = 0;

@@ -15,7 +15,7 @@ pub fn write_all<C: Calls>(calls: &mut C, moment: u64, at: u64, bytes: &[u8]) ->
     requires before { IsTrue C.trusted → AreBefore moment (C.past calls.old).calls }
     ensures written { IsTrue C.trusted → OnOk result (held (C.past calls.new) ≡ written at bytes.now (held (C.past calls.old))) }
     ensures serves { IsTrue C.trusted → Serves moment ((at, length bytes.now) ∷ []) (C.past calls.old) (C.past calls.new) }
-    ensures tried { Tried (length bytes.now) (C.tally calls.old) (C.tally calls.new) result }
+    ensures tried { Tried (length bytes.now) (C.faults calls.old) (C.faults calls.new) result }
     ensures steady { (more_calls more : ℕ) → IsTrue (C.steady calls.old (more_calls + 1) (length bytes.now + more)) → IsOk result × IsTrue (C.steady calls.new more_calls more) }
 {
     let mut done = 0;

@@ -29,19 +29,13 @@ module _ (tells : Bool) (ranges : List (ℕ × ℕ)) (old new : View)
   Behind inner t image = ((t < min inner.moment (2 ^ 64 - 1)) × inner.left_since t image) ⊎ MayLeave inner.content image
 
   -- what the medium behind the fuse might have left, as the fuse tells it
-  from_old : (t : ℕ) (image : List ℕ) → IsTrue tells → t ≤ old.moment → old.moment ≤ 2 ^ 64 - 1 → old.left_since t image → Behind old t image
-  from_old t image told le fits left = go (cases_lt t (min old.moment (2 ^ 64 - 1)))
+  from_view : (inner : View) → ((image : List ℕ) → IsTrue tells → inner.left_since inner.moment image → MayLeave inner.content image)
+      → (t : ℕ) (image : List ℕ) → IsTrue tells → t ≤ inner.moment → inner.moment ≤ 2 ^ 64 - 1 → inner.left_since t image → Behind inner t image
+  from_view inner only t image told le fits left = go (cases_lt t (min inner.moment (2 ^ 64 - 1)))
     where
-      go : (t < min old.moment (2 ^ 64 - 1)) ⊎ (min old.moment (2 ^ 64 - 1) ≤ t) → Behind old t image
+      go : (t < min inner.moment (2 ^ 64 - 1)) ⊎ (min inner.moment (2 ^ 64 - 1) ≤ t) → Behind inner t image
       go (inl past) = inl (past, left)
-      go (inr last) = let here : t ≡ old.moment = omega arith in inr (only_old image told (subst (λ (m : ℕ). old.left_since m image) here left))
-
-  from_new : (t : ℕ) (image : List ℕ) → IsTrue tells → t ≤ new.moment → new.moment ≤ 2 ^ 64 - 1 → new.left_since t image → Behind new t image
-  from_new t image told le fits left = go (cases_lt t (min new.moment (2 ^ 64 - 1)))
-    where
-      go : (t < min new.moment (2 ^ 64 - 1)) ⊎ (min new.moment (2 ^ 64 - 1) ≤ t) → Behind new t image
-      go (inl past) = inl (past, left)
-      go (inr last) = let here : t ≡ new.moment = omega arith in inr (only_new image told (subst (λ (m : ℕ). new.left_since m image) here left))
+      go (inr last) = let here : t ≡ inner.moment = omega arith in inr (only image told (subst (λ (m : ℕ). inner.left_since m image) here left))
 
   module _ {T E : Type 0} (result : Result T E) (writes : Writes tells ranges old new result) (ticks : Ticks old.moment new.moment result) where
     time : IsTrue tells → LeavesOnly (MayLeave (partly ranges old.content)) (fused_view old 0) (fused_view new 0)
@@ -50,11 +44,11 @@ module _ (tells : Bool) (ranges : List (ℕ × ℕ)) (old new : View)
           later = omega (arith, inner.later);
           keeps = λ t image le left. ⊎_elim
               (λ past. inl (omega (arith, past.0, inner.later), inner.keeps t image (omega arith) past.1))
-              (λ now. from_new t image told (omega (arith, inner.later)) (omega (arith, ticks.next)) (inner.keeps t image (omega arith) (counts_old t image told (omega arith) now)))
+              (λ now. from_view new only_new t image told (omega (arith, inner.later)) (omega (arith, ticks.next)) (inner.keeps t image (omega arith) (counts_old t image told (omega arith) now)))
               left;
           only = λ t image le left. ⊎_elim
               (λ past. ⊎_elim
-              (λ was. inl (from_old t image told (omega arith) (omega (arith, inner.later, ticks.next)) was))
+              (λ was. inl (from_view old only_old t image told (omega arith) (omega (arith, inner.later, ticks.next)) was))
               (λ anew. inr anew)
               (inner.only t image (omega arith) past.1))
               (λ now. inr (left_partly ranges old.content new.content (writes.touched told) image now))

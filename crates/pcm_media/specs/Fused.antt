@@ -22,6 +22,10 @@ fused_view inner blown = record {
   faults = inner.faults + blown;
 }
 
+-- the view of a medium behind a fuse, by what the medium shows
+abbrev pub behind : {M : Type 0} → (M → View) → Fused M → View
+behind view fused = fused_view (view fused.inner) fused.blown
+
 -- What a call does to the fuse: it takes a pass. With none left it fails, and the medium behind the fuse stays as it was.
 pub record Burns {M T E : Type 0} (old new : Fused M) (result : Result T E) : Type 0 where
   pub passes : new.passes ≡ old.passes - 1

@@ -6,7 +6,7 @@ ghost use Rattle.mars_base.specs.Bytes.{range};
 ghost use Rattle.pcm_media.specs.Images.{written, settled};
 ghost use Rattle.pcm_media.specs.View.{Writes};
 ghost use Rattle.mars_base.specs.Causes.{next_count};
-ghost use Rattle.pcm_media.specs.Fused.{fused_view, Burns};
+ghost use Rattle.pcm_media.specs.Fused.{behind, Burns};
 
 use crate::Media;
 use mars_base::Failed;
@@ -101,19 +101,12 @@ impl<M: Media> Media for FusedMedia<M> {
         requires { at + length buf.old ≤ (M.view self.old.inner).size }
         ensures bytes { IsTrue M.tells →
             OnOk result (buf.new ≡ range (M.view self.old.inner).content.bytes at (length buf.old)) }
-        ensures does { Writes M.tells []
-            (fused_view (M.view self.old.inner) self.old.blown)
-            (fused_view (M.view self.new.inner) self.new.blown)
-            result }
-        ensures ticks { Ticks
-            (fused_view (M.view self.old.inner) self.old.blown).moment
-            (fused_view (M.view self.new.inner) self.new.blown).moment
-            result }
+        ensures does { Writes M.tells [] (behind M.view self.old) (behind M.view self.new) result }
+        ensures ticks { Ticks (behind M.view self.old).moment (behind M.view self.new).moment result }
         ensures steady { (calls more : ℕ) → IsTrue (nat_le (calls + 1) self.old.passes && M.steady self.old.inner (calls + 1) more)
             → IsOk result × IsTrue (nat_le calls self.new.passes && M.steady self.new.inner calls more) }
 
-        ensures passed_on { 0 < self.old.passes →
-            Writes M.tells [] (M.view self.old.inner) (M.view self.new.inner) result }
+        ensures passed_on { 0 < self.old.passes → Writes M.tells [] (M.view self.old.inner) (M.view self.new.inner) result }
         ensures fuse { Burns self.old self.new result }
     {
         if !self.takes_pass() {
@@ -126,14 +119,8 @@ impl<M: Media> Media for FusedMedia<M> {
         requires { at + length bytes.now ≤ (M.view self.old.inner).size }
         ensures written { IsTrue M.tells →
             OnOk result ((M.view self.new.inner).content ≡ written at bytes.now (M.view self.old.inner).content) }
-        ensures does { Writes M.tells ((at, length bytes.now) ∷ [])
-            (fused_view (M.view self.old.inner) self.old.blown)
-            (fused_view (M.view self.new.inner) self.new.blown)
-            result }
-        ensures ticks { Ticks
-            (fused_view (M.view self.old.inner) self.old.blown).moment
-            (fused_view (M.view self.new.inner) self.new.blown).moment
-            result }
+        ensures does { Writes M.tells ((at, length bytes.now) ∷ []) (behind M.view self.old) (behind M.view self.new) result }
+        ensures ticks { Ticks (behind M.view self.old).moment (behind M.view self.new).moment result }
         ensures steady { (calls more : ℕ) → IsTrue (nat_le (calls + 1) self.old.passes && M.steady self.old.inner (calls + 1) (length bytes.now + more))
             → IsOk result × IsTrue (nat_le calls self.new.passes && M.steady self.new.inner calls more) }
 
@@ -150,19 +137,12 @@ impl<M: Media> Media for FusedMedia<M> {
     fn barrier(&mut self) -> Result<(), Failed>
         ensures settled { IsTrue M.tells →
             OnOk result ((M.view self.new.inner).content ≡ settled (M.view self.old.inner).content) }
-        ensures does { Writes M.tells []
-            (fused_view (M.view self.old.inner) self.old.blown)
-            (fused_view (M.view self.new.inner) self.new.blown)
-            result }
-        ensures ticks { Ticks
-            (fused_view (M.view self.old.inner) self.old.blown).moment
-            (fused_view (M.view self.new.inner) self.new.blown).moment
-            result }
+        ensures does { Writes M.tells [] (behind M.view self.old) (behind M.view self.new) result }
+        ensures ticks { Ticks (behind M.view self.old).moment (behind M.view self.new).moment result }
         ensures steady { (calls more : ℕ) → IsTrue (nat_le (calls + 1) self.old.passes && M.steady self.old.inner (calls + 1) more)
             → IsOk result × IsTrue (nat_le calls self.new.passes && M.steady self.new.inner calls more) }
 
-        ensures passed_on { 0 < self.old.passes →
-            Writes M.tells [] (M.view self.old.inner) (M.view self.new.inner) result }
+        ensures passed_on { 0 < self.old.passes → Writes M.tells [] (M.view self.old.inner) (M.view self.new.inner) result }
         ensures fuse { Burns self.old self.new result }
     {
         if !self.takes_pass() {

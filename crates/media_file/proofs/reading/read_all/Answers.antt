@@ -1,6 +1,6 @@
 use Rattle.std.proofs.Common.{◌≡◌, ◌+◌, ◌-◌, ◌≤◌, IsTrue, length, take, drop, refl, sym, ◌∙◌, ap, subst, arith, length-take, length-drop}
 use borrow.Rule.Slice.PartMut.{put_mid}
-use Rattle.media_file.specs.declared.tally.Tally.{Tally}
+use Rattle.media_file.specs.declared.call_faults.CallFaults.{CallFaults}
 use Rattle.media_file.proofs.CountLemmas.{part_taken, part_interrupted}
 use Rattle.media_file.proofs.ReadLemmas.{read_none, read_next, read_failed, read_whole, length_kept}
 use Rattle.media_file.proofs.reading.read_all.Goals.{in-Ok+else-done-buf+else-count-eq0, in-Err-Interrupted}
@@ -40,9 +40,9 @@ turns-preserved g c =
             low = omega (arith, w.done-is, few, len, kept);
             told = λ told. read_next c.turns.done buf part low c.args.moment c.args.at w.in-Ok.count c.match-read_at.done old now new few w.done-is (c.turns.invariant.told told)
                 (w.in-Ok.ensures.noted told) (g.met.C.Calls.honest c.read_at.new.self told);
-            none_failed = ap (λ (t : Tally). t.failed) (part_taken (length (take (length buf - c.turns.done) (drop c.turns.done buf))) w.in-Ok.count (g.C.Calls.tally c.turns.calls) (g.C.Calls.tally c.read_at.new.self) w.if-count-eq0.false w.in-Ok.ensures.counted) ∙ c.turns.invariant.none_failed;
+            none_failed = ap (λ (t : CallFaults). t.failed) (part_taken (length (take (length buf - c.turns.done) (drop c.turns.done buf))) w.in-Ok.count (g.C.Calls.faults c.turns.calls) (g.C.Calls.faults c.read_at.new.self) w.if-count-eq0.false w.in-Ok.ensures.counted) ∙ c.turns.invariant.none_failed;
             interrupted =
-                let same = ap (λ (t : Tally). t.interrupted) (part_taken (length (take (length buf - c.turns.done) (drop c.turns.done buf))) w.in-Ok.count (g.C.Calls.tally c.turns.calls) (g.C.Calls.tally c.read_at.new.self) w.if-count-eq0.false w.in-Ok.ensures.counted) in
+                let same = ap (λ (t : CallFaults). t.interrupted) (part_taken (length (take (length buf - c.turns.done) (drop c.turns.done buf))) w.in-Ok.count (g.C.Calls.faults c.turns.calls) (g.C.Calls.faults c.read_at.new.self) w.if-count-eq0.false w.in-Ok.ensures.counted) in
                 omega (arith, same, c.turns.invariant.interrupted, w.done-is, w.if-count-eq0.false);
             first = λ calls more steady.
                 let at_first = c.turns.invariant.first calls more steady in
@@ -54,9 +54,9 @@ turns-preserved g c =
       | in-Err-Interrupted w ↦ record {
         low = omega (arith, w.done-is, kept);
         told = λ told. read_failed c.turns.done buf part low c.args.moment c.args.at c.match-read_at.done old now new w.done-is (c.turns.invariant.told told) (w.in-Err-Interrupted.ensures.noted told);
-        none_failed = ap (λ (t : Tally). t.failed) (part_interrupted w.in-Err-Interrupted.field-0 (g.C.Calls.tally c.turns.calls) (g.C.Calls.tally c.read_at.new.self) w.in-Err-Interrupted.field-0-is w.in-Err-Interrupted.ensures.counted) ∙ c.turns.invariant.none_failed;
+        none_failed = ap (λ (t : CallFaults). t.failed) (part_interrupted w.in-Err-Interrupted.field-0 (g.C.Calls.faults c.turns.calls) (g.C.Calls.faults c.read_at.new.self) w.in-Err-Interrupted.field-0-is w.in-Err-Interrupted.ensures.counted) ∙ c.turns.invariant.none_failed;
         interrupted =
-            let once = ap (λ (t : Tally). t.interrupted) (part_interrupted w.in-Err-Interrupted.field-0 (g.C.Calls.tally c.turns.calls) (g.C.Calls.tally c.read_at.new.self) w.in-Err-Interrupted.field-0-is w.in-Err-Interrupted.ensures.counted) in
+            let once = ap (λ (t : CallFaults). t.interrupted) (part_interrupted w.in-Err-Interrupted.field-0 (g.C.Calls.faults c.turns.calls) (g.C.Calls.faults c.read_at.new.self) w.in-Err-Interrupted.field-0-is w.in-Err-Interrupted.ensures.counted) in
             omega (arith, once, c.turns.invariant.interrupted, w.done-is, c.turns-test.true);
         first = λ calls more steady.
             let at_first = c.turns.invariant.first calls more steady in

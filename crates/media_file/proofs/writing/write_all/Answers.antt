@@ -1,5 +1,5 @@
 use Rattle.std.proofs.Common.{◌≡◌, ◌+◌, ℕ, IsTrue, length, refl, sym, ◌∙◌, ap, subst, arith}
-use Rattle.media_file.specs.declared.tally.Tally.{Tally}
+use Rattle.media_file.specs.declared.call_faults.CallFaults.{CallFaults}
 use Rattle.media_file.proofs.CountLemmas.{part_taken, part_interrupted}
 use Rattle.media_file.proofs.WriteLemmas.{rest_of, length_rest, written_none, written_next, written_whole, written_failed}
 use Rattle.media_file.proofs.writing.write_all.Goals.{in-Ok+else-done-bytes+else-count-eq0, in-Err-Interrupted}
@@ -34,9 +34,9 @@ turns-preserved g c = elim c.match-write_at.branch [
     low = omega (arith, w.done-is, w.in-Ok.ensures.count, length_rest c.args.bytes.now c.turns.done);
     told = λ told. written_next c.args.moment c.args.at c.turns.done c.args.bytes.now (g.C.Calls.past c.args.calls.now) (g.C.Calls.past c.turns.calls) (g.C.Calls.past c.write_at.new.self)
         c.turns.invariant.low (c.requires.before told) (c.requires.within told) (c.turns.invariant.told told) w.in-Ok.count c.match-write_at.done w.in-Ok.ensures.count w.done-is (w.in-Ok.ensures.noted told);
-    none_failed = ap (λ (t : Tally). t.failed) (part_taken (length (rest_of c.args.bytes.now c.turns.done)) w.in-Ok.count (g.C.Calls.tally c.turns.calls) (g.C.Calls.tally c.write_at.new.self) w.if-count-eq0.false w.in-Ok.ensures.counted) ∙ c.turns.invariant.none_failed;
+    none_failed = ap (λ (t : CallFaults). t.failed) (part_taken (length (rest_of c.args.bytes.now c.turns.done)) w.in-Ok.count (g.C.Calls.faults c.turns.calls) (g.C.Calls.faults c.write_at.new.self) w.if-count-eq0.false w.in-Ok.ensures.counted) ∙ c.turns.invariant.none_failed;
     interrupted =
-        let same = ap (λ (t : Tally). t.interrupted) (part_taken (length (rest_of c.args.bytes.now c.turns.done)) w.in-Ok.count (g.C.Calls.tally c.turns.calls) (g.C.Calls.tally c.write_at.new.self) w.if-count-eq0.false w.in-Ok.ensures.counted) in
+        let same = ap (λ (t : CallFaults). t.interrupted) (part_taken (length (rest_of c.args.bytes.now c.turns.done)) w.in-Ok.count (g.C.Calls.faults c.turns.calls) (g.C.Calls.faults c.write_at.new.self) w.if-count-eq0.false w.in-Ok.ensures.counted) in
         omega (arith, same, c.turns.invariant.interrupted, w.done-is, w.if-count-eq0.false);
     first = λ calls more steady.
         let at_first = c.turns.invariant.first calls more steady in
@@ -52,9 +52,9 @@ turns-preserved g c = elim c.match-write_at.branch [
     low = omega (arith, w.done-is, c.turns.invariant.low);
     told = λ told. written_failed c.args.moment c.args.at c.turns.done c.args.bytes.now (g.C.Calls.past c.args.calls.now) (g.C.Calls.past c.turns.calls) (g.C.Calls.past c.write_at.new.self)
         c.turns.invariant.low (c.requires.before told) (c.requires.within told) (c.turns.invariant.told told) c.match-write_at.done w.done-is (w.in-Err-Interrupted.ensures.noted told);
-    none_failed = ap (λ (t : Tally). t.failed) (part_interrupted w.in-Err-Interrupted.field-0 (g.C.Calls.tally c.turns.calls) (g.C.Calls.tally c.write_at.new.self) w.in-Err-Interrupted.field-0-is w.in-Err-Interrupted.ensures.counted) ∙ c.turns.invariant.none_failed;
+    none_failed = ap (λ (t : CallFaults). t.failed) (part_interrupted w.in-Err-Interrupted.field-0 (g.C.Calls.faults c.turns.calls) (g.C.Calls.faults c.write_at.new.self) w.in-Err-Interrupted.field-0-is w.in-Err-Interrupted.ensures.counted) ∙ c.turns.invariant.none_failed;
     interrupted =
-        let once = ap (λ (t : Tally). t.interrupted) (part_interrupted w.in-Err-Interrupted.field-0 (g.C.Calls.tally c.turns.calls) (g.C.Calls.tally c.write_at.new.self) w.in-Err-Interrupted.field-0-is w.in-Err-Interrupted.ensures.counted) in
+        let once = ap (λ (t : CallFaults). t.interrupted) (part_interrupted w.in-Err-Interrupted.field-0 (g.C.Calls.faults c.turns.calls) (g.C.Calls.faults c.write_at.new.self) w.in-Err-Interrupted.field-0-is w.in-Err-Interrupted.ensures.counted) in
         omega (arith, once, c.turns.invariant.interrupted, w.done-is, c.turns-test.true);
     first = λ calls more steady.
         let at_first = c.turns.invariant.first calls more steady in

@@ -10,8 +10,8 @@ returns-in_err-tick-clause-does g c =
     let was = c.args.self.now in
     let now = c.tick.new.self in
     let e = c.in_err-tick.ensures in
-    let same : (g.C.Calls.tally now.calls).failed ≡ (g.C.Calls.tally was.calls).failed = ap (λ (calls : g.row.C.Denot). (g.C.Calls.tally calls).failed) e.calls in
-    rw p.1 (writes_stopped g.C.Calls.trusted [] (g.C.Calls.past was.calls) (g.C.Calls.past now.calls) was.size was.moment now.moment (was.faults + (g.C.Calls.tally was.calls).failed) (now.faults + (g.C.Calls.tally now.calls).failed)
+    let same : (g.C.Calls.faults now.calls).failed ≡ (g.C.Calls.faults was.calls).failed = ap (λ (calls : g.row.C.Denot). (g.C.Calls.faults calls).failed) e.calls in
+    rw p.1 (writes_stopped g.C.Calls.trusted [] (g.C.Calls.past was.calls) (g.C.Calls.past now.calls) was.size was.moment now.moment (was.faults + (g.C.Calls.faults was.calls).failed) (now.faults + (g.C.Calls.faults now.calls).failed)
     now.size p.0 e.size (ap g.C.Calls.past e.calls) e.later.0 (omega (arith, same, e.later.1)) (omega (arith, same, e.counted)))
 
 pub returns-in-Err-clause-does : goal.returns-in-Err-clause-does
@@ -23,8 +23,8 @@ returns-in-Err-clause-does g c =
     let fault = c.fault.ensures in
     record {
       size = search rules;
-      cause = cause_failed (length c.args.buf.now) was.faults now.faults (g.C.Calls.tally was.calls) (g.C.Calls.tally ticked.calls) (g.C.Calls.tally c.read_all.new.calls) (g.C.Calls.tally now.calls) c.fault.result
-          (ap g.C.Calls.tally tick.calls) (ap g.C.Calls.tally fault.calls) c.in-Err.ensures.tried (omega (arith, tick.faults, fault.later)) (omega (arith, tick.faults, fault.counted));
+      cause = cause_failed (length c.args.buf.now) was.faults now.faults (g.C.Calls.faults was.calls) (g.C.Calls.faults ticked.calls) (g.C.Calls.faults c.read_all.new.calls) (g.C.Calls.faults now.calls) c.fault.result
+          (ap g.C.Calls.faults tick.calls) (ap g.C.Calls.faults fault.calls) c.in-Err.ensures.tried (omega (arith, tick.faults, fault.later)) (omega (arith, tick.faults, fault.counted));
       touched = search rules;
       time = search rules;
     }

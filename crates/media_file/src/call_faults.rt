@@ -6,19 +6,19 @@ use crate::CallFault;
 /// How many calls of a file failed, and how many were interrupted. A read or a write that takes none of some bytes has failed too:
 /// made again, it might go on for ever. Each count stays at `u64::MAX`.
 #[derive(Clone, Copy, Debug, PartialEq, Eq)]
-pub struct Tally {
+pub struct CallFaults {
     pub failed: u64,
     pub interrupted: u64,
 }
 
-impl Tally {
-    ghost use Rattle.media_file.specs.Counted.{no_faults, tallied, part_of};
+impl CallFaults {
+    ghost use Rattle.media_file.specs.Counted.{no_faults, after_answer, part_of};
 
     /// The counts before the first call.
-    pub fn new() -> Tally
+    pub fn new() -> CallFaults
         ensures { result ≡ no_faults }
     {
-        Tally {
+        CallFaults {
             failed: 0,
             interrupted: 0,
         }
@@ -27,7 +27,7 @@ impl Tally {
     /// Counts a call that has this answer, and answers so.
     pub fn count<T>(&mut self, answer: Result<T, CallFault>) -> Result<T, CallFault>
         ensures same { result ≡ answer }
-        ensures counted { self.new ≡ tallied answer self.old }
+        ensures counted { self.new ≡ after_answer answer self.old }
     {
         match &answer {
             Ok(_) => {}
@@ -44,7 +44,7 @@ impl Tally {
         answer: Result<usize, CallFault>,
     ) -> Result<usize, CallFault>
         ensures same { result ≡ answer }
-        ensures counted { self.new ≡ tallied (part_of len answer) self.old }
+        ensures counted { self.new ≡ after_answer (part_of len answer) self.old }
     {
         match &answer {
             Ok(0) if len > 0 => self.failed = self.failed.saturating_add(1),
