@@ -26,9 +26,9 @@ use Rattle.caller_steps.proofs.Sound.{step_sound}
 use Rattle.mars_core.specs.Over.{limits_of}
 use Rattle.mars_core.specs.Held.{core_over}
 use Rattle.mars_core.specs.Kept.{IsTied, IsKept}
-use Rattle.mars_core.specs.Works.{IsOfTable, HasSaves, IsSaveRefusal, IsShown}
+use Rattle.mars_core.specs.Works.{HasSaves, IsSaveRefusal, IsShown}
 use Rattle.mars_core.proofs.Touching.{both}
-use Rattle.mars_core.proofs.Mirroring.{calls_there, mirrors_at, saves_are, has_saves}
+use Rattle.mars_core.proofs.Mirroring.{IsOfTable, calls_there, mirrors_at, saves_are, has_saves}
 use Rattle.mars_core.proofs.Entering.{room_empty}
 use Rattle.mars_core.proofs.Prefixes.{StoreLaws, safe_alive}
 use Rattle.mars_core.proofs.Stepping.{ShowsPages, or_false, step_of, asks_at, steps_same, steps_of, counts_is, saves_at}
@@ -94,7 +94,7 @@ module _ (tells : Bool) (Opens : Shape → List ℕ → List ℕ → Type 0) (in
     tied : IsTied index p s
     tied = kept.tied told alive
 
-    saved_is : length ((state_of index p).saved t) ≡ length (view_of s t).saves
+    saved_is : length ((state_of index p).logs t).saved ≡ length (view_of s t).saves
     saved_is = saves_are (state_of index p) s tied.mirrors t (tied.sound.right t)
 
     save_step : (c : Call) (answer : Reply) → IsSaveRefusal (length (p.counts t)) c answer → Step (limits_of p.store.shape) s t c answer s
@@ -102,7 +102,7 @@ module _ (tells : Bool) (Opens : Shape → List ℕ → List ℕ → Type 0) (in
         (step_of (limits_of p.store.shape) (Some calls) s s t Save SavesFull (shows.dead ∙ alive) is (inl (omega (arith, refused.0, counts_is index p t, saved_is), (refl, refl))))
     save_step (Back n) answer refused = subst (λ (r : Reply). Step (limits_of p.store.shape) s t (Back n) r s) (sym refused.1)
         (step_of (limits_of p.store.shape) (Some calls) s s t (Back n) (NoSave n) (shows.dead ∙ alive) is (inl (
-          has_saves (state_of index p) s tied.mirrors t (tied.sound.right t) n ∙ no_saves ((state_of index p).saved t) n (subst (λ (k : ℕ). (0 < n) × (n ≤ k) → ⊥) (sym (counts_is index p t)) refused.0),
+          has_saves (state_of index p) s tied.mirrors t (tied.sound.right t) n ∙ no_saves (((state_of index p).logs t).saved) n (subst (λ (k : ℕ). (0 < n) × (n ≤ k) → ⊥) (sym (counts_is index p t)) refused.0),
           (refl, refl),
         )))
     save_step (Get key) answer refused = absurd refused
@@ -131,7 +131,7 @@ module _ (tells : Bool) (Opens : Shape → List ℕ → List ℕ → Type 0) (in
       refusal Begin r refused = absurd refused
 
   module _ (of : IsOfTable call) (saves : HasSaves (length (p.counts t)) call) (new : State) (same : new ≡ s) where
-    has : HasSaves (length ((state_of index p).saved t)) call
+    has : HasSaves (length ((state_of index p).logs t).saved) call
     has = subst (λ (n : ℕ). HasSaves n call) (sym (counts_is index p t)) saves
 
     -- for lack of memory
@@ -169,7 +169,7 @@ module _ (tells : Bool) (Opens : Shape → List ℕ → List ℕ → Type 0) (in
         record {
           index_sound = was.index_sound;
           mirrors = mirrors_at (state_of index p) s was.mirrors (state_of index p) new t (Some []) live_is (was.mirrors.table ∙ sym (ap records_of begins))
-              (was.mirrors.writes t ∙ ap (λ (cs : Granted). (log_of cs).writes) at, was.mirrors.saved t ∙ ap (λ (cs : Granted). (log_of cs).saved) at) (λ u ne. (refl, refl));
+              (was.mirrors.logs t ∙ ap (λ (cs : Granted). log_of cs) at) (λ u ne. refl);
           sound = step_sound (limits_of p.store.shape) s t Begin Fine new was.sound step;
           room = room_empty (limits_of p.store.shape) s new t (Some []) refl was.room (ap (λ (x : State). x.index) begins) live_is;
         }

@@ -15,7 +15,7 @@ ghost use Rattle.record_table.specs.Sought.{LooksAs};
 use crate::fault::{AttachRecords, TableFault};
 use crate::scanning::gather;
 use crate::slots::{seek, value_at, write_as};
-use crate::told::{insert_fault, table_fault, told};
+use crate::told::told;
 use array_shape::Shape;
 use eaw_face::EawStore;
 use history::Rows;
@@ -116,7 +116,7 @@ impl<S: EawStore, K: KeyIndex> Records<S, K> {
     {
         match seek::<S, K>(&mut self.pages, tid, key) {
             Ok(found) => Ok(value_at(&found)),
-            Err(fault) => Err(table_fault(fault)),
+            Err(fault) => Err(TableFault::from(fault)),
         }
     }
 
@@ -133,9 +133,9 @@ impl<S: EawStore, K: KeyIndex> Records<S, K> {
             Ok(Some(slot)) => told(write_as(&mut self.pages, tid, slot, &present)),
             Ok(None) => match K::insert(&mut self.pages, tid, key) {
                 Ok(slot) => told(write_as(&mut self.pages, tid, slot, &present)),
-                Err(fault) => Err(insert_fault(fault)),
+                Err(fault) => Err(TableFault::from(fault)),
             },
-            Err(fault) => Err(table_fault(fault)),
+            Err(fault) => Err(TableFault::from(fault)),
         }
     }
 
@@ -149,14 +149,14 @@ impl<S: EawStore, K: KeyIndex> Records<S, K> {
         let place = match seek::<S, K>(&mut self.pages, tid, key) {
             Ok(Some(place)) => place,
             Ok(None) => return Ok(false),
-            Err(fault) => return Err(table_fault(fault)),
+            Err(fault) => return Err(TableFault::from(fault)),
         };
         if place.value.is_none() {
             return Ok(false);
         }
         match write_as(&mut self.pages, tid, place.slot, &Slot::Absent { key }) {
             Ok(()) => Ok(true),
-            Err(fault) => Err(table_fault(fault)),
+            Err(fault) => Err(TableFault::from(fault)),
         }
     }
 

@@ -47,7 +47,7 @@ pub returns-in-Err-clause-does : goal.returns-in-Err-clause-does
 returns-in-Err-clause-does g c =
     let V = g.S.EawStore.view in
     let inside = c.self.inside.pages in
-    rw c.table_fault.ensures (does_of V g.S.EawStore.tells g.S.EawStore.opens g.K.KeyIndex.index c.args.tid (Del c.args.key) c.args.self.now inside c.self.view_is (pages_of (V c.seek.new.pages.store) c.seek.new.pages) _
+    rw c.from.ensures (does_of V g.S.EawStore.tells g.S.EawStore.opens g.K.KeyIndex.index c.args.tid (Del c.args.key) c.args.self.now inside c.self.view_is (pages_of (V c.seek.new.pages.store) c.seek.new.pages) _
     (look_refused g.S.EawStore.tells (g.S.EawStore.opens (V inside.store).shape) g.K.KeyIndex.index c.args.tid (Del c.args.key) (pages_of (V inside.store) inside) (pages_of (V c.seek.new.pages.store) c.seek.new.pages) c.self.invariant _ c.in-Err.fault tt
     c.in-Err.ensures.cause c.in-Err.ensures.looks (λ e. ap (λ (p : Shown g.row.S.Denot). pages_of (V p.store) p) (c.in-Err.ensures.dead e))).0)
 
@@ -73,7 +73,7 @@ told r = replied (λ was. if was then reply.Fine else reply.Absent) r
 answer_is : (g : Over) (c : goal.Joined-write_as g) → told c.match-write_as.result ≡ answered reply.Fine c.write_as.result
 answer_is g c = elim c.match-write_as.branch [
   | in-Ok w ↦ ap told w.result-is ∙ sym (ap (answered reply.Fine) w.in-Ok.is)
-  | in-Err-write_as w ↦ ap told w.result-is ∙ ap (λ (f : TableFault). let r : Result Reply TableFault = Err f in r) w.table_fault-in-Err-write_as.ensures ∙ sym (ap (answered reply.Fine) w.in-Err-write_as.is)
+  | in-Err-write_as w ↦ ap told w.result-is ∙ ap (λ (f : TableFault). let r : Result Reply TableFault = Err f in r) w.from-in-Err-write_as.ensures ∙ sym (ap (answered reply.Fine) w.in-Err-write_as.is)
 ]
 
 pub invariant_of-self-2 : goal.invariant_of-self-2

@@ -177,7 +177,7 @@ returns-in-Err-insert-clause-does g c =
     let alive = c.in-Ok-None.ensures.cause in
     let looks = looks_as T (E v0.store.shape) t false v0 v1 c.in-Ok-None.ensures.looks in
     let inserts = subst (λ (s : Shape). (let r : Result ℕ IndexFault = Err c.in-Err-insert.fault in Inserts g.S.EawStore.tells (g.S.EawStore.opens s) g.K.KeyIndex.index c.args.tid c.args.key (pages_of (V mid.store) mid) (pages_of (V far.store) far) r)) looks.shape c.in-Err-insert.ensures.inserts in
-    rw c.insert_fault.ensures (does_of V T E I t (Put key c.args.value) c.args.self.now inside c.self.view_is v2 _
+    rw c.from.ensures (does_of V T E I t (Put key c.args.value) c.args.self.now inside c.self.view_is v2 _
     (put_refused T (E v0.store.shape) I laws t key c.args.value v0 alive c.self.invariant v1 looks (λ told. sym (c.in-Ok-None.ensures.found told) ∙ c.in-Ok-None.field-0-is) v2
     (slot_said-slot_bytes (Absent c.args.key) (omega arith)) c.in-Err-insert.fault inserts).0)
 
@@ -212,6 +212,6 @@ returns-in-Err-clause-does g c =
     let v1 = pages_of (V mid.store) mid in
     let t = c.args.tid in
     let key = c.args.key in
-    rw c.table_fault.ensures (does_of V T E I t (Put key c.args.value) c.args.self.now inside c.self.view_is v1 _
+    rw c.from-in-Err.ensures (does_of V T E I t (Put key c.args.value) c.args.self.now inside c.self.view_is v1 _
     (look_refused T (E v0.store.shape) I t (Put key c.args.value) v0 v1 c.self.invariant _ c.in-Err.fault tt c.in-Err.ensures.cause (looks_as T (E v0.store.shape) t _ v0 v1 c.in-Err.ensures.looks)
     (λ e. ap (λ (p : Shown g.row.S.Denot). pages_of (V p.store) p) (c.in-Err.ensures.dead e))).0)
