@@ -109,7 +109,7 @@ scan_same limits Abort answer old new scan same = same
 scan_same limits Begin answer old new scan same = same
 
 -- What the records made of a call, as far as a core needs it.
-record Did (tells : Bool) (Opens : List ℕ → List ℕ → Type 0) (index : below.Index) (t : ℕ) (call : Call) (old new : PagesView) (result : Result Reply TableFault) : Type 0 where
+pub record Did (tells : Bool) (Opens : List ℕ → List ℕ → Type 0) (index : below.Index) (t : ℕ) (call : Call) (old new : PagesView) (result : Result Reply TableFault) : Type 0 where
   pub shape : new.store.shape ≡ old.store.shape
   pub cause : IsTrue tells → Cause tells index t call old result
   pub faults : IsFalse (is_failed result) → (new.store.is_dead ≡ old.store.is_dead) × (new.store.faults ≡ old.store.faults)
@@ -121,7 +121,7 @@ record Did (tells : Bool) (Opens : List ℕ → List ℕ → Type 0) (index : be
   pub time : IsTrue tells → IsAlive old.store
       → LeavesOnly (λ image. OpensWith Opens index image (state_of index old).table ⊎ OpensWith Opens index image (table_after t call (state_of index old))) old.store new.store
 
-did : (tells : Bool) (Opens : List ℕ → List ℕ → Type 0) (index : below.Index) (t : ℕ) (call : Call) (old new : PagesView) (result : Result Reply TableFault) → Does tells Opens index t call old new result
+pub did : (tells : Bool) (Opens : List ℕ → List ℕ → Type 0) (index : below.Index) (t : ℕ) (call : Call) (old new : PagesView) (result : Result Reply TableFault) → Does tells Opens index t call old new result
     → Did tells Opens index t call old new result
 did tells Opens index t call old new result does = record {
   shape = does.shape;
@@ -156,7 +156,7 @@ listed_is s t Abort rows replies = absurd (cc)
 listed_is s t Begin rows replies = absurd replies
 
 -- a scan whose rows there is no memory to keep has changed nothing
-did_unkept : (tells : Bool) (Opens : List ℕ → List ℕ → Type 0) (index : below.Index) (t : ℕ) (call : Call) (old new : PagesView) (rows : List (ℕ × List ℕ)) → IsAlive old.store
+pub did_unkept : (tells : Bool) (Opens : List ℕ → List ℕ → Type 0) (index : below.Index) (t : ℕ) (call : Call) (old new : PagesView) (rows : List (ℕ × List ℕ)) → IsAlive old.store
     → Does tells Opens index t call old new (Ok (reply.Listed rows)) → Did tells Opens index t call old new (Err NoMemory)
 did_unkept tells Opens index t call old new rows alive does = record {
   shape = does.shape;

@@ -112,7 +112,7 @@ module _ (tells : Bool) (Opens : Shape → List ℕ → List ℕ → Type 0) (in
 
       -- the table that it leaves is that of the longer history
       seen_left : seen_by (state_of index p) t ≡ records s.base (s.history ++ done ∷ [])
-      seen_left = (λ i. all_written (tied.mirrors.table i) ((tied.mirrors.writes t ∙ ap (λ (cs : Granted). (log_of cs).writes) at) i)) ∙ sym (left_is_written (records_of s) calls right)
+      seen_left = (λ i. all_written (tied.mirrors.table i) ((ap (λ (l : Log). l.writes) (tied.mirrors.logs t) ∙ ap (λ (cs : Granted). (log_of cs).writes) at) i)) ∙ sym (left_is_written (records_of s) calls right)
           ∙ sym (records-push s.base s.history done ∙ ap (λ (d : Done). left_after s d) done_is)
         where
           left_after : State → Done → Table

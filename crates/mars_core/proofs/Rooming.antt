@@ -4,6 +4,7 @@ use Rattle.std.specs.Prelude.{IsSome, is_some}
 use Rattle.std.specs.List.{list_any}
 use Rattle.std.specs.FinMap.{get}
 use Rattle.std.proofs.lemmas.Bool.{cases_eq}
+use Rattle.mars_base.specs.Room.{IsFirstFull}
 use Rattle.array_shape.specs.declared.shape.Shape.{Shape}
 use Rattle.array_shape.proofs.Apart.{logger_below}
 use Rattle.page_store.specs.Index.{slots_of}
@@ -93,13 +94,12 @@ module _ (index : below.Index) (p : PagesView) (s : State) (indexed : s.index �
     -- Refusals of a full array, if no logger holds more than it has entries for.
     module _ (room : HasHeld (limits_of p.store.shape) s) where
       full_is : (g h n : ℕ) → table_causes.IsShort p t g h n → IsFull (limits_of p.store.shape) s t g h n
-      full_is g h n short = record {
-        logger = short.2.logger;
-        held = short.2.held_is ∙ sym (held_is t g);
-        some = omega (arith, short.2.full, short.2.held_is, held_is t g, room t g);
-        few = short.0;
-        full = short.2.full;
-      }
+      full_is g h n short = (
+        omega (arith, short.2.full, short.2.held_is, held_is t g, room t g),
+        short.0,
+        short.1,
+        subst (λ (held : ℕ → ℕ). IsFirstFull p.store.shape.loggers p.store.shape.entries held short.1 g h n) (λ i k. sym (held_is t k) i) short.2,
+      )
 
       -- a slot's logger is full
       slot_full : (key slot g h n : ℕ) → table_causes.IsFull index t p key slot g h n → table_causes.IsShort p t g h n → LacksAt (limits_of p.store.shape) s t key (Some slot) (reply.LogFull g h n)
@@ -111,21 +111,30 @@ module _ (index : below.Index) (p : PagesView) (s : State) (indexed : s.index �
           go : (logger_of_slot p.store.shape slot ≡ g) ⊎ (logger_of_slot p.store.shape slot ≢ g) → LacksAt (limits_of p.store.shape) s t key (Some slot) (reply.LogFull g h n)
           go (inr ne) = absurd (
               let none : n ≡ 0 = full.1.needed_is ∙ ap (λ (b : Bool). cond b 1 0) (ne_eqb (logger_of_slot p.store.shape slot) g ne) in
-              omega (arith, none, module_full.some)
+              omega (arith, none, module_full.0)
               )
           go (inl e) =
               let one : n ≡ 1 = full.1.needed_is ∙ ap (λ (b : Bool). cond b 1 0) (eq-eqb (logger_of_slot p.store.shape slot) g e) in (
                 λ has.
                     let few = has (anew_is t key ∙ full.0) in
                     let same : held_on (limits_of p.store.shape) s t (logger_of_slot p.store.shape slot) ≡ held_on (limits_of p.store.shape) s t g = ap (λ (k : ℕ). held_on (limits_of p.store.shape) s t k) e in
-                    omega (arith, few, same, module_full.held, module_full.full, one),
+                    omega (arith, few, same, module_full.3.held_is, module_full.3.full, one),
                 sym e,
                 one,
                 module_full,
               )
 
+      -- a slot is left
+      slot_left : next_slot p.store.state.bytes < slots_of p.store.shape → s.index.next_slot < (limits_of p.store.shape).slots
+      slot_left left = subst (λ (ix : Index). ix.next_slot < slots_of p.store.shape) (sym indexed) left
+
       put_lacks : (key g h n : ℕ) (o : Option ℕ) → table_causes.PutLacks index t key p g h n o → table_causes.IsShort p t g h n → LacksAt (limits_of p.store.shape) s t key o (reply.LogFull g h n)
-      put_lacks key g h n None lacks short = full_is g h n short
+      put_lacks key g h n None lacks short = (left lacks, full_is g h n short)
+        where
+          left : table_causes.PutLacks index t key p g h n None → s.index.next_slot < (limits_of p.store.shape).slots
+          left (inl comes) = slot_left comes.0
+          left (inr (comes, full)) = slot_left comes.0
+
       put_lacks key g h n (Some slot) full short = slot_full key slot g h n full short
 
       found_is : (key : ℕ) → found (index.pairs p.store.state.bytes) key ≡ s.index.slot_of key
@@ -164,7 +173,7 @@ module _ (index : below.Index) (p : PagesView) (s : State) (indexed : s.index �
 
       pub page_lacks : (call : Call) (n : ℕ) → IsOfTable call → table_causes.LacksPage index p t call → n ≡ (limits_of p.store.shape).index_pages - 1
           → Lacks (limits_of p.store.shape) s t call (reply.PagesFull n)
-      page_lacks (Put key value) n of lacks most = subst (λ (o : Option ℕ). LacksAt (limits_of p.store.shape) s t key o (reply.PagesFull n)) (sym lacks.0 ∙ found_is key) most
+      page_lacks (Put key value) n of lacks most = subst (λ (o : Option ℕ). LacksAt (limits_of p.store.shape) s t key o (reply.PagesFull n)) (sym lacks.0 ∙ found_is key) (slot_left lacks.1.0, most)
       page_lacks (Get key) n of lacks most = absurd lacks
       page_lacks (Del key) n of lacks most = absurd lacks
       page_lacks (Scan low high) n of lacks most = absurd lacks

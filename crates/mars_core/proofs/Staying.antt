@@ -15,14 +15,18 @@ use Rattle.history.specs.Log.{log_of}
 use Rattle.history.specs.declared.call.Call.{Call}
 use Rattle.history.specs.declared.call.Call.TheVariants.{Begin, Get, Put, Del, Scan, Save, Back, Commit, Abort}
 use Rattle.history.specs.declared.call.Reply.{Reply}
-use Rattle.history.specs.declared.call.Reply.TheVariants.{Fine, Busy, NoMemory, SavesFull, NoSave}
+use Rattle.history.specs.declared.call.Reply.TheVariants.{Fine, Busy, NoMemory, SavesFull, NoSave, NoTransaction}
 use Rattle.record_table.specs.Shown.{state_of}
 use Rattle.caller_steps.specs.State.{State, calls_of, records_of, view_of, with_live}
 use Rattle.caller_steps.specs.Locked.{Blocks, IsFree, IsBusyWith}
-use Rattle.caller_steps.specs.Step.{Step}
+use Rattle.caller_steps.specs.Room.{Limits}
+use Rattle.caller_steps.specs.Step.{Step, StepAt}
 use Rattle.caller_steps.specs.Fate.{is_refusal, is_media, is_committed}
 use Rattle.caller_steps.specs.Core.{IsSafe, Steps}
 use Rattle.caller_steps.proofs.Sound.{step_sound}
+use Rattle.mars_core.specs.declared.table_call.TableCall.{TableCall}
+use Rattle.mars_core.specs.declared.table_call.TableCall.TheVariants as table_call
+use Rattle.mars_core.specs.TableCall.{call_of}
 use Rattle.mars_core.specs.Over.{limits_of}
 use Rattle.mars_core.specs.Held.{core_over}
 use Rattle.mars_core.specs.Kept.{IsTied, IsKept}
@@ -190,3 +194,18 @@ module _ (tells : Bool) (Opens : Shape → List ℕ → List ℕ → Type 0) (in
     others = λ other ne. ap (λ (f : ℕ → Option Granted). f other) live_is ∙ update_apart s.live t (Some []) other ne;
     refused = λ refusal _. absurd (false≢true refusal);
   }) (λ failed. absurd (false≢true failed)) (λ _. refl) step (λ told. stays p.store.moment p.store.left_since _) safe_new
+
+-- a call of the table outside of a transaction
+pub absent_at : (limits : Limits) (s : State) (t : ℕ) (call : TableCall) → StepAt limits None s t (call_of call) NoTransaction s
+absent_at limits s t (table_call.Get key) = (refl, refl)
+absent_at limits s t (table_call.Put key value) = (refl, refl)
+absent_at limits s t (table_call.Del key) = (refl, refl)
+absent_at limits s t (table_call.Scan low high) = (refl, refl)
+absent_at limits s t table_call.Save = (refl, refl)
+absent_at limits s t (table_call.Back n) = (refl, refl)
+
+pub absent_steps : (tells : Bool) (Opens : Shape → List ℕ → List ℕ → Type 0) (index : below.Index) (p : PagesView) (s : State) → ShowsPages index p s → (count : ℕ) (rows : List (ℕ × List ℕ)) → IsKept tells Opens index p count rows s
+    → IsAlive p.store → (t : ℕ) (call : Call) → s.live t ≡ None → StepAt (limits_of p.store.shape) None s t call NoTransaction s → (new : State) → new ≡ s
+    → Steps tells t call (core_over Opens index p.store s) (core_over Opens index p.store new) NoTransaction
+absent_steps tells Opens index p s shows count rows kept alive t call none at new same = steps_same tells Opens index p s new t call NoTransaction same kept.safe refl refl refl (λ told.
+    step_of (limits_of p.store.shape) None s s t call NoTransaction (shows.dead ∙ alive) none at)
