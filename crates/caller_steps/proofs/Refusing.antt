@@ -129,7 +129,7 @@ module _ (limits : Limits) (old : State) (caller : ℕ) (new : State) where
   unfolding T
   put_lacks key value (Some slot) (LogFull g h n) lacks index = tt
   put_lacks key value None (SlotsFull n) lacks index = (lacks.1, index.1.slots ∙ lacks.0)
-  put_lacks key value None (PagesFull n) lacks index = (lacks, index.2)
+  put_lacks key value None (PagesFull n) lacks index = (lacks.1, index.2)
   put_lacks key value None (LogFull g h n) lacks index = tt
   put_lacks key value _ _ lacks index = absurd lacks
 

@@ -2,6 +2,7 @@
 use Rattle.std.specs.Prelude.{ℕ, suc, ◌≡◌, ◌+◌, ◌-◌, ◌<◌, ◌≤◌, ◌⊎◌, Bool, false, nat_eq, length, filter, Option, Some, None, IsSome, unwrap_or}
 use Rattle.std.specs.FinMap.{get}
 use Rattle.std.specs.Map.{update}
+use Rattle.mars_base.specs.Room.{IsFirstFull}
 use Rattle.history.specs.Key.{Key, is_same_key}
 use Rattle.history.specs.Log.{log_of, is_rewritten}
 use Rattle.history.specs.Writes.{Write}
@@ -52,21 +53,18 @@ Fits limits old caller (Put key value) = HasEntry limits old caller key (slot_fo
 Fits limits old caller (Del key) = IsSeen old caller key → HasEntry limits old caller key (slot_for old.index key)
 Fits limits old caller _ = Unit {0}
 
--- logger g holds h entries of the caller and has no room for n more
-pub record IsFull (limits : Limits) (old : State) (caller g h n : ℕ) : Type 0 where
-  pub logger : g < limits.loggers
-  pub held : h ≡ held_on limits old caller g
-  pub some : 1 ≤ n
-  pub few : n ≤ 4
-  pub full : limits.entries < h + n
+-- Logger g is the first without room for what some write needs there, which is one entry to four: it holds h of the caller's, and n more are
+-- needed.
+abbrev pub IsFull : Limits → State → ℕ → ℕ → ℕ → ℕ → Type 0
+IsFull limits old caller g h n = (1 ≤ n) × (n ≤ 4) × (needed : ℕ → ℕ) × IsFirstFull limits.loggers limits.entries (held_on limits old caller) needed g h n
 
--- Why a write of a key that has this slot, or none, is refused with this reply. A new key needs a slot, pages for the splits of the index
--- that are due, and entries for each part of its insertion.
+-- Why a write of a key that has this slot, or none, is refused with this reply: the first that it lacks. A new key needs a slot, pages for
+-- the splits of the index that are due, and entries for each part of its insertion.
 abbrev pub LacksAt : Limits → State → ℕ → Key → Option ℕ → Reply → Type 0
 LacksAt limits old caller key (Some slot) (LogFull g h n) = (HasEntry limits old caller key slot → ⊥) × (g ≡ limits.logger_of slot) × (n ≡ 1) × IsFull limits old caller g h n
 LacksAt limits old caller key None (SlotsFull n) = (old.index.next_slot ≡ limits.slots) × (n ≡ limits.slots)
-LacksAt limits old caller key None (PagesFull n) = n ≡ limits.index_pages - 1
-LacksAt limits old caller key None (LogFull g h n) = IsFull limits old caller g h n
+LacksAt limits old caller key None (PagesFull n) = (old.index.next_slot < limits.slots) × (n ≡ limits.index_pages - 1)
+LacksAt limits old caller key None (LogFull g h n) = (old.index.next_slot < limits.slots) × IsFull limits old caller g h n
 LacksAt limits old caller key _ _ = ⊥
 
 -- Why a write is refused with this reply. A key that its caller sees has a slot, so a removal is refused only by that slot's logger.

@@ -11,4 +11,4 @@ pub use call::{Call, Reply};
 pub use laws::{logs_show_what_is_seen, others_stay_right, strict_locking};
 pub use replay::{is_legal, play};
 pub use rows::Rows;
-pub use transaction::{Calls, Done, History};
+pub use transaction::{Calls, CallsWithRoom, Done, History};

@@ -1,11 +1,9 @@
-ghost use Rattle.std.specs.Prelude.{◌≡◌, ◌↔◌, List, [], ◌∷◌, ◌++◌, length, IsNone, OnOk, OnErr, IfErr};
+ghost use Rattle.std.specs.Prelude.{◌≡◌, ◌↔◌, ◌<◌, [], ◌∷◌, ◌++◌, length, vec_len, vec_capacity, IsNone, OnOk, OnErr, IfOk, IfErr};
 ghost use Rattle.std.specs.Option.{option_to_list};
-ghost use Rattle.history.specs.declared.call.Call.{Call};
-ghost use Rattle.history.specs.declared.call.Reply.{Reply};
 
 use crate::{Call, Reply};
 use mars_base::{Listed, NoMemory};
-use std::alloc::Global;
+use std::alloc::{AllocError, Global};
 use std::marker::Model;
 
 /// The granted calls of a transaction, each with its reply.
@@ -37,37 +35,75 @@ impl Calls {
         ensures ok { OnOk result (self.new ≡ self.old ++ (call, reply) ∷ []) }
         ensures err { OnErr result (self.new ≡ self.old) }
     {
-        // Many transactions have one call, so the first takes room for itself only. `Vec` would take room for four.
-        if self.entries.is_empty() {
-            self.entries.reserve_exact(1)?;
-        }
+        reserve_one(&mut self.entries)?;
         self.entries.push((call, reply))?;
         Ok(())
     }
 
-    /// Gives the last call another reply. Without a call it does nothing.
-    pub fn set_last_reply(&mut self, reply: Reply)
-        ensures last { (front : List (Call × Reply)) (call : Call) (was : Reply) → self.old ≡ front ++ (call, was) ∷ []
-            → self.new ≡ front ++ (call, reply) ∷ [] }
-        ensures empty { self.old ≡ [] → self.new ≡ [] }
+    /// The same with room for one more call, or as they are if there is no memory for it.
+    pub fn with_room(self) -> Result<CallsWithRoom, Calls>
+        ensures ok { IfOk result (λ calls. calls ≡ self) }
+        ensures err { IfErr result (λ calls. calls ≡ self) }
     {
-        if let Some(entry) = self.entries.last_mut() {
-            entry.1 = reply;
+        let Calls { mut entries } = self;
+        match reserve_one(&mut entries) {
+            Ok(()) => Ok(CallsWithRoom { entries }),
+            Err(_) => Err(Calls { entries }),
         }
-    }
-
-    /// Removes and returns the last call.
-    pub fn pop(&mut self) -> Option<(Call, Reply)>
-        ensures last { self.old ≡ self.new ++ option_to_list result }
-        ensures empty { IsNone result ↔ (self.old ≡ []) }
-    {
-        self.entries.pop()
     }
 
     pub fn entries(&self) -> &[(Call, Reply)]
         ensures { result.now ≡ self.now }
     {
         &self.entries
+    }
+}
+
+// Many transactions have one call, so the first takes room for itself only. `Vec` would take room for four.
+fn reserve_one(entries: &mut Vec<(Call, Reply)>) -> Result<(), AllocError>
+    ensures items { entries.new.items ≡ entries.old.items }
+    ensures room { OnOk result (vec_len entries.new < vec_capacity entries.new) }
+{
+    if entries.is_empty() {
+        return entries.reserve_exact(1);
+    }
+    entries.reserve(1)
+}
+
+/// The granted calls of a transaction, each with its reply, with room for one more.
+#[derive(Debug, Drop)]
+pub struct CallsWithRoom {
+    entries: Vec<(Call, Reply)>,
+}
+
+impl Model for CallsWithRoom {
+    ghost use Rattle.std.specs.Prelude.{List, ◌<◌, vec_len, vec_capacity};
+    ghost use Rattle.history.specs.declared.call.Call.{Call};
+    ghost use Rattle.history.specs.declared.call.Reply.{Reply};
+
+    ghost Value = { List (Call × Reply) };
+
+    ghost view = { λ c. c.entries.items };
+
+    ghost invariant = { λ c. vec_len c.entries < vec_capacity c.entries };
+}
+
+impl CallsWithRoom {
+    /// The calls with this one, in the room that there is.
+    pub fn push(self, call: Call, reply: Reply) -> Calls
+        ensures { result ≡ self ++ (call, reply) ∷ [] }
+    {
+        let CallsWithRoom { mut entries } = self;
+        let _pushed = entries.push((call, reply));
+        Calls { entries }
+    }
+
+    /// The calls as they are.
+    pub fn into_calls(self) -> Calls
+        ensures { result ≡ self }
+    {
+        let CallsWithRoom { entries } = self;
+        Calls { entries }
     }
 }
 

@@ -1,6 +1,9 @@
 -- A call of a transaction that the records made: granted, refused, or failed.
-use Rattle.std.proofs.Common.{◌≡◌, ℕ, inl, inr, Bool, true, false, ◌||◌, nat_eq, List, [], ◌∷◌, ◌++◌, length, IsTrue, Option, Some, unwrap_or, Result, Ok, Err, refl, sym, ap, subst, ◌∙◌, arith}
+use Rattle.std.proofs.Common.{◌≡◌, ◌⊎◌, ℕ, inl, inr, Bool, true, false, ◌||◌, nat_eq, List, [], ◌∷◌, ◌++◌, length, IsTrue, Option, Some, unwrap_or, Result, Ok, Err, refl, sym, ap, subst, ◌∙◌, arith}
+use Rattle.std.specs.Prelude.{None, IsFalse, IsErrOf, IfOk, OnErr}
+use Rattle.std.specs.FinMap.{get}
 use Rattle.std.specs.Map.{update}
+use Rattle.mars_base.specs.Causes.{Rose}
 use Rattle.std.proofs.lemmas.Bool.{false≢true}
 use Rattle.array_shape.specs.declared.shape.Shape.{Shape}
 use Rattle.array_shape.specs.Places.{data_len}
@@ -9,17 +12,18 @@ use Rattle.eaw_face.specs.Causes.{IsAlive}
 use Rattle.page_store.specs.Index as below
 use Rattle.page_store.specs.Shown.{PagesView}
 use Rattle.history.specs.Writes.{Write}
-use Rattle.history.specs.Table.{Granted, IsRight}
+use Rattle.history.specs.Table.{Granted, found, removed, IsRight}
 use Rattle.history.specs.Legal.{records}
-use Rattle.history.specs.Log.{log_of}
+use Rattle.history.specs.Log.{Log, log_of}
 use Rattle.history.specs.declared.call.Call.{Call}
 use Rattle.history.specs.declared.call.Call.TheVariants.{Begin, Get, Put, Del, Scan, Save, Back, Commit, Abort}
 use Rattle.history.specs.declared.call.Reply.{Reply}
 use Rattle.history.specs.declared.call.Reply.TheVariants as reply
-use Rattle.record_table.specs.State.{TableState}
+use Rattle.record_table.specs.State.{TableState, seen_by}
+use Rattle.record_table.specs.Faults.{reply_to}
 use Rattle.record_table.specs.Causes.{Cause, IsSavedOut, IsScan}
-use Rattle.record_table.specs.Command.{after}
-use Rattle.record_table.specs.Does.{OpensWith, is_failed}
+use Rattle.record_table.specs.Calls.{Replies, table_after, after}
+use Rattle.record_table.specs.Does.{Does, OpensWith, Indexed, is_failed}
 use Rattle.record_table.specs.Shown.{state_of, keys_of}
 use Rattle.record_table.specs.Shown as shown
 use Rattle.record_table.specs.declared.fault.TableFault.{TableFault}
@@ -27,19 +31,18 @@ use Rattle.record_table.specs.declared.fault.TableFault.TheVariants.{SlotsFull, 
 use Rattle.caller_steps.specs.State.{State, Index, calls_of, records_of}
 use Rattle.caller_steps.specs.Locked.{IsFree}
 use Rattle.caller_steps.specs.Room.{Limits, Indexes}
-use Rattle.caller_steps.specs.Step.{Asks, Step}
+use Rattle.caller_steps.specs.Step.{Asks, Step, uses_index}
 use Rattle.caller_steps.specs.Fate.{is_refusal, is_media, is_committed}
 use Rattle.caller_steps.specs.Prefix.{HasPrefixOf}
 use Rattle.caller_steps.specs.Core.{IsSafe, Steps}
 use Rattle.caller_steps.proofs.Holding.{AreNamed}
 use Rattle.caller_steps.proofs.Sound.{step_sound}
-use Rattle.mars_core.specs.declared.asking.Answer.{Answer}
 use Rattle.mars_core.specs.Over.{limits_of, index_of}
 use Rattle.mars_core.specs.Held.{core_over}
 use Rattle.mars_core.specs.Kept.{Mirrors, HasHeld, IsTied, IsKept}
-use Rattle.mars_core.specs.Works.{command_of, IsOfTable, Replies, HasSaves, IsShown, Works, reply_to}
+use Rattle.mars_core.specs.Works.{HasSaves, IsShown, Works, IsAnswered, Unmade, Made}
 use Rattle.mars_core.proofs.Indexing.{IsWithin, is_within, indexes_granted, indexes_refused, indexes_slots}
-use Rattle.mars_core.proofs.Mirroring.{mirrors_granted, same_table, answers}
+use Rattle.mars_core.proofs.Mirroring.{IsOfTable, scan_after, mirrors_granted, same_table, answers}
 use Rattle.mars_core.proofs.Rooming.{fits_is, log_lacks, slot_lacks, page_lacks, named_is}
 use Rattle.mars_core.proofs.Entering.{index_room, room_granted}
 use Rattle.mars_core.proofs.Prefixes.{StoreLaws, sound_after, safe_dead, safe_alive}
@@ -71,7 +74,7 @@ plain_of NoMemory = refl
 
 -- a refusal without a fault of the medium
 abbrev Well : TableFault → Type 0
-Well f = let r : Result Answer TableFault = Err f in is_failed r ≡ false
+Well f = let r : Result Reply TableFault = Err f in is_failed r ≡ false
 
 media_of : (f : TableFault) → Well f → is_media (reply_to f) ≡ false
 media_of (SlotsFull n) well = refl
@@ -83,7 +86,7 @@ media_of Dead well = refl
 media_of (Damaged page) well = refl
 media_of NoMemory well = refl
 
-saved_out : (p : PagesView) (t : ℕ) (call : Call) → IsOfTable call → HasSaves (length (p.counts t)) call → IsSavedOut p (command_of t call) → ⊥
+saved_out : (p : PagesView) (t : ℕ) (call : Call) → IsOfTable call → HasSaves (length (p.counts t)) call → IsSavedOut p t call → ⊥
 saved_out p t Save of saves out = omega (arith, saves, out)
 saved_out p t (Get key) of saves out = out
 saved_out p t (Put key value) of saves out = out
@@ -94,23 +97,86 @@ saved_out p t Commit of saves out = out
 saved_out p t Abort of saves out = out
 saved_out p t Begin of saves out = out
 
-scan_same : (limits : Limits) (t : ℕ) (call : Call) (answer : Reply) (old new : Index) → IsScan (command_of t call) → Indexes limits call answer old new → new ≡ old
-scan_same limits t (Scan low high) answer old new scan same = same
-scan_same limits t (Get key) answer old new scan same = same
-scan_same limits t (Put key value) answer old new scan same = absurd scan
-scan_same limits t (Del key) answer old new scan same = same
-scan_same limits t Save answer old new scan same = same
-scan_same limits t (Back n) answer old new scan same = same
-scan_same limits t Commit answer old new scan same = same
-scan_same limits t Abort answer old new scan same = same
-scan_same limits t Begin answer old new scan same = same
+scan_same : (limits : Limits) (call : Call) (answer : Reply) (old new : Index) → IsScan call → Indexes limits call answer old new → new ≡ old
+scan_same limits (Scan low high) answer old new scan same = same
+scan_same limits (Get key) answer old new scan same = same
+scan_same limits (Put key value) answer old new scan same = absurd scan
+scan_same limits (Del key) answer old new scan same = same
+scan_same limits Save answer old new scan same = same
+scan_same limits (Back n) answer old new scan same = same
+scan_same limits Commit answer old new scan same = same
+scan_same limits Abort answer old new scan same = same
+scan_same limits Begin answer old new scan same = same
+
+-- What the records made of a call, as far as a core needs it.
+pub record Did (tells : Bool) (Opens : List ℕ → List ℕ → Type 0) (index : below.Index) (t : ℕ) (call : Call) (old new : PagesView) (result : Result Reply TableFault) : Type 0 where
+  pub shape : new.store.shape ≡ old.store.shape
+  pub cause : IsTrue tells → Cause tells index t call old result
+  pub faults : IsFalse (is_failed result) → (new.store.is_dead ≡ old.store.is_dead) × (new.store.faults ≡ old.store.faults)
+  pub dies : IsTrue (is_failed result) → (new.store.is_dead ≡ true) × Rose old.store.faults new.store.faults
+  pub replies : IsTrue tells → IfOk result (Replies (state_of index old) t call)
+  pub done : IsTrue tells → IfOk result (λ reply. state_of index new ≡ after t call reply (state_of index old))
+  pub refused : IsTrue tells → IsFalse (is_failed result) → OnErr result (state_of index new ≡ state_of index old)
+  pub indexed : IsTrue tells → IsAlive old.store → IsFalse (is_failed result) → Indexed call (keys_of index old.store.state.bytes) (keys_of index new.store.state.bytes) result
+  pub time : IsTrue tells → IsAlive old.store
+      → LeavesOnly (λ image. OpensWith Opens index image (state_of index old).table ⊎ OpensWith Opens index image (table_after t call (state_of index old))) old.store new.store
+
+pub did : (tells : Bool) (Opens : List ℕ → List ℕ → Type 0) (index : below.Index) (t : ℕ) (call : Call) (old new : PagesView) (result : Result Reply TableFault) → Does tells Opens index t call old new result
+    → Did tells Opens index t call old new result
+did tells Opens index t call old new result does = record {
+  shape = does.shape;
+  cause = λ told. does.cause;
+  faults = does.faults;
+  dies = does.dies;
+  replies = does.replies;
+  done = does.done;
+  refused = does.refused;
+  indexed = does.indexed;
+  time = does.time;
+}
+
+found_no_rows : (rows : List (ℕ × List ℕ)) (o : Option (List ℕ)) → reply.Listed rows ≡ found o → ⊥
+found_no_rows rows None is = absurd (cc)
+found_no_rows rows (Some value) is = absurd (cc)
+
+removed_no_rows : (rows : List (ℕ × List ℕ)) (o : Option (List ℕ)) → reply.Listed rows ≡ removed o → ⊥
+removed_no_rows rows None is = absurd (cc)
+removed_no_rows rows (Some value) is = absurd (cc)
+
+-- only a scan lists rows
+listed_is : (s : TableState) (t : ℕ) (call : Call) (rows : List (ℕ × List ℕ)) → Replies s t call (reply.Listed rows) → (low high : ℕ) × (call ≡ Scan low high)
+listed_is s t (Scan low high) rows replies = (low, high, refl)
+listed_is s t (Get key) rows replies = absurd (found_no_rows rows (get (seen_by s t) key) replies)
+listed_is s t (Put key value) rows replies = absurd (cc)
+listed_is s t (Del key) rows replies = absurd (removed_no_rows rows (get (seen_by s t) key) replies)
+listed_is s t Save rows replies = absurd (cc)
+listed_is s t (Back n) rows replies = absurd (let e = replies.1 in cc)
+listed_is s t Commit rows replies = absurd replies
+listed_is s t Abort rows replies = absurd (cc)
+listed_is s t Begin rows replies = absurd replies
+
+-- a scan whose rows there is no memory to keep has changed nothing
+pub did_unkept : (tells : Bool) (Opens : List ℕ → List ℕ → Type 0) (index : below.Index) (t : ℕ) (call : Call) (old new : PagesView) (rows : List (ℕ × List ℕ)) → IsAlive old.store
+    → Does tells Opens index t call old new (Ok (reply.Listed rows)) → Did tells Opens index t call old new (Err NoMemory)
+did_unkept tells Opens index t call old new rows alive does = record {
+  shape = does.shape;
+  cause = λ told. (alive, (let is = scan told in subst IsScan (sym is.2) tt));
+  faults = does.faults;
+  dies = λ failed. absurd (false≢true failed);
+  replies = λ told. tt;
+  done = λ told. tt;
+  refused = λ told _. let is = scan told in does.done told ∙ ap (λ (c : Call). after t c (reply.Listed rows) (state_of index old)) is.2 ∙ scan_after (state_of index old) t is.0 is.1 (reply.Listed rows);
+  indexed = λ told living _. let is = scan told in
+      subst (λ (c : Call). (let r : Result Reply TableFault = Err NoMemory in Indexed c (keys_of index old.store.state.bytes) (keys_of index new.store.state.bytes) r)) (sym is.2)
+      (subst (λ (c : Call). (let r : Result Reply TableFault = Ok (reply.Listed rows) in Indexed c (keys_of index old.store.state.bytes) (keys_of index new.store.state.bytes) r)) is.2 (does.indexed told living refl));
+  time = does.time;
+}
+  where
+    scan : IsTrue tells → (low high : ℕ) × (call ≡ Scan low high)
+    scan told = listed_is (state_of index old) t call rows (does.replies told)
 
 mirrors_same : (b : TableState) (s new : State) → records_of new ≡ records_of s → new.live ≡ s.live → Mirrors b s → Mirrors b new
-mirrors_same b s new same live m = record {
-  table = m.table ∙ sym same;
-  writes = λ u. m.writes u ∙ ap (λ (f : ℕ → Option Granted). (log_of (unwrap_or (f u) [])).writes) (sym live);
-  saved = λ u. m.saved u ∙ ap (λ (f : ℕ → Option Granted). (log_of (unwrap_or (f u) [])).saved) (sym live);
-}
+mirrors_same b s new same live m = record { table = m.table ∙ sym same; logs = λ u. m.logs u ∙ ap (λ (f : ℕ → Option Granted). log_of (unwrap_or (f u) [])) (sym live) }
 
 module _ (tells : Bool) (Opens : Shape → List ℕ → List ℕ → Type 0) (index : below.Index) (one : (shape : Shape) (image a b : List ℕ) → Opens shape image a → Opens shape image b → a ≡ b) (laws : IndexLaws index)
     (p q : PagesView) (old_laws : StoreLaws tells Opens p.store) (new_laws : StoreLaws tells Opens q.store) (s new : State) (shows : ShowsPages index p s) (shows_new : ShowsPages index q new)
@@ -120,7 +186,7 @@ module _ (tells : Bool) (Opens : Shape → List ℕ → List ℕ → Type 0) (in
   same_records : records_of new ≡ records_of s
   same_records = λ i. records (base i) (history i)
 
-  has : HasSaves (length ((state_of index p).saved t)) call
+  has : HasSaves (length ((state_of index p).logs t).saved) call
   has = subst (λ (n : ℕ). HasSaves n call) (sym (counts_is index p t)) saves
 
   living_state : s.is_dead ≡ false
@@ -135,10 +201,10 @@ module _ (tells : Bool) (Opens : Shape → List ℕ → List ℕ → Type 0) (in
 
     named : (u : ℕ) → AreNamed s.index (log_of (calls_of s u)).writes
     named u = named_is s.index (index.pairs p.store.state.bytes) (log_of (calls_of s u)).writes (λ key. ap (λ (x : Index). x.slot_of key) shows.indexed)
-        (subst (λ (ws : List Write). shown.AreNamed (index.pairs p.store.state.bytes) ws) (tied.mirrors.writes u) (tells_writes.named told alive u))
+        (subst (λ (ws : List Write). shown.AreNamed (index.pairs p.store.state.bytes) ws) (ap (λ (l : Log). l.writes) (tied.mirrors.logs u)) (tells_writes.named told alive u))
 
     -- the data after the call is within the array
-    module _ (result : Result Answer TableFault) (works : Works tells (Opens p.store.shape) index t call p q result) where
+    module _ (result : Result Reply TableFault) (works : Did tells (Opens p.store.shape) index t call p q result) where
       sound_new : IsAlive q.store → index.sound q.store.state.bytes
       sound_new = sound_after tells Opens index one p q old_laws new_laws told works.shape alive tied.index_sound _ _ (works.time told alive)
 
@@ -147,11 +213,12 @@ module _ (tells : Bool) (Opens : Shape → List ℕ → List ℕ → Type 0) (in
           (subst (λ (h : Shape). length q.store.state.bytes ≡ data_len h) works.shape (new_laws.long told)) (laws.counts q.store.state.bytes (sound_new living)) refl refl
 
       time : LeavesOnly (HasPrefixOf (OpensWith (Opens q.store.shape) index) new (length s.history)) p.store q.store
-      time = time_same tells Opens index p q s new (state_of index p).table (after (command_of t call) (state_of index p)).table works.shape tied.mirrors.table
+      time = time_same tells Opens index p q s new (state_of index p).table (table_after t call (state_of index p)) works.shape tied.mirrors.table
           (same_table (state_of index p) t call of ∙ tied.mirrors.table) base history (works.time told alive)
 
   -- the caller's call was granted
-  module _ (answer : Answer) (works : (let r : Result Answer TableFault = Ok answer in Works tells (Opens p.store.shape) index t call p q r)) (live : new.live ≡ update nat_eq s.live t (Some (calls ++ (call, answer.told) ∷ []))) where
+  module _ (answer : Reply) (works : Did tells (Opens p.store.shape) index t call p q (Ok answer)) (granted : IsFalse (is_refusal answer)) (plain : IsFalse (is_committed answer))
+      (live : new.live ≡ update nat_eq s.live t (Some (calls ++ (call, answer) ∷ []))) where
     living : IsAlive q.store
     living = (works.faults refl).0 ∙ alive
 
@@ -159,36 +226,36 @@ module _ (tells : Bool) (Opens : Shape → List ℕ → List ℕ → Type 0) (in
     dead_same = shows_new.dead ∙ (works.faults refl).0 ∙ sym shows.dead
 
     module _ (told : IsTrue tells) where
-      indexes : Indexes (limits_of p.store.shape) call answer.told s.index new.index
-      indexes = subst (λ (x : Index). Indexes (limits_of p.store.shape) call answer.told x new.index) (sym shows.indexed)
-          (subst (λ (x : Index). Indexes (limits_of p.store.shape) call answer.told (index_of (keys_of index p.store.state.bytes)) x) (sym shows_new.indexed)
-          (indexes_granted p.store.shape (keys_of index p.store.state.bytes) (keys_of index q.store.state.bytes) (within told (Ok answer) works living) t call answer answer.told of
-          (λ key value e. subst (λ (c : Call). Replies (state_of index p) t c answer.told) e (works.replies told)) (works.indexed told alive refl)))
+      indexes : Indexes (limits_of p.store.shape) call answer s.index new.index
+      indexes = subst (λ (x : Index). Indexes (limits_of p.store.shape) call answer x new.index) (sym shows.indexed)
+          (subst (λ (x : Index). Indexes (limits_of p.store.shape) call answer (index_of (keys_of index p.store.state.bytes)) x) (sym shows_new.indexed)
+          (indexes_granted p.store.shape (keys_of index p.store.state.bytes) (keys_of index q.store.state.bytes) (within told (Ok answer) works living) call answer answer of
+          (λ key value e. subst (λ (c : Call). Replies (state_of index p) t c answer) e (works.replies told)) (works.indexed told alive refl)))
 
-      asks : Asks (limits_of p.store.shape) calls s t call answer.told new
+      asks : Asks (limits_of p.store.shape) calls s t call answer new
       asks = inr (inr (
         free,
         inl (
-          answers (state_of index p) s (tied told).mirrors t (right told) call answer.told of (works.replies told) has,
-          fits_is index p s shows.indexed (tied told).mirrors (tells_writes.held told alive) t (right told) call of (works.cause.2 told),
+          answers (state_of index p) s (tied told).mirrors t (right told) call answer of (works.replies told),
+          fits_is index p s shows.indexed (tied told).mirrors (tells_writes.held told alive) t (right told) call of ((works.cause told).2 told),
           new.index,
           indexes,
           λ i. record { base = base i; history = history i; live = live i; doubt = doubt i; is_dead = dead_same i; index = new.index },
         ),
       ))
 
-      step : Step (limits_of p.store.shape) s t call answer.told new
-      step = step_of (limits_of p.store.shape) (Some calls) s new t call answer.told living_state is
-          (asks_at (limits_of p.store.shape) calls s new t call answer.told of (saves_at index p s shows (tied told).mirrors (tells_writes.held told alive) t (right told) call has) asks)
+      step : Step (limits_of p.store.shape) s t call answer new
+      step = step_of (limits_of p.store.shape) (Some calls) s new t call answer living_state is
+          (asks_at (limits_of p.store.shape) calls s new t call answer of (saves_at index p s shows (tied told).mirrors (tells_writes.held told alive) t (right told) call has) asks)
 
       tied_new : IsTied index q new
       tied_new = record {
         index_sound = sound_new told (Ok answer) works living;
-        mirrors = subst (λ (b : TableState). Mirrors b new) (sym (works.done told)) (mirrors_granted (state_of index p) s (tied told).mirrors new t calls call answer.told is live same_records of (works.replies told) has);
-        sound = step_sound (limits_of p.store.shape) s t call answer.told new (tied told).sound step;
+        mirrors = subst (λ (b : TableState). Mirrors b new) (sym (works.done told)) (mirrors_granted (state_of index p) s (tied told).mirrors new t calls call answer is live same_records of);
+        sound = step_sound (limits_of p.store.shape) s t call answer new (tied told).sound step;
         room = subst (λ (h : Shape). HasHeld (limits_of h) new) (sym works.shape)
-            (room_granted (limits_of p.store.shape) s (named told) (tied told).room new.index (indexes_slots (limits_of p.store.shape) call answer.told s.index new.index indexes) t calls is new call answer.told refl live
-            (enters_at index p s shows (tied told).mirrors (tells_writes.held told alive) t (right told) call answer.told new.index of (works.cause.2 told) (works.replies told) indexes)
+            (room_granted (limits_of p.store.shape) s (named told) (tied told).room new.index (indexes_slots (limits_of p.store.shape) call answer s.index new.index indexes) t calls is new call answer refl live
+            (enters_at index p s shows (tied told).mirrors (tells_writes.held told alive) t (right told) call answer new.index of ((works.cause told).2 told) (works.replies told) indexes)
             (returns_at index p s shows (tied told).mirrors (tells_writes.held told alive) t (right told) calls (ap (λ (o : Option Granted). unwrap_or o []) is) call has));
       }
 
@@ -203,13 +270,13 @@ module _ (tells : Bool) (Opens : Shape → List ℕ → List ℕ → Type 0) (in
       safe = safe_new;
     }
 
-    pub granted_steps : Steps tells t call (core_over Opens index p.store s) (core_over Opens index q.store new) answer.told
-    granted_steps = steps_of tells Opens index p q s new t call answer.told works.shape
-        (moves_granted s new t calls call answer.told base history dead_same is live of works.granted works.plain) (λ failed. absurd (false≢true (sym (media_none answer.told works.granted) ∙ failed)))
+    pub granted_steps : Steps tells t call (core_over Opens index p.store s) (core_over Opens index q.store new) answer
+    granted_steps = steps_of tells Opens index p q s new t call answer works.shape
+        (moves_granted s new t calls call answer base history dead_same is live of granted plain) (λ failed. absurd (false≢true (sym (media_none answer granted) ∙ failed)))
         (λ _. (works.faults refl).1) step (λ told. time told (Ok answer) works) safe_new
 
   -- the call was refused
-  module _ (f : TableFault) (works : (let r : Result Answer TableFault = Err f in Works tells (Opens p.store.shape) index t call p q r)) (live : new.live ≡ s.live) where
+  module _ (f : TableFault) (works : Did tells (Opens p.store.shape) index t call p q (Err f)) (live : new.live ≡ s.live) where
     module _ (well : Well f) where
       living_still : IsAlive q.store
       living_still = (works.faults well).0 ∙ alive
@@ -224,10 +291,10 @@ module _ (tells : Bool) (Opens : Shape → List ℕ → List ℕ → Type 0) (in
         indexes_still : Indexes (limits_of p.store.shape) call (reply_to f) s.index new.index
         indexes_still = subst (λ (x : Index). Indexes (limits_of p.store.shape) call (reply_to f) x new.index) (sym shows.indexed)
             (subst (λ (x : Index). Indexes (limits_of p.store.shape) call (reply_to f) (index_of (keys_of index p.store.state.bytes)) x) (sym shows_new.indexed)
-            (indexes_refused p.store.shape (keys_of index p.store.state.bytes) (keys_of index q.store.state.bytes) (within told (Err f) works living_still) Answer t call f of well (works.indexed told alive well)))
+            (indexes_refused p.store.shape (keys_of index p.store.state.bytes) (keys_of index q.store.state.bytes) (within told (Err f) works living_still) Reply call f of well (works.indexed told alive well)))
 
         -- for its cause
-        asks_fault : (g : TableFault) → Well g → (let r : Result Answer TableFault = Err g in Cause tells index (command_of t call) p r) → Indexes (limits_of p.store.shape) call (reply_to g) s.index new.index
+        asks_fault : (g : TableFault) → Well g → (let r : Result Reply TableFault = Err g in Cause tells index t call p r) → Indexes (limits_of p.store.shape) call (reply_to g) s.index new.index
             → Asks (limits_of p.store.shape) calls s t call (reply_to g) new
         asks_fault (SlotsFull n) well cause made = inr (inr (
           free,
@@ -260,12 +327,12 @@ module _ (tells : Bool) (Opens : Shape → List ℕ → List ℕ → Type 0) (in
         asks_fault Dead well cause made = absurd (false≢true (sym alive ∙ cause))
         asks_fault (Damaged page) well cause made = absurd (cause.2 told)
         asks_fault NoMemory well cause made =
-            inl (refl, changed ∙ ap (λ (x : Index). record s { index = x }) (scan_same (limits_of p.store.shape) t call reply.NoMemory s.index new.index cause.1 made))
+            inl (refl, changed ∙ ap (λ (x : Index). record s { index = x }) (scan_same (limits_of p.store.shape) call reply.NoMemory s.index new.index cause.1 made))
         asks_fault Media well cause made = absurd (false≢true (sym well))
 
         step_still : Step (limits_of p.store.shape) s t call (reply_to f) new
         step_still = step_of (limits_of p.store.shape) (Some calls) s new t call (reply_to f) living_state is
-            (asks_at (limits_of p.store.shape) calls s new t call (reply_to f) of (saves_at index p s shows (tied told).mirrors (tells_writes.held told alive) t (right told) call has) (asks_fault f well works.cause indexes_still))
+            (asks_at (limits_of p.store.shape) calls s new t call (reply_to f) of (saves_at index p s shows (tied told).mirrors (tells_writes.held told alive) t (right told) call has) (asks_fault f well (works.cause told) indexes_still))
 
         tied_still : IsTied index q new
         tied_still = record {
@@ -293,14 +360,14 @@ module _ (tells : Bool) (Opens : Shape → List ℕ → List ℕ → Type 0) (in
           (λ failed. absurd (false≢true (sym (media_of f well) ∙ failed))) (λ _. (works.faults well).1) step_still (λ told. time told (Err f) works) safe_still
 
   -- the medium failed
-  module _ (works : (let r : Result Answer TableFault = Err Media in Works tells (Opens p.store.shape) index t call p q r)) (live : new.live ≡ s.live) where
+  module _ (works : Did tells (Opens p.store.shape) index t call p q (Err Media)) (due : IsTrue (uses_index call)) (live : new.live ≡ s.live) where
     died : new.is_dead ≡ true
     died = shows_new.dead ∙ (works.dies refl).0
 
     step_failed : IsTrue tells → Step (limits_of p.store.shape) s t call reply.Media new
     step_failed told = step_of (limits_of p.store.shape) (Some calls) s new t call reply.Media living_state is
         (asks_at (limits_of p.store.shape) calls s new t call reply.Media of (saves_at index p s shows (tied told).mirrors (tells_writes.held told alive) t (right told) call has)
-        (inr (inr (free, inr (inr (works.due refl, (refl, new.index, λ i. record { base = base i; history = history i; live = live i; doubt = doubt i; is_dead = died i; index = new.index })))))))
+        (inr (inr (free, inr (inr (due, (refl, new.index, λ i. record { base = base i; history = history i; live = live i; doubt = doubt i; is_dead = died i; index = new.index })))))))
 
     safe_failed : IsTrue tells → IsSafe (core_over Opens index q.store new) q.store.moment (length new.history)
     safe_failed told = safe_dead tells Opens index one p q old_laws new_laws told works.shape alive (tied told).index_sound s new (tied told).mirrors.table base history (time told (Err Media) works)
@@ -318,23 +385,30 @@ module _ (tells : Bool) (Opens : Shape → List ℕ → List ℕ → Type 0) (in
         (moves_refused s new t call reply.Media base history live (died ∙ sym (or_true s.is_dead)) refl refl)
         (λ _. (works.dies refl).1) (λ kept. absurd (false≢true (sym kept))) step_failed (λ told. time told (Err Media) works) safe_failed
 
-  pub refused_keeps : (f : TableFault) → (let r : Result Answer TableFault = Err f in Works tells (Opens p.store.shape) index t call p q r) → new.live ≡ s.live → IsKept tells Opens index q count' rows new
-  refused_keeps Media works live = media_keeps works live
-  refused_keeps (SlotsFull n) works live = well_keeps (SlotsFull n) works live refl
-  refused_keeps (PagesFull n) works live = well_keeps (PagesFull n) works live refl
-  refused_keeps SavesFull works live = well_keeps SavesFull works live refl
-  refused_keeps (LogFull g h n) works live = well_keeps (LogFull g h n) works live refl
-  refused_keeps Dead works live = well_keeps Dead works live refl
-  refused_keeps (Damaged page) works live = well_keeps (Damaged page) works live refl
-  refused_keeps NoMemory works live = well_keeps NoMemory works live refl
+  module _ (f : TableFault) (works : Did tells (Opens p.store.shape) index t call p q (Err f)) (due : (let r : Result Reply TableFault = Err f in IsErrOf r Media → IsTrue (uses_index call))) (live : new.live ≡ s.live) where
+    pub refused_keeps : IsKept tells Opens index q count' rows new
+    refused_keeps = go f works due
+      where
+        go : (f : TableFault) → Did tells (Opens p.store.shape) index t call p q (Err f) → (let r : Result Reply TableFault = Err f in IsErrOf r Media → IsTrue (uses_index call)) → IsKept tells Opens index q count' rows new
+        go Media works due = media_keeps works (due refl) live
+        go (SlotsFull n) works due = well_keeps (SlotsFull n) works live refl
+        go (PagesFull n) works due = well_keeps (PagesFull n) works live refl
+        go SavesFull works due = well_keeps SavesFull works live refl
+        go (LogFull g h n) works due = well_keeps (LogFull g h n) works live refl
+        go Dead works due = well_keeps Dead works live refl
+        go (Damaged page) works due = well_keeps (Damaged page) works live refl
+        go NoMemory works due = well_keeps NoMemory works live refl
 
-  pub refused_steps : (f : TableFault) → (let r : Result Answer TableFault = Err f in Works tells (Opens p.store.shape) index t call p q r) → new.live ≡ s.live
-      → Steps tells t call (core_over Opens index p.store s) (core_over Opens index q.store new) (reply_to f)
-  refused_steps Media works live = media_steps works live
-  refused_steps (SlotsFull n) works live = well_steps (SlotsFull n) works live refl
-  refused_steps (PagesFull n) works live = well_steps (PagesFull n) works live refl
-  refused_steps SavesFull works live = well_steps SavesFull works live refl
-  refused_steps (LogFull g h n) works live = well_steps (LogFull g h n) works live refl
-  refused_steps Dead works live = well_steps Dead works live refl
-  refused_steps (Damaged page) works live = well_steps (Damaged page) works live refl
-  refused_steps NoMemory works live = well_steps NoMemory works live refl
+    pub refused_steps : Steps tells t call (core_over Opens index p.store s) (core_over Opens index q.store new) (reply_to f)
+    refused_steps = go f works due
+      where
+        go : (f : TableFault) → Did tells (Opens p.store.shape) index t call p q (Err f) → (let r : Result Reply TableFault = Err f in IsErrOf r Media → IsTrue (uses_index call))
+            → Steps tells t call (core_over Opens index p.store s) (core_over Opens index q.store new) (reply_to f)
+        go Media works due = media_steps works (due refl) live
+        go (SlotsFull n) works due = well_steps (SlotsFull n) works live refl
+        go (PagesFull n) works due = well_steps (PagesFull n) works live refl
+        go SavesFull works due = well_steps SavesFull works live refl
+        go (LogFull g h n) works due = well_steps (LogFull g h n) works live refl
+        go Dead works due = well_steps Dead works live refl
+        go (Damaged page) works due = well_steps (Damaged page) works live refl
+        go NoMemory works due = well_steps NoMemory works live refl

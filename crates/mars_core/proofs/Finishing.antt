@@ -14,7 +14,8 @@ use Rattle.page_store.specs.Shown.{PagesView}
 use Rattle.history.specs.Writes.{Table, Write, all_written}
 use Rattle.history.specs.Table.{Granted, IsRight}
 use Rattle.history.specs.Legal.{records}
-use Rattle.history.specs.Log.{log_of}
+use Rattle.history.specs.Log.{Log, log_of}
+use Rattle.history.specs.declared.call.Reply.{Reply}
 use Rattle.history.specs.declared.call.Call.TheVariants.{Commit, Abort}
 use Rattle.history.specs.declared.call.Reply.TheVariants.{Fine, Committed, NoMemory}
 use Rattle.history.specs.declared.call.Reply.TheVariants as reply
@@ -23,7 +24,7 @@ use Rattle.history.proofs.OneMore.{records-push}
 use Rattle.history.proofs.Pending.{left_is_written}
 use Rattle.record_table.specs.State.{TableState, seen_by}
 use Rattle.record_table.specs.Causes.{Cause}
-use Rattle.record_table.specs.Command.{commit, abort, after}
+use Rattle.record_table.specs.Calls.{after}
 use Rattle.record_table.specs.Does.{Does, OpensWith}
 use Rattle.record_table.specs.Shown.{state_of}
 use Rattle.record_table.specs.declared.fault.TableFault.{TableFault}
@@ -70,7 +71,7 @@ last_is (a ∷ xs) (b ∷ ys) x (Some z) e none =
     ((λ i. heads a b (xs ++ x ∷ []) (ys ++ z ∷ []) e i ∷ rest.0 i), rest.1)
 
 -- only the medium refuses the end of a transaction
-pub commit_fails : (tells : Bool) (index : below.Index) (p : PagesView) (t : ℕ) → IsAlive p.store → (f : TableFault) → (let r : Result (Unit {0}) TableFault = Err f in Cause tells index (commit t) p r) → f ≡ fault.Media
+pub commit_fails : (tells : Bool) (index : below.Index) (p : PagesView) (t : ℕ) → IsAlive p.store → (f : TableFault) → (let r : Result Reply TableFault = Err f in Cause tells index t Commit p r) → f ≡ fault.Media
 commit_fails tells index p t alive fault.Media cause = refl
 commit_fails tells index p t alive fault.Dead cause = absurd (false≢true (sym alive ∙ cause))
 commit_fails tells index p t alive (fault.SlotsFull n) cause = absurd cause.1
@@ -80,7 +81,7 @@ commit_fails tells index p t alive fault.SavesFull cause = absurd cause.1
 commit_fails tells index p t alive (fault.Damaged page) cause = absurd cause.1
 commit_fails tells index p t alive fault.NoMemory cause = absurd cause.1
 
-pub abort_fails : (tells : Bool) (index : below.Index) (p : PagesView) (t : ℕ) → IsAlive p.store → (f : TableFault) → (let r : Result (Unit {0}) TableFault = Err f in Cause tells index (abort t) p r) → f ≡ fault.Media
+pub abort_fails : (tells : Bool) (index : below.Index) (p : PagesView) (t : ℕ) → IsAlive p.store → (f : TableFault) → (let r : Result Reply TableFault = Err f in Cause tells index t Abort p r) → f ≡ fault.Media
 abort_fails tells index p t alive fault.Media cause = refl
 abort_fails tells index p t alive fault.Dead cause = absurd (false≢true (sym alive ∙ cause))
 abort_fails tells index p t alive (fault.SlotsFull n) cause = absurd cause.1
@@ -101,7 +102,7 @@ module _ (tells : Bool) (Opens : Shape → List ℕ → List ℕ → Type 0) (in
   at = ap (λ (o : Option Granted). unwrap_or o []) is
 
   -- a commit
-  module _ (done : Done) (done_is : done ≡ done_by s t calls) (result : Result (Unit {0}) TableFault) (does : Does tells (Opens p.store.shape) index (commit t) p q result)
+  module _ (done : Done) (done_is : done ≡ done_by s t calls) (result : Result Reply TableFault) (does : Does tells (Opens p.store.shape) index t Commit p q result)
       (live : new.live ≡ update nat_eq s.live t None) where
     module _ (told : IsTrue tells) where
       tied : IsTied index p s
@@ -112,7 +113,7 @@ module _ (tells : Bool) (Opens : Shape → List ℕ → List ℕ → Type 0) (in
 
       -- the table that it leaves is that of the longer history
       seen_left : seen_by (state_of index p) t ≡ records s.base (s.history ++ done ∷ [])
-      seen_left = (λ i. all_written (tied.mirrors.table i) ((tied.mirrors.writes t ∙ ap (λ (cs : Granted). (log_of cs).writes) at) i)) ∙ sym (left_is_written (records_of s) calls right)
+      seen_left = (λ i. all_written (tied.mirrors.table i) ((ap (λ (l : Log). l.writes) (tied.mirrors.logs t) ∙ ap (λ (cs : Granted). (log_of cs).writes) at) i)) ∙ sym (left_is_written (records_of s) calls right)
           ∙ sym (records-push s.base s.history done ∙ ap (λ (d : Done). left_after s d) done_is)
         where
           left_after : State → Done → Table
@@ -129,14 +130,14 @@ module _ (tells : Bool) (Opens : Shape → List ℕ → List ℕ → Type 0) (in
           turned image has = subst (λ (b : Table). HasPrefix (OpensWith (Opens q.store.shape) index) b (new.history ++ new.doubt) (length s.history) image) (sym base)
               (subst (λ (hs : List Done). HasPrefix (OpensWith (Opens q.store.shape) index) s.base hs (length s.history) image) (sym list) has)
 
-          go : (image : List ℕ) → OpensWith (Opens p.store.shape) index image (state_of index p).table ⊎ OpensWith (Opens p.store.shape) index image (after (commit t) (state_of index p)).table
+          go : (image : List ℕ) → OpensWith (Opens p.store.shape) index image (state_of index p).table ⊎ OpensWith (Opens p.store.shape) index image (seen_by (state_of index p) t)
               → HasPrefixOf (OpensWith (Opens q.store.shape) index) new (length s.history) image
           go image (inl o) = turned image (prefix_all (OpensWith (Opens q.store.shape) index) image s.base s.history (done ∷ [])
               (subst (λ (table : Table). OpensWith (Opens q.store.shape) index image table) tied.mirrors.table (opened image (state_of index p).table o)))
           go image (inr o) = turned image (prefix_more (OpensWith (Opens q.store.shape) index) image s.base s.history done
-              (subst (λ (table : Table). OpensWith (Opens q.store.shape) index image table) seen_left (opened image (after (commit t) (state_of index p)).table o)))
+              (subst (λ (table : Table). OpensWith (Opens q.store.shape) index image table) seen_left (opened image (seen_by (state_of index p) t) o)))
 
-  module _ (done : Done) (done_is : done ≡ done_by s t calls) (does : (let r : Result (Unit {0}) TableFault = Ok tt in Does tells (Opens p.store.shape) index (commit t) p q r))
+  module _ (done : Done) (done_is : done ≡ done_by s t calls) (k : ℕ) (does : Does tells (Opens p.store.shape) index t Commit p q (Ok (Committed k)))
       (live : new.live ≡ update nat_eq s.live t None) (history : new.history ≡ s.history ++ done ∷ []) (doubt : new.doubt ≡ s.doubt) where
     living : IsAlive q.store
     living = (does.faults refl).0 ∙ alive
@@ -160,9 +161,9 @@ module _ (tells : Bool) (Opens : Shape → List ℕ → List ℕ → Type 0) (in
           let was = kept.tied told alive in
           record {
             index_sound = sound_after tells Opens index one p q old_laws new_laws told does.shape alive was.index_sound _ _ (does.time told alive) living;
-            mirrors = subst (λ (b : TableState). Mirrors b new) (sym (does.done told)) (mirrors_at (state_of index p) s was.mirrors (after (commit t) (state_of index p)) new t None live
-                (seen_left done done_is (let r : Result (Unit {0}) TableFault = Ok tt in r) does live told ∙ (λ i. records (sym base i) (sym history i)))
-                (with_one_here (state_of index p).writes t [], with_one_here (state_of index p).saved t []) (apart (state_of index p) t Commit));
+            mirrors = subst (λ (b : TableState). Mirrors b new) (sym (does.done told)) (mirrors_at (state_of index p) s was.mirrors (after t Commit (Committed k) (state_of index p)) new t None live
+                (seen_left done done_is (Ok (Committed k)) does live told ∙ (λ i. records (sym base i) (sym history i)))
+                (with_one_here (state_of index p).logs t (record { writes = []; saved = [] })) (apart (state_of index p) t Commit (Committed k)));
             sound = step_sound (limits_of p.store.shape) s t Commit (Committed (length s.history + 1)) new was.sound step;
             room = subst (λ (h : Shape). HasHeld (limits_of h) new) (sym does.shape) (room_empty (limits_of p.store.shape) s new t None refl was.room index_same live);
           }
@@ -186,14 +187,14 @@ module _ (tells : Bool) (Opens : Shape → List ℕ → List ℕ → Type 0) (in
           others = λ other ne. ap (λ (f : ℕ → Option Granted). f other) live ∙ update_apart s.live t None other ne;
           refused = λ refusal _. absurd (false≢true refusal);
         }) (λ failed. absurd (false≢true failed)) (λ _. (does.faults refl).1) step
-        (λ told. time_commit done done_is (let r : Result (Unit {0}) TableFault = Ok tt in r) does live told (no_doubt told)) safe_new)
+        (λ told. time_commit done done_is (Ok (Committed k)) does live told (no_doubt told)) safe_new)
 
   -- the medium failed in the commit
-  module _ (done : Done) (done_is : done ≡ done_by s t calls) (does : (let r : Result (Unit {0}) TableFault = Err fault.Media in Does tells (Opens p.store.shape) index (commit t) p q r))
+  module _ (done : Done) (done_is : done ≡ done_by s t calls) (does : Does tells (Opens p.store.shape) index t Commit p q (Err fault.Media))
       (live : new.live ≡ update nat_eq s.live t None) (history : new.history ≡ s.history) (doubt : new.doubt ≡ done ∷ [])
-      (due : IsTrue tells → 0 < length ((state_of index p).writes t)) where
+      (due : IsTrue tells → 0 < length ((state_of index p).logs t).writes) where
     wrote : IsTrue tells → 0 < length (log_of calls).writes
-    wrote told = subst (λ (ws : List Write). 0 < length ws) ((kept.tied told alive).mirrors.writes t ∙ ap (λ (cs : Granted). (log_of cs).writes) at) (due told)
+    wrote told = subst (λ (ws : List Write). 0 < length ws) (ap (λ (l : Log). l.writes) ((kept.tied told alive).mirrors.logs t) ∙ ap (λ (cs : Granted). (log_of cs).writes) at) (due told)
 
     died : new.is_dead ≡ true
     died = shows_new.dead ∙ (does.dies refl).0
@@ -210,7 +211,7 @@ module _ (tells : Bool) (Opens : Shape → List ℕ → List ℕ → Type 0) (in
     )))
 
     time_doubt : IsTrue tells → LeavesOnly (HasPrefixOf (OpensWith (Opens q.store.shape) index) new (length s.history)) p.store q.store
-    time_doubt told = time_commit done done_is (let r : Result (Unit {0}) TableFault = Err fault.Media in r) does live told doubtful
+    time_doubt told = time_commit done done_is (Err fault.Media) does live told doubtful
 
     safe_doubt : IsTrue tells → IsSafe (core_over Opens index q.store new) q.store.moment (length new.history)
     safe_doubt told = let was = kept.tied told alive in safe_dead tells Opens index one p q old_laws new_laws told does.shape alive was.index_sound s new was.mirrors.table base history (time_doubt told)
@@ -235,7 +236,7 @@ module _ (tells : Bool) (Opens : Shape → List ℕ → List ℕ → Type 0) (in
 
   -- an abort
   module _ (history : new.history ≡ s.history) (doubt : new.doubt ≡ s.doubt) where
-    module _ (does : (let r : Result (Unit {0}) TableFault = Ok tt in Does tells (Opens p.store.shape) index (abort t) p q r)) (live : new.live ≡ update nat_eq s.live t None) where
+    module _ (does : Does tells (Opens p.store.shape) index t Abort p q (Ok Fine)) (live : new.live ≡ update nat_eq s.live t None) where
       lives : IsAlive q.store
       lives = (does.faults refl).0 ∙ alive
 
@@ -255,9 +256,9 @@ module _ (tells : Bool) (Opens : Shape → List ℕ → List ℕ → Type 0) (in
             let was = kept.tied told alive in
             record {
               index_sound = sound_after tells Opens index one p q old_laws new_laws told does.shape alive was.index_sound _ _ (does.time told alive) lives;
-              mirrors = subst (λ (b : TableState). Mirrors b new) (sym (does.done told)) (mirrors_at (state_of index p) s was.mirrors (after (abort t) (state_of index p)) new t None live
+              mirrors = subst (λ (b : TableState). Mirrors b new) (sym (does.done told)) (mirrors_at (state_of index p) s was.mirrors (after t Abort Fine (state_of index p)) new t None live
                   (was.mirrors.table ∙ (λ i. records (sym base i) (sym history i)))
-                  (with_one_here (state_of index p).writes t [], with_one_here (state_of index p).saved t []) (apart (state_of index p) t Abort));
+                  (with_one_here (state_of index p).logs t (record { writes = []; saved = [] })) (apart (state_of index p) t Abort Fine));
               sound = step_sound (limits_of p.store.shape) s t Abort Fine new was.sound step_abort;
               room = subst (λ (h : Shape). HasHeld (limits_of h) new) (sym does.shape) (room_empty (limits_of p.store.shape) s new t None refl was.room index_alike live);
             }
@@ -267,7 +268,7 @@ module _ (tells : Bool) (Opens : Shape → List ℕ → List ℕ → Type 0) (in
 
         time_abort : LeavesOnly (HasPrefixOf (OpensWith (Opens q.store.shape) index) new (length s.history)) p.store q.store
         time_abort = let was = kept.tied told alive in
-            time_same tells Opens index p q s new (state_of index p).table (after (abort t) (state_of index p)).table does.shape was.mirrors.table was.mirrors.table base history (does.time told alive)
+            time_same tells Opens index p q s new (state_of index p).table (state_of index p).table does.shape was.mirrors.table was.mirrors.table base history (does.time told alive)
 
       pub aborted_keeps : IsKept tells Opens index q count' rows new
       aborted_keeps = record { seats = same_count ∙ kept.seats ∙ sym (ap (λ (h : Shape). h.numbers) does.shape); in_order = kept.in_order; tied = λ told _. tied_abort told; safe = safe_abort }

@@ -21,7 +21,8 @@ use Rattle.record_table.specs.declared.fault.TableFault.TheVariants.{SlotsFull, 
 use Rattle.caller_steps.specs.State.{Index}
 use Rattle.caller_steps.specs.Room.{Limits, GainsKey, KeepsKeys, TakesPages, Inserts, IndexesAt, Indexes}
 use Rattle.mars_core.specs.Over.{limits_of, index_of}
-use Rattle.mars_core.specs.Works.{command_of, IsOfTable, reply_to}
+use Rattle.record_table.specs.Faults.{reply_to}
+use Rattle.mars_core.proofs.Mirroring.{IsOfTable}
 
 -- no more slots and pages are given out than an array of this shape has
 pub record IsWithin (shape : Shape) (keys : Keys) : Type 0 where
@@ -84,31 +85,31 @@ module _ (shape : Shape) (old new : Keys) (within : IsWithin shape new) where
   granted_at key None is answer (t, k) = (takes t, gains key is k)
 
   -- a refusal
-  pub indexes_refused : (T : Type 0) (t : ℕ) (call : Call) (f : TableFault) → IsOfTable call → (let r : Result T TableFault = Err f in IsFalse (is_failed r))
-      → (let r : Result T TableFault = Err f in Indexed (command_of t call) old new r) → Indexes (limits_of shape) call (reply_to f) (index_of old) (index_of new)
-  indexes_refused T t (Put key value) f of well indexed = refused_at T key (found old.pairs key) refl f well indexed
-  indexes_refused T t (Get key) f of well same = ap index_of same
-  indexes_refused T t (Del key) f of well same = ap index_of same
-  indexes_refused T t (Scan low high) f of well same = ap index_of same
-  indexes_refused T t Save f of well same = ap index_of same
-  indexes_refused T t (Back n) f of well same = ap index_of same
-  indexes_refused T t Commit f of well same = absurd of
-  indexes_refused T t Abort f of well same = absurd of
-  indexes_refused T t Begin f of well same = absurd of
+  pub indexes_refused : (T : Type 0) (call : Call) (f : TableFault) → IsOfTable call → (let r : Result T TableFault = Err f in IsFalse (is_failed r))
+      → (let r : Result T TableFault = Err f in Indexed call old new r) → Indexes (limits_of shape) call (reply_to f) (index_of old) (index_of new)
+  indexes_refused T (Put key value) f of well indexed = refused_at T key (found old.pairs key) refl f well indexed
+  indexes_refused T (Get key) f of well same = ap index_of same
+  indexes_refused T (Del key) f of well same = ap index_of same
+  indexes_refused T (Scan low high) f of well same = ap index_of same
+  indexes_refused T Save f of well same = ap index_of same
+  indexes_refused T (Back n) f of well same = ap index_of same
+  indexes_refused T Commit f of well same = absurd of
+  indexes_refused T Abort f of well same = absurd of
+  indexes_refused T Begin f of well same = absurd of
 
   -- a granted call
-  pub indexes_granted : {T : Type 0} (t : ℕ) (call : Call) (answer : T) (told : Reply) → IsOfTable call → ((key : ℕ) (value : List ℕ) → call ≡ Put key value → told ≡ Fine)
-      → (let r : Result T TableFault = Ok answer in Indexed (command_of t call) old new r) → Indexes (limits_of shape) call told (index_of old) (index_of new)
-  indexes_granted t (Put key value) answer told of fine indexed =
+  pub indexes_granted : {T : Type 0} (call : Call) (answer : T) (told : Reply) → IsOfTable call → ((key : ℕ) (value : List ℕ) → call ≡ Put key value → told ≡ Fine)
+      → (let r : Result T TableFault = Ok answer in Indexed call old new r) → Indexes (limits_of shape) call told (index_of old) (index_of new)
+  indexes_granted (Put key value) answer told of fine indexed =
       subst (λ (r : Reply). IndexesAt (limits_of shape) key (found old.pairs key) r (index_of old) (index_of new)) (sym (fine key value refl)) (granted_at key (found old.pairs key) refl answer indexed)
-  indexes_granted t (Get key) answer told of fine same = ap index_of same
-  indexes_granted t (Del key) answer told of fine same = ap index_of same
-  indexes_granted t (Scan low high) answer told of fine same = ap index_of same
-  indexes_granted t Save answer told of fine same = ap index_of same
-  indexes_granted t (Back n) answer told of fine same = ap index_of same
-  indexes_granted t Commit answer told of fine same = absurd of
-  indexes_granted t Abort answer told of fine same = absurd of
-  indexes_granted t Begin answer told of fine same = absurd of
+  indexes_granted (Get key) answer told of fine same = ap index_of same
+  indexes_granted (Del key) answer told of fine same = ap index_of same
+  indexes_granted (Scan low high) answer told of fine same = ap index_of same
+  indexes_granted Save answer told of fine same = ap index_of same
+  indexes_granted (Back n) answer told of fine same = ap index_of same
+  indexes_granted Commit answer told of fine same = absurd of
+  indexes_granted Abort answer told of fine same = absurd of
+  indexes_granted Begin answer told of fine same = absurd of
 
 -- the keys stay, or the index gains one that it lacked
 abbrev pub Slots : Limits → Index → Index → Type 0

@@ -8,6 +8,7 @@ pub mod Prefixes
 pub mod Stepping
 pub mod Answering
 pub mod Staying
+pub mod Answered
 pub mod Finishing
 pub mod Opening
 pub mod Attaching

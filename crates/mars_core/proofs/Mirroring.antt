@@ -6,20 +6,19 @@ use Rattle.std.specs.Map.{update}
 use Rattle.std.proofs.lemmas.Map.{update_here, update_apart}
 use Rattle.std.proofs.lemmas.Bool.{cases_eq}
 use Rattle.page_store.specs.State.{with_one}
-use Rattle.history.specs.Writes.{Table, Write, all_written, with_write, rows_within}
-use Rattle.history.specs.Table.{Granted, found, removed, has_save, Answers, IsRight}
-use Rattle.history.specs.Log.{Log, log_after, log_of, save_at}
-use Rattle.history.specs.Log as log
+use Rattle.history.specs.Table.{Granted, Work, has_save, Answers, IsRight}
+use Rattle.history.specs.Log.{Log, log_after, log_of}
 use Rattle.history.specs.declared.call.Call.{Call}
 use Rattle.history.specs.declared.call.Call.TheVariants.{Begin, Get, Put, Del, Scan, Save, Back, Commit, Abort}
 use Rattle.history.specs.declared.call.Reply.{Reply}
-use Rattle.history.specs.declared.call.Reply.TheVariants.{Listed, Saved}
 use Rattle.history.proofs.OneMore.{log_of-push}
-use Rattle.history.proofs.Pending.{left_is_written, as_many_saves, has_same_saves}
-use Rattle.record_table.specs.State.{TableState, seen_by}
-use Rattle.record_table.specs.Command.{after, written, is_seen}
+use Rattle.history.proofs.Pending.{left_is_written, saves_are_written, as_many_saves, has_same_saves}
+use Rattle.record_table.specs.State.{TableState, seen_by, work_of}
+use Rattle.record_table.specs.Calls.{Replies, table_after, own_after, after}
 use Rattle.caller_steps.specs.State.{State, calls_of, records_of, view_of}
-use Rattle.mars_core.specs.Works.{command_of, IsOfTable, Replies, HasSaves}
+use Rattle.mars_core.specs.declared.table_call.TableCall.{TableCall}
+use Rattle.mars_core.specs.declared.table_call.TableCall.TheVariants as table_call
+use Rattle.mars_core.specs.TableCall.{call_of}
 use Rattle.mars_core.specs.Kept.{Mirrors}
 
 pub with_one_here : {A : Type 0} (f : ℕ → A) (t : ℕ) (x : A) → with_one f t x t ≡ x
@@ -28,79 +27,77 @@ with_one_here f t x = ap (λ (b : Bool). cond b x (f t)) (eq-eqb t t refl)
 with_one_apart : {A : Type 0} (f : ℕ → A) (t : ℕ) (x : A) (u : ℕ) → u ≢ t → with_one f t x u ≡ f u
 with_one_apart f t x u ne = ap (λ (b : Bool). cond b x (f u)) (ne_eqb u t ne)
 
--- two states of records agree on one number
-abbrev SameAt : TableState → TableState → ℕ → Type 0
-SameAt one other u = (one.writes u ≡ other.writes u) × (one.saved u ≡ other.saved u)
+-- a function with its own value put at a place
+with_same : {A : Type 0} (f : ℕ → A) (t : ℕ) → with_one f t (f t) ≡ f
+with_same f t = λ i u. one u i
+  where
+    one : (u : ℕ) → with_one f t (f t) u ≡ f u
+    one u = elim (cases_eq u t) [
+      | inl e ↦ ap (with_one f t (f t)) e ∙ with_one_here f t (f t) ∙ ap f (sym e)
+      | inr ne ↦ with_one_apart f t (f t) u ne
+    ]
 
-abbrev HasLog : TableState → ℕ → Log → Type 0
-HasLog s t log = (s.writes t ≡ log.writes) × (s.saved t ≡ log.saved)
+-- a call changes the log of its own number, and no other
+pub apart : (s : TableState) (t : ℕ) (call : Call) (answer : Reply) (u : ℕ) → u ≢ t → (after t call answer s).logs u ≡ s.logs u
+apart s t call answer u ne = with_one_apart s.logs t (own_after (s.logs t) call answer) u ne
 
-module _ (s : TableState) (t : ℕ) where
-  written_apart : (key : ℕ) (value : Option (List ℕ)) (u : ℕ) → u ≢ t → SameAt (written s t key value) s u
-  written_apart key value u ne = (with_one_apart s.writes t _ u ne, refl)
+-- a scan changes nothing
+pub scan_after : (s : TableState) (t low high : ℕ) (answer : Reply) → after t (Scan low high) answer s ≡ s
+scan_after s t low high answer = ap (λ (logs : ℕ → Log). (let is : TableState = record { table = s.table; logs = logs } in is)) (with_same s.logs t)
 
-  written_here : (key : ℕ) (value : Option (List ℕ)) (own : Log) → HasLog s t own → HasLog (written s t key value) t (log.written own (key, value))
-  written_here key value own has = (
-    with_one_here s.writes t _ ∙ (λ i. with_write (length (save_at (has.1 i) (length (has.1 i)))) (key, value) (has.0 i)),
-    has.1,
-  )
+-- a call of a table, which is neither a begin nor the end of a transaction
+abbrev pub IsOfTable : Call → Type 0
+IsOfTable Begin = ⊥
+IsOfTable Commit = ⊥
+IsOfTable Abort = ⊥
+IsOfTable _ = Unit {0}
 
-  -- a call changes what its own number has, and no other
-  pub apart : (call : Call) (u : ℕ) → u ≢ t → SameAt (after (command_of t call) s) s u
-  apart (Get key) u ne = (refl, refl)
-  apart (Put key value) u ne = written_apart key (Some value) u ne
-  apart (Del key) u ne = go (is_seen s t key)
-    where
-      go : (b : Bool) → SameAt (cond b (written s t key None) s) s u
-      go true = written_apart key None u ne
-      go false = (refl, refl)
-  apart (Scan low high) u ne = (refl, refl)
-  apart Save u ne = (refl, with_one_apart s.saved t _ u ne)
-  apart (Back n) u ne = (with_one_apart s.writes t _ u ne, with_one_apart s.saved t _ u ne)
-  apart Commit u ne = (with_one_apart s.writes t _ u ne, with_one_apart s.saved t _ u ne)
-  apart Abort u ne = (with_one_apart s.writes t _ u ne, with_one_apart s.saved t _ u ne)
-  apart Begin u ne = (refl, refl)
+pub of_table : (call : TableCall) → IsOfTable (call_of call)
+of_table (table_call.Get key) = tt
+of_table (table_call.Put key value) = tt
+of_table (table_call.Del key) = tt
+of_table (table_call.Scan low high) = tt
+of_table table_call.Save = tt
+of_table (table_call.Back n) = tt
 
-  -- no call of a transaction changes the table
-  pub same_table : (call : Call) → IsOfTable call → (after (command_of t call) s).table ≡ s.table
-  same_table (Get key) of = refl
-  same_table (Put key value) of = refl
-  same_table (Del key) of = go (is_seen s t key)
-    where
-      go : (b : Bool) → (cond b (written s t key None) s).table ≡ s.table
-      go true = refl
-      go false = refl
-  same_table (Scan low high) of = refl
-  same_table Save of = refl
-  same_table (Back n) of = refl
-  same_table Commit of = absurd of
-  same_table Abort of = absurd of
-  same_table Begin of = absurd of
+-- it does not change the table
+pub same_table : (s : TableState) (t : ℕ) (call : Call) → IsOfTable call → table_after t call s ≡ s.table
+same_table s t (Get key) of = refl
+same_table s t (Put key value) of = refl
+same_table s t (Del key) of = refl
+same_table s t (Scan low high) of = refl
+same_table s t Save of = refl
+same_table s t (Back n) of = refl
+same_table s t Commit of = absurd of
+same_table s t Abort of = absurd of
+same_table s t Begin of = absurd of
 
-  pub has_save_is : (saved : List (List Write)) (n : ℕ) → 0 < n → n ≤ length saved → has_save saved n ≡ true
-  has_save_is saved n some there = (λ i. lt-ltb 0 n some i && nat_le n (length saved)) ∙ le-leb n (length saved) there
+-- its number's log is then that of the history
+own_is : (l : Log) (call : Call) (answer : Reply) → IsOfTable call → own_after l call answer ≡ log_after l call answer
+own_is l (Get key) answer of = refl
+own_is l (Put key value) answer of = refl
+own_is l (Del key) answer of = refl
+own_is l (Scan low high) answer of = refl
+own_is l Save answer of = refl
+own_is l (Back n) answer of = refl
+own_is l Commit answer of = absurd of
+own_is l Abort answer of = absurd of
+own_is l Begin answer of = absurd of
 
-  -- what its own number has follows the log after the call
-  pub own : (call : Call) (answer : Reply) (own : Log) → IsOfTable call → Replies s t call answer → HasSaves (length (s.saved t)) call → HasLog s t own
-      → HasLog (after (command_of t call) s) t (log_after own call answer)
-  own (Get key) answer l of replies saves has = has
-  own (Put key value) answer l of replies saves has = written_here key (Some value) l has
-  own (Del key) answer l of replies saves has = subst (λ (r : Reply). HasLog (after (command_of t (Del key)) s) t (log_after l (Del key) r)) (sym replies) (go (get (seen_by s t) key))
-    where
-      go : (o : Option (List ℕ)) → HasLog (cond (is_some o) (written s t key None) s) t (log_after l (Del key) (removed o))
-      go None = has
-      go (Some value) = written_here key None l has
-  own (Scan low high) answer l of replies saves has = has
-  own Save answer l of replies saves has = (has.0, with_one_here s.saved t _ ∙ (λ i. has.1 i ++ has.0 i ∷ []))
-  own (Back n) answer l of replies saves has =
-      let there : has_save l.saved n ≡ true = has_save_is l.saved n saves.0 (subst (λ (ls : List (List Write)). n ≤ length ls) has.1 saves.1) in
-      subst (λ (b : Bool). HasLog (after (command_of t (Back n)) s) t (cond b (record { writes = save_at l.saved n; saved = take n l.saved }) l)) (sym there) (
-        with_one_here s.writes t _ ∙ ap (λ (ls : List (List Write)). save_at ls n) has.1,
-        with_one_here s.saved t _ ∙ ap (take n) has.1,
-      )
-  own Commit answer l of replies saves has = absurd of
-  own Abort answer l of replies saves has = absurd of
-  own Begin answer l of replies saves has = absurd of
+-- and the reply is the table's
+replies_is : (s : TableState) (t : ℕ) (call : Call) (answer : Reply) → IsOfTable call → Replies s t call answer → Answers (work_of s t) call answer
+replies_is s t (Get key) answer of replies = replies
+replies_is s t (Put key value) answer of replies = replies
+replies_is s t (Del key) answer of replies = replies
+replies_is s t (Scan low high) answer of replies = replies
+replies_is s t Save answer of replies = replies
+replies_is s t (Back n) answer of replies = replies
+replies_is s t Commit answer of replies = absurd of
+replies_is s t Abort answer of replies = absurd of
+replies_is s t Begin answer of replies = absurd of
+
+pub has_save_is : {A : Type 0} (saved : List A) (n : ℕ) → 0 < n → n ≤ length saved → has_save saved n ≡ true
+has_save_is saved n some there = (λ i. lt-ltb 0 n some i && nat_le n (length saved)) ∙ le-leb n (length saved) there
 
 -- each caller's calls, after one caller's have changed
 pub calls_here : (old new : State) (t : ℕ) (calls : Option Granted) → new.live ≡ update nat_eq old.live t calls → calls_of new t ≡ unwrap_or calls []
@@ -109,57 +106,43 @@ calls_here old new t calls live = ap (λ (f : ℕ → Option Granted). unwrap_or
 pub calls_there : (old new : State) (t : ℕ) (calls : Option Granted) → new.live ≡ update nat_eq old.live t calls → (u : ℕ) → u ≢ t → calls_of new u ≡ calls_of old u
 calls_there old new t calls live u ne = ap (λ (f : ℕ → Option Granted). unwrap_or (f u) []) live ∙ ap (λ (o : Option Granted). unwrap_or o []) (update_apart old.live t calls u ne)
 
--- each caller's log, after one caller's has changed
-logs_after : (b : TableState) (old new : State) (t : ℕ) (calls : Option Granted) → new.live ≡ update nat_eq old.live t calls
-    → HasLog b t (log_of (unwrap_or calls [])) → ((u : ℕ) → u ≢ t → HasLog b u (log_of (calls_of old u))) → (u : ℕ) → HasLog b u (log_of (calls_of new u))
-logs_after b old new t calls live here there u = elim (cases_eq u t) [
-  | inl e ↦ subst (λ (v : ℕ). HasLog b v (log_of (calls_of new v))) (sym e) (subst (λ (cs : Granted). HasLog b t (log_of cs)) (sym (calls_here old new t calls live)) here)
-  | inr ne ↦ subst (λ (cs : Granted). HasLog b u (log_of cs)) (sym (calls_there old new t calls live u ne)) (there u ne)
-]
-
 module _ (below : TableState) (old : State) (mirrors : Mirrors below old) where
   -- after a call that changes only what its own number has, to another log of its caller
-  pub mirrors_at : (after : TableState) (new : State) (t : ℕ) (calls : Option Granted) → new.live ≡ update nat_eq old.live t calls → after.table ≡ records_of new
-      → HasLog after t (log_of (unwrap_or calls [])) → ((u : ℕ) → u ≢ t → SameAt after below u) → Mirrors after new
+  pub mirrors_at : (behind : TableState) (new : State) (t : ℕ) (calls : Option Granted) → new.live ≡ update nat_eq old.live t calls → behind.table ≡ records_of new
+      → behind.logs t ≡ log_of (unwrap_or calls []) → ((u : ℕ) → u ≢ t → behind.logs u ≡ below.logs u) → Mirrors behind new
   mirrors_at behind new t calls live table here there = record {
     table = table;
-    writes = λ u. (all u).0;
-    saved = λ u. (all u).1;
+    logs = λ u. elim (cases_eq u t) [
+      | inl e ↦ ap behind.logs e ∙ here ∙ ap log_of (sym (calls_here old new t calls live)) ∙ ap (λ (v : ℕ). log_of (calls_of new v)) (sym e)
+      | inr ne ↦ there u ne ∙ mirrors.logs u ∙ ap log_of (sym (calls_there old new t calls live u ne))
+    ];
   }
-    where
-      all : (u : ℕ) → HasLog behind u (log_of (calls_of new u))
-      all = logs_after behind old new t calls live here (λ u ne. ((there u ne).0 ∙ mirrors.writes u, (there u ne).1 ∙ mirrors.saved u))
 
   -- after a granted call
   pub mirrors_granted : (new : State) (t : ℕ) (calls : Granted) (call : Call) (answer : Reply) → old.live t ≡ Some calls → new.live ≡ update nat_eq old.live t (Some (calls ++ (call, answer) ∷ []))
-      → records_of new ≡ records_of old → IsOfTable call → Replies below t call answer → HasSaves (length (below.saved t)) call → Mirrors (after (command_of t call) below) new
-  mirrors_granted new t calls call answer is live same of replies saves =
+      → records_of new ≡ records_of old → IsOfTable call → Mirrors (after t call answer below) new
+  mirrors_granted new t calls call answer is live same of =
       let at : calls_of old t ≡ calls = ap (λ (o : Option Granted). unwrap_or o []) is in
-      mirrors_at (after (command_of t call) below) new t (Some (calls ++ (call, answer) ∷ [])) live (same_table below t call of ∙ mirrors.table ∙ sym same)
-      (subst (λ (l : Log). HasLog (after (command_of t call) below) t l) (sym (log_of-push calls call answer))
-      (own below t call answer (log_of calls) of replies saves (mirrors.writes t ∙ ap (λ (cs : Granted). (log_of cs).writes) at, mirrors.saved t ∙ ap (λ (cs : Granted). (log_of cs).saved) at)))
-      (apart below t call)
+      mirrors_at (after t call answer below) new t (Some (calls ++ (call, answer) ∷ [])) live (same_table below t call of ∙ mirrors.table ∙ sym same)
+      (with_one_here below.logs t (own_after (below.logs t) call answer) ∙ own_is (below.logs t) call answer of ∙ ap (λ (l : Log). log_after l call answer) (mirrors.logs t ∙ ap log_of at)
+      ∙ sym (log_of-push calls call answer))
+      (apart below t call answer)
 
   module _ (t : ℕ) (right : IsRight (records_of old) (calls_of old t)) where
-    -- a number sees what its caller sees
+    -- a number sees what its caller sees, with the same saves
+    pub work_is : work_of below t ≡ view_of old t
+    work_is = (λ i. work_of (record { table = mirrors.table i; logs = λ u. mirrors.logs u i }) t)
+        ∙ (λ i. record { table = sym (left_is_written (records_of old) (calls_of old t) right) i; saves = sym (saves_are_written (records_of old) (calls_of old t) right) i })
+
     pub seen_is : seen_by below t ≡ (view_of old t).table
-    seen_is = (λ i. all_written (mirrors.table i) (mirrors.writes t i)) ∙ sym (left_is_written (records_of old) (calls_of old t) right)
+    seen_is = ap (λ (work : Work). work.table) work_is
 
-    -- with as many saves
-    pub saves_are : length (below.saved t) ≡ length (view_of old t).saves
-    saves_are = ap length (mirrors.saved t) ∙ sym (as_many_saves (records_of old) (calls_of old t) right)
+    pub saves_are : length (below.logs t).saved ≡ length (view_of old t).saves
+    saves_are = ap (λ (l : Log). length l.saved) (mirrors.logs t) ∙ sym (as_many_saves (records_of old) (calls_of old t) right)
 
-    pub has_saves : (n : ℕ) → has_save (view_of old t).saves n ≡ has_save (below.saved t) n
-    has_saves n = has_same_saves (records_of old) (calls_of old t) n right ∙ ap (λ (ls : List (List Write)). has_save ls n) (sym (mirrors.saved t))
+    pub has_saves : (n : ℕ) → has_save (view_of old t).saves n ≡ has_save (below.logs t).saved n
+    has_saves n = has_same_saves (records_of old) (calls_of old t) n right ∙ ap (λ (l : Log). has_save l.saved n) (sym (mirrors.logs t))
 
     -- so the reply for what it sees is that of the one-thread table
-    pub answers : (call : Call) (answer : Reply) → IsOfTable call → Replies below t call answer → HasSaves (length (below.saved t)) call → Answers (view_of old t) call answer
-    answers (Get key) answer of replies saves = replies ∙ ap (λ (table : Table). found (get table key)) seen_is
-    answers (Put key value) answer of replies saves = replies
-    answers (Del key) answer of replies saves = replies ∙ ap (λ (table : Table). removed (get table key)) seen_is
-    answers (Scan low high) answer of replies saves = replies ∙ ap (λ (table : Table). Listed (rows_within low high table)) seen_is
-    answers Save answer of replies saves = replies ∙ ap (λ (n : ℕ). Saved (n + 1)) saves_are
-    answers (Back n) answer of replies saves = (has_saves n ∙ has_save_is below t (below.saved t) n saves.0 saves.1, replies)
-    answers Commit answer of replies saves = absurd of
-    answers Abort answer of replies saves = absurd of
-    answers Begin answer of replies saves = absurd of
+    pub answers : (call : Call) (answer : Reply) → IsOfTable call → Replies below t call answer → Answers (view_of old t) call answer
+    answers call answer of replies = subst (λ (work : Work). Answers work call answer) work_is (replies_is below t call answer of replies)

@@ -12,7 +12,7 @@ use Rattle.page_store.specs.Index as below
 use Rattle.page_store.specs.Pairs.{Pair, Rise, found}
 use Rattle.page_store.specs.Shown.{PagesView}
 use Rattle.history.specs.Rows.{table_of}
-use Rattle.history.specs.Writes.{Table, Write, rows_within, is_within}
+use Rattle.history.specs.Writes.{Table, Write, all_written, rows_within, is_within}
 use Rattle.history.specs.Table.{Granted}
 use Rattle.history.specs.declared.transaction.Done.{Done}
 use Rattle.history.proofs.Tables.{same_table}
@@ -86,7 +86,7 @@ no_log new idle t = ap (λ (o : Option Granted). unwrap_or o []) (idle t)
 
 -- A core over records to which nobody has written, with the rows of a scan.
 module _ (tells : Bool) (Opens : Shape → List ℕ → List ℕ → Type 0) (index : below.Index) (p q : PagesView) (new_laws : StoreLaws tells Opens q.store) (rises : index.sound p.store.state.bytes → Rise 0 (2 ^ 64) (index.pairs p.store.state.bytes))
-    (alive : IsAlive p.store) (sound : IsTrue tells → index.sound p.store.state.bytes) (idle : IsTrue tells → (t : ℕ) → (state_of index p).writes t ≡ []) (unsaved : IsTrue tells → (t : ℕ) → (state_of index p).saved t ≡ [])
+    (alive : IsAlive p.store) (sound : IsTrue tells → index.sound p.store.state.bytes) (idle : IsTrue tells → (t : ℕ) → ((state_of index p).logs t).writes ≡ []) (unsaved : IsTrue tells → (t : ℕ) → ((state_of index p).logs t).saved ≡ [])
     (looks : LooksAs tells (Opens p.store.shape) 0 false p q) (same : IsTrue tells → state_of index q ≡ state_of index p) (rows : List (ℕ × List ℕ)) (scanned : IsTrue tells → rows ≡ rows_within 0 (2 ^ 64 - 1) (seen_by (state_of index p) 0))
     (seats : Seats) (count : length seats ≡ p.store.shape.numbers) (none : (t : ℕ) → live_in seats t ≡ None) (history : List Done) (empty : history ≡ []) (doubt : List Done) (sure : doubt ≡ []) where
   new : State
@@ -103,7 +103,7 @@ module _ (tells : Bool) (Opens : Shape → List ℕ → List ℕ → Type 0) (in
     seen_is = ap (λ (ws : List Write). seen_with ws) (idle told 0)
       where
         seen_with : List Write → Table
-        seen_with ws = seen_by (record { table = shown.table_of index p.store.state.bytes; writes = λ t. ws; saved = λ t. [] }) 0
+        seen_with ws = all_written (shown.table_of index p.store.state.bytes) ws
 
     rows_is : rows ≡ rows_within 0 (2 ^ 64 - 1) (shown.table_of index p.store.state.bytes)
     rows_is = scanned told ∙ ap (rows_within 0 (2 ^ 64 - 1)) seen_is
@@ -124,8 +124,7 @@ module _ (tells : Bool) (Opens : Shape → List ℕ → List ℕ → Type 0) (in
     mirrors : Mirrors (state_of index q) (state_at index q.store (table_of rows) history (live_in seats) doubt)
     mirrors = subst (λ (s : State). Mirrors (state_of index q) s) (sym opened_is) (record {
       table = ap (λ (b : TableState). b.table) (same told);
-      writes = λ t. ap (λ (b : TableState). b.writes t) (same told) ∙ idle told t;
-      saved = λ t. ap (λ (b : TableState). b.saved t) (same told) ∙ unsaved told t;
+      logs = λ t. ap (λ (b : TableState). b.logs t) (same told) ∙ (λ i. record { writes = idle told t i; saved = unsaved told t i });
     })
 
     tied_new : IsTied index q (state_at index q.store (table_of rows) history (live_in seats) doubt)

@@ -4,6 +4,7 @@ use Rattle.std.specs.Prelude.{IsSome, is_some}
 use Rattle.std.specs.List.{list_any}
 use Rattle.std.specs.FinMap.{get}
 use Rattle.std.proofs.lemmas.Bool.{cases_eq}
+use Rattle.mars_base.specs.Room.{IsFirstFull}
 use Rattle.array_shape.specs.declared.shape.Shape.{Shape}
 use Rattle.array_shape.proofs.Apart.{logger_below}
 use Rattle.page_store.specs.Index.{slots_of}
@@ -21,18 +22,15 @@ use Rattle.history.specs.declared.call.Reply.TheVariants.{Fine}
 use Rattle.history.specs.declared.call.Reply.TheVariants as reply
 use Rattle.history.proofs.Counting.{length-filter-rewritten, length-filter-anew}
 use Rattle.record_table.specs.State.{TableState, seen_by}
-use Rattle.record_table.specs.State as table
-use Rattle.record_table.specs.Command.{is_seen}
 use Rattle.record_table.specs.Causes as table_causes
 use Rattle.record_table.specs.Shown.{state_of, keys_of, logger_of_slot, needed_on}
 use Rattle.record_table.specs.Shown as shown
 use Rattle.caller_steps.specs.State.{State, Index, calls_of, records_of, view_of}
-use Rattle.caller_steps.specs.Room.{Limits, is_slot_on, is_write_on, held_on, HasEntry, slot_for, Fits, IsFull, LacksAt, Lacks}
+use Rattle.caller_steps.specs.Room.{Limits, is_slot_on, is_write_on, held_on, HasEntry, slot_for, IsSeen, Fits, IsFull, LacksAt, Lacks}
 use Rattle.caller_steps.proofs.Holding.{AreNamed}
 use Rattle.mars_core.specs.Over.{limits_of, index_of}
 use Rattle.mars_core.specs.Kept.{Mirrors, HasHeld}
-use Rattle.mars_core.specs.Works.{command_of, IsOfTable}
-use Rattle.mars_core.proofs.Mirroring.{seen_is}
+use Rattle.mars_core.proofs.Mirroring.{IsOfTable, seen_is}
 
 pub same_slot_on : (shape : Shape) (g : ℕ) (o : Option ℕ) → is_slot_on (limits_of shape) g o ≡ shown.is_slot_on shape g o
 same_slot_on shape g None = refl
@@ -44,16 +42,16 @@ named_is index pairs (write ∷ writes) same named = (subst (λ (o : Option ℕ)
 
 -- A state s over what pages show, whose index is that of the data.
 module _ (index : below.Index) (p : PagesView) (s : State) (indexed : s.index ≡ index_of (keys_of index p.store.state.bytes)) (mirrors : Mirrors (state_of index p) s)
-    (held : (t g : ℕ) → shown.held_on p t g ≡ length (filter (shown.is_write_on p.store.shape (index.pairs p.store.state.bytes) g) ((state_of index p).writes t))) where
+    (held : (t g : ℕ) → shown.held_on p t g ≡ length (filter (shown.is_write_on p.store.shape (index.pairs p.store.state.bytes) g) ((state_of index p).logs t).writes)) where
   -- what a logger holds
   pub held_is : (t g : ℕ) → held_on (limits_of p.store.shape) s t g ≡ shown.held_on p t g
   held_is t g =
       ap (λ (ix : Index). length (filter (is_write_on (limits_of p.store.shape) ix g) (log_of (calls_of s t)).writes)) indexed
-      ∙ (λ i. length (filter (λ (write : Write). same_slot_on p.store.shape g (found (index.pairs p.store.state.bytes) write.0) i) (sym (mirrors.writes t) i)))
+      ∙ (λ i. length (filter (λ (write : Write). same_slot_on p.store.shape g (found (index.pairs p.store.state.bytes) write.0) i) (sym (mirrors.logs t) i).writes))
       ∙ sym (held t g)
 
-  anew_is : (t key : ℕ) → log.is_rewritten (log_of (calls_of s t)) key ≡ table.is_rewritten (state_of index p) t key
-  anew_is t key = λ i. list_any (is_of key) (drop (length (save_at (sym (mirrors.saved t) i) (length (sym (mirrors.saved t) i)))) (sym (mirrors.writes t) i))
+  anew_is : (t key : ℕ) → log.is_rewritten (log_of (calls_of s t)) key ≡ table_causes.rewrites index p t key
+  anew_is t key = ap (λ (l : Log). log.is_rewritten l key) (sym (mirrors.logs t))
 
   one_needed : (slot : ℕ) → needed_on p.store.shape slot (logger_of_slot p.store.shape slot) ≡ 1
   one_needed slot = ap (λ (b : Bool). cond b 1 0) (eq-eqb (logger_of_slot p.store.shape slot) (logger_of_slot p.store.shape slot) refl)
@@ -66,8 +64,11 @@ module _ (index : below.Index) (p : PagesView) (s : State) (indexed : s.index �
       omega (arith, fits, one_needed slot, held_is t g)
 
   module _ (t : ℕ) (right : IsRight (records_of s) (calls_of s t)) where
-    seen : (key : ℕ) → is_seen (state_of index p) t key ≡ is_some (get (view_of s t).table key)
-    seen key = ap (λ (table : Table). is_some (get table key)) (seen_is (state_of index p) s mirrors t right)
+    seen_to : (key : ℕ) → table_causes.IsSeen index p t key → IsSeen s t key
+    seen_to key = subst (λ (table : Table). IsSome (get table key)) (seen_is (state_of index p) s mirrors t right)
+
+    seen_from : (key : ℕ) → IsSeen s t key → table_causes.IsSeen index p t key
+    seen_from key = subst (λ (table : Table). IsSome (get table key)) (sym (seen_is (state_of index p) s mirrors t right))
 
     put_fits : (key : ℕ) (o : Option ℕ) → table_causes.PutFits index t key p o → HasEntry (limits_of p.store.shape) s t key (unwrap_or o (next_slot p.store.state.bytes))
     put_fits key None fits = has_entry t key (next_slot p.store.state.bytes) fits.1
@@ -76,10 +77,10 @@ module _ (index : below.Index) (p : PagesView) (s : State) (indexed : s.index �
     slot_is : (key : ℕ) → unwrap_or (found (index.pairs p.store.state.bytes) key) (next_slot p.store.state.bytes) ≡ slot_for s.index key
     slot_is key = sym (ap (λ (ix : Index). slot_for ix key) indexed)
 
-    pub fits_is : (call : Call) → IsOfTable call → table_causes.Fits index p (command_of t call) → Fits (limits_of p.store.shape) s t call
+    pub fits_is : (call : Call) → IsOfTable call → table_causes.Fits index p t call → Fits (limits_of p.store.shape) s t call
     fits_is (Put key value) of fits = subst (λ (slot : ℕ). HasEntry (limits_of p.store.shape) s t key slot) (slot_is key) (put_fits key (found (index.pairs p.store.state.bytes) key) fits)
     fits_is (Del key) of fits = λ seen_there.
-        let at = fits (seen key ∙ seen_there) in
+        let at = fits (seen_from key seen_there) in
         subst (λ (slot : ℕ). HasEntry (limits_of p.store.shape) s t key slot)
         (sym (ap (λ (o : Option ℕ). unwrap_or o (next_slot p.store.state.bytes)) at.1) ∙ slot_is key) (has_entry t key at.0 at.2)
     fits_is (Get key) of fits = tt
@@ -93,13 +94,12 @@ module _ (index : below.Index) (p : PagesView) (s : State) (indexed : s.index �
     -- Refusals of a full array, if no logger holds more than it has entries for.
     module _ (room : HasHeld (limits_of p.store.shape) s) where
       full_is : (g h n : ℕ) → table_causes.IsShort p t g h n → IsFull (limits_of p.store.shape) s t g h n
-      full_is g h n short = record {
-        logger = short.logger;
-        held = short.held ∙ sym (held_is t g);
-        some = omega (arith, short.full, short.held, held_is t g, room t g);
-        few = short.few;
-        full = short.full;
-      }
+      full_is g h n short = (
+        omega (arith, short.2.full, short.2.held_is, held_is t g, room t g),
+        short.0,
+        short.1,
+        subst (λ (held : ℕ → ℕ). IsFirstFull p.store.shape.loggers p.store.shape.entries held short.1 g h n) (λ i k. sym (held_is t k) i) short.2,
+      )
 
       -- a slot's logger is full
       slot_full : (key slot g h n : ℕ) → table_causes.IsFull index t p key slot g h n → table_causes.IsShort p t g h n → LacksAt (limits_of p.store.shape) s t key (Some slot) (reply.LogFull g h n)
@@ -110,33 +110,41 @@ module _ (index : below.Index) (p : PagesView) (s : State) (indexed : s.index �
 
           go : (logger_of_slot p.store.shape slot ≡ g) ⊎ (logger_of_slot p.store.shape slot ≢ g) → LacksAt (limits_of p.store.shape) s t key (Some slot) (reply.LogFull g h n)
           go (inr ne) = absurd (
-              let none : n ≡ 0 = full.needed ∙ ap (λ (b : Bool). cond b 1 0) (ne_eqb (logger_of_slot p.store.shape slot) g ne) in
-              omega (arith, none, module_full.some)
+              let none : n ≡ 0 = full.1.needed_is ∙ ap (λ (b : Bool). cond b 1 0) (ne_eqb (logger_of_slot p.store.shape slot) g ne) in
+              omega (arith, none, module_full.0)
               )
           go (inl e) =
-              let one : n ≡ 1 = full.needed ∙ ap (λ (b : Bool). cond b 1 0) (eq-eqb (logger_of_slot p.store.shape slot) g e) in (
+              let one : n ≡ 1 = full.1.needed_is ∙ ap (λ (b : Bool). cond b 1 0) (eq-eqb (logger_of_slot p.store.shape slot) g e) in (
                 λ has.
-                    let few = has (anew_is t key ∙ full.anew) in
+                    let few = has (anew_is t key ∙ full.0) in
                     let same : held_on (limits_of p.store.shape) s t (logger_of_slot p.store.shape slot) ≡ held_on (limits_of p.store.shape) s t g = ap (λ (k : ℕ). held_on (limits_of p.store.shape) s t k) e in
-                    omega (arith, few, same, module_full.held, module_full.full, one),
+                    omega (arith, few, same, module_full.3.held_is, module_full.3.full, one),
                 sym e,
                 one,
                 module_full,
               )
 
+      -- a slot is left
+      slot_left : next_slot p.store.state.bytes < slots_of p.store.shape → s.index.next_slot < (limits_of p.store.shape).slots
+      slot_left left = subst (λ (ix : Index). ix.next_slot < slots_of p.store.shape) (sym indexed) left
+
       put_lacks : (key g h n : ℕ) (o : Option ℕ) → table_causes.PutLacks index t key p g h n o → table_causes.IsShort p t g h n → LacksAt (limits_of p.store.shape) s t key o (reply.LogFull g h n)
-      put_lacks key g h n None lacks short = full_is g h n short
+      put_lacks key g h n None lacks short = (left lacks, full_is g h n short)
+        where
+          left : table_causes.PutLacks index t key p g h n None → s.index.next_slot < (limits_of p.store.shape).slots
+          left (inl comes) = slot_left comes.0
+          left (inr (comes, full)) = slot_left comes.0
       put_lacks key g h n (Some slot) full short = slot_full key slot g h n full short
 
       found_is : (key : ℕ) → found (index.pairs p.store.state.bytes) key ≡ s.index.slot_of key
       found_is key = sym (ap (λ (ix : Index). ix.slot_of key) indexed)
 
-      pub log_lacks : (call : Call) (g h n : ℕ) → IsOfTable call → table_causes.Lacks index p g h n (command_of t call) → table_causes.MayLack p g h n (command_of t call)
+      pub log_lacks : (call : Call) (g h n : ℕ) → IsOfTable call → table_causes.Lacks index p g h n t call → table_causes.MayLack p g h n t call
           → Lacks (limits_of p.store.shape) s t call (reply.LogFull g h n)
       log_lacks (Put key value) g h n of lacks short = subst (λ (o : Option ℕ). LacksAt (limits_of p.store.shape) s t key o (reply.LogFull g h n)) (found_is key)
           (put_lacks key g h n (found (index.pairs p.store.state.bytes) key) lacks short)
       log_lacks (Del key) g h n of (seen_there, slot, at, full) short = (
-        sym (seen key) ∙ seen_there,
+        seen_to key seen_there,
         slot,
         sym (found_is key) ∙ at,
         slot_full key slot g h n full short,
@@ -149,7 +157,7 @@ module _ (index : below.Index) (p : PagesView) (s : State) (indexed : s.index �
       log_lacks Abort g h n of lacks short = absurd short
       log_lacks Begin g h n of lacks short = absurd of
 
-      pub slot_lacks : (call : Call) (n : ℕ) → IsOfTable call → table_causes.LacksSlot index p n (command_of t call) → n ≡ slots_of p.store.shape
+      pub slot_lacks : (call : Call) (n : ℕ) → IsOfTable call → table_causes.LacksSlot index p n call → n ≡ slots_of p.store.shape
           → Lacks (limits_of p.store.shape) s t call (reply.SlotsFull n)
       slot_lacks (Put key value) n of lacks most = subst (λ (o : Option ℕ). LacksAt (limits_of p.store.shape) s t key o (reply.SlotsFull n)) (sym lacks.0 ∙ found_is key)
           (ap (λ (ix : Index). ix.next_slot) indexed ∙ lacks.1 ∙ most, most)
@@ -162,9 +170,9 @@ module _ (index : below.Index) (p : PagesView) (s : State) (indexed : s.index �
       slot_lacks Abort n of lacks most = absurd lacks
       slot_lacks Begin n of lacks most = absurd lacks
 
-      pub page_lacks : (call : Call) (n : ℕ) → IsOfTable call → table_causes.LacksPage index p (command_of t call) → n ≡ (limits_of p.store.shape).index_pages - 1
+      pub page_lacks : (call : Call) (n : ℕ) → IsOfTable call → table_causes.LacksPage index p t call → n ≡ (limits_of p.store.shape).index_pages - 1
           → Lacks (limits_of p.store.shape) s t call (reply.PagesFull n)
-      page_lacks (Put key value) n of lacks most = subst (λ (o : Option ℕ). LacksAt (limits_of p.store.shape) s t key o (reply.PagesFull n)) (sym lacks.0 ∙ found_is key) most
+      page_lacks (Put key value) n of lacks most = subst (λ (o : Option ℕ). LacksAt (limits_of p.store.shape) s t key o (reply.PagesFull n)) (sym lacks.0 ∙ found_is key) (slot_left lacks.1.0, most)
       page_lacks (Get key) n of lacks most = absurd lacks
       page_lacks (Del key) n of lacks most = absurd lacks
       page_lacks (Scan low high) n of lacks most = absurd lacks

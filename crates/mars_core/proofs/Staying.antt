@@ -15,20 +15,24 @@ use Rattle.history.specs.Log.{log_of}
 use Rattle.history.specs.declared.call.Call.{Call}
 use Rattle.history.specs.declared.call.Call.TheVariants.{Begin, Get, Put, Del, Scan, Save, Back, Commit, Abort}
 use Rattle.history.specs.declared.call.Reply.{Reply}
-use Rattle.history.specs.declared.call.Reply.TheVariants.{Fine, Busy, NoMemory, SavesFull, NoSave}
+use Rattle.history.specs.declared.call.Reply.TheVariants.{Fine, Busy, NoMemory, SavesFull, NoSave, NoTransaction}
 use Rattle.record_table.specs.Shown.{state_of}
 use Rattle.caller_steps.specs.State.{State, calls_of, records_of, view_of, with_live}
 use Rattle.caller_steps.specs.Locked.{Blocks, IsFree, IsBusyWith}
-use Rattle.caller_steps.specs.Step.{Step}
+use Rattle.caller_steps.specs.Room.{Limits}
+use Rattle.caller_steps.specs.Step.{Step, StepAt}
 use Rattle.caller_steps.specs.Fate.{is_refusal, is_media, is_committed}
 use Rattle.caller_steps.specs.Core.{IsSafe, Steps}
 use Rattle.caller_steps.proofs.Sound.{step_sound}
+use Rattle.mars_core.specs.declared.table_call.TableCall.{TableCall}
+use Rattle.mars_core.specs.declared.table_call.TableCall.TheVariants as table_call
+use Rattle.mars_core.specs.TableCall.{call_of}
 use Rattle.mars_core.specs.Over.{limits_of}
 use Rattle.mars_core.specs.Held.{core_over}
 use Rattle.mars_core.specs.Kept.{IsTied, IsKept}
-use Rattle.mars_core.specs.Works.{IsOfTable, HasSaves, IsSaveRefusal, IsShown}
+use Rattle.mars_core.specs.Works.{HasSaves, IsSaveRefusal, IsShown}
 use Rattle.mars_core.proofs.Touching.{both}
-use Rattle.mars_core.proofs.Mirroring.{calls_there, mirrors_at, saves_are, has_saves}
+use Rattle.mars_core.proofs.Mirroring.{IsOfTable, calls_there, mirrors_at, saves_are, has_saves}
 use Rattle.mars_core.proofs.Entering.{room_empty}
 use Rattle.mars_core.proofs.Prefixes.{StoreLaws, safe_alive}
 use Rattle.mars_core.proofs.Stepping.{ShowsPages, or_false, step_of, asks_at, steps_same, steps_of, counts_is, saves_at}
@@ -94,7 +98,7 @@ module _ (tells : Bool) (Opens : Shape → List ℕ → List ℕ → Type 0) (in
     tied : IsTied index p s
     tied = kept.tied told alive
 
-    saved_is : length ((state_of index p).saved t) ≡ length (view_of s t).saves
+    saved_is : length ((state_of index p).logs t).saved ≡ length (view_of s t).saves
     saved_is = saves_are (state_of index p) s tied.mirrors t (tied.sound.right t)
 
     save_step : (c : Call) (answer : Reply) → IsSaveRefusal (length (p.counts t)) c answer → Step (limits_of p.store.shape) s t c answer s
@@ -102,7 +106,7 @@ module _ (tells : Bool) (Opens : Shape → List ℕ → List ℕ → Type 0) (in
         (step_of (limits_of p.store.shape) (Some calls) s s t Save SavesFull (shows.dead ∙ alive) is (inl (omega (arith, refused.0, counts_is index p t, saved_is), (refl, refl))))
     save_step (Back n) answer refused = subst (λ (r : Reply). Step (limits_of p.store.shape) s t (Back n) r s) (sym refused.1)
         (step_of (limits_of p.store.shape) (Some calls) s s t (Back n) (NoSave n) (shows.dead ∙ alive) is (inl (
-          has_saves (state_of index p) s tied.mirrors t (tied.sound.right t) n ∙ no_saves ((state_of index p).saved t) n (subst (λ (k : ℕ). (0 < n) × (n ≤ k) → ⊥) (sym (counts_is index p t)) refused.0),
+          has_saves (state_of index p) s tied.mirrors t (tied.sound.right t) n ∙ no_saves (((state_of index p).logs t).saved) n (subst (λ (k : ℕ). (0 < n) × (n ≤ k) → ⊥) (sym (counts_is index p t)) refused.0),
           (refl, refl),
         )))
     save_step (Get key) answer refused = absurd refused
@@ -131,7 +135,7 @@ module _ (tells : Bool) (Opens : Shape → List ℕ → List ℕ → Type 0) (in
       refusal Begin r refused = absurd refused
 
   module _ (of : IsOfTable call) (saves : HasSaves (length (p.counts t)) call) (new : State) (same : new ≡ s) where
-    has : HasSaves (length ((state_of index p).saved t)) call
+    has : HasSaves (length ((state_of index p).logs t).saved) call
     has = subst (λ (n : ℕ). HasSaves n call) (sym (counts_is index p t)) saves
 
     -- for lack of memory
@@ -169,7 +173,7 @@ module _ (tells : Bool) (Opens : Shape → List ℕ → List ℕ → Type 0) (in
         record {
           index_sound = was.index_sound;
           mirrors = mirrors_at (state_of index p) s was.mirrors (state_of index p) new t (Some []) live_is (was.mirrors.table ∙ sym (ap records_of begins))
-              (was.mirrors.writes t ∙ ap (λ (cs : Granted). (log_of cs).writes) at, was.mirrors.saved t ∙ ap (λ (cs : Granted). (log_of cs).saved) at) (λ u ne. (refl, refl));
+              (was.mirrors.logs t ∙ ap (λ (cs : Granted). log_of cs) at) (λ u ne. refl);
           sound = step_sound (limits_of p.store.shape) s t Begin Fine new was.sound step;
           room = room_empty (limits_of p.store.shape) s new t (Some []) refl was.room (ap (λ (x : State). x.index) begins) live_is;
         }
@@ -190,3 +194,18 @@ module _ (tells : Bool) (Opens : Shape → List ℕ → List ℕ → Type 0) (in
     others = λ other ne. ap (λ (f : ℕ → Option Granted). f other) live_is ∙ update_apart s.live t (Some []) other ne;
     refused = λ refusal _. absurd (false≢true refusal);
   }) (λ failed. absurd (false≢true failed)) (λ _. refl) step (λ told. stays p.store.moment p.store.left_since _) safe_new
+
+-- a call of the table outside of a transaction
+pub absent_at : (limits : Limits) (s : State) (t : ℕ) (call : TableCall) → StepAt limits None s t (call_of call) NoTransaction s
+absent_at limits s t (table_call.Get key) = (refl, refl)
+absent_at limits s t (table_call.Put key value) = (refl, refl)
+absent_at limits s t (table_call.Del key) = (refl, refl)
+absent_at limits s t (table_call.Scan low high) = (refl, refl)
+absent_at limits s t table_call.Save = (refl, refl)
+absent_at limits s t (table_call.Back n) = (refl, refl)
+
+pub absent_steps : (tells : Bool) (Opens : Shape → List ℕ → List ℕ → Type 0) (index : below.Index) (p : PagesView) (s : State) → ShowsPages index p s → (count : ℕ) (rows : List (ℕ × List ℕ)) → IsKept tells Opens index p count rows s
+    → IsAlive p.store → (t : ℕ) (call : Call) → s.live t ≡ None → StepAt (limits_of p.store.shape) None s t call NoTransaction s → (new : State) → new ≡ s
+    → Steps tells t call (core_over Opens index p.store s) (core_over Opens index p.store new) NoTransaction
+absent_steps tells Opens index p s shows count rows kept alive t call none at new same = steps_same tells Opens index p s new t call NoTransaction same kept.safe refl refl refl (λ told.
+    step_of (limits_of p.store.shape) None s s t call NoTransaction (shows.dead ∙ alive) none at)

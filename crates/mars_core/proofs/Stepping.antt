@@ -15,7 +15,7 @@ use Rattle.page_store.specs.Shown.{PagesView}
 use Rattle.history.specs.Writes.{Table, Write}
 use Rattle.history.specs.Table.{Granted, IsRight, has_save, removed}
 use Rattle.history.specs.Legal.{records}
-use Rattle.history.specs.Log.{log_of}
+use Rattle.history.specs.Log.{Log, log_of}
 use Rattle.history.specs.declared.call.Call.{Call}
 use Rattle.history.specs.declared.call.Call.TheVariants.{Begin, Get, Put, Del, Scan, Save, Back, Commit, Abort}
 use Rattle.history.specs.declared.call.Reply.{Reply}
@@ -35,9 +35,10 @@ use Rattle.caller_steps.specs.Core.{IsSafe, Steps}
 use Rattle.mars_core.specs.Over.{limits_of, index_of}
 use Rattle.mars_core.specs.Held.{core_over}
 use Rattle.mars_core.specs.Kept.{Mirrors}
-use Rattle.mars_core.specs.Works.{command_of, IsOfTable, Replies, HasSaves}
+use Rattle.record_table.specs.Calls.{Replies}
+use Rattle.mars_core.specs.Works.{HasSaves}
 use Rattle.mars_core.proofs.Indexing.{slot_after}
-use Rattle.mars_core.proofs.Mirroring.{has_save_is, saves_are, has_saves}
+use Rattle.mars_core.proofs.Mirroring.{IsOfTable, has_save_is, saves_are, has_saves}
 use Rattle.mars_core.proofs.Rooming.{has_entry, fits_is}
 use Rattle.mars_core.proofs.Entering.{Enters, Returns}
 use Rattle.mars_core.proofs.Prefixes.{prefix_all}
@@ -161,15 +162,15 @@ module _ (tells : Bool) (Opens : Shape → List ℕ → List ℕ → Type 0) (in
       go image (inr o) = opened image B b o
 
 -- there are as many saves as counts
-pub counts_is : (index : below.Index) (p : PagesView) (t : ℕ) → length ((state_of index p).saved t) ≡ length (p.counts t)
+pub counts_is : (index : below.Index) (p : PagesView) (t : ℕ) → length ((state_of index p).logs t).saved ≡ length (p.counts t)
 counts_is index p t = length-map _ shown.writes_of ∙ length-map (p.counts t) _
 
 module _ (index : below.Index) (p : PagesView) (s : State) (shows : ShowsPages index p s) (mirrors : Mirrors (state_of index p) s)
-    (held : (t g : ℕ) → held_on p t g ≡ length (filter (is_write_on p.store.shape (index.pairs p.store.state.bytes) g) ((state_of index p).writes t))) (t : ℕ) (right : IsRight (records_of s) (calls_of s t)) where
+    (held : (t g : ℕ) → held_on p t g ≡ length (filter (is_write_on p.store.shape (index.pairs p.store.state.bytes) g) ((state_of index p).logs t).writes)) (t : ℕ) (right : IsRight (records_of s) (calls_of s t)) where
   -- the saves that a call finds are its caller's
-  pub saves_at : (call : Call) → HasSaves (length ((state_of index p).saved t)) call → SavesAt s t call
+  pub saves_at : (call : Call) → HasSaves (length ((state_of index p).logs t).saved) call → SavesAt s t call
   saves_at Save saves = subst (λ (n : ℕ). n < 32) (saves_are (state_of index p) s mirrors t right) saves
-  saves_at (Back n) saves = has_saves (state_of index p) s mirrors t right n ∙ has_save_is (state_of index p) t ((state_of index p).saved t) n saves.0 saves.1
+  saves_at (Back n) saves = has_saves (state_of index p) s mirrors t right n ∙ has_save_is ((state_of index p).logs t).saved n saves.0 saves.1
   saves_at (Get key) saves = tt
   saves_at (Put key value) saves = tt
   saves_at (Del key) saves = tt
@@ -178,9 +179,9 @@ module _ (index : below.Index) (p : PagesView) (s : State) (shows : ShowsPages i
   saves_at Abort saves = tt
   saves_at Begin saves = tt
 
-  pub returns_at : (calls : Granted) → calls_of s t ≡ calls → (call : Call) → HasSaves (length ((state_of index p).saved t)) call → Returns (log_of calls).saved call
+  pub returns_at : (calls : Granted) → calls_of s t ≡ calls → (call : Call) → HasSaves (length ((state_of index p).logs t).saved) call → Returns (log_of calls).saved call
   returns_at calls at (Back n) saves =
-      subst (λ (ls : List (List Write)). has_save ls n ≡ true) (mirrors.saved t ∙ ap (λ (cs : Granted). (log_of cs).saved) at) (has_save_is (state_of index p) t ((state_of index p).saved t) n saves.0 saves.1)
+      subst (λ (ls : List (List Write)). has_save ls n ≡ true) (ap (λ (l : Log). l.saved) (mirrors.logs t) ∙ ap (λ (cs : Granted). (log_of cs).saved) at) (has_save_is ((state_of index p).logs t).saved n saves.0 saves.1)
   returns_at calls at (Get key) saves = tt
   returns_at calls at (Put key value) saves = tt
   returns_at calls at (Del key) saves = tt
@@ -191,7 +192,7 @@ module _ (index : below.Index) (p : PagesView) (s : State) (shows : ShowsPages i
   returns_at calls at Begin saves = tt
 
   -- if a call writes, it finds an entry
-  pub enters_at : (call : Call) (answer : Reply) (ix : Index) → IsOfTable call → table_causes.Fits index p (command_of t call) → Replies (state_of index p) t call answer
+  pub enters_at : (call : Call) (answer : Reply) (ix : Index) → IsOfTable call → table_causes.Fits index p t call → Replies (state_of index p) t call answer
       → Indexes (limits_of p.store.shape) call answer s.index ix → Enters (limits_of p.store.shape) s t ix call answer
   enters_at (Put key value) answer ix of fits replies indexes =
       let after = slot_after (limits_of p.store.shape) key (s.index.slot_of key) s.index ix refl (subst (λ (r : Reply). IndexesAt (limits_of p.store.shape) key (s.index.slot_of key) r s.index ix) replies indexes) in

@@ -16,11 +16,10 @@ use Rattle.caller_steps.specs.Core.{IsSafe}
 use Rattle.mars_core.specs.Over.{limits_of}
 use Rattle.mars_core.specs.Held.{core_over}
 
--- The records below have the table of the history and, for each number, the writes and saves of its caller's granted calls.
+-- The records below have the table of the history and, for each number, the log of its caller's granted calls.
 pub record Mirrors (below : TableState) (state : State) : Type 0 where
   pub table : below.table ≡ records_of state
-  pub writes : (caller : ℕ) → below.writes caller ≡ (log_of (calls_of state caller)).writes
-  pub saved : (caller : ℕ) → below.saved caller ≡ (log_of (calls_of state caller)).saved
+  pub logs : (caller : ℕ) → below.logs caller ≡ log_of (calls_of state caller)
 
 -- no logger holds more of a caller than it has entries for
 abbrev pub HasHeld : Limits → State → Type 0

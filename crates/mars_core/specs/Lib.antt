@@ -4,4 +4,5 @@ pub mod Seats
 pub mod Masks
 pub mod Kept
 pub mod Attached
+pub mod TableCall
 pub mod Works

@@ -1,85 +1,29 @@
--- A call of a transaction, as the records make it.
-use Rattle.std.specs.Prelude.{ℕ, ◌≡◌, ◌≤◌, ◌<◌, ◌+◌, ◌⊎◌, Bool, true, IsTrue, IsFalse, List, length, filter, Result, OnOk, OnErr, IfOk, IsErrOf}
-use Rattle.std.specs.FinMap.{get}
-use Rattle.mars_base.specs.Causes.{Rose}
-use Rattle.eaw_face.specs.StoreView.{LeavesOnly}
+-- A call of a transaction, as the records make it, and how it is then answered.
+use Rattle.std.specs.Prelude.{ℕ, ◌≡◌, ◌≤◌, ◌<◌, ◌⊎◌, Bool, IsTrue, IsFalse, List, [], ◌∷◌, ◌++◌, length, filter, Result, Ok, Err, IfOk, IsErrOf}
 use Rattle.eaw_face.specs.Causes.{IsAlive}
-use Rattle.history.specs.Table.{found, removed}
-use Rattle.history.specs.Writes.{rows_within}
+use Rattle.history.specs.Table.{Granted}
 use Rattle.history.specs.declared.call.Call.{Call}
-use Rattle.history.specs.declared.call.Call.TheVariants.{Get, Put, Del, Scan, Save, Back, Begin, Commit, Abort}
+use Rattle.history.specs.declared.call.Call.TheVariants.{Save, Back}
 use Rattle.history.specs.declared.call.Reply.{Reply}
 use Rattle.history.specs.declared.call.Reply.TheVariants as reply
-use Rattle.history.specs.declared.call.Reply.TheVariants.{Fine, Listed, Saved}
 use Rattle.page_store.specs.Index.{Index}
 use Rattle.page_store.specs.Shown.{PagesView}
-use Rattle.record_table.specs.State.{TableState, seen_by}
-use Rattle.record_table.specs.Command.{TableCommand, look, put, del, scan, save, back, commit, abort, after}
-use Rattle.record_table.specs.Causes.{Cause}
-use Rattle.record_table.specs.Does.{OpensWith, Indexed, is_failed}
-use Rattle.record_table.specs.Shown.{state_of, keys_of, held_on, is_write_on, AreNamed}
+use Rattle.record_table.specs.Does.{Does}
+use Rattle.record_table.specs.Faults.{reply_to}
+use Rattle.record_table.specs.Shown.{state_of, held_on, is_write_on, AreNamed}
 use Rattle.record_table.specs.declared.fault.TableFault.{TableFault}
-use Rattle.record_table.specs.declared.fault.TableFault.TheVariants.{SlotsFull, PagesFull, SavesFull, LogFull, Media, Dead, Damaged, NoMemory}
+use Rattle.record_table.specs.declared.fault.TableFault.TheVariants.{Media}
 use Rattle.caller_steps.specs.Fate.{is_refusal, is_committed}
+use Rattle.caller_steps.specs.Locked.{IsFree, IsBusyWith}
 use Rattle.caller_steps.specs.Step.{uses_index}
-use Rattle.mars_core.specs.declared.asking.Answer.{Answer}
+use Rattle.mars_core.specs.Seats.{Seats, bare}
 
--- the call of records for a caller's call; a begin has none, so a look stands for it
-abbrev pub command_of : ℕ → Call → TableCommand
-command_of t (Get key) = look t key
-command_of t (Put key value) = put t key value
-command_of t (Del key) = del t key
-command_of t (Scan low high) = scan t low high
-command_of t Save = save t
-command_of t (Back n) = back t n
-command_of t Commit = commit t
-command_of t Abort = abort t
-command_of t Begin = look t 0
-
--- a call that the records answer
-abbrev pub IsOfTable : Call → Type 0
-IsOfTable Begin = ⊥
-IsOfTable Commit = ⊥
-IsOfTable Abort = ⊥
-IsOfTable _ = Unit {0}
-
--- the reply, from what the number sees
-abbrev pub Replies : TableState → ℕ → Call → Reply → Type 0
-Replies s t (Get key) answer = answer ≡ found (get (seen_by s t) key)
-Replies s t (Put key value) answer = answer ≡ Fine
-Replies s t (Del key) answer = answer ≡ removed (get (seen_by s t) key)
-Replies s t (Scan low high) answer = answer ≡ Listed (rows_within low high (seen_by s t))
-Replies s t Save answer = answer ≡ Saved (length (s.saved t) + 1)
-Replies s t (Back n) answer = answer ≡ Fine
-Replies s t _ answer = ⊥
-
--- the refusal of a call of records, as a reply
-abbrev pub reply_to : TableFault → Reply
-reply_to (SlotsFull n) = reply.SlotsFull n
-reply_to (PagesFull n) = reply.PagesFull n
-reply_to SavesFull = reply.SavesFull
-reply_to (LogFull g h n) = reply.LogFull g h n
-reply_to Media = reply.Media
-reply_to Dead = reply.Dead
-reply_to (Damaged page) = reply.Damaged page
-reply_to NoMemory = reply.NoMemory
-
--- The records made the call as number t. Its answer has the same reply twice, which is no refusal.
-pub record Works (tells : Bool) (Opens : List ℕ → List ℕ → Type 0) (index : Index) (t : ℕ) (call : Call) (old new : PagesView) (result : Result Answer TableFault) : Type 0 where
-  pub shape : new.store.shape ≡ old.store.shape
-  pub cause : Cause tells index (command_of t call) old result
-  pub faults : IsFalse (is_failed result) → (new.store.is_dead ≡ old.store.is_dead) × (new.store.faults ≡ old.store.faults)
-  pub dies : IsTrue (is_failed result) → (new.store.is_dead ≡ true) × Rose old.store.faults new.store.faults
-  pub done : IsTrue tells → OnOk result (state_of index new ≡ after (command_of t call) (state_of index old))
-  pub refused : IsTrue tells → IsFalse (is_failed result) → OnErr result (state_of index new ≡ state_of index old)
-  pub indexed : IsTrue tells → IsAlive old.store → IsFalse (is_failed result) → Indexed (command_of t call) (keys_of index old.store.state.bytes) (keys_of index new.store.state.bytes) result
-  pub time : IsTrue tells → IsAlive old.store
-      → LeavesOnly (λ image. OpensWith Opens index image (state_of index old).table ⊎ OpensWith Opens index image (after (command_of t call) (state_of index old)).table) old.store new.store
+-- The records made the call as number t. A reply of theirs grants it, and only a call that uses the index meets a fault of the medium.
+pub record Works (tells : Bool) (Opens : List ℕ → List ℕ → Type 0) (index : Index) (t : ℕ) (call : Call) (old new : PagesView) (result : Result Reply TableFault) : Type 0 where
+  pub does : Does tells Opens index t call old new result
   pub due : IsErrOf result Media → IsTrue (uses_index call)
-  pub same : IfOk result (λ answer. answer.kept ≡ answer.told)
-  pub granted : IfOk result (λ answer. IsFalse (is_refusal answer.told))
-  pub plain : IfOk result (λ answer. IsFalse (is_committed answer.told))
-  pub replies : IsTrue tells → IfOk result (λ answer. Replies (state_of index old) t call answer.told)
+  pub granted : IfOk result (λ answer. IsFalse (is_refusal answer))
+  pub plain : IfOk result (λ answer. IsFalse (is_committed answer))
 
 -- a save or a way back finds what it needs: fewer than 32 saves, or the one that it names
 abbrev pub HasSaves : ℕ → Call → Type 0
@@ -93,8 +37,26 @@ IsSaveRefusal saves Save answer = (32 ≤ saves) × (answer ≡ reply.SavesFull)
 IsSaveRefusal saves (Back n) answer = ((0 < n) × (n ≤ saves) → ⊥) × (answer ≡ reply.NoSave n)
 IsSaveRefusal saves _ answer = ⊥
 
+-- The call was not made, and this is why: it lacks a save, there is no memory to keep it, or another caller holds a stripe of it.
+abbrev pub Unmade : ℕ → Seats → ℕ → Call → Reply → Type 0
+Unmade saves seats t call answer = IsSaveRefusal saves call answer ⊎ (HasSaves saves call × ((answer ≡ reply.NoMemory) ⊎ ((holder : ℕ) × (answer ≡ reply.Busy holder) × IsBusyWith (bare seats) t call holder)))
+
+-- What becomes of the transaction with these calls, and how the caller is answered, given what the records made of the call: their reply is
+-- told and kept with it, or, if there is no memory to keep the rows of a scan, neither. A refusal is told.
+abbrev pub IsAnswered : Granted → Call → Result Reply TableFault → Granted → Reply → Type 0
+IsAnswered calls call (Ok made) left answer = ((left ≡ calls ++ (call, made) ∷ []) × (answer ≡ made)) ⊎ ((rows : List (ℕ × List ℕ)) × (made ≡ reply.Listed rows) × (left ≡ calls) × (answer ≡ reply.NoMemory))
+IsAnswered calls call (Err fault) left answer = (left ≡ calls) × (answer ≡ reply_to fault)
+
+-- the call was made
+pub record Made (tells : Bool) (Opens : List ℕ → List ℕ → Type 0) (index : Index) (saves : ℕ) (seats : Seats) (t : ℕ) (calls : Granted) (call : Call) (old new : PagesView) (left : Granted) (answer : Reply) : Type 0 where
+  pub saves_there : HasSaves saves call
+  pub free : IsFree (bare seats) t call
+  pub result : Result Reply TableFault
+  pub works : Works tells Opens index t call old new result
+  pub answered : IsAnswered calls call result left answer
+
 -- what records show of the writes that numbers have not committed, while their store is not dead: how many each logger holds, and that the
 -- index has their keys
 pub record IsShown (tells : Bool) (index : Index) (old : PagesView) : Type 0 where
-  pub held : IsTrue tells → IsAlive old.store → (t g : ℕ) → held_on old t g ≡ length (filter (is_write_on old.store.shape (index.pairs old.store.state.bytes) g) ((state_of index old).writes t))
-  pub named : IsTrue tells → IsAlive old.store → (t : ℕ) → AreNamed (index.pairs old.store.state.bytes) ((state_of index old).writes t)
+  pub held : IsTrue tells → IsAlive old.store → (t g : ℕ) → held_on old t g ≡ length (filter (is_write_on old.store.shape (index.pairs old.store.state.bytes) g) ((state_of index old).logs t).writes)
+  pub named : IsTrue tells → IsAlive old.store → (t : ℕ) → AreNamed (index.pairs old.store.state.bytes) ((state_of index old).logs t).writes

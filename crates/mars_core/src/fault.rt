@@ -1,3 +1,4 @@
+use record_table::{AttachRecords, TableFault};
 use thiserror::Error;
 
 /// Why a core was not attached.
@@ -11,4 +12,36 @@ pub enum CoreFault {
     Media,
     #[error("no memory")]
     NoMemory,
+}
+
+/// Why records could not be taken.
+impl From<AttachRecords> for CoreFault {
+    ghost use Rattle.std.specs.Prelude.{◌≡◌};
+    ghost use Rattle.mars_core.specs.Attached.{attach_fault};
+
+    ghost from_gives = { λ refused fault. fault ≡ attach_fault refused };
+
+    fn from(refused: AttachRecords) -> Self {
+        match refused {
+            AttachRecords::Damaged { page } => CoreFault::Damaged { page },
+            AttachRecords::Media => CoreFault::Media,
+            AttachRecords::Dead => CoreFault::Media,
+        }
+    }
+}
+
+/// Why the records could not be read at the opening, which only the page, the medium or memory prevents.
+impl From<TableFault> for CoreFault {
+    ghost use Rattle.std.specs.Prelude.{◌≡◌};
+    ghost use Rattle.mars_core.specs.Attached.{scan_fault};
+
+    ghost from_gives = { λ refused fault. fault ≡ scan_fault refused };
+
+    fn from(refused: TableFault) -> Self {
+        match refused {
+            TableFault::Damaged { page } => CoreFault::Damaged { page },
+            TableFault::NoMemory => CoreFault::NoMemory,
+            _ => CoreFault::Media,
+        }
+    }
 }

@@ -8,6 +8,7 @@ mod live;
 mod masks;
 mod replies;
 mod seats;
+mod table_call;
 mod turns;
 
 pub use fault::CoreFault;

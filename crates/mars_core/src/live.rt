@@ -1,13 +1,9 @@
 // A live transaction: its granted calls and the stripes that they touched.
-ghost use Rattle.std.specs.Prelude.{◌≡◌, [], ◌∷◌, ◌++◌, List, IfOk, OnOk, OnErr};
-ghost use Rattle.history.specs.Table.{Granted};
-ghost use Rattle.history.specs.declared.call.Call.{Call};
-ghost use Rattle.history.specs.declared.call.Reply.{Reply};
+ghost use Rattle.std.specs.Prelude.{◌≡◌, [], ◌∷◌, ◌++◌, IfOk, IfErr};
 ghost use Rattle.mars_core.specs.Masks.{IsMaskOf};
 
 use crate::masks::mask_of;
-use history::{Call, Calls, Reply};
-use mars_base::NoMemory;
+use history::{Call, Calls, CallsWithRoom, Reply};
 use std::alloc::Global;
 use std::marker::Model;
 
@@ -54,31 +50,16 @@ impl Live {
         self.mask
     }
 
-    /// Adds a call with its reply. An error changes nothing.
-    pub fn push(&mut self, call: &Call, reply: Reply) -> Result<(), NoMemory>
-        ensures ok { OnOk result (self.new ≡ self.old ++ (call.now, reply) ∷ []) }
-        ensures err { OnErr result (self.new ≡ self.old) }
+    /// The same with room for one more call, or as it is if there is no memory for it.
+    pub fn with_room(self) -> Result<LiveWithRoom, Live>
+        ensures ok { IfOk result (λ live. live ≡ self) }
+        ensures err { IfErr result (λ live. live ≡ self) }
     {
-        self.calls.push(*call, reply)?;
-        self.mask |= mask_of(call);
-        Ok(())
-    }
-
-    /// Removes the last call. `mask` has the stripes that the others touched.
-    pub fn pop(&mut self, mask: u64)
-        requires { (calls : Granted) × (call : Call) × (reply : Reply) × (self.old ≡ calls ++ (call, reply) ∷ []) × IsMaskOf calls mask }
-        ensures { (calls : Granted) (entry : Call × Reply) → self.old ≡ calls ++ entry ∷ [] → self.new ≡ calls }
-    {
-        self.calls.pop();
-        self.mask = mask;
-    }
-
-    /// Gives the last call another reply.
-    pub fn set_last_reply(&mut self, reply: Reply)
-        requires { (calls : Granted) × (call : Call) × (was : Reply) × (self.old ≡ calls ++ (call, was) ∷ []) }
-        ensures { (calls : Granted) (call : Call) (was : Reply) → self.old ≡ calls ++ (call, was) ∷ [] → self.new ≡ calls ++ (call, reply) ∷ [] }
-    {
-        self.calls.set_last_reply(reply);
+        let Live { calls, mask } = self;
+        match calls.with_room() {
+            Ok(calls) => Ok(LiveWithRoom { calls, mask }),
+            Err(calls) => Err(Live { calls, mask }),
+        }
     }
 
     pub fn into_calls(self) -> Calls
@@ -86,5 +67,47 @@ impl Live {
     {
         let Live { calls, mask: _ } = self;
         calls
+    }
+}
+
+/// The same with room for one more call.
+#[derive(Drop)]
+pub struct LiveWithRoom {
+    calls: CallsWithRoom,
+    mask: u64,
+}
+
+impl Model for LiveWithRoom {
+    ghost use Rattle.history.specs.Table.{Granted};
+    ghost use Rattle.mars_core.specs.Masks.{IsMaskOf};
+
+    ghost Value = { Granted };
+
+    ghost view = { λ l. l.calls };
+
+    ghost invariant = { λ l. IsMaskOf l.calls l.mask };
+}
+
+impl LiveWithRoom {
+    /// The transaction with this call.
+    pub fn push(self, call: &Call, reply: Reply) -> Live
+        ensures { result ≡ self ++ (call.now, reply) ∷ [] }
+    {
+        let LiveWithRoom { calls, mask } = self;
+        Live {
+            calls: calls.push(*call, reply),
+            mask: mask | mask_of(call),
+        }
+    }
+
+    /// The transaction as it is.
+    pub fn into_live(self) -> Live
+        ensures { result ≡ self }
+    {
+        let LiveWithRoom { calls, mask } = self;
+        Live {
+            calls: calls.into_calls(),
+            mask,
+        }
     }
 }

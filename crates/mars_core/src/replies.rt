@@ -1,12 +1,12 @@
 // Replies to calls of records.
-ghost use Rattle.std.specs.Prelude.{◌≡◌, if◌then◌else◌};
+ghost use Rattle.std.specs.Prelude.{◌≡◌, if◌then◌else◌, ℕ, List, IfOk, OnErr, IsFalse};
 ghost use Rattle.history.specs.Table.{found};
-ghost use Rattle.history.specs.declared.call.Reply.TheVariants.{Fine, Absent};
-ghost use Rattle.mars_core.specs.Works.{reply_to};
+ghost use Rattle.history.specs.declared.call.Reply.TheVariants.{Fine, Absent, Listed};
+ghost use Rattle.caller_steps.specs.Fate.{is_refusal, is_committed};
 
 use history::Reply;
+use mars_base::NoMemory;
 use record_slots::Value;
-use record_table::TableFault;
 
 // The reply to a get that finds this.
 pub fn found(value: &Option<Value>) -> Reply
@@ -25,26 +25,21 @@ pub fn removed(was: bool) -> Reply
     if was { Reply::Fine } else { Reply::Absent }
 }
 
-// A refusal of the records, as a reply.
-pub fn reply_to(fault: &TableFault) -> Reply
-    ensures { result ≡ reply_to fault.now }
+// A granted reply once more. Only the rows of a scan take memory.
+pub fn copy_of(reply: &Reply) -> Result<Reply, NoMemory>
+    requires granted { IsFalse (is_refusal reply.now) }
+    requires plain { IsFalse (is_committed reply.now) }
+    ensures same { IfOk result (λ copy. copy ≡ reply.now) }
+    ensures listed { OnErr result ((rows : List (ℕ × List ℕ)) × (reply.now ≡ Listed rows)) }
 {
-    match fault {
-        TableFault::SlotsFull { slots } => Reply::SlotsFull { slots: *slots },
-        TableFault::PagesFull { pages } => Reply::PagesFull { pages: *pages },
-        TableFault::SavesFull => Reply::SavesFull,
-        TableFault::LogFull {
-            logger,
-            held,
-            needed,
-        } => Reply::LogFull {
-            logger: *logger,
-            held: *held,
-            needed: *needed,
+    match reply {
+        Reply::Found(value) => Ok(Reply::Found(*value)),
+        Reply::Absent => Ok(Reply::Absent),
+        Reply::Listed(rows) => match rows.copy() {
+            Ok(copy) => Ok(Reply::Listed(copy)),
+            Err(refused) => Err(refused),
         },
-        TableFault::Media => Reply::Media,
-        TableFault::Dead => Reply::Dead,
-        TableFault::Damaged { page } => Reply::Damaged { page: *page },
-        TableFault::NoMemory => Reply::NoMemory,
+        Reply::Saved(n) => Ok(Reply::Saved(*n)),
+        _ => Ok(Reply::Fine),
     }
 }

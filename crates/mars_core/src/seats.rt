@@ -1,16 +1,13 @@
 // The callers, each with its live transaction if it has one.
 ghost use Rattle.std.specs.Prelude.{◌≡◌, ◌<◌, ◌≤◌, [], ◌∷◌, ◌++◌, List, ℕ, Some, None, IfOk, IfSome, IfNone, OnOk, OnErr, is_some, length};
 ghost use Rattle.history.specs.Table.{Granted};
-ghost use Rattle.history.specs.declared.call.Call.{Call};
-ghost use Rattle.history.specs.declared.call.Reply.{Reply};
-ghost use Rattle.history.specs.declared.call.Reply.TheVariants.{Fine};
 ghost use Rattle.caller_steps.specs.Locked.{IsFree, IsBusyWith};
 ghost use Rattle.mars_core.specs.Masks.{IsMaskOf};
 ghost use Rattle.mars_core.specs.Seats.{live_in, calls_at, Seated, bare};
 
 use crate::live::Live;
 use crate::masks::mask_of;
-use history::{Call, Calls, Reply};
+use history::{Call, Calls};
 use mars_base::NoMemory;
 use std::alloc::Global;
 use std::marker::Model;
@@ -65,44 +62,6 @@ impl Seats {
         ensures { Seated self.old caller (Some []) self.new }
     {
         self.live[usize::from(caller)] = Some(Live::new(alloc));
-    }
-
-    /// Adds a call to the caller's live transaction.
-    pub fn push(&mut self, caller: u8, call: &Call) -> Result<(), NoMemory>
-        requires inside { caller < length self.old }
-        requires live { (calls : Granted) × (live_in self.old caller ≡ Some calls) }
-        ensures ok { OnOk result (Seated self.old caller (Some (calls_at self.old caller ++ (call.now, Fine) ∷ [])) self.new) }
-        ensures err { OnErr result (self.new ≡ self.old) }
-    {
-        match &mut self.live[usize::from(caller)] {
-            Some(live) => live.push(call, Reply::Fine),
-            None => unreachable!(),
-        }
-    }
-
-    /// Removes the last call of the caller's live transaction. `mask` has the stripes that the others touched.
-    pub fn pop(&mut self, caller: u8, mask: u64)
-        requires inside { caller < length self.old }
-        requires last { (calls : Granted) × (call : Call) × (reply : Reply) × (live_in self.old caller ≡ Some (calls ++ (call, reply) ∷ [])) × IsMaskOf calls mask }
-        ensures { (calls : Granted) (entry : Call × Reply) → live_in self.old caller ≡ Some (calls ++ entry ∷ []) → Seated self.old caller (Some calls) self.new }
-    {
-        match &mut self.live[usize::from(caller)] {
-            Some(live) => live.pop(mask),
-            None => unreachable!(),
-        }
-    }
-
-    /// Gives the last call of the caller's live transaction another reply.
-    pub fn set_last_reply(&mut self, caller: u8, reply: Reply)
-        requires inside { caller < length self.old }
-        requires last { (calls : Granted) × (call : Call) × (was : Reply) × (live_in self.old caller ≡ Some (calls ++ (call, was) ∷ [])) }
-        ensures { (calls : Granted) (call : Call) (was : Reply) → live_in self.old caller ≡ Some (calls ++ (call, was) ∷ [])
-            → Seated self.old caller (Some (calls ++ (call, reply) ∷ [])) self.new }
-    {
-        match &mut self.live[usize::from(caller)] {
-            Some(live) => live.set_last_reply(reply),
-            None => unreachable!(),
-        }
     }
 
     /// Removes and returns the caller's live transaction.

@@ -8,24 +8,25 @@ ghost use Rattle.history.specs.declared.call.Call.TheVariants.{Begin, Commit, Ab
 ghost use Rattle.caller_steps.specs.Core.{Steps};
 ghost use Rattle.caller_steps.specs.State.{calls_of};
 ghost use Rattle.record_table.specs.Shown.{state_of};
-ghost use Rattle.mars_core.specs.Attached.{CoreCause, GivesBack, is_media_fault, attach_fault, scan_fault};
+ghost use Rattle.mars_core.specs.Attached.{CoreCause, GivesBack, is_media_fault};
 ghost use Rattle.mars_core.specs.Held.{core_of};
 ghost use Rattle.mars_core.specs.Masks.{IsMaskOf};
 ghost use Rattle.mars_core.specs.Over.{Begins, IsOver};
 ghost use Rattle.mars_core.specs.Seats.{live_in};
-ghost use Rattle.mars_core.specs.Works.{IsOfTable, IsShown};
+ghost use Rattle.mars_core.specs.TableCall.{call_of};
+ghost use Rattle.mars_core.specs.Works.{IsShown};
 
-use crate::asking::{Answer, refused_save, work};
+use crate::asking::answer;
 use crate::doubt::Doubt;
 use crate::fault::CoreFault;
 use crate::live::Live;
-use crate::replies::reply_to;
 use crate::seats::Seats;
+use crate::table_call::TableCall;
 use caller_steps::Core as Steps;
 use eaw_face::EawStore;
 use history::{Call, Done, History, Reply, Rows};
 use page_store::{KeyIndex, Pages, SaveRoom};
-use record_table::{AttachRecords, Records, TableFault};
+use record_table::Records;
 use std::alloc::Global;
 use std::marker::Model;
 
@@ -69,7 +70,7 @@ impl<S: EawStore, K: KeyIndex> Core<S, K> {
     {
         let records = match Records::attach(Pages::attach_in(room, store)) {
             Ok(records) => records,
-            Err((fault, pages)) => return Err((attach_fault(&fault), pages.into_store())),
+            Err((fault, pages)) => return Err((CoreFault::from(fault), pages.into_store())),
         };
         begin_over(alloc, records)
     }
@@ -142,42 +143,27 @@ impl<S: EawStore, K: KeyIndex> Core<S, K> {
         Reply::Fine
     }
 
-    // Makes a call of a transaction on the records.
-    fn ask(&mut self, caller: u8, call: &Call) -> Reply
+    // Answers a call that the one-thread table answers. Meanwhile the transaction is out of its seat.
+    fn ask(&mut self, caller: u8, call: &TableCall) -> Reply
         requires inside { caller < (S.view self.old.records.store).shape.numbers }
         requires alive { IsAlive (S.view self.old.records.store) }
-        requires of_table { IsOfTable call.now }
         requires shown { IsShown S.tells K.index (pages_of (S.view self.old.records.store) self.old.records) }
-        ensures steps { Steps S.tells caller call.now (core_of S.opens K.index (S.view self.old.records.store) self.old)
+        ensures steps { Steps S.tells caller (call_of call.now) (core_of S.opens K.index (S.view self.old.records.store) self.old)
             (core_of S.opens K.index (S.view self.new.records.store) self.new) result }
     {
-        if !self.seats.is_live(caller) {
+        let Some(live) = self.seats.take(caller) else {
             return Reply::NoTransaction;
-        }
-        if let Some(refusal) = refused_save(self.records.saves(caller), call) {
-            return refusal;
-        }
-        // The call is kept before it is made, so that nothing is written that there is no memory to keep.
-        let before = self.seats.touched(caller);
-        match self.seats.push(caller, call) {
-            Ok(()) => {}
-            Err(_) => return Reply::NoMemory,
-        }
-        if let Some(holder) = self.seats.holder(caller, call) {
-            self.seats.pop(caller, before);
-            return Reply::Busy { holder };
-        }
-        match work(self.alloc, &mut self.records, caller, call) {
-            Ok(answer) => {
-                let Answer { told, kept } = answer;
-                self.seats.set_last_reply(caller, kept);
-                told
-            }
-            Err(fault) => {
-                self.seats.pop(caller, before);
-                reply_to(&fault)
-            }
-        }
+        };
+        let (live, reply) = answer(
+            self.alloc,
+            &mut self.records,
+            &self.seats,
+            caller,
+            live,
+            call,
+        );
+        self.seats.put(caller, live);
+        reply
     }
 
     fn commit(&mut self, caller: u8) -> Reply
@@ -186,12 +172,9 @@ impl<S: EawStore, K: KeyIndex> Core<S, K> {
         ensures steps { Steps S.tells caller Commit (core_of S.opens K.index (S.view self.old.records.store) self.old)
             (core_of S.opens K.index (S.view self.new.records.store) self.new) result }
     {
-        if !self.seats.is_live(caller) {
-            return Reply::NoTransaction;
-        }
         let at = self.history.as_slice().len() as u64 + 1;
         let Some(live) = self.seats.take(caller) else {
-            unreachable!();
+            return Reply::NoTransaction;
         };
         let mask = live.touched();
         // The history takes the transaction first, so that nothing is committed that there is no memory to keep.
@@ -210,7 +193,7 @@ impl<S: EawStore, K: KeyIndex> Core<S, K> {
             Ok(()) => Reply::Committed(at),
             Err(fault) => {
                 self.doubt = Doubt::holding(self.history.pop());
-                reply_to(&fault)
+                Reply::from(fault)
             }
         }
     }
@@ -229,7 +212,7 @@ impl<S: EawStore, K: KeyIndex> Core<S, K> {
                 self.seats.end(caller);
                 Reply::Fine
             }
-            Err(fault) => reply_to(&fault),
+            Err(fault) => Reply::from(fault),
         }
     }
 }
@@ -249,12 +232,24 @@ impl<S: EawStore, K: KeyIndex> Steps for Core<S, K> {
             Call::Begin => self.begin(caller),
             Call::Commit => self.commit(caller),
             Call::Abort => self.abort(caller),
-            Call::Get { key: _ } => self.ask(caller, call),
-            Call::Put { key: _, value: _ } => self.ask(caller, call),
-            Call::Del { key: _ } => self.ask(caller, call),
-            Call::Scan { low: _, high: _ } => self.ask(caller, call),
-            Call::Save => self.ask(caller, call),
-            Call::Back { save: _ } => self.ask(caller, call),
+            Call::Get { key } => self.ask(caller, &TableCall::Get { key: *key }),
+            Call::Put { key, value } => self.ask(
+                caller,
+                &TableCall::Put {
+                    key: *key,
+                    value: *value,
+                },
+            ),
+            Call::Del { key } => self.ask(caller, &TableCall::Del { key: *key }),
+            Call::Scan { low, high } => self.ask(
+                caller,
+                &TableCall::Scan {
+                    low: *low,
+                    high: *high,
+                },
+            ),
+            Call::Save => self.ask(caller, &TableCall::Save),
+            Call::Back { save } => self.ask(caller, &TableCall::Back { save: *save }),
         }
     }
 
@@ -270,8 +265,8 @@ fn begin_over<S: EawStore, K: KeyIndex>(
 ) -> Result<Core<S, K>, (CoreFault, S)>
     requires alive { IsAlive (S.view records.store) }
     requires sound { IsTrue S.tells → K.index.sound (S.view records.store).state.bytes }
-    requires idle { IsTrue S.tells → (t : ℕ) → (state_of K.index (pages_of (S.view records.store) records)).writes t ≡ [] }
-    requires unsaved { IsTrue S.tells → (t : ℕ) → (state_of K.index (pages_of (S.view records.store) records)).saved t ≡ [] }
+    requires idle { IsTrue S.tells → (t : ℕ) → ((state_of K.index (pages_of (S.view records.store) records)).logs t).writes ≡ [] }
+    requires unsaved { IsTrue S.tells → (t : ℕ) → ((state_of K.index (pages_of (S.view records.store) records)).logs t).saved ≡ [] }
     ensures begins { IfOk result (λ core. Begins S.tells (S.opens (S.view records.store).shape) K.index (S.view records.store) (S.view core.records.store)
         (core_of S.opens K.index (S.view core.records.store) core)) }
     ensures cause { IfErr result (λ failed. CoreCause S.tells K.index (S.view records.store) failed.0) }
@@ -284,7 +279,7 @@ fn begin_over<S: EawStore, K: KeyIndex>(
     };
     let base = match records.scan(alloc, 0, 0, u64::MAX) {
         Ok(base) => base,
-        Err(fault) => return Err((scan_fault(&fault), records.into_pages().into_store())),
+        Err(fault) => return Err((CoreFault::from(fault), records.into_pages().into_store())),
     };
     Ok(Core {
         alloc,
@@ -294,35 +289,4 @@ fn begin_over<S: EawStore, K: KeyIndex>(
         history: History::new(alloc),
         doubt: Doubt::none(),
     })
-}
-
-// Why records could not be taken.
-fn attach_fault(fault: &AttachRecords) -> CoreFault
-    ensures { result ≡ attach_fault fault.now }
-{
-    match fault {
-        AttachRecords::Damaged { page } => CoreFault::Damaged { page: *page },
-        AttachRecords::Media => CoreFault::Media,
-        AttachRecords::Dead => CoreFault::Media,
-    }
-}
-
-// Why the records could not be read.
-fn scan_fault(fault: &TableFault) -> CoreFault
-    ensures { result ≡ scan_fault fault.now }
-{
-    match fault {
-        TableFault::Damaged { page } => CoreFault::Damaged { page: *page },
-        TableFault::NoMemory => CoreFault::NoMemory,
-        TableFault::Media => CoreFault::Media,
-        TableFault::Dead => CoreFault::Media,
-        TableFault::SavesFull => CoreFault::Media,
-        TableFault::SlotsFull { slots: _ } => CoreFault::Media,
-        TableFault::PagesFull { pages: _ } => CoreFault::Media,
-        TableFault::LogFull {
-            logger: _,
-            held: _,
-            needed: _,
-        } => CoreFault::Media,
-    }
 }

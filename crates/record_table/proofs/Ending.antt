@@ -1,14 +1,20 @@
 -- Calls on records that are one call of pages: saves, ways back and ends.
-use Rattle.std.proofs.Common.{◌≡◌, ◌≢◌, ℕ, ◌-◌, ◌<◌, ◌≤◌, ◌⊎◌, Bool, true, false, inl, inr, IsTrue, List, [], ◌∷◌, ◌++◌, length, take, Result, Ok, Err, refl, sym, ◌∙◌, ap, subst, arith}
-use Rattle.std.specs.Prelude.{Some, IfErr, OnErr}
+use Rattle.std.proofs.Common.{◌≡◌, ◌≢◌, ℕ, ◌-◌, ◌+◌, ◌<◌, ◌≤◌, ◌⊎◌, Bool, true, false, inl, inr, IsTrue, List, [], ◌∷◌, ◌++◌, length, take, Result, Ok, Err, ◌&&◌, nat_le, refl, sym, ◌∙◌, ap, subst, arith, lt-ltb, le-leb}
+use Rattle.std.specs.Prelude.{Some, map, IfOk, IfErr, OnErr}
 use Rattle.std.proofs.lemmas.Bool.{false≢true}
 use Rattle.std.proofs.lemmas.List.{length-append, length-take-le, length-map}
 use Rattle.mars_base.proofs.Going.{stays, weaker}
-use Rattle.array_shape.specs.Logged.{Part}
+use Rattle.array_shape.specs.Logged.{Part, applied}
 use Rattle.array_shape.specs.declared.shape.Shape.{Shape}
 use Rattle.eaw_face.specs.StoreView.{StoreView, LeavesOnly}
 use Rattle.eaw_face.specs.State.{listed}
 use Rattle.eaw_face.specs.Causes.{IsAlive}
+use Rattle.history.specs.Writes.{all_written}
+use Rattle.history.specs.Table.{has_save}
+use Rattle.history.specs.declared.call.Call.{Call}
+use Rattle.history.specs.declared.call.Call.TheVariants.{Save, Back, Commit, Abort}
+use Rattle.history.specs.declared.call.Reply.{Reply}
+use Rattle.history.specs.declared.call.Reply.TheVariants.{Fine, Saved, Committed}
 use Rattle.page_store.specs.Command.{PageCommand}
 use Rattle.page_store.specs.Command as page
 use Rattle.page_store.specs.Does as page_does
@@ -22,12 +28,12 @@ use Rattle.page_store.specs.declared.fault.PageFault.{PageFault}
 use Rattle.page_store.specs.declared.fault.PageFault.TheVariants as fault
 use Rattle.page_store.proofs.Numbers.{with_here, with_there}
 use Rattle.page_store.proofs.Shown.{IsTold, kept}
+use Rattle.record_table.specs.Calls.{Replies, table_after, after, saves_after}
 use Rattle.record_table.specs.Causes.{MaySave, IsSavedOut, Fits}
-use Rattle.record_table.specs.Command.{TableCommand, save, back, commit, abort, after, number_of}
-use Rattle.record_table.specs.Does.{Does, OpensWith, Indexed, saves_after}
+use Rattle.record_table.specs.Does.{Does, OpensWith, Indexed, IsQuiet, replied}
 use Rattle.record_table.specs.Faults.{told_as}
 use Rattle.record_table.specs.Invariant.{AreSlotParts, Rests, Holds}
-use Rattle.record_table.specs.Shown.{state_of, shown_by, keys_of}
+use Rattle.record_table.specs.Shown.{writes_of, state_of, shown_by, keys_of}
 use Rattle.record_table.specs.State.{TableState, Keys}
 use Rattle.record_table.specs.declared.fault.TableFault.{TableFault}
 use Rattle.record_table.specs.declared.fault.TableFault.TheVariants.{SavesFull}
@@ -48,32 +54,40 @@ media_told (Err (fault.Damaged page)) s is e = absurd (cc)
 same_number : (a b : ℕ) → Some a ≡ Some b → a ≡ b
 same_number a b e = cc
 
+-- parts that stand for no writes
+no_parts : (index : Index) (log : List Part) (bytes : List ℕ) → writes_of log ≡ [] → applied log bytes ≡ bytes
+no_parts index [] bytes none = refl
+no_parts index (p ∷ ps) bytes none = absurd (cc)
+
 -- A call of pages that is one of records: it does to the state of pages what that does to the state of records.
-pub record IsCall (T : Type 0) (tells : Bool) (index : Index) (pc : PageCommand) (c : TableCommand) (old : PagesView) : Type 0 where
-  pub named : page_does.named_by pc ≡ Some (number_of c)
+pub record IsCall (tells : Bool) (index : Index) (pc : PageCommand) (t : ℕ) (c : Call) (old : PagesView) : Type 0 where
+  pub named : page_does.named_by pc ≡ Some t
   pub sound : IsTrue tells → index.sound (page.after pc (pages.state_of old)).store.bytes
   pub parts : IsTrue tells → (u : ℕ) → AreSlotParts index (page.after pc (pages.state_of old)).store.bytes (log_of (page.after pc (pages.state_of old)) u)
-  pub shown : IsTrue tells → shown_by index (page.after pc (pages.state_of old)) ≡ after c (state_of index old)
+  pub shown : IsTrue tells → (reply : Reply) → shown_by index (page.after pc (pages.state_of old)) ≡ after t c reply (state_of index old)
   pub keys : IsTrue tells → keys_of index (page.after pc (pages.state_of old)).store.bytes ≡ keys_of index old.store.state.bytes
-  pub indexed : (a b : Keys) (r : Result T TableFault) → b ≡ a → Indexed c a b r
-  pub saves : length ((outline_after pc (outline_of old)).counts (number_of c)) ≡ saves_after c (length (old.counts (number_of c)))
-  pub other_saves : (u : ℕ) → u ≢ number_of c → (outline_after pc (outline_of old)).counts u ≡ old.counts u
+  pub indexed : (a b : Keys) (r : Result Reply TableFault) → b ≡ a → Indexed c a b r
+  pub quiet : IsTrue tells → IsQuiet index old t c → (page.after pc (pages.state_of old)).store.bytes ≡ old.store.state.bytes
+  pub saves : length ((outline_after pc (outline_of old)).counts t) ≡ saves_after c (length (old.counts t))
+  pub other_saves : (u : ℕ) → u ≢ t → (outline_after pc (outline_of old)).counts u ≡ old.counts u
   pub tops : (u : ℕ) → (outline_after pc (outline_of old)).top u ≡ old.top u
   pub no_log : (g h n : ℕ) → page_does.IsFull old pc g h n → ⊥
-  pub saved_out : page_does.IsSavedOut old pc → IsSavedOut old c
-  pub may_save : page_does.HasRoom old pc → MaySave old c
-  pub fits : Fits index old c
+  pub saved_out : page_does.IsSavedOut old pc → IsSavedOut old t c
+  pub may_save : page_does.HasRoom old pc → MaySave old t c
+  pub fits : Fits index old t c
 
-module _ (tells : Bool) (Opens : List ℕ → List ℕ → Type 0) (index : Index) (pc : PageCommand) (c : TableCommand) (old new : PagesView) (holds : Holds tells index old) (T : Type 0) (call : IsAlive old.store → IsCall T tells index pc c old) where
+module _ (tells : Bool) (Opens : List ℕ → List ℕ → Type 0) (index : Index) (pc : PageCommand) (t : ℕ) (c : Call) (old new : PagesView) (holds : Holds tells index old) (call : IsAlive old.store → IsCall tells index pc t c old)
+    (T : Type 0) (reply : T → Reply) where
   time_of : (r : Result T PageFault) → IsAlive old.store → page_does.Does tells Opens pc old new r → IsTrue tells
-      → LeavesOnly (λ image. OpensWith Opens index image (state_of index old).table ⊎ OpensWith Opens index image (after c (state_of index old)).table) old.store new.store
+      → LeavesOnly (λ image. OpensWith Opens index image (state_of index old).table ⊎ OpensWith Opens index image (table_after t c (state_of index old))) old.store new.store
   time_of r alive does told = weaker (λ image either. elim either [
     | inl before ↦ inl (record { bytes = old.store.state.bytes; opened = before; sound = ((holds alive).tied told).sound; shows = refl })
-    | inr behind ↦ inr (record { bytes = (page.after pc (pages.state_of old)).store.bytes; opened = behind; sound = (call alive).sound told; shows = ap (λ (s : TableState). s.table) ((call alive).shown told) })
+    | inr behind ↦ inr (record { bytes = (page.after pc (pages.state_of old)).store.bytes; opened = behind; sound = (call alive).sound told; shows = ap (λ (s : TableState). s.table) ((call alive).shown told Fine) })
   ]) (does.time told alive)
 
-  pub ends : (r : Result T PageFault) → page_does.Does tells Opens pc old new r → ((f : PageFault) → r ≡ Err f → f ≢ fault.Media → new ≡ old) → Does tells Opens index c old new (told_as r) × Holds tells index new
-  ends (Ok answer) does same =
+  pub ends : (r : Result T PageFault) → page_does.Does tells Opens pc old new r → ((f : PageFault) → r ≡ Err f → f ≢ fault.Media → new ≡ old)
+      → (IsTrue tells → IfOk r (λ answer. Replies (state_of index old) t c (reply answer))) → Does tells Opens index t c old new (replied reply (told_as r)) × Holds tells index new
+  ends (Ok answer) does same right =
       let alive = does.cause.0 in
       let is = call alive in
       let out = does.done.outline in
@@ -83,12 +97,14 @@ module _ (tells : Bool) (Opens : List ℕ → List ℕ → Type 0) (index : Inde
           cause = (alive, is.may_save does.cause.1, λ told. is.fits);
           faults = λ _. (does.done.alive ∙ sym alive, does.kept);
           dies = λ failed. absurd (false≢true failed);
-          done = λ told. ap (shown_by index) (now told) ∙ is.shown told;
+          replies = right;
+          done = λ told. ap (shown_by index) (now told) ∙ is.shown told (reply answer);
           refused = λ told _. tt;
-          indexed = λ told _ _. is.indexed _ _ (let r : Result T TableFault = Ok answer in r) (ap (λ (s : PagesState). keys_of index s.store.bytes) (now told) ∙ is.keys told);
-          saves = ap (λ (o : Outline). length (o.counts (number_of c))) out ∙ is.saves;
+          indexed = λ told _ _. is.indexed _ _ (Ok (reply answer)) (ap (λ (s : PagesState). keys_of index s.store.bytes) (now told) ∙ is.keys told);
+          quiet = λ told _ still. ap (λ (s : PagesState). s.store.bytes) (now told) ∙ is.quiet told still;
+          saves = ap (λ (o : Outline). length (o.counts t)) out ∙ is.saves;
           same_saves = tt;
-          others = λ u ne. (does.others u (λ e. ne (sym (same_number (number_of c) u (sym is.named ∙ e)))), ap (λ (o : Outline). o.counts u) out ∙ is.other_saves u ne);
+          others = λ u ne. (does.others u (λ e. ne (sym (same_number t u (sym is.named ∙ e)))), ap (λ (o : Outline). o.counts u) out ∙ is.other_saves u ne);
           time = λ told _. time_of (let r : Result T PageFault = Ok answer in r) alive does told;
         },
         λ living. record {
@@ -99,7 +115,7 @@ module _ (tells : Bool) (Opens : List ℕ → List ℕ → Type 0) (index : Inde
           };
         },
       )
-  ends (Err fault.Media) does same =
+  ends (Err fault.Media) does same right =
       let alive = does.cause.0 in
       let is = call alive in (
         record {
@@ -107,48 +123,82 @@ module _ (tells : Bool) (Opens : List ℕ → List ℕ → Type 0) (index : Inde
           cause = alive;
           faults = λ well. absurd (false≢true (sym well));
           dies = λ _. (does.dies refl, does.cause.2);
+          replies = λ told. tt;
           done = λ told. tt;
           refused = λ told well. absurd (false≢true (sym well));
           indexed = λ told _ well. absurd (false≢true (sym well));
+          quiet = λ told well. absurd (false≢true (sym well));
           saves = tt;
           same_saves = does.marks.0;
-          others = λ u ne. (does.others u (λ e. ne (sym (same_number (number_of c) u (sym is.named ∙ e)))), ap (λ (f : ℕ → List ℕ). f u) does.marks.0);
+          others = λ u ne. (does.others u (λ e. ne (sym (same_number t u (sym is.named ∙ e)))), ap (λ (f : ℕ → List ℕ). f u) does.marks.0);
           time = λ told _. time_of (let r : Result T PageFault = Err fault.Media in r) alive does told;
         },
-        holds_dead tells Opens index c old new (does.dies refl),
+        holds_dead tells Opens index t c old new (does.dies refl),
       )
-  ends (Err fault.Dead) does same = let e = same fault.Dead refl (λ x. cc) in (does_dead tells Opens index c old new e does.cause, holds_same tells Opens index c old new holds e)
-  ends (Err fault.SavesFull) does same =
+  ends (Err fault.Dead) does same right = let e = same fault.Dead refl (λ x. cc) in (does_dead tells Opens index t c old new e does.cause, holds_same tells Opens index t c old new holds e)
+  ends (Err fault.SavesFull) does same right =
       let e = same fault.SavesFull refl (λ x. cc) in
-      let alive = does.cause.0 in
-      let r : Result T TableFault = Err SavesFull in (
-        subst (λ (v : PagesView). (let r : Result T TableFault = Err SavesFull in Does tells Opens index c old v r)) (sym e) (record {
+      let alive = does.cause.0 in (
+        subst (λ (v : PagesView). Does tells Opens index t c old v (Err SavesFull)) (sym e) (record {
           shape = refl;
           cause = (alive, (call alive).saved_out does.cause.1);
           faults = λ _. (refl, refl);
           dies = λ failed. absurd (false≢true failed);
+          replies = λ told. tt;
           done = λ told. tt;
           refused = λ told _. refl;
-          indexed = λ told _ _. indexed_same T c _ _ SavesFull tt refl;
+          indexed = λ told _ _. indexed_same Reply c _ _ SavesFull tt refl;
+          quiet = λ told _ _. refl;
           saves = tt;
           same_saves = refl;
           others = λ u ne. (refl, refl);
           time = λ told _. stays old.store.moment old.store.left_since _;
         }),
-        holds_same tells Opens index c old new holds e,
+        holds_same tells Opens index t c old new holds e,
       )
-  ends (Err (fault.LogFull g h n)) does same = absurd ((call does.cause.0).no_log g h n does.cause.1)
-  ends (Err (fault.Damaged bad)) does same = absurd does.cause
+  ends (Err (fault.LogFull g h n)) does same right = absurd ((call does.cause.0).no_log g h n does.cause.1)
+  ends (Err (fault.Damaged bad)) does same right = absurd does.cause
 
-module _ (tells : Bool) (index : Index) (laws : Laws index) (old : PagesView) (rests : Rests tells index old) (t : ℕ) (T : Type 0) where
-  pub save_is : IsCall T tells index (page.save t) (save t) old
+-- what holds of every answer
+pub always : {T E P : Type 0} (r : Result T E) → P → IfOk r (λ answer. P)
+always (Ok answer) holds = holds
+always (Err e) holds = tt
+
+-- a number between the first save and the last is one
+pub has_save_is : {A : Type 0} (saves : List A) (n : ℕ) → 0 < n → n ≤ length saves → has_save saves n ≡ true
+has_save_is saves n some there = (λ i. lt-ltb 0 n some i && nat_le n (length saves)) ∙ le-leb n (length saves) there
+
+-- there are as many saves as counts
+pub length-saves : (index : Index) (old : PagesView) (t : ℕ) → length ((state_of index old).logs t).saved ≡ length (old.counts t)
+length-saves index old t = length-map (pages.saved_of (listed (old.store.state.logs t)) (old.counts t)) writes_of ∙ length-map (old.counts t) (λ count. take count (listed (old.store.state.logs t)))
+
+-- what a save replies
+pub saved_right : (tells : Bool) (Opens : List ℕ → List ℕ → Type 0) (index : Index) (old new : PagesView) (t : ℕ) (r : Result ℕ PageFault) → page_does.Does tells Opens (page.save t) old new r
+    → IfOk r (λ n. n ≡ length (new.counts t)) → IfOk r (λ n. Replies (state_of index old) t Save (Saved n))
+saved_right tells Opens index old new t (Err fault) does is = tt
+saved_right tells Opens index old new t (Ok n) does is =
+    let more = ap length (with_here old.counts t (old.counts t ++ length (listed (old.store.ranges t)) ∷ [])) ∙ length-append (old.counts t) (length (listed (old.store.ranges t)) ∷ []) in
+    ap Saved (is ∙ ap (λ (o : Outline). length (o.counts t)) does.done.outline ∙ more
+    ∙ ap (λ (k : ℕ). k + 1) (sym (length-map ((state_of index old).logs t).saved (all_written (state_of index old).table) ∙ length-saves index old t)))
+
+-- a way back finds its save
+pub back_right : (index : Index) (old : PagesView) (t n : ℕ) → 0 < n → n ≤ length (old.counts t) → Replies (state_of index old) t (Back n) Fine
+back_right index old t n some there = (
+  has_save_is (map (all_written (state_of index old).table) ((state_of index old).logs t).saved) n some
+      (subst (λ (k : ℕ). n ≤ k) (sym (length-map ((state_of index old).logs t).saved (all_written (state_of index old).table) ∙ length-saves index old t)) there),
+  refl,
+)
+
+module _ (tells : Bool) (index : Index) (laws : Laws index) (old : PagesView) (rests : Rests tells index old) (t : ℕ) where
+  pub save_is : IsCall tells index (page.save t) t Save old
   save_is = record {
     named = refl;
     sound = λ told. (rests.tied told).sound;
     parts = λ told. (rests.tied told).parts;
-    shown = λ told. shown_save index laws (pages.state_of old) t;
+    shown = λ told reply. shown_save index laws (pages.state_of old) t reply;
     keys = λ told. refl;
     indexed = λ a b r same. same;
+    quiet = λ told _. refl;
     saves = ap length (with_here old.counts t (old.counts t ++ length (listed (old.store.ranges t)) ∷ [])) ∙ length-append (old.counts t) (length (listed (old.store.ranges t)) ∷ []);
     other_saves = λ u ne. with_there old.counts t (old.counts t ++ length (listed (old.store.ranges t)) ∷ []) u ne;
     tops = λ u. refl;
@@ -158,16 +208,17 @@ module _ (tells : Bool) (index : Index) (laws : Laws index) (old : PagesView) (r
     fits = tt;
   }
 
-  pub back_is : (n : ℕ) → 0 < n → n ≤ length (old.counts t) → IsOrdered (outline_of old) → (IsTrue tells → IsTold old.store) → IsCall T tells index (page.back t n) (back t n) old
+  pub back_is : (n : ℕ) → 0 < n → n ≤ length (old.counts t) → IsOrdered (outline_of old) → (IsTrue tells → IsTold old.store) → IsCall tells index (page.back t n) t (Back n) old
   back_is n some there ordered told_by =
-      let front = λ (told : IsTrue tells). ((kept old (told_by told) ordered).each t).fronts (n - 1) (omega (arith, length-saves (listed (old.store.state.logs t)) (old.counts t))) in
+      let front = λ (told : IsTrue tells). ((kept old (told_by told) ordered).each t).fronts (n - 1) (omega (arith, length-map (old.counts t) (λ count. take count (listed (old.store.state.logs t))))) in
       record {
         named = refl;
         sound = λ told. (rests.tied told).sound;
         parts = λ told. parts_back index laws (pages.state_of old) t (rests.tied told).sound (rests.tied told).parts n (front told);
-        shown = λ told. shown_back index laws (pages.state_of old) t n (front told);
+        shown = λ told reply. shown_back index laws (pages.state_of old) t n reply (has_save_is ((state_of index old).logs t).saved n some (subst (λ (k : ℕ). n ≤ k) (sym (length-saves index old t)) there)) (front told);
         keys = λ told. refl;
         indexed = λ a b r same. same;
+        quiet = λ told _. refl;
         saves = ap length (with_here old.counts t (take n (old.counts t))) ∙ length-take-le n (old.counts t) there;
         other_saves = λ u ne. with_there old.counts t (take n (old.counts t)) u ne;
         tops = λ u. refl;
@@ -176,18 +227,16 @@ module _ (tells : Bool) (index : Index) (laws : Laws index) (old : PagesView) (r
         may_save = λ room. room;
         fits = tt;
       }
-    where
-      length-saves : (log : List Part) (counts : List ℕ) → length (pages.saved_of log counts) ≡ length counts
-      length-saves log counts = length-map counts (λ count. take count log)
 
-  pub abort_is : IsCall T tells index (page.end t false) (abort t) old
+  pub abort_is : IsCall tells index (page.end t false) t Abort old
   abort_is = record {
     named = refl;
     sound = λ told. (rests.tied told).sound;
     parts = λ told. parts_abort index laws (pages.state_of old) t (rests.tied told).sound (rests.tied told).parts;
-    shown = λ told. shown_abort index laws (pages.state_of old) t;
+    shown = λ told reply. shown_abort index laws (pages.state_of old) t reply;
     keys = λ told. refl;
     indexed = λ a b r same. same;
+    quiet = λ told _. refl;
     saves = ap length (with_here old.counts t []);
     other_saves = λ u ne. with_there old.counts t [] u ne;
     tops = λ u. refl;
@@ -197,16 +246,17 @@ module _ (tells : Bool) (index : Index) (laws : Laws index) (old : PagesView) (r
     fits = tt;
   }
 
-  pub commit_is : IsCall T tells index (page.end t true) (commit t) old
+  pub commit_is : IsCall tells index (page.end t true) t Commit old
   commit_is =
       let w = λ (told : IsTrue tells). applied_parts index laws (listed (old.store.state.logs t)) old.store.state.bytes (rests.tied told).sound ((rests.tied told).parts t) in
       record {
         named = refl;
         sound = λ told. (w told).sound;
         parts = λ told. parts_commit index laws (pages.state_of old) t (rests.tied told).sound (rests.tied told).parts;
-        shown = λ told. shown_commit index laws (pages.state_of old) t (rests.tied told).sound ((rests.tied told).parts t);
+        shown = λ told reply. shown_commit index laws (pages.state_of old) t reply (rests.tied told).sound ((rests.tied told).parts t);
         keys = λ told i. record { pairs = (w told).pairs i; next_slot = (w told).slots i; next_page = (w told).pages i; level = (w told).level i };
         indexed = λ a b r same. same;
+        quiet = λ told none. no_parts index (listed (old.store.state.logs t)) old.store.state.bytes none;
         saves = ap length (with_here old.counts t []);
         other_saves = λ u ne. with_there old.counts t [] u ne;
         tops = λ u. refl;
@@ -228,15 +278,17 @@ on_err_same (Ok x) h f e ne = absurd (cc)
 on_err_same (Err p) h f e ne = h
 
 -- the same for values that show pages
-module _ {S : Type 0} (view : S → StoreView) (tells : Bool) (Opens : Shape → List ℕ → List ℕ → Type 0) (index : Index) (c : TableCommand) (arg inside : Shown S) (same : inside ≡ arg) where
-  pub does_of : {T : Type 0} (new : PagesView) (r : Result T TableFault) → Does tells (Opens (view inside.store).shape) index c (pages_of (view inside.store) inside) new r → Does tells (Opens (view arg.store).shape) index c (pages_of (view arg.store) arg) new r
-  does_of new r does = subst (λ (p : Shown S). Does tells (Opens (view p.store).shape) index c (pages_of (view p.store) p) new r) same does
+module _ {S : Type 0} (view : S → StoreView) (tells : Bool) (Opens : Shape → List ℕ → List ℕ → Type 0) (index : Index) (t : ℕ) (c : Call) (arg inside : Shown S) (same : inside ≡ arg) where
+  pub does_of : (new : PagesView) (r : Result Reply TableFault) → Does tells (Opens (view inside.store).shape) index t c (pages_of (view inside.store) inside) new r → Does tells (Opens (view arg.store).shape) index t c (pages_of (view arg.store) arg) new r
+  does_of new r does = subst (λ (p : Shown S). Does tells (Opens (view p.store).shape) index t c (pages_of (view p.store) p) new r) same does
 
-  pub ended : (pc : PageCommand) (new : Shown S) → Holds tells index (pages_of (view inside.store) inside) → (T : Type 0) → (IsAlive (view inside.store) → IsCall T tells index pc c (pages_of (view inside.store) inside))
-      → (r : Result T PageFault) → page_does.Does tells (Opens (view inside.store).shape) pc (pages_of (view inside.store) inside) (pages_of (view new.store) new) r
-      → ((f : PageFault) → r ≡ Err f → f ≢ fault.Media → new ≡ inside) → (s : Result T TableFault) → s ≡ told_as r
-      → Does tells (Opens (view arg.store).shape) index c (pages_of (view arg.store) arg) (pages_of (view new.store) new) s × Holds tells index (pages_of (view new.store) new)
-  ended pc new holds T call r does unchanged s is =
-      let both = ends tells (Opens (view inside.store).shape) index pc c (pages_of (view inside.store) inside) (pages_of (view new.store) new) holds T call r does
-      (λ f e ne. ap (λ (p : Shown S). pages_of (view p.store) p) (unchanged f e ne)) in
-      (does_of (pages_of (view new.store) new) s (subst (λ (x : Result T TableFault). Does tells (Opens (view inside.store).shape) index c (pages_of (view inside.store) inside) (pages_of (view new.store) new) x) (sym is) both.0), both.1)
+  pub ended : (pc : PageCommand) (new : Shown S) → Holds tells index (pages_of (view inside.store) inside) → (IsAlive (view inside.store) → IsCall tells index pc t c (pages_of (view inside.store) inside))
+      → (T : Type 0) (reply : T → Reply) (r : Result T PageFault) → page_does.Does tells (Opens (view inside.store).shape) pc (pages_of (view inside.store) inside) (pages_of (view new.store) new) r
+      → ((f : PageFault) → r ≡ Err f → f ≢ fault.Media → new ≡ inside) → (IsTrue tells → IfOk r (λ answer. Replies (state_of index (pages_of (view inside.store) inside)) t c (reply answer)))
+      → (s : Result T TableFault) → s ≡ told_as r
+      → Does tells (Opens (view arg.store).shape) index t c (pages_of (view arg.store) arg) (pages_of (view new.store) new) (replied reply s) × Holds tells index (pages_of (view new.store) new)
+  ended pc new holds call T reply r does unchanged right s is =
+      let both = ends tells (Opens (view inside.store).shape) index pc t c (pages_of (view inside.store) inside) (pages_of (view new.store) new) holds call T reply r does
+      (λ f e ne. ap (λ (p : Shown S). pages_of (view p.store) p) (unchanged f e ne)) right in
+      (does_of (pages_of (view new.store) new) (replied reply s)
+      (subst (λ (x : Result T TableFault). Does tells (Opens (view inside.store).shape) index t c (pages_of (view inside.store) inside) (pages_of (view new.store) new) (replied reply x)) (sym is) both.0), both.1)

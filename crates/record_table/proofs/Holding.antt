@@ -35,7 +35,7 @@ module _ (index : Index) (shape : Shape) (d : List ℕ) (long : length d ≡ dat
       go false true e rest = absurd (cc)
 
 pub held_is : (index : Index) (pages : PagesView) → IsTold pages.store → IsTied index pages → (t g : ℕ)
-    → held_on pages t g ≡ length (filter (is_write_on pages.store.shape (index.pairs pages.store.state.bytes) g) ((state_of index pages).writes t))
+    → held_on pages t g ≡ length (filter (is_write_on pages.store.shape (index.pairs pages.store.state.bytes) g) ((state_of index pages).logs t).writes)
 held_is index pages told tied t g =
     ap (λ (o : Option (List (ℕ × ℕ))). count_on pages.store.shape g (listed o)) (told.outlines t) ∙ ap (count_on pages.store.shape g) (listed-ranges (pages.store.state.logs t))
     ∙ counts index pages.store.shape pages.store.state.bytes told.long g (listed (pages.store.state.logs t)) (tied.parts t)
@@ -44,12 +44,12 @@ named : (index : Index) (d : List ℕ) (log : List Part) → AreSlotParts index 
 named index d [] parts = tt
 named index d (p ∷ ps) parts = (subst (λ (o : Option ℕ). IsSome o) (sym parts.0.named) refl, named index d ps parts.1)
 
-pub named_are : (index : Index) (pages : PagesView) → IsTied index pages → (t : ℕ) → AreNamed (index.pairs pages.store.state.bytes) ((state_of index pages).writes t)
+pub named_are : (index : Index) (pages : PagesView) → IsTied index pages → (t : ℕ) → AreNamed (index.pairs pages.store.state.bytes) ((state_of index pages).logs t).writes
 named_are index pages tied t = named index pages.store.state.bytes (listed (pages.store.state.logs t)) (tied.parts t)
 
 -- a number has as many writes as it has logged parts
 pub as_many_writes : (index : Index) (pages : PagesView) (t : ℕ) → pages.store.ranges t ≡ option_map ranges_of (pages.store.state.logs t)
-    → log_len pages.store t ≡ length ((state_of index pages).writes t)
+    → log_len pages.store t ≡ length ((state_of index pages).logs t).writes
 as_many_writes index pages t outlined =
     let log = listed (pages.store.state.logs t) in
     ap (λ (o : Option (List (ℕ × ℕ))). length (listed o)) outlined ∙ ap length (listed-ranges (pages.store.state.logs t)) ∙ length-ranges log ∙ sym (length-map log write_of)

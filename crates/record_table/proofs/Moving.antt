@@ -52,8 +52,7 @@ pub record Failed (tells : Bool) (Opens : List ℕ → List ℕ → Type 0) (ind
 pub shown_same : (index : Index) (old new : PagesView) → new.store.state ≡ old.store.state → new.counts ≡ old.counts → state_of index new ≡ state_of index old
 shown_same index old new state counts = λ i. record {
   table = table_of index (state i).bytes;
-  writes = λ u. writes_of (listed ((state i).logs u));
-  saved = λ u. map writes_of (saved_of (listed ((state i).logs u)) (counts i u));
+  logs = λ u. record { writes = writes_of (listed ((state i).logs u)); saved = map writes_of (saved_of (listed ((state i).logs u)) (counts i u)) };
 }
 
 module _ (tells : Bool) (Opens : List ℕ → List ℕ → Type 0) (index : Index) (t : ℕ) where
@@ -232,8 +231,7 @@ module _ (tells : Bool) (Opens : List ℕ → List ℕ → Type 0) (index : Inde
         others = does.others;
         state = λ told i. record {
           table = (keeps told).0 i;
-          writes = λ u. writes_of (kept.logs told u i);
-          saved = λ u. map writes_of (saved_of (kept.logs told u i) (does.saves i u));
+          logs = λ u. record { writes = writes_of (kept.logs told u i); saved = map writes_of (saved_of (kept.logs told u i) (does.saves i u)) };
         };
         tied = λ told. record {
           sound = (made told).0.sound;

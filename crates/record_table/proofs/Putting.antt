@@ -1,6 +1,7 @@
 -- A put: the key is looked up in the index, inserted if it is new, and its slot is written.
 use Rattle.std.proofs.Common.{◌≡◌, ◌≢◌, ℕ, suc, ◌+◌, ◌-◌, ◌*◌, ◌<◌, ◌≤◌, Bool, true, false, cond, inl, inr, IsTrue, List, [], ◌∷◌, length, Result, Ok, Err, refl, sym, ◌∙◌, ap, subst, arith}
-use Rattle.std.specs.Prelude.{filter, Option, Some, None, IsFalse}
+use Rattle.std.specs.Prelude.{filter, Option, Some, None, is_some, IsFalse}
+use Rattle.std.specs.FinMap.{get}
 use Rattle.std.proofs.lemmas.Bool.{false≢true}
 use Rattle.array_shape.specs.declared.shape.Shape.{Shape}
 use Rattle.eaw_face.specs.State.{State, listed, count_on}
@@ -16,6 +17,11 @@ use Rattle.page_store.specs.Fits.{FitAll, IsFirstLacking, held_on, needed_on, is
 use Rattle.page_store.specs.Index.{Action, Index, slots_of, index_pages_of, Grows, Gains}
 use Rattle.page_store.specs.Index as face
 use Rattle.page_store.specs.Inserts.{AllFit, LackPages, LackRoom, ComesTo, Inserts, is_insert_failed}
+use Rattle.history.specs.Table as history
+use Rattle.history.specs.declared.call.Call.{Call}
+use Rattle.history.specs.declared.call.Call.TheVariants.{Put, Del}
+use Rattle.history.specs.declared.call.Reply.{Reply}
+use Rattle.history.specs.declared.call.Reply.TheVariants.{Fine}
 use Rattle.page_store.specs.Kept.{IsOrdered}
 use Rattle.page_store.specs.Pairs.{found}
 use Rattle.page_store.specs.Shown.{PagesView, outline_of}
@@ -24,17 +30,18 @@ use Rattle.page_store.specs.declared.fault.PageFault.TheVariants as fault
 use Rattle.page_store.specs.declared.index_fault.IndexFault.{IndexFault}
 use Rattle.page_store.specs.declared.index_fault.IndexFault.TheVariants as insert
 use Rattle.page_store.proofs.Shown.{IsTold}
-use Rattle.record_table.specs.Causes.{MaySave, Fits, Lacks, MayLack, HasRoom, IsFull, PutFits, PutLacks, IsShort, slot_in}
-use Rattle.record_table.specs.Command.{TableCommand, put, del, after, number_of, written, is_seen}
-use Rattle.record_table.specs.Does.{Does, Indexed, IndexedAt, Inserted, saves_after}
+use Rattle.record_table.specs.Calls.{Replies, after, saves_after}
+use Rattle.record_table.specs.Causes.{MaySave, Fits, Lacks, MayLack, HasRoom, IsFull, PutFits, PutLacks, IsSeen, IsShort, slot_in}
+use Rattle.record_table.specs.Does.{Does, Indexed, IndexedAt, Inserted, IsQuiet, replied}
 use Rattle.record_table.specs.Faults.{as_table, told_as, inserted_as}
 use Rattle.record_table.specs.Invariant.{Rests, Holds}
 use Rattle.record_table.specs.Shown.{write_said, state_of, keys_of}
 use Rattle.record_table.specs.Sought.{LooksAs}
-use Rattle.record_table.specs.State.{Keys, GainsKey, KeepsKeys, TakesPages}
+use Rattle.record_table.specs.State.{Keys, GainsKey, KeepsKeys, TakesPages, seen_by}
+use Rattle.record_table.proofs.States.{written}
 use Rattle.record_table.specs.declared.fault.TableFault.{TableFault}
 use Rattle.record_table.specs.declared.fault.TableFault.TheVariants.{SlotsFull, PagesFull, LogFull, Damaged}
-use Rattle.record_table.proofs.Doing.{look_keys, does_moved, does_wrote, does_failed, holds_dead, holds_moved, room_behind, full_behind, short_behind}
+use Rattle.record_table.proofs.Doing.{look_bytes, look_keys, does_moved, does_wrote, does_failed, holds_dead, holds_moved, room_behind, full_behind, short_behind}
 use Rattle.record_table.proofs.Moving.{Moved, moved_by_look, moved_then, failed_then, rests_moved, moved_by_insert, failed_by_insert, found_new}
 use Rattle.record_table.proofs.SlotParts.{Laws}
 use Rattle.record_table.proofs.Wrote.{wrote, write_failed, write_short}
@@ -87,72 +94,77 @@ module _ (a b : StoreView) (t : ℕ) (shape : b.shape ≡ a.shape) (ranges : lis
   pub comes_room : (index : Index) (key g h n : ℕ) → b.state.bytes ≡ a.state.bytes → ComesTo index key b (LackRoom b t g h n) → ComesTo index key a (LackRoom a t g h n)
   comes_room index key g h n same = comes index key (LackRoom b t g h n) (LackRoom a t g h n) (room_same g h n) same
 
--- the answer to a call whose last step is a write
-abbrev pub answered : {T : Type 0} → T → Result (Unit {0}) PageFault → Result T TableFault
+-- the reply to a call whose last step is a write
+abbrev pub answered : Reply → Result (Unit {0}) PageFault → Result Reply TableFault
 answered x (Ok done) = Ok x
 answered x (Err f) = Err (as_table f)
 
-pub told_is_answered : (r : Result (Unit {0}) PageFault) → told_as r ≡ answered {T = Unit {0}} (tt {0}) r
+pub told_is_answered : (r : Result (Unit {0}) PageFault) → replied {T = Unit {0}} (λ done. Fine) (told_as r) ≡ answered Fine r
 told_is_answered (Ok tt) = refl
 told_is_answered (Err f) = refl
 
 -- a write to a slot, after only the index has changed
-module _ (tells : Bool) (Opens : List ℕ → List ℕ → Type 0) (index : Index) (laws : Laws index) (c : TableCommand) (said : Slot) (old : PagesView) (alive : IsAlive old.store) (holds : Holds tells index old)
-    (mid : PagesView) (moved : Moved tells Opens index (number_of c) old mid) (new : PagesView) (slot : ℕ) (named : IsTrue tells → found (index.pairs mid.store.state.bytes) (write_said (Some said)).0 ≡ Some slot)
+module _ (tells : Bool) (Opens : List ℕ → List ℕ → Type 0) (index : Index) (laws : Laws index) (t : ℕ) (c : Call) (said : Slot) (old : PagesView) (alive : IsAlive old.store) (holds : Holds tells index old)
+    (mid : PagesView) (moved : Moved tells Opens index t old mid) (new : PagesView) (slot : ℕ) (named : IsTrue tells → found (index.pairs mid.store.state.bytes) (write_said (Some said)).0 ≡ Some slot)
     (told_by : IsTrue tells → IsTold mid.store) (ordered : IsOrdered (outline_of mid)) (reads : slot_said (slot_bytes said) ≡ Some said) (whole : length (slot_bytes said) ≡ 64)
-    (T : Type 0) (x : T) (may : MaySave old c) (short : (g h n : ℕ) → IsShort old (number_of c) g h n → MayLack old g h n c)
-    (fits : IsTrue tells → HasRoom index (number_of c) old (write_said (Some said)).0 slot → Fits index old c)
-    (lacks : IsTrue tells → (g h n : ℕ) → IsFull index (number_of c) old (write_said (Some said)).0 slot g h n → Lacks index old g h n c)
-    (one : IsTrue tells → after c (state_of index old) ≡ written (state_of index old) (number_of c) (write_said (Some said)).0 (write_said (Some said)).1)
-    (indexed : IsTrue tells → (let r : Result T TableFault = Ok x in Indexed c (keys_of index old.store.state.bytes) (keys_of index mid.store.state.bytes) r))
-    (indexed_full : IsTrue tells → (g h n : ℕ) → (let r : Result T TableFault = Err (LogFull g h n) in Indexed c (keys_of index old.store.state.bytes) (keys_of index mid.store.state.bytes) r))
-    (saves : length (old.counts (number_of c)) ≡ saves_after c (length (old.counts (number_of c)))) where
+    (x : Reply) (may : MaySave old t c) (short : (g h n : ℕ) → IsShort old t g h n → MayLack old g h n t c)
+    (fits : IsTrue tells → HasRoom index t old (write_said (Some said)).0 slot → Fits index old t c)
+    (lacks : IsTrue tells → (g h n : ℕ) → IsFull index t old (write_said (Some said)).0 slot g h n → Lacks index old g h n t c)
+    (replies : IsTrue tells → Replies (state_of index old) t c x)
+    (one : IsTrue tells → after t c x (state_of index old) ≡ written (state_of index old) t (write_said (Some said)).0 (write_said (Some said)).1)
+    (indexed : IsTrue tells → (let r : Result Reply TableFault = Ok x in Indexed c (keys_of index old.store.state.bytes) (keys_of index mid.store.state.bytes) r))
+    (indexed_full : IsTrue tells → (g h n : ℕ) → (let r : Result Reply TableFault = Err (LogFull g h n) in Indexed c (keys_of index old.store.state.bytes) (keys_of index mid.store.state.bytes) r))
+    (quiet : IsTrue tells → IsQuiet index old t c → mid.store.state.bytes ≡ old.store.state.bytes) (saves : length (old.counts t) ≡ saves_after c (length (old.counts t))) where
   mid_alive : IsAlive mid.store
   mid_alive = moved.dead ∙ alive
 
   mid_rests : Rests tells index mid
-  mid_rests = rests_moved tells Opens index (number_of c) old mid (holds alive) moved
+  mid_rests = rests_moved tells Opens index t old mid (holds alive) moved
 
-  pub slot_written : (r : Result (Unit {0}) PageFault) → page_does.Does tells Opens (write_as (number_of c) (64 * (slots_of mid.store.shape + slot)) (slot_bytes said)) mid new r
-      → ((f : PageFault) → r ≡ Err f → f ≢ fault.Media → new ≡ mid) → Does tells Opens index c old new (answered x r) × Holds tells index new
+  pub slot_written : (r : Result (Unit {0}) PageFault) → page_does.Does tells Opens (write_as t (64 * (slots_of mid.store.shape + slot)) (slot_bytes said)) mid new r
+      → ((f : PageFault) → r ≡ Err f → f ≢ fault.Media → new ≡ mid) → Does tells Opens index t c old new (answered x r) × Holds tells index new
   slot_written (Ok tt) does same =
-      let w = wrote tells Opens index laws (number_of c) slot said mid new mid_alive mid_rests told_by ordered named reads whole tt does in (
-        does_wrote tells Opens index c old new x mid (write_said (Some said)).0 slot (write_said (Some said)).1 moved w
-            (alive, may, λ told. fits told (room_behind tells Opens index c old new (number_of c) mid moved told (write_said (Some said)).0 slot (w.room told))) one indexed saves,
+      let w = wrote tells Opens index laws t slot said mid new mid_alive mid_rests told_by ordered named reads whole tt does in (
+        does_wrote tells Opens index t c old new x mid (write_said (Some said)).0 slot (write_said (Some said)).1 moved w
+            (alive, may, λ told. fits told (room_behind tells Opens index t c old new mid moved told (write_said (Some said)).0 slot (w.room told))) replies one indexed quiet saves,
         λ living. record { closed = λ u. ap (λ (f : ℕ → Option ℕ). f u) w.tops ∙ mid_rests.closed u; tied = w.tied },
       )
   slot_written (Err fault.Media) does same =
-      let failed = write_failed tells Opens index laws (number_of c) slot said mid new mid_alive mid_rests told_by ordered named reads whole does in
-      (does_failed tells Opens index c old new alive (failed_then tells Opens index (number_of c) old mid new moved failed), holds_dead tells Opens index c old new failed.dies.0)
+      let failed = write_failed tells Opens index laws t slot said mid new mid_alive mid_rests told_by ordered named reads whole does in
+      (does_failed tells Opens index t c old new alive (failed_then tells Opens index t old mid new moved failed), holds_dead tells Opens index t c old new failed.dies.0)
   slot_written (Err fault.Dead) does same = absurd (false≢true (sym mid_alive ∙ does.cause))
   slot_written (Err fault.SavesFull) does same = absurd does.cause.1
   slot_written (Err (fault.Damaged bad)) does same = absurd does.cause
   slot_written (Err (fault.LogFull g h n)) does same =
-      let full = write_short tells Opens index laws (number_of c) slot said mid new mid_alive mid_rests told_by ordered named reads whole g h n does in
-      let e = same (fault.LogFull g h n) refl (λ x. cc) in
-      let r : Result T TableFault = Err (LogFull g h n) in (
-        subst (λ (v : PagesView). (let r : Result T TableFault = Err (LogFull g h n) in Does tells Opens index c old v r)) (sym e)
-            (does_moved tells Opens index c old mid r alive refl moved (
+      let full = write_short tells Opens index laws t slot said mid new mid_alive mid_rests told_by ordered named reads whole g h n does in
+      let e = same (fault.LogFull g h n) refl (λ x. cc) in (
+        subst (λ (v : PagesView). Does tells Opens index t c old v (Err (LogFull g h n))) (sym e)
+            (does_moved tells Opens index t c old mid (Err (LogFull g h n)) alive refl moved (
               alive,
-              short g h n (short_behind tells Opens index c old new (number_of c) mid moved g h n full.0),
-              λ told. lacks told g h n (full_behind tells Opens index c old new (number_of c) mid moved told (write_said (Some said)).0 slot g h n (full.1 told)),
+              short g h n (short_behind tells Opens index t c old new mid moved g h n full.0),
+              λ told. lacks told g h n (full_behind tells Opens index t c old new mid moved told (write_said (Some said)).0 slot g h n (full.1 told)),
             )
-            (λ told. tt) (λ told. indexed_full told g h n) tt),
+            (λ told. tt) (λ told. indexed_full told g h n) quiet tt),
         subst (Holds tells index) (sym e) (λ living. mid_rests),
       )
 
 -- a record that is seen is removed
 module _ (tells : Bool) (Opens : List ℕ → List ℕ → Type 0) (index : Index) (laws : Laws index) (t key : ℕ) (old : PagesView) (alive : IsAlive old.store) (holds : Holds tells index old) (mid : PagesView)
-    (looks : LooksAs tells Opens t false old mid) (new : PagesView) (slot : ℕ) (named : IsTrue tells → slot_in index old key ≡ Some slot) (seen : IsTrue tells → is_seen (state_of index old) t key ≡ true)
+    (looks : LooksAs tells Opens t false old mid) (new : PagesView) (slot : ℕ) (named : IsTrue tells → slot_in index old key ≡ Some slot) (seen : IsTrue tells → IsSeen index old t key)
     (told_by : IsTrue tells → IsTold mid.store) (ordered : IsOrdered (outline_of mid)) (reads : slot_said (slot_bytes (Absent key)) ≡ Some (Absent key)) (whole : length (slot_bytes (Absent key)) ≡ 64) where
+  found_fine : (o : Option (List ℕ)) → is_some o ≡ true → Fine ≡ history.removed o
+  found_fine None some = absurd (false≢true some)
+  found_fine (Some value) some = refl
+
   pub removed : (r : Result (Unit {0}) PageFault) → page_does.Does tells Opens (write_as t (64 * (slots_of mid.store.shape + slot)) (slot_bytes (Absent key))) mid new r
-      → ((f : PageFault) → r ≡ Err f → f ≢ fault.Media → new ≡ mid) → Does tells Opens index (del t key) old new (answered true r) × Holds tells index new
+      → ((f : PageFault) → r ≡ Err f → f ≢ fault.Media → new ≡ mid) → Does tells Opens index t (Del key) old new (answered Fine r) × Holds tells index new
   removed =
-      let keys = look_keys tells Opens index (del t key) old mid holds alive looks in
-      slot_written tells Opens index laws (del t key) (Absent key) old alive holds mid (moved_by_look tells Opens index t old mid alive (holds alive) looks) new slot
-      (λ told. ap (λ (k : Keys). found k.pairs key) (keys told) ∙ named told) told_by ordered reads whole Bool true tt (λ g h n short. short)
+      let keys = look_keys tells Opens index t (Del key) old mid holds looks in
+      slot_written tells Opens index laws t (Del key) (Absent key) old alive holds mid (moved_by_look tells Opens index t old mid alive (holds alive) looks) new slot
+      (λ told. ap (λ (k : Keys). found k.pairs key) (keys told) ∙ named told) told_by ordered reads whole Fine tt (λ g h n short. short)
       (λ told room was. (slot, named told, room)) (λ told g h n full. (seen told, slot, named told, full))
-      (λ told. ap (λ (b : Bool). cond b (written (state_of index old) t key None) (state_of index old)) (seen told)) keys (λ told g h n. keys told) refl
+      (λ told. found_fine (get (seen_by (state_of index old) t) key) (seen told)) (λ told. refl) keys (λ told g h n. keys told)
+      (λ told _. look_bytes tells Opens index t (Del key) old mid holds looks told) refl
 
 filter_short : (f : ℕ → Bool) (xs : List ℕ) → length (filter f xs) ≤ length xs
 filter_short f [] = omega arith
@@ -175,7 +187,10 @@ keeps_of index d e k same rests = subst (λ (a : Keys). KeepsKeys a (keys_of ind
 module _ (tells : Bool) (Opens : List ℕ → List ℕ → Type 0) (index : Index) (laws : Laws index) (t key : ℕ) (value : List ℕ) (old : PagesView) (alive : IsAlive old.store) (holds : Holds tells index old) (mid : PagesView)
     (looks : LooksAs tells Opens t false old mid) where
   keys : IsTrue tells → keys_of index mid.store.state.bytes ≡ keys_of index old.store.state.bytes
-  keys = look_keys tells Opens index (put t key value) old mid holds alive looks
+  keys = look_keys tells Opens index t (Put key value) old mid holds looks
+
+  same_data : IsTrue tells → mid.store.state.bytes ≡ old.store.state.bytes
+  same_data = look_bytes tells Opens index t (Put key value) old mid holds looks
 
   first : Moved tells Opens index t old mid
   first = moved_by_look tells Opens index t old mid alive (holds alive) looks
@@ -184,11 +199,11 @@ module _ (tells : Bool) (Opens : List ℕ → List ℕ → Type 0) (index : Inde
   module _ (new : PagesView) (slot : ℕ) (named : IsTrue tells → slot_in index old key ≡ Some slot) (told_by : IsTrue tells → IsTold mid.store) (ordered : IsOrdered (outline_of mid))
       (reads : slot_said (slot_bytes (Present key value)) ≡ Some (Present key value)) (whole : length (slot_bytes (Present key value)) ≡ 64) where
     pub put_known : (r : Result (Unit {0}) PageFault) → page_does.Does tells Opens (write_as t (64 * (slots_of mid.store.shape + slot)) (slot_bytes (Present key value))) mid new r
-        → ((f : PageFault) → r ≡ Err f → f ≢ fault.Media → new ≡ mid) → Does tells Opens index (put t key value) old new (answered {T = Unit {0}} (tt {0}) r) × Holds tells index new
-    put_known = slot_written tells Opens index laws (put t key value) (Present key value) old alive holds mid first new slot (λ told. ap (λ (k : Keys). found k.pairs key) (keys told) ∙ named told) told_by ordered reads whole (Unit {0}) (tt {0}) tt
-        (λ g h n short. short) (λ told room. subst (PutFits index t key old) (sym (named told)) room) (λ told g h n full. subst (PutLacks index t key old g h n) (sym (named told)) full) (λ told. refl)
-        (λ told. subst (λ (o : Option ℕ). (let r : Result (Unit {0}) TableFault = Ok tt in IndexedAt key o (keys_of index old.store.state.bytes) (keys_of index mid.store.state.bytes) r)) (sym (named told)) (keys told))
-        (λ told g h n. subst (λ (o : Option ℕ). (let r : Result (Unit {0}) TableFault = Err (LogFull g h n) in IndexedAt key o (keys_of index old.store.state.bytes) (keys_of index mid.store.state.bytes) r)) (sym (named told)) (keys told)) refl
+        → ((f : PageFault) → r ≡ Err f → f ≢ fault.Media → new ≡ mid) → Does tells Opens index t (Put key value) old new (answered Fine r) × Holds tells index new
+    put_known = slot_written tells Opens index laws t (Put key value) (Present key value) old alive holds mid first new slot (λ told. ap (λ (k : Keys). found k.pairs key) (keys told) ∙ named told) told_by ordered reads whole Fine tt
+        (λ g h n short. short) (λ told room. subst (PutFits index t key old) (sym (named told)) room) (λ told g h n full. subst (PutLacks index t key old g h n) (sym (named told)) full) (λ told. refl) (λ told. refl)
+        (λ told. subst (λ (o : Option ℕ). (let r : Result Reply TableFault = Ok Fine in IndexedAt key o (keys_of index old.store.state.bytes) (keys_of index mid.store.state.bytes) r)) (sym (named told)) (keys told))
+        (λ told g h n. subst (λ (o : Option ℕ). (let r : Result Reply TableFault = Err (LogFull g h n) in IndexedAt key o (keys_of index old.store.state.bytes) (keys_of index mid.store.state.bytes) r)) (sym (named told)) (keys told)) (λ told _. same_data told) refl
 
   -- a new key
   module _ (absent : IsTrue tells → slot_in index old key ≡ None) (far : PagesView) (reads_absent : slot_said (slot_bytes (Absent key)) ≡ Some (Absent key)) where
@@ -201,8 +216,9 @@ module _ (tells : Bool) (Opens : List ℕ → List ℕ → Type 0) (index : Inde
     mid_holds : Rests tells index mid
     mid_holds = rests_moved tells Opens index t old mid (holds alive) first
 
-    same_bytes : IsTrue tells → mid.store.state.bytes ≡ old.store.state.bytes
-    same_bytes told = ap (λ (s : State). s.bytes) ((looks.same refl).still.state told)
+    -- the call writes into the data
+    loud : IsTrue tells → IsQuiet index old t (Put key value) → far.store.state.bytes ≡ old.store.state.bytes
+    loud told some = absurd (false≢true (sym (ap is_some (absent told)) ∙ some))
 
     same_ranges : listed (mid.store.ranges t) ≡ listed (old.store.ranges t)
     same_ranges = first.ranges t
@@ -214,21 +230,22 @@ module _ (tells : Bool) (Opens : List ℕ → List ℕ → Type 0) (index : Inde
       second = moved_by_insert tells Opens index laws t key reads_absent mid far mid_lives mid_holds absent_there (let r : Result ℕ IndexFault = Ok slot in r) inserts refl
 
       slot_is : IsTrue tells → slot ≡ next_slot old.store.state.bytes
-      slot_is told = (inserts.made told mid_lives).0 ∙ ap next_slot (same_bytes told)
+      slot_is told = (inserts.made told mid_lives).0 ∙ ap next_slot (same_data told)
 
       pub put_new : (r : Result (Unit {0}) PageFault) → page_does.Does tells Opens (write_as t (64 * (slots_of far.store.shape + slot)) (slot_bytes (Present key value))) far new r
-          → ((f : PageFault) → r ≡ Err f → f ≢ fault.Media → new ≡ far) → Does tells Opens index (put t key value) old new (answered {T = Unit {0}} (tt {0}) r) × Holds tells index new
-      put_new = slot_written tells Opens index laws (put t key value) (Present key value) old alive holds far (moved_then tells Opens index t old mid far first second) new slot
+          → ((f : PageFault) → r ≡ Err f → f ≢ fault.Media → new ≡ far) → Does tells Opens index t (Put key value) old new (answered Fine r) × Holds tells index new
+      put_new = slot_written tells Opens index laws t (Put key value) (Present key value) old alive holds far (moved_then tells Opens index t old mid far first second) new slot
           (λ told. let made = inserts.made told mid_lives in ap (λ l. found l key) made.2.pairs ∙ found_new (index.pairs mid.store.state.bytes) key (next_slot mid.store.state.bytes) (absent_there told) ∙ ap Some (sym made.0))
-          told_by ordered reads whole (Unit {0}) (tt {0}) tt (λ g h n short. short)
+          told_by ordered reads whole Fine tt (λ g h n short. short)
           (λ told room. subst (PutFits index t key old) (sym (absent told)) (fit told, subst (HasRoom index t old key) (slot_is told) room))
           (λ told g h n full. subst (PutLacks index t key old g h n) (sym (absent told)) (inr (fit told, subst (λ (s : ℕ). IsFull index t old key s g h n) (slot_is told) full)))
-          (λ told. refl)
-          (λ told. subst (λ (o : Option ℕ). (let r : Result (Unit {0}) TableFault = Ok tt in IndexedAt key o (keys_of index old.store.state.bytes) (keys_of index far.store.state.bytes) r)) (sym (absent told)) (takes told, gains told))
-          (λ told g h n. subst (λ (o : Option ℕ). (let r : Result (Unit {0}) TableFault = Err (LogFull g h n) in IndexedAt key o (keys_of index old.store.state.bytes) (keys_of index far.store.state.bytes) r)) (sym (absent told)) (takes told, inr (gains told))) refl
+          (λ told. refl) (λ told. refl)
+          (λ told. subst (λ (o : Option ℕ). (let r : Result Reply TableFault = Ok Fine in IndexedAt key o (keys_of index old.store.state.bytes) (keys_of index far.store.state.bytes) r)) (sym (absent told)) (takes told, gains told))
+          (λ told g h n. subst (λ (o : Option ℕ). (let r : Result Reply TableFault = Err (LogFull g h n) in IndexedAt key o (keys_of index old.store.state.bytes) (keys_of index far.store.state.bytes) r)) (sym (absent told)) (takes told, inr (gains told)))
+          loud refl
         where
           fit : IsTrue tells → ComesTo index key old.store (AllFit old.store t)
-          fit told = comes_fit old.store mid.store t first.shape same_ranges index key (same_bytes told) (inserts.cause.2 told)
+          fit told = comes_fit old.store mid.store t first.shape same_ranges index key (same_data told) (inserts.cause.2 told)
 
           takes : IsTrue tells → TakesPages (keys_of index old.store.state.bytes) (keys_of index far.store.state.bytes)
           takes told = takes_of index mid.store.state.bytes far.store.state.bytes (keys_of index old.store.state.bytes) (keys told) (inserts.made told mid_lives).1
@@ -247,47 +264,47 @@ module _ (tells : Bool) (Opens : List ℕ → List ℕ → Type 0) (index : Inde
       keeps_of index mid.store.state.bytes far.store.state.bytes (keys_of index old.store.state.bytes) (keys told) rests,
     )
 
-    at_none : (f : TableFault) → IsTrue tells → (let r : Result (Unit {0}) TableFault = Err f in Inserted key (keys_of index old.store.state.bytes) (keys_of index far.store.state.bytes) r)
-        → (let r : Result (Unit {0}) TableFault = Err f in IndexedAt key (slot_in index old key) (keys_of index old.store.state.bytes) (keys_of index far.store.state.bytes) r)
-    at_none f told inserted = subst (λ (o : Option ℕ). (let r : Result (Unit {0}) TableFault = Err f in IndexedAt key o (keys_of index old.store.state.bytes) (keys_of index far.store.state.bytes) r)) (sym (absent told)) inserted
+    at_none : (f : TableFault) → IsTrue tells → (let r : Result Reply TableFault = Err f in Inserted key (keys_of index old.store.state.bytes) (keys_of index far.store.state.bytes) r)
+        → (let r : Result Reply TableFault = Err f in IndexedAt key (slot_in index old key) (keys_of index old.store.state.bytes) (keys_of index far.store.state.bytes) r)
+    at_none f told inserted = subst (λ (o : Option ℕ). (let r : Result Reply TableFault = Err f in IndexedAt key o (keys_of index old.store.state.bytes) (keys_of index far.store.state.bytes) r)) (sym (absent told)) inserted
 
     pub put_refused : (f : IndexFault) → (let r : Result ℕ IndexFault = Err f in Inserts tells Opens index t key mid far r)
-        → (let r : Result (Unit {0}) TableFault = Err (inserted_as f) in Does tells Opens index (put t key value) old far r) × Holds tells index far
+        → (let r : Result Reply TableFault = Err (inserted_as f) in Does tells Opens index t (Put key value) old far r) × Holds tells index far
     put_refused insert.Media inserts =
         let failed = failed_then tells Opens index t old mid far first (failed_by_insert tells Opens index laws t key reads_absent mid far mid_lives mid_holds absent_there (let r : Result ℕ IndexFault = Err insert.Media in r) inserts refl) in
-        (does_failed tells Opens index (put t key value) old far alive failed, holds_dead tells Opens index (put t key value) old far failed.dies.0)
+        (does_failed tells Opens index t (Put key value) old far alive failed, holds_dead tells Opens index t (Put key value) old far failed.dies.0)
     put_refused insert.Dead inserts = absurd (false≢true (sym mid_lives ∙ inserts.cause))
     put_refused (insert.Damaged bad) inserts =
         let moved = refused (insert.Damaged bad) refl inserts in
-        let r : Result (Unit {0}) TableFault = Err (Damaged bad) in
-        (does_moved tells Opens index (put t key value) old far r alive refl moved (alive, tt, inserts.cause.1) (λ told. tt) (λ told. absurd (inserts.cause.1 told)) tt, holds_moved tells Opens index (put t key value) old far holds alive moved)
+        let r : Result Reply TableFault = Err (Damaged bad) in
+        (does_moved tells Opens index t (Put key value) old far r alive refl moved (alive, tt, inserts.cause.1) (λ told. tt) (λ told. absurd (inserts.cause.1 told)) loud tt, holds_moved tells Opens index t (Put key value) old far holds alive moved)
     put_refused (insert.SlotsFull n) inserts =
         let moved = refused (insert.SlotsFull n) refl inserts in
-        let r : Result (Unit {0}) TableFault = Err (SlotsFull n) in (
-          does_moved tells Opens index (put t key value) old far r alive refl moved
-              (alive, tt, inserts.cause.1 ∙ ap slots_of first.shape, λ told. (absent told, ap next_slot (sym (same_bytes told)) ∙ inserts.cause.2 told)) (λ told. tt)
-              (λ told. let made = inserts.made told mid_lives in at_none (SlotsFull n) told (kept_keys told made.0 made.1)) tt,
-          holds_moved tells Opens index (put t key value) old far holds alive moved,
+        let r : Result Reply TableFault = Err (SlotsFull n) in (
+          does_moved tells Opens index t (Put key value) old far r alive refl moved
+              (alive, tt, inserts.cause.1 ∙ ap slots_of first.shape, λ told. (absent told, ap next_slot (sym (same_data told)) ∙ inserts.cause.2 told)) (λ told. tt)
+              (λ told. let made = inserts.made told mid_lives in at_none (SlotsFull n) told (kept_keys told made.0 made.1)) loud tt,
+          holds_moved tells Opens index t (Put key value) old far holds alive moved,
         )
     put_refused (insert.PagesFull n) inserts =
         let moved = refused (insert.PagesFull n) refl inserts in
-        let r : Result (Unit {0}) TableFault = Err (PagesFull n) in (
-          does_moved tells Opens index (put t key value) old far r alive refl moved
-              (alive, tt, inserts.cause.1 ∙ ap (λ (s : Shape). index_pages_of s - 1) first.shape, λ told. (absent told, comes_pages old.store mid.store t first.shape same_ranges index key (same_bytes told) (inserts.cause.2 told)))
-              (λ told. tt) (λ told. let made = inserts.made told mid_lives in let k = kept_keys told made.0 made.1 in at_none (PagesFull n) told (k.0, k.1, made.2)) tt,
-          holds_moved tells Opens index (put t key value) old far holds alive moved,
+        let r : Result Reply TableFault = Err (PagesFull n) in (
+          does_moved tells Opens index t (Put key value) old far r alive refl moved
+              (alive, tt, inserts.cause.1 ∙ ap (λ (s : Shape). index_pages_of s - 1) first.shape, λ told. (absent told, comes_pages old.store mid.store t first.shape same_ranges index key (same_data told) (inserts.cause.2 told)))
+              (λ told. tt) (λ told. let made = inserts.made told mid_lives in let k = kept_keys told made.0 made.1 in at_none (PagesFull n) told (k.0, k.1, made.2)) loud tt,
+          holds_moved tells Opens index t (Put key value) old far holds alive moved,
         )
     put_refused (insert.LogFull g h n) inserts =
         let moved = refused (insert.LogFull g h n) refl inserts in
         let full = inserts.cause.1 in
         let lacks = lacking_same old.store mid.store t first.shape same_ranges full.0 g h n full.2 in
         let few = filter_short (is_page_on old.store.shape.loggers g) full.0 in
-        let r : Result (Unit {0}) TableFault = Err (LogFull g h n) in (
-          does_moved tells Opens index (put t key value) old far r alive refl moved (
+        let r : Result Reply TableFault = Err (LogFull g h n) in (
+          does_moved tells Opens index t (Put key value) old far r alive refl moved (
             alive,
-            record { logger = lacks.logger; held = lacks.held_is; few = omega (arith, lacks.needed_is, few, full.1); full = lacks.full },
-            λ told. subst (PutLacks index t key old g h n) (sym (absent told)) (inl (comes_room old.store mid.store t first.shape same_ranges index key g h n (same_bytes told) (inserts.cause.2 told))),
+            (omega (arith, lacks.needed_is, few, full.1), (λ k. length (filter (is_page_on old.store.shape.loggers k) full.0)), record { logger = lacks.logger; held_is = lacks.held_is; needed_is = lacks.needed_is; full = lacks.full; before = lacks.before }),
+            λ told. subst (PutLacks index t key old g h n) (sym (absent told)) (inl (comes_room old.store mid.store t first.shape same_ranges index key g h n (same_data told) (inserts.cause.2 told))),
           ) (λ told. tt)
-              (λ told. let made = inserts.made told mid_lives in let k = kept_keys told made.0 made.1 in at_none (LogFull g h n) told (k.0, inl k.1)) tt,
-          holds_moved tells Opens index (put t key value) old far holds alive moved,
+              (λ told. let made = inserts.made told mid_lives in let k = kept_keys told made.0 made.1 in at_none (LogFull g h n) told (k.0, inl k.1)) loud tt,
+          holds_moved tells Opens index t (Put key value) old far holds alive moved,
         )

@@ -22,7 +22,9 @@ use Rattle.record_table.specs.Attached.{Attached}
 use Rattle.record_table.specs.Causes.{slot_in}
 use Rattle.record_table.specs.Invariant.{AreSlotParts, IsTied, Holds}
 use Rattle.record_table.specs.Shown.{value_of, table_of, writes_of, state_of}
+use Rattle.record_table.specs.Sought.{Finds, value_at}
 use Rattle.record_table.specs.State.{seen_by}
+use Rattle.record_table.specs.declared.slots.Place.{Place}
 use Rattle.record_table.proofs.Tables.{record_at}
 use Rattle.record_table.proofs.SlotParts.{Laws, IsWritten, applied_parts, seen_at, found_slot}
 
@@ -59,6 +61,11 @@ module _ (index : Index) (laws : Laws index) (t key : ℕ) (old : PagesView) (ti
         let w = applied_parts index laws (listed (old.store.state.logs t)) old.store.state.bytes tied.sound (tied.parts t) in
         let carries = (found_slot index laws (applied (listed (old.store.state.logs t)) old.store.state.bytes) w.sound key slot (ap (λ l. found l key) w.pairs ∙ is)).1 in
         no_slot key (slot_said (slot_of (applied (listed (old.store.state.logs t)) old.store.state.bytes) slot)) (sym (read ∙ read_is)) carries
+
+-- the value of what was found
+pub found_value : (index : Index) (t key : ℕ) (old : PagesView) (found : Option Place) → Finds index t key old found → get (seen_by (state_of index old) t) key ≡ value_at found
+found_value index t key old None finds = finds.1
+found_value index t key old (Some place) finds = finds.1
 
 -- without ranges there are no parts
 no_parts : (log : Option (List Part)) → listed (option_map ranges_of log) ≡ [] → listed log ≡ []

@@ -1,5 +1,5 @@
 -- What each call of pages does to the state of records.
-use Rattle.std.proofs.Common.{◌≡◌, ℕ, zero, suc, ◌-◌, Bool, true, false, cond, List, [], ◌∷◌, ◌++◌, length, get_or, take, refl, sym, ◌∙◌, ap, subst, arith}
+use Rattle.std.proofs.Common.{◌≡◌, ℕ, zero, suc, ◌-◌, Bool, true, false, cond, List, [], ◌∷◌, ◌++◌, length, get_or, take, refl, sym, ◌∙◌, ap, subst, arith, eqb-true}
 use Rattle.std.specs.Prelude.{nat_eq, map, max, Option, Some, None}
 use Rattle.std.specs.Option.{option_map, unwrap_or}
 use Rattle.std.proofs.lemmas.List.{map-append, take-map, length-map}
@@ -12,24 +12,49 @@ use Rattle.page_store.specs.State.{PagesState, log_of, with_one}
 use Rattle.page_store.specs.Command as page
 use Rattle.page_store.specs.Kept.{IsFront}
 use Rattle.page_store.proofs.Views.{saved_or_none}
-use Rattle.history.specs.Log.{save_at}
-use Rattle.record_table.specs.State.{floor_of}
-use Rattle.record_table.specs.Command.{save, back, commit, abort, written, after}
+use Rattle.history.specs.Writes.{Write}
+use Rattle.history.specs.Table.{has_save}
+use Rattle.history.specs.Log.{Log, save_at, floor_of, log_after}
+use Rattle.history.specs.Log as log
+use Rattle.history.specs.declared.call.Call.TheVariants.{Save, Back, Commit, Abort}
+use Rattle.history.specs.declared.call.Reply.{Reply}
+use Rattle.record_table.specs.State.{TableState}
+use Rattle.record_table.specs.Calls.{after}
 use Rattle.record_table.specs.Shown.{table_of, write_of, writes_of, shown_by}
 use Rattle.record_table.specs.Invariant.{IsSlotPart, AreSlotParts}
 use Rattle.record_table.proofs.SlotParts.{Laws, IsWritten, applied_parts, parts_carry}
 use Rattle.record_table.proofs.Writing.{writes_after, parts_after}
 
--- a function over what one number now has
-over : {A B : Type 0} (f : A → B) (g : ℕ → A) (t : ℕ) (x : A) (y : B) → f x ≡ y → (λ (u : ℕ). f (with_one g t x u)) ≡ with_one (λ (u : ℕ). f (g u)) t y
-over f g t x y is = λ i u. one u i
+-- a function with its own value put at a place
+pub with_same : {A : Type 0} (f : ℕ → A) (t : ℕ) → with_one f t (f t) ≡ f
+with_same f t = λ i u. one u i
   where
-    one : (u : ℕ) → f (with_one g t x u) ≡ with_one (λ (k : ℕ). f (g k)) t y u
+    one : (u : ℕ) → with_one f t (f t) u ≡ f u
+    one u = go (nat_eq u t) refl
+      where
+        go : (b : Bool) → nat_eq u t ≡ b → cond b (f t) (f u) ≡ f u
+        go true same = ap f (sym (eqb-true u t same))
+        go false other = refl
+
+-- what a number has logged, from its parts and its saves
+abbrev log_in : Option (List Part) → List (List Part) → Log
+log_in log saves = record { writes = writes_of (listed log); saved = map writes_of saves }
+
+-- the logs of numbers, after the parts and the saves of one have changed
+logs_with : (logs : Logs Part) (saved : ℕ → List (List Part)) (t : ℕ) (log : Option (List Part)) (saves : List (List Part)) (own : Log) → log_in log saves ≡ own
+    → (λ (u : ℕ). log_in (with_log logs t log u) (with_one saved t saves u)) ≡ with_one (λ (u : ℕ). log_in (logs u) (saved u)) t own
+logs_with logs saved t log saves own is = λ i u. one u i
+  where
+    one : (u : ℕ) → log_in (with_log logs t log u) (with_one saved t saves u) ≡ with_one (λ (k : ℕ). log_in (logs k) (saved k)) t own u
     one u = go (nat_eq u t)
       where
-        go : (b : Bool) → f (cond b x (g u)) ≡ cond b y (f (g u))
+        go : (b : Bool) → log_in (cond b log (logs u)) (cond b saves (saved u)) ≡ cond b own (log_in (logs u) (saved u))
         go true = is
         go false = refl
+
+-- the state after one more write of a number
+abbrev pub written : TableState → ℕ → ℕ → Option (List ℕ) → TableState
+written s t key value = record s { logs = with_one s.logs t (log.written (s.logs t) (key, value)) }
 
 -- the writes at a save
 saves_at : (saved : List (List Part)) (n : ℕ) → save_at (map writes_of saved) n ≡ writes_of (pages.save_at saved n)
@@ -43,7 +68,7 @@ saves_at saved n = at saved (n - 1)
 none_above : (n : ℕ) → max n 0 ≡ n
 none_above n = omega arith
 
-pub floors : (index : Index) (s : PagesState) (t : ℕ) → s.top t ≡ None → pages.floor_of s t ≡ floor_of (shown_by index s) t
+pub floors : (index : Index) (s : PagesState) (t : ℕ) → s.top t ≡ None → pages.floor_of s t ≡ floor_of ((shown_by index s).logs t)
 floors index s t closed =
     ap (λ (o : Option ℕ). max (length (pages.save_at (s.saved t) (length (s.saved t)))) (unwrap_or o 0)) closed
     ∙ none_above (length (pages.save_at (s.saved t) (length (s.saved t))))
@@ -51,43 +76,44 @@ floors index s t closed =
     ∙ sym (ap length (ap (save_at (map writes_of (s.saved t))) (length-map (s.saved t) writes_of) ∙ saves_at (s.saved t) (length (s.saved t))))
 
 module _ (index : Index) (laws : Laws index) (s : PagesState) (t : ℕ) where
+  -- with the same table
+  abbrev shown : (ℕ → Log) → TableState
+  shown logs = record { table = table_of index s.store.bytes; logs = logs }
+
   -- a slot is written
   pub shown_write : index.sound s.store.bytes → s.top t ≡ None → (new : Part) → IsSlotPart index s.store.bytes new → AreSlotParts index s.store.bytes (log_of s t)
       → shown_by index (page.after (page.write_as t new.0 new.1) s) ≡ written (shown_by index s) t (write_of new).0 (write_of new).1
-  shown_write sound closed new is parts = λ i. record {
-    table = table_of index s.store.bytes;
-    writes = over (λ (o : Option (List Part)). writes_of (listed o)) s.store.logs t (Some (with_write (pages.floor_of s t) new.0 new.1 (log_of s t))) _
-        (ap (λ (n : ℕ). writes_of (with_write n new.0 new.1 (log_of s t))) (floors index s t closed) ∙ writes_after index laws s.store.bytes sound new is (floor_of (shown_by index s) t) (log_of s t) parts) i;
-    saved = λ u. map writes_of (s.saved u);
-  }
+  shown_write sound closed new is parts =
+      ap (λ (saved : ℕ → List (List Part)). shown (λ (u : ℕ). log_in (with_log s.store.logs t (Some (with_write (pages.floor_of s t) new.0 new.1 (log_of s t))) u) (saved u))) (sym (with_same s.saved t))
+      ∙ ap shown (logs_with s.store.logs s.saved t (Some (with_write (pages.floor_of s t) new.0 new.1 (log_of s t))) (s.saved t) (log.written ((shown_by index s).logs t) (write_of new))
+      (ap (λ (ws : List Write). (let l : Log = record { writes = ws; saved = map writes_of (s.saved t) } in l))
+      (ap (λ (n : ℕ). writes_of (with_write n new.0 new.1 (log_of s t))) (floors index s t closed)
+      ∙ writes_after index laws s.store.bytes sound new is (floor_of ((shown_by index s).logs t)) (log_of s t) parts)))
 
-  pub shown_save : shown_by index (page.after (page.save t) s) ≡ after (save t) (shown_by index s)
-  shown_save = λ i. record {
-    table = table_of index s.store.bytes;
-    writes = λ u. writes_of (log_of s u);
-    saved = over (map writes_of) s.saved t (s.saved t ++ log_of s t ∷ []) (map writes_of (s.saved t) ++ writes_of (log_of s t) ∷ []) (map-append writes_of (s.saved t) (log_of s t ∷ [])) i;
-  }
+  pub shown_save : (reply : Reply) → shown_by index (page.after (page.save t) s) ≡ after t Save reply (shown_by index s)
+  shown_save reply =
+      ap (λ (logs : Logs Part). shown (λ (u : ℕ). log_in (logs u) (with_one s.saved t (s.saved t ++ log_of s t ∷ []) u))) (sym (with_same s.store.logs t))
+      ∙ ap shown (logs_with s.store.logs s.saved t (s.store.logs t) (s.saved t ++ log_of s t ∷ []) (log_after ((shown_by index s).logs t) Save reply)
+      (ap (λ (saves : List (List Write)). (let l : Log = record { writes = writes_of (log_of s t); saved = saves } in l)) (map-append writes_of (s.saved t) (log_of s t ∷ []))))
 
-  pub shown_back : (n : ℕ) → IsFront (pages.save_at (s.saved t) n) (log_of s t) → shown_by index (page.after (page.back t n) s) ≡ after (back t n) (shown_by index s)
-  shown_back n front = λ i. record {
-    table = table_of index s.store.bytes;
-    writes = over (λ (o : Option (List Part)). writes_of (listed o)) s.store.logs t (option_map (λ log. pages.save_at (s.saved t) n) (s.store.logs t)) (save_at (map writes_of (s.saved t)) n)
-        (ap writes_of (saved_or_none (pages.save_at (s.saved t) n) (s.store.logs t) front) ∙ sym (saves_at (s.saved t) n)) i;
-    saved = over (map writes_of) s.saved t (take n (s.saved t)) (take n (map writes_of (s.saved t))) (sym (take-map writes_of n (s.saved t))) i;
-  }
+  pub shown_back : (n : ℕ) (reply : Reply) → has_save ((shown_by index s).logs t).saved n ≡ true → IsFront (pages.save_at (s.saved t) n) (log_of s t) → shown_by index (page.after (page.back t n) s) ≡ after t (Back n) reply (shown_by index s)
+  shown_back n reply there front = ap shown (logs_with s.store.logs s.saved t (option_map (λ log. pages.save_at (s.saved t) n) (s.store.logs t)) (take n (s.saved t)) (log_after ((shown_by index s).logs t) (Back n) reply)
+      ((λ i. record {
+        writes = (ap writes_of (saved_or_none (pages.save_at (s.saved t) n) (s.store.logs t) front) ∙ sym (saves_at (s.saved t) n)) i;
+        saved = sym (take-map writes_of n (s.saved t)) i;
+      })
+      ∙ sym (ap (λ (b : Bool). cond b (let l : Log = record { writes = save_at (map writes_of (s.saved t)) n; saved = take n (map writes_of (s.saved t)) } in l) ((shown_by index s).logs t)) there)))
 
-  pub shown_commit : index.sound s.store.bytes → AreSlotParts index s.store.bytes (log_of s t) → shown_by index (page.after (page.end t true) s) ≡ after (commit t) (shown_by index s)
-  shown_commit sound parts = λ i. record {
+  pub shown_commit : (reply : Reply) → index.sound s.store.bytes → AreSlotParts index s.store.bytes (log_of s t) → shown_by index (page.after (page.end t true) s) ≡ after t Commit reply (shown_by index s)
+  shown_commit reply sound parts = λ i. record {
     table = IsWritten.table (applied_parts index laws (log_of s t) s.store.bytes sound parts) i;
-    writes = over (λ (o : Option (List Part)). writes_of (listed o)) s.store.logs t None [] refl i;
-    saved = over (map writes_of) s.saved t [] [] refl i;
+    logs = logs_with s.store.logs s.saved t None [] (record { writes = []; saved = [] }) refl i;
   }
 
-  pub shown_abort : shown_by index (page.after (page.end t false) s) ≡ after (abort t) (shown_by index s)
-  shown_abort = λ i. record {
+  pub shown_abort : (reply : Reply) → shown_by index (page.after (page.end t false) s) ≡ after t Abort reply (shown_by index s)
+  shown_abort reply = λ i. record {
     table = table_of index s.store.bytes;
-    writes = over (λ (o : Option (List Part)). writes_of (listed o)) s.store.logs t None [] refl i;
-    saved = over (map writes_of) s.saved t [] [] refl i;
+    logs = logs_with s.store.logs s.saved t None [] (record { writes = []; saved = [] }) refl i;
   }
 
 -- the parts of one number changed, those of the others did not

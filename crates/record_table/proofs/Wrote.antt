@@ -26,14 +26,13 @@ use Rattle.page_store.proofs.Outline.{listed-ranges}
 use Rattle.page_store.proofs.Outline as outline
 use Rattle.page_store.proofs.Shown.{IsTold, outlined}
 use Rattle.record_table.specs.Causes.{HasRoom, IsFull, IsShort}
-use Rattle.record_table.specs.Command.{written}
 use Rattle.record_table.specs.Does.{OpensWith}
 use Rattle.record_table.specs.Invariant.{IsSlotPart, AreSlotParts, IsTied, Rests}
 use Rattle.record_table.specs.Shown.{write_said, state_of, shown_by, held_on}
-use Rattle.record_table.specs.State.{floor_of, is_rewritten}
+use Rattle.history.specs.Log.{floor_of, is_rewritten}
 use Rattle.record_table.proofs.SlotParts.{Laws}
 use Rattle.record_table.proofs.Writing.{rewrites}
-use Rattle.record_table.proofs.States.{floors, shown_write, parts_write}
+use Rattle.record_table.proofs.States.{written, floors, shown_write, parts_write}
 use Rattle.record_table.proofs.Moving.{Failed}
 
 -- a write was logged
@@ -53,7 +52,7 @@ pub record Wrote (tells : Bool) (Opens : List ℕ → List ℕ → Type 0) (inde
 same_number : (a b : ℕ) → Some a ≡ Some b → a ≡ b
 same_number a b e = cc
 
-none_is : (o : Option ℕ) → is_some o ≡ false → o ≡ None
+pub none_is : {A : Type 0} (o : Option A) → is_some o ≡ false → o ≡ None
 none_is None e = refl
 none_is (Some k) e = absurd (false≢true (sym e))
 
@@ -83,15 +82,15 @@ module _ (tells : Bool) (Opens : List ℕ → List ℕ → Type 0) (index : Inde
     says = ap is_some reads;
   }
 
-  floor_is : IsTrue tells → floor_in (outline_of old) t ≡ floor_of (state_of index old) t
+  floor_is : IsTrue tells → floor_in (outline_of old) t ≡ floor_of ((state_of index old).logs t)
   floor_is told =
       ap (λ (o : Outline). floor_in o t) (sym (outlined old (told_by told) ordered)) ∙ outline.floors (pages.state_of old) t ∙ floors index (pages.state_of old) t (rests.closed t)
 
-  edits_is : IsTrue tells → is_some (edit_pos (floor_in (outline_of old) t) (64 * (slots_of old.store.shape + slot), length (slot_bytes said)) (listed (old.store.ranges t))) ≡ is_rewritten (state_of index old) t (write_said (Some said)).0
+  edits_is : IsTrue tells → is_some (edit_pos (floor_in (outline_of old) t) (64 * (slots_of old.store.shape + slot), length (slot_bytes said)) (listed (old.store.ranges t))) ≡ is_rewritten ((state_of index old).logs t) (write_said (Some said)).0
   edits_is told =
       (λ i. is_some (edit_pos (floor_is told i) (64 * (slots_of old.store.shape + slot), length (slot_bytes said)) ((ap listed ((told_by told).outlines t) ∙ listed-ranges (old.store.state.logs t)) i)))
-      ∙ rewrites index laws old.store.state.bytes (rests.tied told).sound (64 * (slots_of old.store.shape + slot), slot_bytes said) (part_is told) (floor_of (state_of index old) t) (listed (old.store.state.logs t)) ((rests.tied told).parts t)
-      ∙ ap (λ (s : Option Slot). is_rewritten (state_of index old) t (write_said s).0) reads
+      ∙ rewrites index laws old.store.state.bytes (rests.tied told).sound (64 * (slots_of old.store.shape + slot), slot_bytes said) (part_is told) (floor_of ((state_of index old).logs t)) (listed (old.store.state.logs t)) ((rests.tied told).parts t)
+      ∙ ap (λ (s : Option Slot). is_rewritten ((state_of index old).logs t) (write_said s).0) reads
 
   write_time : {T : Type 0} (r : Result T PageFault) → Does tells Opens (write_as t (64 * (slots_of old.store.shape + slot)) (slot_bytes said)) old new r → IsTrue tells
       → LeavesOnly (λ image. OpensWith Opens index image (state_of index old).table) old.store new.store
@@ -145,13 +144,15 @@ module _ (tells : Bool) (Opens : List ℕ → List ℕ → Type 0) (index : Inde
       let full = does.cause.1.1 in
       let one = one_on old.store.shape g (64 * (slots_of old.store.shape + slot)) (length (slot_bytes said)) in
       let most = at_most_one (nat_eq (logger_of old.store.shape (64 * (slots_of old.store.shape + slot))) g) in (
-        record { logger = full.logger; held = full.held_is; few = omega (arith, full.needed_is, one, most); full = full.full },
-        λ told. record {
-          anew = sym (edits_is told) ∙ ap is_some does.cause.1.0;
-          logger = full.logger;
-          held = full.held_is;
-          needed = full.needed_is ∙ one;
-          full = full.full;
-          before = λ k lt. subst (λ (m : ℕ). held_on old t k + m ≤ old.store.shape.entries) (one_on old.store.shape k (64 * (slots_of old.store.shape + slot)) (length (slot_bytes said))) (full.before k lt);
-        },
+        (omega (arith, full.needed_is, one, most), (λ k. count_on old.store.shape k ((64 * (slots_of old.store.shape + slot), length (slot_bytes said)) ∷ [])), record { logger = full.logger; held_is = full.held_is; needed_is = full.needed_is; full = full.full; before = full.before }),
+        λ told. (
+          sym (edits_is told) ∙ ap is_some does.cause.1.0,
+          record {
+            logger = full.logger;
+            held_is = full.held_is;
+            needed_is = full.needed_is ∙ one;
+            full = full.full;
+            before = λ k lt. subst (λ (m : ℕ). held_on old t k + m ≤ old.store.shape.entries) (one_on old.store.shape k (64 * (slots_of old.store.shape + slot)) (length (slot_bytes said))) (full.before k lt);
+          },
+        ),
       )

@@ -15,7 +15,7 @@ pub record Attached (tells : Bool) (Opens : List ℕ → List ℕ → Type 0) (i
   pub alive : IsAlive old.store
   pub sound : IsTrue tells → index.sound old.store.state.bytes
   pub table : IsTrue tells → (state_of index new).table ≡ table_of index old.store.state.bytes
-  pub idle : IsTrue tells → (t : ℕ) → (state_of index new).writes t ≡ []
+  pub idle : IsTrue tells → (t : ℕ) → ((state_of index new).logs t).writes ≡ []
 
 abbrev pub is_refused_by_media : AttachRecords → Bool
 is_refused_by_media Media = true

@@ -1,30 +1,36 @@
 -- When each answer comes. `Dead` goes first, then the refusals in their order.
-use Rattle.std.specs.Prelude.{ℕ, ◌≡◌, ◌+◌, ◌-◌, ◌<◌, ◌≤◌, ◌⊎◌, Bool, true, false, IsTrue, length, Option, Some, None, Result, Ok, Err}
+use Rattle.std.specs.Prelude.{ℕ, ◌≡◌, ◌-◌, ◌<◌, ◌≤◌, ◌⊎◌, Bool, true, false, IsTrue, length, Option, Some, None, IsSome, Result, Ok, Err}
+use Rattle.std.specs.FinMap.{get}
+use Rattle.mars_base.specs.Room.{HaveRoom, IsFirstFull}
 use Rattle.eaw_face.specs.Causes.{IsAlive}
 use Rattle.record_slots.specs.Places.{next_slot}
+use Rattle.history.specs.Log.{is_rewritten}
+use Rattle.history.specs.declared.call.Call.{Call}
+use Rattle.history.specs.declared.call.Call.TheVariants.{Get, Put, Del, Scan, Save}
 use Rattle.page_store.specs.Index.{Index, slots_of, index_pages_of}
 use Rattle.page_store.specs.Inserts.{AllFit, LackPages, LackRoom, ComesTo}
 use Rattle.page_store.specs.Pairs.{found}
 use Rattle.page_store.specs.Shown.{PagesView}
-use Rattle.record_table.specs.State.{is_rewritten}
-use Rattle.record_table.specs.Command.{TableCommand, look, put, del, scan, save, is_seen}
+use Rattle.record_table.specs.State.{seen_by}
 use Rattle.record_table.specs.Shown.{state_of, held_on, needed_on}
 use Rattle.record_table.specs.declared.fault.TableFault.{TableFault}
 use Rattle.record_table.specs.declared.fault.TableFault.TheVariants.{SlotsFull, PagesFull, SavesFull, LogFull, Media, Dead, Damaged, NoMemory}
 
--- a write to this slot replaces one since the last save, or each logger has room for what it needs
-abbrev pub HasRoom : Index → ℕ → PagesView → ℕ → ℕ → Type 0
-HasRoom index t old key slot = is_rewritten (state_of index old) t key ≡ false
-    → (g : ℕ) → g < old.store.shape.loggers → held_on old t g + needed_on old.store.shape slot g ≤ old.store.shape.entries
+-- the number has a write of the key since its last save, which another replaces
+abbrev pub rewrites : Index → PagesView → ℕ → ℕ → Bool
+rewrites index old t key = is_rewritten ((state_of index old).logs t) key
 
--- the write replaces none, and logger g is the first without room: it holds h writes, and n more are needed
-pub record IsFull (index : Index) (t : ℕ) (old : PagesView) (key slot g h n : ℕ) : Type 0 where
-  pub anew : is_rewritten (state_of index old) t key ≡ false
-  pub logger : g < old.store.shape.loggers
-  pub held : h ≡ held_on old t g
-  pub needed : n ≡ needed_on old.store.shape slot g
-  pub full : old.store.shape.entries < h + n
-  pub before : (k : ℕ) → k < g → held_on old t k + needed_on old.store.shape slot k ≤ old.store.shape.entries
+-- a write to this slot replaces one, or each logger has room for what it needs
+abbrev pub HasRoom : Index → ℕ → PagesView → ℕ → ℕ → Type 0
+HasRoom index t old key slot = rewrites index old t key ≡ false → HaveRoom old.store.shape.loggers old.store.shape.entries (held_on old t) (needed_on old.store.shape slot)
+
+-- it replaces none, and logger g is the first without room: it holds h writes, and n more are needed
+abbrev pub IsFull : Index → ℕ → PagesView → ℕ → ℕ → ℕ → ℕ → ℕ → Type 0
+IsFull index t old key slot g h n = (rewrites index old t key ≡ false) × IsFirstFull old.store.shape.loggers old.store.shape.entries (held_on old t) (needed_on old.store.shape slot) g h n
+
+-- the number sees a record of the key
+abbrev pub IsSeen : Index → PagesView → ℕ → ℕ → Type 0
+IsSeen index old t key = IsSome (get (seen_by (state_of index old) t) key)
 
 -- the slot of a key, if the index has the key
 abbrev pub slot_in : Index → PagesView → ℕ → Option ℕ
@@ -42,73 +48,70 @@ PutLacks index t key old g h n None = ComesTo index key old.store (LackRoom old.
 PutLacks index t key old g h n (Some slot) = IsFull index t old key slot g h n
 
 -- a call that writes finds room
-abbrev pub Fits : Index → PagesView → TableCommand → Type 0
-Fits index old (put t key value) = PutFits index t key old (slot_in index old key)
-Fits index old (del t key) = is_seen (state_of index old) t key ≡ true → (slot : ℕ) × (slot_in index old key ≡ Some slot) × HasRoom index t old key slot
-Fits index old _ = Unit {0}
+abbrev pub Fits : Index → PagesView → ℕ → Call → Type 0
+Fits index old t (Put key value) = PutFits index t key old (slot_in index old key)
+Fits index old t (Del key) = IsSeen index old t key → (slot : ℕ) × (slot_in index old key ≡ Some slot) × HasRoom index t old key slot
+Fits index old t call = Unit {0}
 
 -- a call that writes finds no room at logger g
-abbrev pub Lacks : Index → PagesView → ℕ → ℕ → ℕ → TableCommand → Type 0
-Lacks index old g h n (put t key value) = PutLacks index t key old g h n (slot_in index old key)
-Lacks index old g h n (del t key) = (is_seen (state_of index old) t key ≡ true) × (slot : ℕ) × (slot_in index old key ≡ Some slot) × IsFull index t old key slot g h n
-Lacks index old g h n _ = ⊥
+abbrev pub Lacks : Index → PagesView → ℕ → ℕ → ℕ → ℕ → Call → Type 0
+Lacks index old g h n t (Put key value) = PutLacks index t key old g h n (slot_in index old key)
+Lacks index old g h n t (Del key) = IsSeen index old t key × (slot : ℕ) × (slot_in index old key ≡ Some slot) × IsFull index t old key slot g h n
+Lacks index old g h n t call = ⊥
 
--- logger g holds h writes of the number and has no room for n more, at most four
-pub record IsShort (old : PagesView) (t g h n : ℕ) : Type 0 where
-  pub logger : g < old.store.shape.loggers
-  pub held : h ≡ held_on old t g
-  pub few : n ≤ 4
-  pub full : old.store.shape.entries < h + n
+-- logger g is the first without room for what some write needs, at most four
+abbrev pub IsShort : PagesView → ℕ → ℕ → ℕ → ℕ → Type 0
+IsShort old t g h n = (n ≤ 4) × (needed : ℕ → ℕ) × IsFirstFull old.store.shape.loggers old.store.shape.entries (held_on old t) needed g h n
 
 -- a write that finds no room, on any store
-abbrev pub MayLack : PagesView → ℕ → ℕ → ℕ → TableCommand → Type 0
-MayLack old g h n (put t key value) = IsShort old t g h n
-MayLack old g h n (del t key) = IsShort old t g h n
-MayLack old g h n _ = ⊥
+abbrev pub MayLack : PagesView → ℕ → ℕ → ℕ → ℕ → Call → Type 0
+MayLack old g h n t (Put key value) = IsShort old t g h n
+MayLack old g h n t (Del key) = IsShort old t g h n
+MayLack old g h n t call = ⊥
 
 -- an insertion is due, and all n slots are given out
-abbrev pub LacksSlot : Index → PagesView → ℕ → TableCommand → Type 0
-LacksSlot index old n (put t key value) = (slot_in index old key ≡ None) × (next_slot old.store.state.bytes ≡ n)
-LacksSlot index old n _ = ⊥
+abbrev pub LacksSlot : Index → PagesView → ℕ → Call → Type 0
+LacksSlot index old n (Put key value) = (slot_in index old key ≡ None) × (next_slot old.store.state.bytes ≡ n)
+LacksSlot index old n call = ⊥
 
 -- an insertion is due that splits a page for which no pages are left
-abbrev pub LacksPage : Index → PagesView → TableCommand → Type 0
-LacksPage index old (put t key value) = (slot_in index old key ≡ None) × ComesTo index key old.store (LackPages old.store t)
-LacksPage index old _ = ⊥
+abbrev pub LacksPage : Index → PagesView → ℕ → Call → Type 0
+LacksPage index old t (Put key value) = (slot_in index old key ≡ None) × ComesTo index key old.store (LackPages old.store t)
+LacksPage index old t call = ⊥
 
-abbrev pub IsPut : TableCommand → Type 0
-IsPut (put t key value) = Unit {0}
-IsPut _ = ⊥
+abbrev pub IsPut : Call → Type 0
+IsPut (Put key value) = Unit {0}
+IsPut call = ⊥
 
 -- if the call is a save, the number has fewer than 32
-abbrev pub MaySave : PagesView → TableCommand → Type 0
-MaySave old (save t) = length (old.counts t) < 32
-MaySave old _ = Unit {0}
+abbrev pub MaySave : PagesView → ℕ → Call → Type 0
+MaySave old t Save = length (old.counts t) < 32
+MaySave old t call = Unit {0}
 
-abbrev pub IsSavedOut : PagesView → TableCommand → Type 0
-IsSavedOut old (save t) = length (old.counts t) ≡ 32
-IsSavedOut old _ = ⊥
+abbrev pub IsSavedOut : PagesView → ℕ → Call → Type 0
+IsSavedOut old t Save = length (old.counts t) ≡ 32
+IsSavedOut old t call = ⊥
 
 -- a call that uses the index
-abbrev pub IsSought : TableCommand → Type 0
-IsSought (look t key) = Unit {0}
-IsSought (put t key value) = Unit {0}
-IsSought (del t key) = Unit {0}
-IsSought (scan t low high) = Unit {0}
-IsSought _ = ⊥
+abbrev pub IsSought : Call → Type 0
+IsSought (Get key) = Unit {0}
+IsSought (Put key value) = Unit {0}
+IsSought (Del key) = Unit {0}
+IsSought (Scan low high) = Unit {0}
+IsSought call = ⊥
 
-abbrev pub IsScan : TableCommand → Type 0
-IsScan (scan t low high) = Unit {0}
-IsScan _ = ⊥
+abbrev pub IsScan : Call → Type 0
+IsScan (Scan low high) = Unit {0}
+IsScan call = ⊥
 
 -- The cause of each answer. If the store tells its data, each comes exactly then, except for faults of the medium and a lack of memory.
-abbrev pub Cause : {T : Type 0} → Bool → Index → TableCommand → PagesView → Result T TableFault → Type 0
-Cause tells index c old (Ok answer) = IsAlive old.store × MaySave old c × (IsTrue tells → Fits index old c)
-Cause tells index c old (Err Dead) = old.store.is_dead ≡ true
-Cause tells index c old (Err (SlotsFull n)) = IsAlive old.store × IsPut c × (n ≡ slots_of old.store.shape) × (IsTrue tells → LacksSlot index old n c)
-Cause tells index c old (Err (PagesFull n)) = IsAlive old.store × IsPut c × (n ≡ index_pages_of old.store.shape - 1) × (IsTrue tells → LacksPage index old c)
-Cause tells index c old (Err (LogFull g h n)) = IsAlive old.store × MayLack old g h n c × (IsTrue tells → Lacks index old g h n c)
-Cause tells index c old (Err SavesFull) = IsAlive old.store × IsSavedOut old c
-Cause tells index c old (Err Media) = IsAlive old.store
-Cause tells index c old (Err (Damaged page)) = IsAlive old.store × IsSought c × ¬ IsTrue tells
-Cause tells index c old (Err NoMemory) = IsAlive old.store × IsScan c
+abbrev pub Cause : {T : Type 0} → Bool → Index → ℕ → Call → PagesView → Result T TableFault → Type 0
+Cause tells index t c old (Ok answer) = IsAlive old.store × MaySave old t c × (IsTrue tells → Fits index old t c)
+Cause tells index t c old (Err Dead) = old.store.is_dead ≡ true
+Cause tells index t c old (Err (SlotsFull n)) = IsAlive old.store × IsPut c × (n ≡ slots_of old.store.shape) × (IsTrue tells → LacksSlot index old n c)
+Cause tells index t c old (Err (PagesFull n)) = IsAlive old.store × IsPut c × (n ≡ index_pages_of old.store.shape - 1) × (IsTrue tells → LacksPage index old t c)
+Cause tells index t c old (Err (LogFull g h n)) = IsAlive old.store × MayLack old g h n t c × (IsTrue tells → Lacks index old g h n t c)
+Cause tells index t c old (Err SavesFull) = IsAlive old.store × IsSavedOut old t c
+Cause tells index t c old (Err Media) = IsAlive old.store
+Cause tells index t c old (Err (Damaged page)) = IsAlive old.store × IsSought c × ¬ IsTrue tells
+Cause tells index t c old (Err NoMemory) = IsAlive old.store × IsScan c

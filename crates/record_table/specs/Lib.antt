@@ -1,5 +1,5 @@
 pub mod State
-pub mod Command
+pub mod Calls
 pub mod Shown
 pub mod Causes
 pub mod Does

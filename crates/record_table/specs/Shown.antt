@@ -44,9 +44,9 @@ write_of part = write_said (slot_said part.1)
 abbrev pub writes_of : List Part → List Write
 writes_of log = map write_of log
 
--- the table, writes and saves that a state of pages stands for
+-- the table and the logs that a state of pages stands for
 abbrev pub shown_by : Index → PagesState → TableState
-shown_by index s = record { table = table_of index s.store.bytes; writes = λ t. writes_of (log_of s t); saved = λ t. map writes_of (s.saved t) }
+shown_by index s = record { table = table_of index s.store.bytes; logs = λ t. record { writes = writes_of (log_of s t); saved = map writes_of (s.saved t) } }
 
 abbrev pub state_of : Index → PagesView → TableState
 state_of index view = shown_by index (pages.state_of view)

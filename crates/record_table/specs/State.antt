@@ -1,28 +1,22 @@
--- The model of records: a table, what numbers have written over it, and what they have saved.
-use Rattle.std.specs.Prelude.{ℕ, suc, ◌≡◌, ◌≤◌, ◌+◌, Bool, List, length, drop}
-use Rattle.std.specs.List.{list_any}
-use Rattle.history.specs.Writes.{Table, Write, all_written, is_of}
-use Rattle.history.specs.Log.{save_at}
+-- The model of records: a table, and what numbers have logged over it.
+use Rattle.std.specs.Prelude.{ℕ, suc, ◌≡◌, ◌≤◌, ◌+◌, List, map}
+use Rattle.history.specs.Writes.{Table, all_written}
+use Rattle.history.specs.Table.{Work}
+use Rattle.history.specs.Log.{Log}
 use Rattle.page_store.specs.Pairs.{Pair, inserted}
 
--- The records of the data; for each number, the writes that it has not committed; and these as they were at each of its saves, the first
--- save first.
+-- the records of the data, and for each number the log of what it has not committed
 pub record TableState : Type 0 where
   pub table : Table
-  pub writes : ℕ → List Write
-  pub saved : ℕ → List (List Write)
+  pub logs : ℕ → Log
 
 -- what a number sees
 abbrev pub seen_by : TableState → ℕ → Table
-seen_by s t = all_written s.table (s.writes t)
+seen_by s t = all_written s.table (s.logs t).writes
 
--- how many writes of a number can no longer be replaced: those of its last save
-abbrev pub floor_of : TableState → ℕ → ℕ
-floor_of s t = length (save_at (s.saved t) (length (s.saved t)))
-
--- the number has written the key since its last save
-abbrev pub is_rewritten : TableState → ℕ → ℕ → Bool
-is_rewritten s t key = list_any (is_of key) (drop (floor_of s t) (s.writes t))
+-- the same with its saves, which are over the table as it is now
+abbrev pub work_of : TableState → ℕ → Work
+work_of s t = record { table = seen_by s t; saves = map (all_written s.table) (s.logs t).saved }
 
 -- the index: its pairs of key and slot, the slot and the page that are given out next, and the number of its levels of inner pages
 pub record Keys : Type 0 where

@@ -1,3 +1,6 @@
+// Why calls on records are refused.
+use history::Reply;
+use page_store::{IndexFault, PageFault};
 use thiserror::Error;
 
 /// Why a call on records was refused. `Dead` goes first, then the kinds in their order: a later one comes only if no earlier one does.
@@ -27,6 +30,86 @@ pub enum TableFault {
     /// There was no memory for the rows of a scan.
     #[error("no memory")]
     NoMemory,
+}
+
+impl From<PageFault> for TableFault {
+    ghost use Rattle.std.specs.Prelude.{◌≡◌};
+    ghost use Rattle.record_table.specs.Faults.{as_table};
+
+    ghost from_gives = { λ below fault. fault ≡ as_table below };
+
+    fn from(below: PageFault) -> Self {
+        match below {
+            PageFault::LogFull {
+                logger,
+                held,
+                needed,
+            } => TableFault::LogFull {
+                logger,
+                held,
+                needed,
+            },
+            PageFault::SavesFull => TableFault::SavesFull,
+            PageFault::Media => TableFault::Media,
+            PageFault::Dead => TableFault::Dead,
+            PageFault::Damaged { page } => TableFault::Damaged { page },
+        }
+    }
+}
+
+impl From<IndexFault> for TableFault {
+    ghost use Rattle.std.specs.Prelude.{◌≡◌};
+    ghost use Rattle.record_table.specs.Faults.{inserted_as};
+
+    ghost from_gives = { λ below fault. fault ≡ inserted_as below };
+
+    fn from(below: IndexFault) -> Self {
+        match below {
+            IndexFault::SlotsFull { slots } => TableFault::SlotsFull { slots },
+            IndexFault::PagesFull { pages } => TableFault::PagesFull { pages },
+            IndexFault::LogFull {
+                logger,
+                held,
+                needed,
+            } => TableFault::LogFull {
+                logger,
+                held,
+                needed,
+            },
+            IndexFault::Media => TableFault::Media,
+            IndexFault::Dead => TableFault::Dead,
+            IndexFault::Damaged { page } => TableFault::Damaged { page },
+        }
+    }
+}
+
+/// A refusal as a reply.
+impl From<TableFault> for Reply {
+    ghost use Rattle.std.specs.Prelude.{◌≡◌};
+    ghost use Rattle.record_table.specs.Faults.{reply_to};
+
+    ghost from_gives = { λ fault reply. reply ≡ reply_to fault };
+
+    fn from(fault: TableFault) -> Self {
+        match fault {
+            TableFault::SlotsFull { slots } => Reply::SlotsFull { slots },
+            TableFault::PagesFull { pages } => Reply::PagesFull { pages },
+            TableFault::SavesFull => Reply::SavesFull,
+            TableFault::LogFull {
+                logger,
+                held,
+                needed,
+            } => Reply::LogFull {
+                logger,
+                held,
+                needed,
+            },
+            TableFault::Media => Reply::Media,
+            TableFault::Dead => Reply::Dead,
+            TableFault::Damaged { page } => Reply::Damaged { page },
+            TableFault::NoMemory => Reply::NoMemory,
+        }
+    }
 }
 
 /// Why pages could not be taken for records.

@@ -1,22 +1,21 @@
 // Records over pages, under an index.
-ghost use Rattle.std.specs.Prelude.{◌≡◌, ◌<◌, ◌≤◌, ℕ, [], None, IfOk, IfErr, OnErr, IsErrOf, IsTrue, filter, length};
-ghost use Rattle.std.specs.FinMap.{get};
+ghost use Rattle.std.specs.Prelude.{◌≡◌, ◌<◌, ◌≤◌, ℕ, [], None, IfOk, IfErr, OnErr, IsErrOf, IsTrue, if◌then◌else◌, filter, length};
 ghost use Rattle.eaw_face.specs.Causes.{IsAlive};
 ghost use Rattle.eaw_face.specs.State.{listed};
 ghost use Rattle.page_store.specs.Looks.{Looks};
 ghost use Rattle.page_store.specs.Shown.{counts_in, top_in, pages_of};
-ghost use Rattle.history.specs.Writes.{rows_within};
+ghost use Rattle.history.specs.Table.{found};
+ghost use Rattle.history.specs.declared.call.Call.TheVariants.{Get, Put, Del, Scan, Save, Back, Commit, Abort};
+ghost use Rattle.history.specs.declared.call.Reply.TheVariants.{Fine, Absent, Listed, Saved, Committed};
 ghost use Rattle.record_table.specs.Attached.{Attached, AttachCause, is_refused_by_media};
-ghost use Rattle.record_table.specs.Command.{look, put, del, scan, save, back, commit, abort, is_seen};
-ghost use Rattle.record_table.specs.Does.{Does, is_failed};
+ghost use Rattle.record_table.specs.Does.{Does, replied, is_failed};
 ghost use Rattle.record_table.specs.Shown.{state_of, held_on, is_write_on, AreNamed};
 ghost use Rattle.record_table.specs.Sought.{LooksAs};
-ghost use Rattle.record_table.specs.State.{seen_by};
 
 use crate::fault::{AttachRecords, TableFault};
 use crate::scanning::gather;
 use crate::slots::{seek, value_at, write_as};
-use crate::told::{insert_fault, table_fault, told};
+use crate::told::told;
 use array_shape::Shape;
 use eaw_face::EawStore;
 use history::Rows;
@@ -27,9 +26,9 @@ use std::marker::{Model, PhantomData};
 
 /// Records under u64 keys over pages, under any index: a table and, over it, what each transaction number has written and not committed.
 ///
-/// Each call is one of the model's (`Does`), which says what it makes of the table, of writes and of saves, when each refusal comes, and
-/// what a loss of power within it may leave. After a refusal other than `Media` these are as they were. After `Media` each call that can be
-/// refused answers `Dead`.
+/// Each call is one that a caller asks for, made as a number. `Does` says what it is answered, what it makes of the table and of the number's
+/// log, when each refusal comes, and what a loss of power within it may leave. After a refusal other than `Media` table and logs are as they
+/// were. After `Media` each call that can be refused answers `Dead`.
 #[derive(Drop)]
 pub struct Records<S: EawStore, K: KeyIndex> {
     pages: Pages<S>,
@@ -92,9 +91,9 @@ impl<S: EawStore, K: KeyIndex> Records<S, K> {
         ensures dead { result ≡ (S.view self.now.store).is_dead }
         ensures held { IsTrue S.tells → IsAlive (S.view self.now.store) → (t g : ℕ) → held_on (pages_of (S.view self.now.store) self.now) t g ≡
             length (filter (is_write_on (S.view self.now.store).shape (K.index.pairs (S.view self.now.store).state.bytes) g)
-            ((state_of K.index (pages_of (S.view self.now.store) self.now)).writes t)) }
+            ((state_of K.index (pages_of (S.view self.now.store) self.now)).logs t).writes) }
         ensures named { IsTrue S.tells → IsAlive (S.view self.now.store) → (t : ℕ) → AreNamed (K.index.pairs (S.view self.now.store).state.bytes)
-            ((state_of K.index (pages_of (S.view self.now.store) self.now)).writes t) }
+            ((state_of K.index (pages_of (S.view self.now.store) self.now)).logs t).writes }
     {
         self.pages.is_dead()
     }
@@ -111,15 +110,13 @@ impl<S: EawStore, K: KeyIndex> Records<S, K> {
     /// The value of a key, as the number sees it.
     pub fn get(&mut self, tid: u8, key: u64) -> Result<Option<Value>, TableFault>
         requires { tid < (S.view self.old.store).shape.numbers }
-        ensures does { Does S.tells (S.opens (S.view self.old.store).shape) K.index (look tid key)
-            (pages_of (S.view self.old.store) self.old) (pages_of (S.view self.new.store) self.new) result }
-        ensures seen { IsTrue S.tells → IfOk result (λ value. value ≡
-            get (seen_by (state_of K.index (pages_of (S.view self.old.store) self.old)) tid) key) }
+        ensures does { Does S.tells (S.opens (S.view self.old.store).shape) K.index tid (Get key)
+            (pages_of (S.view self.old.store) self.old) (pages_of (S.view self.new.store) self.new) (replied found result) }
         ensures dead { IsErrOf result TableFault.Dead → self.new ≡ self.old }
     {
         match seek::<S, K>(&mut self.pages, tid, key) {
             Ok(found) => Ok(value_at(&found)),
-            Err(fault) => Err(table_fault(fault)),
+            Err(fault) => Err(TableFault::from(fault)),
         }
     }
 
@@ -127,8 +124,8 @@ impl<S: EawStore, K: KeyIndex> Records<S, K> {
     /// first, and stays there whatever becomes of the number.
     pub fn put(&mut self, tid: u8, key: u64, value: Value) -> Result<(), TableFault>
         requires { tid < (S.view self.old.store).shape.numbers }
-        ensures does { Does S.tells (S.opens (S.view self.old.store).shape) K.index (put tid key value)
-            (pages_of (S.view self.old.store) self.old) (pages_of (S.view self.new.store) self.new) result }
+        ensures does { Does S.tells (S.opens (S.view self.old.store).shape) K.index tid (Put key value)
+            (pages_of (S.view self.old.store) self.old) (pages_of (S.view self.new.store) self.new) (replied (λ done. Fine) result) }
         ensures dead { IsErrOf result TableFault.Dead → self.new ≡ self.old }
     {
         let present = Slot::Present { key, value };
@@ -136,41 +133,38 @@ impl<S: EawStore, K: KeyIndex> Records<S, K> {
             Ok(Some(slot)) => told(write_as(&mut self.pages, tid, slot, &present)),
             Ok(None) => match K::insert(&mut self.pages, tid, key) {
                 Ok(slot) => told(write_as(&mut self.pages, tid, slot, &present)),
-                Err(fault) => Err(insert_fault(fault)),
+                Err(fault) => Err(TableFault::from(fault)),
             },
-            Err(fault) => Err(table_fault(fault)),
+            Err(fault) => Err(TableFault::from(fault)),
         }
     }
 
     /// Removes the record of a key, at once in the number's own view, and in the table once it commits. Returns whether the number saw one.
     pub fn del(&mut self, tid: u8, key: u64) -> Result<bool, TableFault>
         requires { tid < (S.view self.old.store).shape.numbers }
-        ensures does { Does S.tells (S.opens (S.view self.old.store).shape) K.index (del tid key)
-            (pages_of (S.view self.old.store) self.old) (pages_of (S.view self.new.store) self.new) result }
-        ensures seen { IsTrue S.tells → IfOk result (λ was. was ≡ is_seen (state_of K.index (pages_of (S.view self.old.store) self.old)) tid key) }
+        ensures does { Does S.tells (S.opens (S.view self.old.store).shape) K.index tid (Del key)
+            (pages_of (S.view self.old.store) self.old) (pages_of (S.view self.new.store) self.new) (replied (λ was. if was then Fine else Absent) result) }
         ensures dead { IsErrOf result TableFault.Dead → self.new ≡ self.old }
     {
         let place = match seek::<S, K>(&mut self.pages, tid, key) {
             Ok(Some(place)) => place,
             Ok(None) => return Ok(false),
-            Err(fault) => return Err(table_fault(fault)),
+            Err(fault) => return Err(TableFault::from(fault)),
         };
         if place.value.is_none() {
             return Ok(false);
         }
         match write_as(&mut self.pages, tid, place.slot, &Slot::Absent { key }) {
             Ok(()) => Ok(true),
-            Err(fault) => Err(table_fault(fault)),
+            Err(fault) => Err(TableFault::from(fault)),
         }
     }
 
     /// The records from one key to another, both included, as the number sees them. The memory for them is taken here.
     pub fn scan(&mut self, alloc: Global, tid: u8, low: u64, high: u64) -> Result<Rows, TableFault>
         requires { tid < (S.view self.old.store).shape.numbers }
-        ensures does { Does S.tells (S.opens (S.view self.old.store).shape) K.index (scan tid low high)
-            (pages_of (S.view self.old.store) self.old) (pages_of (S.view self.new.store) self.new) result }
-        ensures rows { IsTrue S.tells → IfOk result (λ rows. rows ≡
-            rows_within low high (seen_by (state_of K.index (pages_of (S.view self.old.store) self.old)) tid)) }
+        ensures does { Does S.tells (S.opens (S.view self.old.store).shape) K.index tid (Scan low high)
+            (pages_of (S.view self.old.store) self.old) (pages_of (S.view self.new.store) self.new) (replied Listed result) }
         ensures looks { LooksAs S.tells (S.opens (S.view self.old.store).shape) tid (is_failed result)
             (pages_of (S.view self.old.store) self.old) (pages_of (S.view self.new.store) self.new) }
         ensures dead { IsErrOf result TableFault.Dead → self.new ≡ self.old }
@@ -188,8 +182,8 @@ impl<S: EawStore, K: KeyIndex> Records<S, K> {
     /// Saves what the number has written, and returns how many saves it has now.
     pub fn save(&mut self, tid: u8) -> Result<u32, TableFault>
         requires { tid < (S.view self.old.store).shape.numbers }
-        ensures does { Does S.tells (S.opens (S.view self.old.store).shape) K.index (save tid)
-            (pages_of (S.view self.old.store) self.old) (pages_of (S.view self.new.store) self.new) result }
+        ensures does { Does S.tells (S.opens (S.view self.old.store).shape) K.index tid Save
+            (pages_of (S.view self.old.store) self.old) (pages_of (S.view self.new.store) self.new) (replied Saved result) }
         ensures count { IfOk result (λ n. n ≡ length (counts_in self.new.marks tid)) }
         ensures refused { OnErr result (self.new ≡ self.old) }
         ensures due { IsErrOf result TableFault.Media → ⊥ }
@@ -203,8 +197,8 @@ impl<S: EawStore, K: KeyIndex> Records<S, K> {
         requires tid { tid < (S.view self.old.store).shape.numbers }
         requires some { 0 < n }
         requires there { n ≤ length (counts_in self.old.marks tid) }
-        ensures does { Does S.tells (S.opens (S.view self.old.store).shape) K.index (back tid n)
-            (pages_of (S.view self.old.store) self.old) (pages_of (S.view self.new.store) self.new) result }
+        ensures does { Does S.tells (S.opens (S.view self.old.store).shape) K.index tid (Back n)
+            (pages_of (S.view self.old.store) self.old) (pages_of (S.view self.new.store) self.new) (replied (λ done. Fine) result) }
         ensures refused { OnErr result (self.new ≡ self.old) }
         ensures due { IsErrOf result TableFault.Media → ⊥ }
     {
@@ -217,11 +211,12 @@ impl<S: EawStore, K: KeyIndex> Records<S, K> {
     /// Makes what the number has written part of the table, all at once, and forgets its saves.
     pub fn commit(&mut self, tid: u8) -> Result<(), TableFault>
         requires { tid < (S.view self.old.store).shape.numbers }
-        ensures does { Does S.tells (S.opens (S.view self.old.store).shape) K.index (commit tid)
-            (pages_of (S.view self.old.store) self.old) (pages_of (S.view self.new.store) self.new) result }
+        // Whatever number its caller tells it with.
+        ensures does { (n : ℕ) → Does S.tells (S.opens (S.view self.old.store).shape) K.index tid Commit
+            (pages_of (S.view self.old.store) self.old) (pages_of (S.view self.new.store) self.new) (replied (λ done. Committed n) result) }
         // A commit of nothing uses no medium.
         ensures due { IsTrue S.tells → IsAlive (S.view self.old.store) → IsErrOf result TableFault.Media
-            → 0 < length ((state_of K.index (pages_of (S.view self.old.store) self.old)).writes tid) }
+            → 0 < length ((state_of K.index (pages_of (S.view self.old.store) self.old)).logs tid).writes }
         ensures dead { IsErrOf result TableFault.Dead → self.new ≡ self.old }
     {
         told(self.pages.end(tid, true))
@@ -230,8 +225,8 @@ impl<S: EawStore, K: KeyIndex> Records<S, K> {
     /// Discards what the number has written, and its saves.
     pub fn abort(&mut self, tid: u8) -> Result<(), TableFault>
         requires { tid < (S.view self.old.store).shape.numbers }
-        ensures does { Does S.tells (S.opens (S.view self.old.store).shape) K.index (abort tid)
-            (pages_of (S.view self.old.store) self.old) (pages_of (S.view self.new.store) self.new) result }
+        ensures does { Does S.tells (S.opens (S.view self.old.store).shape) K.index tid Abort
+            (pages_of (S.view self.old.store) self.old) (pages_of (S.view self.new.store) self.new) (replied (λ done. Fine) result) }
         ensures dead { IsErrOf result TableFault.Dead → self.new ≡ self.old }
         ensures due { IsErrOf result TableFault.Media → ⊥ }
     {

@@ -10,7 +10,6 @@ ghost use Rattle.record_table.specs.Sought.{LooksAs};
 
 use crate::fault::TableFault;
 use crate::slots::{page_of, read_as, value_in};
-use crate::told::table_fault;
 use eaw_face::EawStore;
 use history::Rows;
 use mars_base::NoMemory;
@@ -94,7 +93,7 @@ pub fn gather<S: EawStore, K: KeyIndex>(
         let next = match next_row::<S, K>(pages, tid, from, high) {
             Ok(Some(next)) => next,
             Ok(None) => return Ok(()),
-            Err(fault) => return Err(table_fault(fault)),
+            Err(fault) => return Err(TableFault::from(fault)),
         };
         match push_row(rows, &next) {
             Ok(()) => {}

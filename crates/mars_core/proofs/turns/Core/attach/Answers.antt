@@ -19,8 +19,8 @@ returns-in-Err g c =
     let back = attach_gives g.S.EawStore.tells (g.S.EawStore.opens (g.S.EawStore.view c.attach_in.result.store).shape) g.K.KeyIndex.index (pages_of (g.S.EawStore.view c.attach_in.result.store) c.attach_in.result) (pages_of (g.S.EawStore.view c.in-Err.pages.store) c.in-Err.pages) alive c.in-Err.fault c.in-Err.ensures.cause c.in-Err.ensures.looks in
     record {
       begins = tt;
-      cause = subst (λ (x : g.row.S.Denot × CoreFault). CoreCause g.S.EawStore.tells g.K.KeyIndex.index (g.S.EawStore.view x.0) x.1) (λ i. (c.attach_in.ensures.store i, sym c.attach_fault.ensures i)) cause;
-      gives_back = subst (λ (x : g.row.S.Denot × CoreFault × g.row.S.Denot). GivesBack g.S.EawStore.tells (g.S.EawStore.opens (g.S.EawStore.view x.0).shape) (is_media_fault x.1) (g.S.EawStore.view x.0) (g.S.EawStore.view x.2)) (λ i. (c.attach_in.ensures.store i, sym c.attach_fault.ensures i, sym c.into_store.ensures i)) back;
+      cause = subst (λ (x : g.row.S.Denot × CoreFault). CoreCause g.S.EawStore.tells g.K.KeyIndex.index (g.S.EawStore.view x.0) x.1) (λ i. (c.attach_in.ensures.store i, sym c.from.ensures i)) cause;
+      gives_back = subst (λ (x : g.row.S.Denot × CoreFault × g.row.S.Denot). GivesBack g.S.EawStore.tells (g.S.EawStore.opens (g.S.EawStore.view x.0).shape) (is_media_fault x.1) (g.S.EawStore.view x.0) (g.S.EawStore.view x.2)) (λ i. (c.attach_in.ensures.store i, sym c.from.ensures i, sym c.into_store.ensures i)) back;
     }
 
 pub begin_over-requires : goal.begin_over-requires

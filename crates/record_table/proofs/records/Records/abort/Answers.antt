@@ -1,9 +1,10 @@
-use Rattle.std.proofs.Common.{false}
+use Rattle.std.proofs.Common.{false, refl}
 use Rattle.std.proofs.lemmas.Bool.{false≢true}
 use Rattle.page_store.specs.Command as page
 use Rattle.page_store.specs.Shown.{pages_of}
-use Rattle.record_table.specs.Command.{abort}
-use Rattle.record_table.proofs.Ending.{ended, err_same, abort_is, media_told}
+use Rattle.history.specs.declared.call.Call.TheVariants.{Abort}
+use Rattle.history.specs.declared.call.Reply.TheVariants.{Fine}
+use Rattle.record_table.proofs.Ending.{ended, err_same, always, abort_is, media_told}
 use Rattle.record_table.proofs.SlotParts.{Laws}
 use Rattle.record_table.proofs.records.Records.abort.Goals as goal
 
@@ -13,9 +14,9 @@ invariant_of-self g c =
     let V = g.S.EawStore.view in
     let laws : Laws g.K.KeyIndex.index = record { rises = K.rises; given = K.given; counts = K.counts; rests = K.rests } in
     let inside = c.self.inside.pages in
-    (ended V g.S.EawStore.tells g.S.EawStore.opens g.K.KeyIndex.index (abort c.args.tid) c.args.self.now inside c.self.view_is (page.end c.args.tid false) c.end.new.self c.self.invariant (Unit {0})
-    (λ alive. abort_is g.S.EawStore.tells g.K.KeyIndex.index laws (pages_of (V inside.store) inside) (c.self.invariant alive) c.args.tid (Unit {0})) c.end.result c.end.ensures.does
-    (err_same c.end.result c.end.ensures.refused) c.told.result c.told.ensures).1
+    (ended V g.S.EawStore.tells g.S.EawStore.opens g.K.KeyIndex.index c.args.tid Abort c.args.self.now inside c.self.view_is (page.end c.args.tid false) c.end.new.self c.self.invariant
+    (λ alive. abort_is g.S.EawStore.tells g.K.KeyIndex.index laws (pages_of (V inside.store) inside) (c.self.invariant alive) c.args.tid) (Unit {0}) (λ done. Fine) c.end.result c.end.ensures.does
+    (err_same c.end.result c.end.ensures.refused) (λ told. always c.end.result refl) c.told.result c.told.ensures).1
 
 pub returns-clause-does : goal.returns-clause-does
 returns-clause-does g c =
@@ -23,9 +24,9 @@ returns-clause-does g c =
     let V = g.S.EawStore.view in
     let laws : Laws g.K.KeyIndex.index = record { rises = K.rises; given = K.given; counts = K.counts; rests = K.rests } in
     let inside = c.self.inside.pages in
-    (ended V g.S.EawStore.tells g.S.EawStore.opens g.K.KeyIndex.index (abort c.args.tid) c.args.self.now inside c.self.view_is (page.end c.args.tid false) c.end.new.self c.self.invariant (Unit {0})
-    (λ alive. abort_is g.S.EawStore.tells g.K.KeyIndex.index laws (pages_of (V inside.store) inside) (c.self.invariant alive) c.args.tid (Unit {0})) c.end.result c.end.ensures.does
-    (err_same c.end.result c.end.ensures.refused) c.told.result c.told.ensures).0
+    (ended V g.S.EawStore.tells g.S.EawStore.opens g.K.KeyIndex.index c.args.tid Abort c.args.self.now inside c.self.view_is (page.end c.args.tid false) c.end.new.self c.self.invariant
+    (λ alive. abort_is g.S.EawStore.tells g.K.KeyIndex.index laws (pages_of (V inside.store) inside) (c.self.invariant alive) c.args.tid) (Unit {0}) (λ done. Fine) c.end.result c.end.ensures.does
+    (err_same c.end.result c.end.ensures.refused) (λ told. always c.end.result refl) c.told.result c.told.ensures).0
 
 pub returns-clause-due : goal.returns-clause-due
 returns-clause-due g c = λ failed. false≢true (c.end.ensures.due (media_told c.end.result c.told.result c.told.ensures failed)).0

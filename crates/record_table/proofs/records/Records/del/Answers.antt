@@ -1,5 +1,5 @@
 use Rattle.std.proofs.Common.{◌≡◌, IsTrue, ◌+◌, ◌*◌, Bool, true, false, Result, Ok, Err, refl, sym, ◌∙◌, ap, subst}
-use Rattle.std.specs.Prelude.{is_some}
+use Rattle.std.specs.Prelude.{is_some, if◌then◌else◌}
 use Rattle.array_shape.specs.declared.shape.Shape.{Shape}
 use Rattle.record_slots.specs.Slots.{slot_bytes}
 use Rattle.record_slots.specs.declared.slot.Slot.TheVariants.{Absent}
@@ -7,9 +7,13 @@ use Rattle.page_store.specs.Command.{write_as}
 use Rattle.page_store.specs.Does as page
 use Rattle.page_store.specs.Index.{slots_of}
 use Rattle.page_store.specs.Shown.{Shown, pages_of}
-use Rattle.record_table.specs.Command.{del}
+use Rattle.history.specs.declared.call.Call.TheVariants.{Del}
+use Rattle.history.specs.declared.call.Reply.{Reply}
+use Rattle.history.specs.declared.call.Reply.TheVariants as reply
+use Rattle.record_table.specs.Does.{replied}
 use Rattle.record_table.specs.declared.fault.TableFault.{TableFault}
 use Rattle.record_table.proofs.Doing.{look_refused, not_removed}
+use Rattle.record_table.proofs.Wrote.{none_is}
 use Rattle.record_table.proofs.Ending.{does_of, err_same}
 use Rattle.record_table.proofs.Putting.{answered, removed}
 use Rattle.record_table.proofs.SlotParts.{Laws}
@@ -21,51 +25,55 @@ pub invariant_of-self : goal.invariant_of-self
 invariant_of-self g c =
     let V = g.S.EawStore.view in
     let inside = c.self.inside.pages in
-    (not_removed g.S.EawStore.tells (g.S.EawStore.opens (V inside.store).shape) g.K.KeyIndex.index c.args.tid c.args.key (pages_of (V inside.store) inside) (pages_of (V c.seek.new.pages.store) c.seek.new.pages) c.self.invariant Bool false
-    c.in-Ok-None.ensures.cause c.in-Ok-None.ensures.looks (λ told. let f = rw c.in-Ok-None.field-0-is at (c.in-Ok-None.ensures.finds told) in ap is_some f.1)).1
+    (not_removed g.S.EawStore.tells (g.S.EawStore.opens (V inside.store).shape) g.K.KeyIndex.index c.args.tid c.args.key (pages_of (V inside.store) inside) (pages_of (V c.seek.new.pages.store) c.seek.new.pages) c.self.invariant
+    c.in-Ok-None.ensures.cause c.in-Ok-None.ensures.looks (λ told. let f = rw c.in-Ok-None.field-0-is at (c.in-Ok-None.ensures.finds told) in f.1)).1
 
 pub returns-in-Ok-None-clause-does : goal.returns-in-Ok-None-clause-does
 returns-in-Ok-None-clause-does g c =
     let V = g.S.EawStore.view in
     let inside = c.self.inside.pages in
-    does_of V g.S.EawStore.tells g.S.EawStore.opens g.K.KeyIndex.index (del c.args.tid c.args.key) c.args.self.now inside c.self.view_is (pages_of (V c.seek.new.pages.store) c.seek.new.pages) (Ok false)
-    (not_removed g.S.EawStore.tells (g.S.EawStore.opens (V inside.store).shape) g.K.KeyIndex.index c.args.tid c.args.key (pages_of (V inside.store) inside) (pages_of (V c.seek.new.pages.store) c.seek.new.pages) c.self.invariant Bool false
-    c.in-Ok-None.ensures.cause c.in-Ok-None.ensures.looks (λ told. let f = rw c.in-Ok-None.field-0-is at (c.in-Ok-None.ensures.finds told) in ap is_some f.1)).0
+    does_of V g.S.EawStore.tells g.S.EawStore.opens g.K.KeyIndex.index c.args.tid (Del c.args.key) c.args.self.now inside c.self.view_is (pages_of (V c.seek.new.pages.store) c.seek.new.pages) (Ok reply.Absent)
+    (not_removed g.S.EawStore.tells (g.S.EawStore.opens (V inside.store).shape) g.K.KeyIndex.index c.args.tid c.args.key (pages_of (V inside.store) inside) (pages_of (V c.seek.new.pages.store) c.seek.new.pages) c.self.invariant
+    c.in-Ok-None.ensures.cause c.in-Ok-None.ensures.looks (λ told. let f = rw c.in-Ok-None.field-0-is at (c.in-Ok-None.ensures.finds told) in f.1)).0
 
 pub invariant_of-self-in-Err : goal.invariant_of-self-in-Err
 invariant_of-self-in-Err g c =
     let V = g.S.EawStore.view in
     let inside = c.self.inside.pages in
-    (look_refused g.S.EawStore.tells (g.S.EawStore.opens (V inside.store).shape) g.K.KeyIndex.index (del c.args.tid c.args.key) (pages_of (V inside.store) inside) (pages_of (V c.seek.new.pages.store) c.seek.new.pages) c.self.invariant Bool _ c.in-Err.fault tt
+    (look_refused g.S.EawStore.tells (g.S.EawStore.opens (V inside.store).shape) g.K.KeyIndex.index c.args.tid (Del c.args.key) (pages_of (V inside.store) inside) (pages_of (V c.seek.new.pages.store) c.seek.new.pages) c.self.invariant _ c.in-Err.fault tt
     c.in-Err.ensures.cause c.in-Err.ensures.looks (λ e. ap (λ (p : Shown g.row.S.Denot). pages_of (V p.store) p) (c.in-Err.ensures.dead e))).1
 
 pub returns-in-Err-clause-does : goal.returns-in-Err-clause-does
 returns-in-Err-clause-does g c =
     let V = g.S.EawStore.view in
     let inside = c.self.inside.pages in
-    rw c.table_fault.ensures (does_of V g.S.EawStore.tells g.S.EawStore.opens g.K.KeyIndex.index (del c.args.tid c.args.key) c.args.self.now inside c.self.view_is (pages_of (V c.seek.new.pages.store) c.seek.new.pages) _
-    (look_refused g.S.EawStore.tells (g.S.EawStore.opens (V inside.store).shape) g.K.KeyIndex.index (del c.args.tid c.args.key) (pages_of (V inside.store) inside) (pages_of (V c.seek.new.pages.store) c.seek.new.pages) c.self.invariant Bool _ c.in-Err.fault tt
+    rw c.from.ensures (does_of V g.S.EawStore.tells g.S.EawStore.opens g.K.KeyIndex.index c.args.tid (Del c.args.key) c.args.self.now inside c.self.view_is (pages_of (V c.seek.new.pages.store) c.seek.new.pages) _
+    (look_refused g.S.EawStore.tells (g.S.EawStore.opens (V inside.store).shape) g.K.KeyIndex.index c.args.tid (Del c.args.key) (pages_of (V inside.store) inside) (pages_of (V c.seek.new.pages.store) c.seek.new.pages) c.self.invariant _ c.in-Err.fault tt
     c.in-Err.ensures.cause c.in-Err.ensures.looks (λ e. ap (λ (p : Shown g.row.S.Denot). pages_of (V p.store) p) (c.in-Err.ensures.dead e))).0)
 
 pub invariant_of-self-then-is_none : goal.invariant_of-self-then-is_none
 invariant_of-self-then-is_none g c =
     let V = g.S.EawStore.view in
     let inside = c.self.inside.pages in
-    (not_removed g.S.EawStore.tells (g.S.EawStore.opens (V inside.store).shape) g.K.KeyIndex.index c.args.tid c.args.key (pages_of (V inside.store) inside) (pages_of (V c.seek.new.pages.store) c.seek.new.pages) c.self.invariant Bool false
-    c.in-Ok-Some.ensures.cause c.in-Ok-Some.ensures.looks (λ told. let f = rw c.in-Ok-Some.field-0-is at (c.in-Ok-Some.ensures.finds told) in ap is_some f.1 ∙ c.if-is_none.ensures)).1
+    (not_removed g.S.EawStore.tells (g.S.EawStore.opens (V inside.store).shape) g.K.KeyIndex.index c.args.tid c.args.key (pages_of (V inside.store) inside) (pages_of (V c.seek.new.pages.store) c.seek.new.pages) c.self.invariant
+    c.in-Ok-Some.ensures.cause c.in-Ok-Some.ensures.looks (λ told. let f = rw c.in-Ok-Some.field-0-is at (c.in-Ok-Some.ensures.finds told) in f.1 ∙ none_is c.in-Ok-Some.place.value c.if-is_none.ensures)).1
 
 pub returns-then-is_none-clause-does : goal.returns-then-is_none-clause-does
 returns-then-is_none-clause-does g c =
     let V = g.S.EawStore.view in
     let inside = c.self.inside.pages in
-    does_of V g.S.EawStore.tells g.S.EawStore.opens g.K.KeyIndex.index (del c.args.tid c.args.key) c.args.self.now inside c.self.view_is (pages_of (V c.seek.new.pages.store) c.seek.new.pages) (Ok false)
-    (not_removed g.S.EawStore.tells (g.S.EawStore.opens (V inside.store).shape) g.K.KeyIndex.index c.args.tid c.args.key (pages_of (V inside.store) inside) (pages_of (V c.seek.new.pages.store) c.seek.new.pages) c.self.invariant Bool false
-    c.in-Ok-Some.ensures.cause c.in-Ok-Some.ensures.looks (λ told. let f = rw c.in-Ok-Some.field-0-is at (c.in-Ok-Some.ensures.finds told) in ap is_some f.1 ∙ c.if-is_none.ensures)).0
+    does_of V g.S.EawStore.tells g.S.EawStore.opens g.K.KeyIndex.index c.args.tid (Del c.args.key) c.args.self.now inside c.self.view_is (pages_of (V c.seek.new.pages.store) c.seek.new.pages) (Ok reply.Absent)
+    (not_removed g.S.EawStore.tells (g.S.EawStore.opens (V inside.store).shape) g.K.KeyIndex.index c.args.tid c.args.key (pages_of (V inside.store) inside) (pages_of (V c.seek.new.pages.store) c.seek.new.pages) c.self.invariant
+    c.in-Ok-Some.ensures.cause c.in-Ok-Some.ensures.looks (λ told. let f = rw c.in-Ok-Some.field-0-is at (c.in-Ok-Some.ensures.finds told) in f.1 ∙ none_is c.in-Ok-Some.place.value c.if-is_none.ensures)).0
 
-answer_is : (g : Over) (c : goal.Joined-write_as g) → c.match-write_as.result ≡ answered true c.write_as.result
+-- the reply to a removal
+abbrev told : Result Bool TableFault → Result Reply TableFault
+told r = replied (λ was. if was then reply.Fine else reply.Absent) r
+
+answer_is : (g : Over) (c : goal.Joined-write_as g) → told c.match-write_as.result ≡ answered reply.Fine c.write_as.result
 answer_is g c = elim c.match-write_as.branch [
-  | in-Ok w ↦ w.result-is ∙ sym (ap (answered true) w.in-Ok.is)
-  | in-Err-write_as w ↦ w.result-is ∙ ap (λ (f : TableFault). let r : Result Bool TableFault = Err f in r) w.table_fault-in-Err-write_as.ensures ∙ sym (ap (answered true) w.in-Err-write_as.is)
+  | in-Ok w ↦ ap told w.result-is ∙ sym (ap (answered reply.Fine) w.in-Ok.is)
+  | in-Err-write_as w ↦ ap told w.result-is ∙ ap (λ (f : TableFault). let r : Result Reply TableFault = Err f in r) w.from-in-Err-write_as.ensures ∙ sym (ap (answered reply.Fine) w.in-Err-write_as.is)
 ]
 
 pub invariant_of-self-2 : goal.invariant_of-self-2
@@ -102,7 +110,7 @@ returns-clause-does g c =
     let finds = λ (told : IsTrue g.S.EawStore.tells). rw c.in-Ok-Some.field-0-is at (c.in-Ok-Some.ensures.finds told) in
     let does = subst (λ (s : Shape). page.Does g.S.EawStore.tells (g.S.EawStore.opens s) (write_as c.args.tid (64 * (slots_of (V mid.store).shape + c.in-Ok-Some.place.slot)) (slot_bytes (Absent c.args.key))) (pages_of (V mid.store) mid) (pages_of (V new.store) new) c.write_as.result)
     looks.shape c.write_as.ensures.does in
-    rw (answer_is g c) (does_of V g.S.EawStore.tells g.S.EawStore.opens g.K.KeyIndex.index (del c.args.tid c.args.key) c.args.self.now inside c.self.view_is (pages_of (V new.store) new) (answered true c.write_as.result)
+    rw (answer_is g c) (does_of V g.S.EawStore.tells g.S.EawStore.opens g.K.KeyIndex.index c.args.tid (Del c.args.key) c.args.self.now inside c.self.view_is (pages_of (V new.store) new) (answered reply.Fine c.write_as.result)
     (removed g.S.EawStore.tells (g.S.EawStore.opens (V inside.store).shape) g.K.KeyIndex.index laws c.args.tid c.args.key (pages_of (V inside.store) inside) alive c.self.invariant (pages_of (V mid.store) mid) looks (pages_of (V new.store) new) c.in-Ok-Some.place.slot
     (λ told. (finds told).0) (λ told. ap is_some (finds told).1 ∙ c.if-is_none.ensures)
     (λ told. record { long = g.met.S.EawStore.long mid.store told; outlines = λ t. g.met.S.EawStore.outlines mid.store t told mid_alive; placed = λ t. g.met.S.EawStore.placed mid.store t })

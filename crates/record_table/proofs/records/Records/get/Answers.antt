@@ -1,7 +1,11 @@
-use Rattle.std.proofs.Common.{ap, ℕ, List, Ok}
+use Rattle.std.proofs.Common.{◌∙◌, ap, sym, ℕ, List, Ok}
 use Rattle.std.specs.Prelude.{Option}
 use Rattle.page_store.specs.Shown.{Shown, pages_of}
-use Rattle.record_table.specs.Command.{look}
+use Rattle.history.specs.Table.{found}
+use Rattle.history.specs.declared.call.Call.TheVariants.{Get}
+use Rattle.record_table.specs.Does.{replied}
+use Rattle.record_table.specs.declared.fault.TableFault.{TableFault}
+use Rattle.record_table.proofs.Seeking.{found_value}
 use Rattle.record_table.proofs.Doing.{got, look_refused}
 use Rattle.record_table.proofs.Ending.{does_of}
 use Rattle.record_table.proofs.records.Records.get.Goals.{in-Ok, in-Err}
@@ -15,8 +19,8 @@ invariant_of-self g c =
     let T = g.S.EawStore.tells in
     let E = g.S.EawStore.opens (g.S.EawStore.view c.self.inside.pages.store).shape in
     elim c.match-seek.branch [
-      | in-Ok w ↦ (got T E g.K.KeyIndex.index c.args.tid c.args.key (pages_of (V inside.store) inside) (pages_of (V new.store) new) c.self.invariant (Option (List ℕ)) w.value_at.result w.in-Ok.ensures.cause w.in-Ok.ensures.looks).1
-      | in-Err w ↦ (look_refused T E g.K.KeyIndex.index (look c.args.tid c.args.key) (pages_of (V inside.store) inside) (pages_of (V new.store) new) c.self.invariant (Option (List ℕ)) _ w.in-Err.fault tt w.in-Err.ensures.cause w.in-Err.ensures.looks
+      | in-Ok w ↦ (got T E g.K.KeyIndex.index c.args.tid c.args.key (pages_of (V inside.store) inside) (pages_of (V new.store) new) c.self.invariant w.in-Ok.ensures.cause w.in-Ok.ensures.looks w.value_at.result (λ told. found_value g.K.KeyIndex.index c.args.tid c.args.key (pages_of (V inside.store) inside) w.in-Ok.found (w.in-Ok.ensures.finds told) ∙ sym w.value_at.ensures)).1
+      | in-Err w ↦ (look_refused T E g.K.KeyIndex.index c.args.tid (Get c.args.key) (pages_of (V inside.store) inside) (pages_of (V new.store) new) c.self.invariant _ w.in-Err.fault tt w.in-Err.ensures.cause w.in-Err.ensures.looks
           (λ e. ap (λ (p : Shown g.row.S.Denot). pages_of (V p.store) p) (w.in-Err.ensures.dead e))).1
     ]
 
@@ -28,9 +32,9 @@ returns-clause-does g c =
     let T = g.S.EawStore.tells in
     let E = g.S.EawStore.opens (g.S.EawStore.view c.self.inside.pages.store).shape in
     elim c.match-seek.branch [
-      | in-Ok w ↦ rw w.result-is (does_of V T g.S.EawStore.opens g.K.KeyIndex.index (look c.args.tid c.args.key) c.args.self.now inside c.self.view_is (pages_of (V new.store) new) (Ok w.value_at.result)
-          (got T E g.K.KeyIndex.index c.args.tid c.args.key (pages_of (V inside.store) inside) (pages_of (V new.store) new) c.self.invariant (Option (List ℕ)) w.value_at.result w.in-Ok.ensures.cause w.in-Ok.ensures.looks).0)
-      | in-Err w ↦ rw (w.result-is, w.table_fault.ensures) (does_of V T g.S.EawStore.opens g.K.KeyIndex.index (look c.args.tid c.args.key) c.args.self.now inside c.self.view_is (pages_of (V new.store) new) _
-          (look_refused T E g.K.KeyIndex.index (look c.args.tid c.args.key) (pages_of (V inside.store) inside) (pages_of (V new.store) new) c.self.invariant (Option (List ℕ)) _ w.in-Err.fault tt w.in-Err.ensures.cause w.in-Err.ensures.looks
+      | in-Ok w ↦ rw w.result-is (does_of V T g.S.EawStore.opens g.K.KeyIndex.index c.args.tid (Get c.args.key) c.args.self.now inside c.self.view_is (pages_of (V new.store) new) (Ok (found w.value_at.result))
+          (got T E g.K.KeyIndex.index c.args.tid c.args.key (pages_of (V inside.store) inside) (pages_of (V new.store) new) c.self.invariant w.in-Ok.ensures.cause w.in-Ok.ensures.looks w.value_at.result (λ told. found_value g.K.KeyIndex.index c.args.tid c.args.key (pages_of (V inside.store) inside) w.in-Ok.found (w.in-Ok.ensures.finds told) ∙ sym w.value_at.ensures)).0)
+      | in-Err w ↦ rw (w.result-is, w.from.ensures) (does_of V T g.S.EawStore.opens g.K.KeyIndex.index c.args.tid (Get c.args.key) c.args.self.now inside c.self.view_is (pages_of (V new.store) new) _
+          (look_refused T E g.K.KeyIndex.index c.args.tid (Get c.args.key) (pages_of (V inside.store) inside) (pages_of (V new.store) new) c.self.invariant _ w.in-Err.fault tt w.in-Err.ensures.cause w.in-Err.ensures.looks
           (λ e. ap (λ (p : Shown g.row.S.Denot). pages_of (V p.store) p) (w.in-Err.ensures.dead e))).0)
     ]

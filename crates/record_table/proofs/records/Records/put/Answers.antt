@@ -10,7 +10,7 @@ use Rattle.page_store.specs.Index.{slots_of}
 use Rattle.page_store.specs.Inserts.{Inserts}
 use Rattle.page_store.specs.Shown.{Shown, pages_of}
 use Rattle.page_store.specs.declared.index_fault.IndexFault.{IndexFault}
-use Rattle.record_table.specs.Command.{put}
+use Rattle.history.specs.declared.call.Call.TheVariants.{Put}
 use Rattle.record_table.proofs.Doing.{look_refused}
 use Rattle.record_table.proofs.Ending.{does_of, err_same}
 use Rattle.record_table.proofs.Looking.{looks_as}
@@ -69,7 +69,7 @@ returns-in-Ok-Some-clause-does g c =
     let mid_alive = (looks.same refl).still.dead ∙ alive in
     let does = subst (λ (s : Shape). page.Does g.S.EawStore.tells (g.S.EawStore.opens s) (write_as c.args.tid (64 * (slots_of (V mid.store).shape + c.in-Ok-Some.slot)) (slot_bytes (Present c.args.key c.args.value))) (pages_of (V mid.store) mid) (pages_of (V new.store) new) c.write_as.result)
     looks.shape c.write_as.ensures.does in
-    rw (c.told.ensures, told_is_answered) (does_of V T E I (put t key c.args.value) c.args.self.now inside c.self.view_is v2 _
+    rw (c.told.ensures, told_is_answered) (does_of V T E I t (Put key c.args.value) c.args.self.now inside c.self.view_is v2 _
     (put_known T (E v0.store.shape) I laws t key c.args.value v0 alive c.self.invariant v1 looks v2 c.in-Ok-Some.slot (λ told. sym (c.in-Ok-Some.ensures.found told) ∙ c.in-Ok-Some.field-0-is)
     (λ told. record { long = g.met.S.EawStore.long mid.store told; outlines = λ t. g.met.S.EawStore.outlines mid.store t told mid_alive; placed = λ t. g.met.S.EawStore.placed mid.store t })
     (c.write_as.ensures.ordered mid_alive) (c.write_as.ensures.reads_back mid_alive) (c.write_as.ensures.whole mid_alive) c.write_as.result does
@@ -130,7 +130,7 @@ returns-in-Ok-clause-does g c =
     let far_alive = (inserts.kept refl).dead ∙ mid_alive in
     let does = subst (λ (s : Shape). page.Does g.S.EawStore.tells (g.S.EawStore.opens s) (write_as c.args.tid (64 * (slots_of (V far.store).shape + c.in-Ok.slot)) (slot_bytes (Present c.args.key c.args.value))) (pages_of (V far.store) far) (pages_of (V new.store) new) c.write_as-in-Ok.result)
     (inserts.shape ∙ looks.shape) c.write_as-in-Ok.ensures.does in
-    rw (c.told-in-Ok.ensures, told_is_answered) (does_of V T E I (put t key c.args.value) c.args.self.now inside c.self.view_is v3 _
+    rw (c.told-in-Ok.ensures, told_is_answered) (does_of V T E I t (Put key c.args.value) c.args.self.now inside c.self.view_is v3 _
     (put_new T (E v0.store.shape) I laws t key c.args.value v0 alive c.self.invariant v1 looks (λ told. sym (c.in-Ok-None.ensures.found told) ∙ c.in-Ok-None.field-0-is) v2
     (slot_said-slot_bytes (Absent c.args.key) (omega arith)) c.in-Ok.slot inserts v3 (λ told. record { long = g.met.S.EawStore.long far.store told; outlines = λ t. g.met.S.EawStore.outlines far.store t told far_alive; placed = λ t. g.met.S.EawStore.placed far.store t })
     (c.write_as-in-Ok.ensures.ordered far_alive) (c.write_as-in-Ok.ensures.reads_back far_alive) (c.write_as-in-Ok.ensures.whole far_alive) c.write_as-in-Ok.result does
@@ -177,7 +177,7 @@ returns-in-Err-insert-clause-does g c =
     let alive = c.in-Ok-None.ensures.cause in
     let looks = looks_as T (E v0.store.shape) t false v0 v1 c.in-Ok-None.ensures.looks in
     let inserts = subst (λ (s : Shape). (let r : Result ℕ IndexFault = Err c.in-Err-insert.fault in Inserts g.S.EawStore.tells (g.S.EawStore.opens s) g.K.KeyIndex.index c.args.tid c.args.key (pages_of (V mid.store) mid) (pages_of (V far.store) far) r)) looks.shape c.in-Err-insert.ensures.inserts in
-    rw c.insert_fault.ensures (does_of V T E I (put t key c.args.value) c.args.self.now inside c.self.view_is v2 _
+    rw c.from.ensures (does_of V T E I t (Put key c.args.value) c.args.self.now inside c.self.view_is v2 _
     (put_refused T (E v0.store.shape) I laws t key c.args.value v0 alive c.self.invariant v1 looks (λ told. sym (c.in-Ok-None.ensures.found told) ∙ c.in-Ok-None.field-0-is) v2
     (slot_said-slot_bytes (Absent c.args.key) (omega arith)) c.in-Err-insert.fault inserts).0)
 
@@ -195,7 +195,7 @@ invariant_of-self-in-Err g c =
     let v1 = pages_of (V mid.store) mid in
     let t = c.args.tid in
     let key = c.args.key in
-    (look_refused T (E v0.store.shape) I (put t key c.args.value) v0 v1 c.self.invariant (Unit {0}) _ c.in-Err.fault tt c.in-Err.ensures.cause (looks_as T (E v0.store.shape) t _ v0 v1 c.in-Err.ensures.looks)
+    (look_refused T (E v0.store.shape) I t (Put key c.args.value) v0 v1 c.self.invariant _ c.in-Err.fault tt c.in-Err.ensures.cause (looks_as T (E v0.store.shape) t _ v0 v1 c.in-Err.ensures.looks)
     (λ e. ap (λ (p : Shown g.row.S.Denot). pages_of (V p.store) p) (c.in-Err.ensures.dead e))).1
 
 pub returns-in-Err-clause-does : goal.returns-in-Err-clause-does
@@ -212,6 +212,6 @@ returns-in-Err-clause-does g c =
     let v1 = pages_of (V mid.store) mid in
     let t = c.args.tid in
     let key = c.args.key in
-    rw c.table_fault.ensures (does_of V T E I (put t key c.args.value) c.args.self.now inside c.self.view_is v1 _
-    (look_refused T (E v0.store.shape) I (put t key c.args.value) v0 v1 c.self.invariant (Unit {0}) _ c.in-Err.fault tt c.in-Err.ensures.cause (looks_as T (E v0.store.shape) t _ v0 v1 c.in-Err.ensures.looks)
+    rw c.from-in-Err.ensures (does_of V T E I t (Put key c.args.value) c.args.self.now inside c.self.view_is v1 _
+    (look_refused T (E v0.store.shape) I t (Put key c.args.value) v0 v1 c.self.invariant _ c.in-Err.fault tt c.in-Err.ensures.cause (looks_as T (E v0.store.shape) t _ v0 v1 c.in-Err.ensures.looks)
     (λ e. ap (λ (p : Shown g.row.S.Denot). pages_of (V p.store) p) (c.in-Err.ensures.dead e))).0)

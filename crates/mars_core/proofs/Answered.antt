@@ -1,0 +1,88 @@
+-- What becomes of a call of a live transaction, which is out of its seat until the call is answered.
+use Rattle.std.proofs.Common.{◌≡◌, ◌⊎◌, ℕ, inl, inr, Bool, nat_eq, List, ◌∷◌, [], ◌++◌, length, IsTrue, Option, Some, Result, Ok, Err, refl, sym, ap, subst, ◌∙◌}
+use Rattle.std.specs.Prelude.{IsErrOf}
+use Rattle.std.specs.Map.{update}
+use Rattle.array_shape.specs.declared.shape.Shape.{Shape}
+use Rattle.eaw_face.specs.Causes.{IsAlive}
+use Rattle.page_store.specs.Index as below
+use Rattle.page_store.specs.Shown.{PagesView}
+use Rattle.history.specs.Table.{Granted}
+use Rattle.history.specs.declared.call.Call.{Call}
+use Rattle.history.specs.declared.call.Reply.{Reply}
+use Rattle.history.specs.declared.call.Reply.TheVariants as reply
+use Rattle.record_table.specs.Does.{Does}
+use Rattle.record_table.specs.Faults.{reply_to}
+use Rattle.record_table.specs.declared.fault.TableFault.{TableFault}
+use Rattle.record_table.specs.declared.fault.TableFault.TheVariants.{Media, NoMemory}
+use Rattle.caller_steps.specs.State.{State}
+use Rattle.caller_steps.specs.Locked.{IsFree}
+use Rattle.caller_steps.specs.Core.{Steps}
+use Rattle.mars_core.specs.Held.{core_over}
+use Rattle.mars_core.specs.Kept.{IsKept}
+use Rattle.mars_core.specs.Seats.{Seats, live_in, bare}
+use Rattle.mars_core.specs.Works.{HasSaves, IsShown, Works, IsAnswered, Unmade, Made}
+use Rattle.mars_core.proofs.Answering.{IndexLaws, did, did_unkept, granted_keeps, granted_steps, refused_keeps, refused_steps}
+use Rattle.mars_core.proofs.Mirroring.{IsOfTable}
+use Rattle.mars_core.proofs.Prefixes.{StoreLaws}
+use Rattle.mars_core.proofs.Staying.{update_same, free_before, busy_before, save_refused, memory_refused, busy_refused}
+use Rattle.mars_core.proofs.Stepping.{ShowsPages}
+
+no_media : (let r : Result Reply TableFault = Err NoMemory in IsErrOf r Media) → ⊥
+no_media is = absurd (cc)
+
+-- A state s over pages p, of which the caller's transaction has these calls, and the seats without it.
+module _ (tells : Bool) (Opens : Shape → List ℕ → List ℕ → Type 0) (index : below.Index) (p : PagesView) (s : State) (shows : ShowsPages index p s) (count : ℕ) (rows : List (ℕ × List ℕ))
+    (kept : IsKept tells Opens index p count rows s) (alive : IsAlive p.store) (tells_writes : IsShown tells index p) (t : ℕ) (call : Call) (of : IsOfTable call) (calls : Granted) (is : s.live t ≡ Some calls)
+    (mid : Seats) (x : Option Granted) (out : live_in mid ≡ update nat_eq s.live t x) where
+  -- the call was not made
+  pub unmade_steps : (new : State) → new ≡ s → (answer : Reply) → Unmade (length (p.counts t)) mid t call answer → Steps tells t call (core_over Opens index p.store s) (core_over Opens index p.store new) answer
+  unmade_steps new same answer (inl refused) =
+      subst (λ (state : State). Steps tells t call (core_over Opens index p.store s) (core_over Opens index p.store state) answer) (sym same)
+      (save_refused tells Opens index p s shows count rows kept alive tells_writes t call calls is answer refused)
+  unmade_steps new same answer (inr (saves, inl none)) =
+      subst (λ (r : Reply). Steps tells t call (core_over Opens index p.store s) (core_over Opens index p.store new) r) (sym none)
+      (memory_refused tells Opens index p s shows count rows kept alive tells_writes t call calls is of saves new same)
+  unmade_steps new same answer (inr (saves, inr (holder, held, busy))) =
+      subst (λ (r : Reply). Steps tells t call (core_over Opens index p.store s) (core_over Opens index p.store new) r) (sym held)
+      (busy_refused tells Opens index p s shows count rows kept alive tells_writes t call calls is of saves new same holder (busy_before s (bare mid) t x out call holder busy))
+
+  -- the call was made
+  module _ (one : (shape : Shape) (image a b : List ℕ) → Opens shape image a → Opens shape image b → a ≡ b) (laws : IndexLaws index) (q : PagesView) (old_laws : StoreLaws tells Opens p.store) (new_laws : StoreLaws tells Opens q.store)
+      (new : State) (shows_new : ShowsPages index q new) (base : new.base ≡ s.base) (history : new.history ≡ s.history) (doubt : new.doubt ≡ s.doubt) (count' : ℕ) (same_count : count' ≡ count)
+      (left : Granted) (put : new.live ≡ update nat_eq s.live t (Some left)) (answer : Reply) (made : Made tells (Opens p.store.shape) index (length (p.counts t)) mid t calls call p q left answer) where
+    free : IsFree s t call
+    free = free_before s (bare mid) t x out call made.free
+
+    stays : left ≡ calls → new.live ≡ s.live
+    stays same = put ∙ ap (λ (cs : Granted). update nat_eq s.live t (Some cs)) same ∙ update_same s.live t (Some calls) is
+
+    grows : (r : Reply) → left ≡ calls ++ (call, r) ∷ [] → new.live ≡ update nat_eq s.live t (Some (calls ++ (call, r) ∷ []))
+    grows r more = put ∙ ap (λ (cs : Granted). update nat_eq s.live t (Some cs)) more
+
+    listed : (r : Reply) (rows : List (ℕ × List ℕ)) → r ≡ reply.Listed rows → Works tells (Opens p.store.shape) index t call p q (Ok r) → Does tells (Opens p.store.shape) index t call p q (Ok (reply.Listed rows))
+    listed r rows same works = subst (λ (r : Reply). Does tells (Opens p.store.shape) index t call p q (Ok r)) same works.does
+
+    pub made_keeps : IsKept tells Opens index q count' rows new
+    made_keeps = go made.result made.works made.answered
+      where
+        go : (result : Result Reply TableFault) → Works tells (Opens p.store.shape) index t call p q result → IsAnswered calls call result left answer → IsKept tells Opens index q count' rows new
+        go (Ok r) works (inl (more, told)) = granted_keeps tells Opens index one laws p q old_laws new_laws s new shows shows_new base history doubt count count' same_count rows kept alive tells_writes t call of made.saves_there calls is free
+            r (did tells (Opens p.store.shape) index t call p q (Ok r) works.does) works.granted works.plain (grows r more)
+        go (Ok r) works (inr (listed_rows, same, still, told)) = refused_keeps tells Opens index one laws p q old_laws new_laws s new shows shows_new base history doubt count count' same_count rows kept alive tells_writes t call of made.saves_there calls is free
+            NoMemory (did_unkept tells (Opens p.store.shape) index t call p q listed_rows alive (listed r listed_rows same works)) (λ failed. absurd (no_media failed)) (stays still)
+        go (Err f) works (still, told) = refused_keeps tells Opens index one laws p q old_laws new_laws s new shows shows_new base history doubt count count' same_count rows kept alive tells_writes t call of made.saves_there calls is free
+            f (did tells (Opens p.store.shape) index t call p q (Err f) works.does) works.due (stays still)
+
+    pub made_steps : Steps tells t call (core_over Opens index p.store s) (core_over Opens index q.store new) answer
+    made_steps = go made.result made.works made.answered
+      where
+        go : (result : Result Reply TableFault) → Works tells (Opens p.store.shape) index t call p q result → IsAnswered calls call result left answer → Steps tells t call (core_over Opens index p.store s) (core_over Opens index q.store new) answer
+        go (Ok r) works (inl (more, told)) = subst (λ (r : Reply). Steps tells t call (core_over Opens index p.store s) (core_over Opens index q.store new) r) (sym told)
+            (granted_steps tells Opens index one laws p q old_laws new_laws s new shows shows_new base history doubt count count' same_count rows kept alive tells_writes t call of made.saves_there calls is free
+            r (did tells (Opens p.store.shape) index t call p q (Ok r) works.does) works.granted works.plain (grows r more))
+        go (Ok r) works (inr (listed_rows, same, still, told)) = subst (λ (r : Reply). Steps tells t call (core_over Opens index p.store s) (core_over Opens index q.store new) r) (sym told)
+            (refused_steps tells Opens index one laws p q old_laws new_laws s new shows shows_new base history doubt count count' same_count rows kept alive tells_writes t call of made.saves_there calls is free
+            NoMemory (did_unkept tells (Opens p.store.shape) index t call p q listed_rows alive (listed r listed_rows same works)) (λ failed. absurd (no_media failed)) (stays still))
+        go (Err f) works (still, told) = subst (λ (r : Reply). Steps tells t call (core_over Opens index p.store s) (core_over Opens index q.store new) r) (sym told)
+            (refused_steps tells Opens index one laws p q old_laws new_laws s new shows shows_new base history doubt count count' same_count rows kept alive tells_writes t call of made.saves_there calls is free
+            f (did tells (Opens p.store.shape) index t call p q (Err f) works.does) works.due (stays still))
