@@ -155,7 +155,14 @@ impl<S: EawStore, K: KeyIndex> Core<S, K> {
         let Some(live) = self.seats.take(caller) else {
             return Reply::NoTransaction;
         };
-        let (live, reply) = answer(self.alloc, &mut self.records, &self.seats, caller, live, call);
+        let (live, reply) = answer(
+            self.alloc,
+            &mut self.records,
+            &self.seats,
+            caller,
+            live,
+            call,
+        );
         self.seats.put(caller, live);
         reply
     }
