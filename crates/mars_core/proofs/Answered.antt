@@ -1,5 +1,5 @@
 -- What becomes of a call of a live transaction, which is out of its seat until the call is answered.
-use Rattle.std.proofs.Common.{◌≡◌, ◌⊎◌, ℕ, inl, inr, Bool, nat_eq, List, ◌∷◌, [], ◌++◌, length, IsTrue, Option, Some, Result, Ok, Err, refl, sym, ap, subst, ◌∙◌}
+use Rattle.std.proofs.Common.{◌≡◌, ℕ, inl, inr, Bool, nat_eq, List, ◌∷◌, [], ◌++◌, length, Option, Some, Result, Ok, Err, sym, ap, subst, ◌∙◌}
 use Rattle.std.specs.Prelude.{IsErrOf}
 use Rattle.std.specs.Map.{update}
 use Rattle.array_shape.specs.declared.shape.Shape.{Shape}
@@ -11,7 +11,6 @@ use Rattle.history.specs.declared.call.Call.{Call}
 use Rattle.history.specs.declared.call.Reply.{Reply}
 use Rattle.history.specs.declared.call.Reply.TheVariants as reply
 use Rattle.record_table.specs.Does.{Does}
-use Rattle.record_table.specs.Faults.{reply_to}
 use Rattle.record_table.specs.declared.fault.TableFault.{TableFault}
 use Rattle.record_table.specs.declared.fault.TableFault.TheVariants.{Media, NoMemory}
 use Rattle.caller_steps.specs.State.{State}
@@ -20,7 +19,7 @@ use Rattle.caller_steps.specs.Core.{Steps}
 use Rattle.mars_core.specs.Held.{core_over}
 use Rattle.mars_core.specs.Kept.{IsKept}
 use Rattle.mars_core.specs.Seats.{Seats, live_in, bare}
-use Rattle.mars_core.specs.Works.{HasSaves, IsShown, Works, IsAnswered, Unmade, Made}
+use Rattle.mars_core.specs.Works.{IsShown, Works, IsAnswered, Unmade, Made}
 use Rattle.mars_core.proofs.Answering.{IndexLaws, did, did_unkept, granted_keeps, granted_steps, refused_keeps, refused_steps}
 use Rattle.mars_core.proofs.Mirroring.{IsOfTable}
 use Rattle.mars_core.proofs.Prefixes.{StoreLaws}

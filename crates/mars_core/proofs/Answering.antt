@@ -40,7 +40,7 @@ use Rattle.caller_steps.proofs.Sound.{step_sound}
 use Rattle.mars_core.specs.Over.{limits_of, index_of}
 use Rattle.mars_core.specs.Held.{core_over}
 use Rattle.mars_core.specs.Kept.{Mirrors, HasHeld, IsTied, IsKept}
-use Rattle.mars_core.specs.Works.{HasSaves, IsShown, Works, IsAnswered, Unmade, Made}
+use Rattle.mars_core.specs.Works.{HasSaves, IsShown}
 use Rattle.mars_core.proofs.Indexing.{IsWithin, is_within, indexes_granted, indexes_refused, indexes_slots}
 use Rattle.mars_core.proofs.Mirroring.{IsOfTable, scan_after, mirrors_granted, same_table, answers}
 use Rattle.mars_core.proofs.Rooming.{fits_is, log_lacks, slot_lacks, page_lacks, named_is}

@@ -1,7 +1,6 @@
 -- The room of an array for writes, as callers see it.
-use Rattle.std.proofs.Common.{◌≡◌, ◌≢◌, ◌≤◌, ◌<◌, ◌+◌, ◌*◌, ◌⊎◌, ℕ, inl, inr, Bool, true, false, cond, nat_eq, List, [], ◌∷◌, length, filter, drop, ◌-◌, Option, Some, None, unwrap_or, refl, sym, ap, subst, ◌∙◌, arith, eq-eqb, ne_eqb, eqb-true}
-use Rattle.std.specs.Prelude.{IsSome, is_some}
-use Rattle.std.specs.List.{list_any}
+use Rattle.std.proofs.Common.{◌≡◌, ◌≢◌, ◌≤◌, ◌<◌, ◌+◌, ◌*◌, ◌⊎◌, ℕ, inl, inr, Bool, true, false, cond, nat_eq, List, [], ◌∷◌, length, filter, ◌-◌, Option, Some, None, unwrap_or, refl, sym, ap, subst, ◌∙◌, arith, eq-eqb, ne_eqb, eqb-true}
+use Rattle.std.specs.Prelude.{IsSome}
 use Rattle.std.specs.FinMap.{get}
 use Rattle.std.proofs.lemmas.Bool.{cases_eq}
 use Rattle.mars_base.specs.Room.{IsFirstFull}
@@ -12,7 +11,7 @@ use Rattle.page_store.specs.Index as below
 use Rattle.page_store.specs.Pairs.{Pair, found}
 use Rattle.page_store.specs.Shown.{PagesView}
 use Rattle.record_slots.specs.Places.{next_slot}
-use Rattle.history.specs.Writes.{Table, Write, is_of}
+use Rattle.history.specs.Writes.{Table, Write}
 use Rattle.history.specs.Table.{IsRight}
 use Rattle.history.specs.Log.{Log, log_of, log_after, save_at}
 use Rattle.history.specs.Log as log
@@ -21,11 +20,10 @@ use Rattle.history.specs.declared.call.Call.TheVariants.{Begin, Get, Put, Del, S
 use Rattle.history.specs.declared.call.Reply.TheVariants.{Fine}
 use Rattle.history.specs.declared.call.Reply.TheVariants as reply
 use Rattle.history.proofs.Counting.{length-filter-rewritten, length-filter-anew}
-use Rattle.record_table.specs.State.{TableState, seen_by}
 use Rattle.record_table.specs.Causes as table_causes
 use Rattle.record_table.specs.Shown.{state_of, keys_of, logger_of_slot, needed_on}
 use Rattle.record_table.specs.Shown as shown
-use Rattle.caller_steps.specs.State.{State, Index, calls_of, records_of, view_of}
+use Rattle.caller_steps.specs.State.{State, Index, calls_of, records_of}
 use Rattle.caller_steps.specs.Room.{Limits, is_slot_on, is_write_on, held_on, HasEntry, slot_for, IsSeen, Fits, IsFull, LacksAt, Lacks}
 use Rattle.caller_steps.proofs.Holding.{AreNamed}
 use Rattle.mars_core.specs.Over.{limits_of, index_of}

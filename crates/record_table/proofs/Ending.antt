@@ -14,7 +14,7 @@ use Rattle.history.specs.Table.{has_save}
 use Rattle.history.specs.declared.call.Call.{Call}
 use Rattle.history.specs.declared.call.Call.TheVariants.{Save, Back, Commit, Abort}
 use Rattle.history.specs.declared.call.Reply.{Reply}
-use Rattle.history.specs.declared.call.Reply.TheVariants.{Fine, Saved, Committed}
+use Rattle.history.specs.declared.call.Reply.TheVariants.{Fine, Saved}
 use Rattle.page_store.specs.Command.{PageCommand}
 use Rattle.page_store.specs.Command as page
 use Rattle.page_store.specs.Does as page_does
@@ -289,6 +289,8 @@ module _ {S : Type 0} (view : S → StoreView) (tells : Bool) (Opens : Shape →
       → Does tells (Opens (view arg.store).shape) index t c (pages_of (view arg.store) arg) (pages_of (view new.store) new) (replied reply s) × Holds tells index (pages_of (view new.store) new)
   ended pc new holds call T reply r does unchanged right s is =
       let both = ends tells (Opens (view inside.store).shape) index pc t c (pages_of (view inside.store) inside) (pages_of (view new.store) new) holds call T reply r does
-      (λ f e ne. ap (λ (p : Shown S). pages_of (view p.store) p) (unchanged f e ne)) right in
-      (does_of (pages_of (view new.store) new) (replied reply s)
-      (subst (λ (x : Result T TableFault). Does tells (Opens (view inside.store).shape) index t c (pages_of (view inside.store) inside) (pages_of (view new.store) new) (replied reply x)) (sym is) both.0), both.1)
+      (λ f e ne. ap (λ (p : Shown S). pages_of (view p.store) p) (unchanged f e ne)) right in (
+        does_of (pages_of (view new.store) new) (replied reply s)
+            (subst (λ (x : Result T TableFault). Does tells (Opens (view inside.store).shape) index t c (pages_of (view inside.store) inside) (pages_of (view new.store) new) (replied reply x)) (sym is) both.0),
+        both.1,
+      )

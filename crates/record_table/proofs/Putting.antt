@@ -4,7 +4,7 @@ use Rattle.std.specs.Prelude.{filter, Option, Some, None, is_some, IsFalse}
 use Rattle.std.specs.FinMap.{get}
 use Rattle.std.proofs.lemmas.Bool.{false≢true}
 use Rattle.array_shape.specs.declared.shape.Shape.{Shape}
-use Rattle.eaw_face.specs.State.{State, listed, count_on}
+use Rattle.eaw_face.specs.State.{listed, count_on}
 use Rattle.eaw_face.specs.StoreView.{StoreView}
 use Rattle.eaw_face.specs.Causes.{IsAlive}
 use Rattle.record_slots.specs.Slots.{slot_said, slot_bytes}

@@ -1,5 +1,4 @@
-use Rattle.std.proofs.Common.{◌≡◌, ℕ, length, [], ◌∷◌, ◌++◌, inl, inr, Ok, Err, refl, sym, ◌∙◌, ap, subst}
-use Rattle.page_store.specs.Shown.{counts_in}
+use Rattle.std.proofs.Common.{ℕ, [], ◌∷◌, ◌++◌, inl, inr, Ok, Err, refl, ◌∙◌, subst}
 use Rattle.history.specs.declared.call.Call.{Call}
 use Rattle.caller_steps.specs.Locked.{IsFree, IsBusyWith}
 use Rattle.mars_core.specs.Seats.{bare}

@@ -1,10 +1,7 @@
-use Rattle.std.proofs.Common.{◌∙◌, ap, sym, ℕ, List, Ok}
-use Rattle.std.specs.Prelude.{Option}
+use Rattle.std.proofs.Common.{◌∙◌, ap, sym, Ok}
 use Rattle.page_store.specs.Shown.{Shown, pages_of}
 use Rattle.history.specs.Table.{found}
 use Rattle.history.specs.declared.call.Call.TheVariants.{Get}
-use Rattle.record_table.specs.Does.{replied}
-use Rattle.record_table.specs.declared.fault.TableFault.{TableFault}
 use Rattle.record_table.proofs.Seeking.{found_value}
 use Rattle.record_table.proofs.Doing.{got, look_refused}
 use Rattle.record_table.proofs.Ending.{does_of}

@@ -1,8 +1,6 @@
 use Rattle.std.proofs.Common.{◌≡◌, sym, ◌∙◌, ap}
 use Rattle.page_store.specs.Shown.{pages_of}
 use Rattle.history.specs.declared.call.Call.TheVariants.{Scan}
-use Rattle.history.specs.declared.call.Reply.TheVariants.{Listed}
-use Rattle.record_table.specs.Does.{replied}
 use Rattle.record_table.proofs.Doing.{scanned_as, scanned}
 use Rattle.record_table.proofs.Ending.{does_of}
 use Rattle.record_table.proofs.records.Records.scan.Given.{Over}
