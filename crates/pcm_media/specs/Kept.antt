@@ -1,5 +1,5 @@
 -- What a medium in memory keeps of its calls.
-use Rattle.std.specs.Prelude.{ℕ, ◌≡◌, ◌+◌, ◌-◌, ◌^◌, ◌<◌, ◌≤◌, ◌⊎◌, ◌==◌, ◌&&◌, nat_le, Bool, true, false, List, [], ◌∷◌, ◌++◌, length, Contains, Result, Ok, Err, OnOk, OnErr, is_ok}
+use Rattle.std.specs.Prelude.{ℕ, ◌≡◌, ◌+◌, ◌-◌, ◌^◌, ◌<◌, ◌≤◌, ◌⊎◌, ◌==◌, ◌&&◌, nat_le, Bool, true, false, List, [], ◌∷◌, ◌++◌, length, Contains, Result, OnOk, OnErr, is_ok}
 use Rattle.std.specs.Bool.{OnTrue, OnFalse}
 use Rattle.mars_base.specs.Causes.{HasCause, next_count, faults_after}
 use Rattle.mars_base.specs.Moments.{Ticks}
