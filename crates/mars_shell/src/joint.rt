@@ -5,6 +5,7 @@ ghost use Rattle.std.specs.List.{flat_map};
 ghost use Rattle.history.specs.Legal.{records};
 ghost use Rattle.history.specs.Rows.{table_of};
 ghost use Rattle.history_text.specs.Text.{done_lines, work_text, all_fate_lines};
+ghost use Rattle.texts.specs.MediaFault.{media_line};
 ghost use Rattle.texts.specs.Written.{Appends, IsWritten, Wrote};
 ghost use Rattle.mars_shell.specs.Joint.{TellsWork, IsBrokenOff};
 ghost use Rattle.texts.specs.MediaFault.{media_line};
