@@ -29,7 +29,7 @@ pub of_form : (form : ℕ) (bytes : List ℕ) → form_said (page_bytes bytes 0)
 unfolding index_at
 of_form form bytes is = ap index_of_form is
 
-sound_is_own : (form : ℕ) (bytes : List ℕ) → (index_of_form form).sound bytes → index_at bytes ≡ index_of_form form
+pub sound_is_own : (form : ℕ) (bytes : List ℕ) → (index_of_form form).sound bytes → index_at bytes ≡ index_of_form form
 sound_is_own zero bytes sound = of_form 0 bytes sound.front.form_is
 sound_is_own (suc zero) bytes sound = of_form 1 bytes sound.front.form_is
 sound_is_own (suc (suc form)) bytes sound = of_form 0 bytes sound.front.form_is

@@ -15,33 +15,14 @@ use Rattle.index_pages.specs.Page.{kind_said, level_said, count_said, link_said}
 use Rattle.btree_pages.proofs.Fresh.{fresh_tree}
 use Rattle.mars_shell.specs.Formats.{HasNone}
 
-form_fresh : form_said (fresh_page 0) ≡ 1
-unfolding form_said
-form_fresh = refl
+-- what the first two pages say
+front_fresh : (form_said (fresh_page 0) ≡ 1) × (next_slot_said (fresh_page 0) ≡ 0) × (next_page_said (fresh_page 0) ≡ 2)
+unfolding form_said next_slot_said next_page_said count_bytes
+front_fresh = (refl, refl, refl)
 
-slot_fresh : next_slot_said (fresh_page 0) ≡ 0
-unfolding next_slot_said count_bytes
-slot_fresh = refl
-
-page_fresh : next_page_said (fresh_page 0) ≡ 2
-unfolding next_page_said count_bytes
-page_fresh = refl
-
-kind_fresh : kind_said (fresh_page 1) ≡ 1
-unfolding kind_said
-kind_fresh = refl
-
-level_fresh : level_said (fresh_page 1) ≡ 0
-unfolding level_said
-level_fresh = refl
-
-count_fresh : count_said (fresh_page 1) ≡ 0
-unfolding count_said
-count_fresh = refl
-
-link_fresh : link_said (fresh_page 1) ≡ 0
-unfolding link_said
-link_fresh = refl
+root_fresh : (kind_said (fresh_page 1) ≡ 1) × (level_said (fresh_page 1) ≡ 0) × (link_said (fresh_page 1) ≡ 0) × (count_said (fresh_page 1) ≡ 0)
+unfolding kind_said level_said link_said count_said
+root_fresh = (refl, refl, refl, refl)
 
 -- an array has at least four pages
 some_pages : (shape : Shape) → 4 ≤ page_count shape
@@ -55,11 +36,11 @@ module _ (shape : Shape) (bytes : List ℕ) (pages : HasPages shape (page_count 
   front : IsSuper 1 (data_of shape bytes)
   front =
       let here = has_page 0 (omega arith) in
-      let next : next_page_said (page_bytes (data_of shape bytes) 0) ≡ 2 = ap next_page_said here ∙ page_fresh in
-      let none : next_slot_said (page_bytes (data_of shape bytes) 0) ≡ 0 = ap next_slot_said here ∙ slot_fresh in
+      let next : next_page_said (page_bytes (data_of shape bytes) 0) ≡ 2 = ap next_page_said here ∙ front_fresh.2 in
+      let none : next_slot_said (page_bytes (data_of shape bytes) 0) ≡ 0 = ap next_slot_said here ∙ front_fresh.1 in
       record {
         has_mark = ap (take 5) here ∙ refl;
-        form_is = ap form_said here ∙ form_fresh;
+        form_is = ap form_said here ∙ front_fresh.0;
         slots = omega (arith, none);
         some_pages = omega (arith, next);
         pages = omega (arith, next, some_pages shape, length-data_of shape bytes);
@@ -69,5 +50,5 @@ module _ (shape : Shape) (bytes : List ℕ) (pages : HasPages shape (page_count 
   unfolding table_of
   fresh_none =
       let here = has_page 1 (omega arith) in
-      let fresh = fresh_tree (data_of shape bytes) front (ap kind_said here ∙ kind_fresh) (ap level_said here ∙ level_fresh) (ap link_said here ∙ link_fresh) (ap count_said here ∙ count_fresh) in
+      let fresh = fresh_tree (data_of shape bytes) front (ap kind_said here ∙ root_fresh.0) (ap level_said here ∙ root_fresh.1) (ap link_said here ∙ root_fresh.2) (ap count_said here ∙ root_fresh.3) in
       record { sound = fresh.0; none = ap (λ (pairs : List Pair). table_in (data_of shape bytes) pairs) fresh.1 }

@@ -13,6 +13,7 @@ pub mod Summing
 pub mod Telling
 pub mod Unopened
 pub mod Running
+pub mod Composing
 pub mod Completing
 mod Endings
 pub mod Commanding

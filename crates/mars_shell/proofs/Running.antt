@@ -70,6 +70,7 @@ module _ (tells : Bool) (told : IsTrue tells) (old : View) (only_now : (image : 
     pub left_alone : (Cause : Type 0) → later ≡ store → Cause → Idle (HoldsArray old) Cause old new false []
     left_alone Cause same cause = record {
       silent = refl;
+      later = λ shape all. omega (arith, (keeps told shape all).later, ap (λ (v : StoreView). v.moment) same, behind.moment);
       keeps = looked (subst (λ (v : StoreView). LeavesOnly (λ image. Opens store.shape image store.state.bytes) store v) (sym same)
           (record { later = omega arith; keeps = λ t image le left. left; only = λ t image le left. inl left }));
       spared = inr (store.shape, array);
@@ -80,6 +81,7 @@ module _ (tells : Bool) (told : IsTrue tells) (old : View) (only_now : (image : 
       idle : (Cause : Type 0) → Cause → Idle (HoldsArray old) Cause old new cut text
       idle Cause cause = record {
         silent = subst (λ (c : Bool). IsWritten c text []) (sym off.whole) off.silent;
+        later = λ shape all. omega (arith, (keeps told shape all).later, off.time.later, behind.moment);
         keeps = looked off.time;
         spared = inr (store.shape, array);
         cause = cause;

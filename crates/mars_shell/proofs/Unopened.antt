@@ -25,7 +25,7 @@ module _ (tells : Bool) (told : IsTrue tells) (old : View) (only_now : (image : 
 
   -- a medium to which nothing was done
   pub idle_same : (MayWrite Cause : Type 0) → Cause → Idle MayWrite Cause old old false []
-  idle_same MayWrite Cause cause = record { silent = refl; keeps = first_like; spared = inl (touched_by_nothing [] old.content); cause = cause }
+  idle_same MayWrite Cause cause = record { silent = refl; later = λ shape all. omega arith; keeps = first_like; spared = inl (touched_by_nothing [] old.content); cause = cause }
 
   -- nor was it looked at, as the input was not taken
   pub unread_of : (status : Status) → IsUnread status → Unopened old status old
@@ -45,6 +45,7 @@ module _ (tells : Bool) (told : IsTrue tells) (old : View) (only_now : (image : 
   idle_kept : (MayWrite Cause : Type 0) (new : View) → KeepsData tells old new.moment new.left_since → Touched [] old.content new.content ⊎ MayWrite → Cause → Idle MayWrite Cause old new false []
   idle_kept MayWrite Cause new keeps spared cause = record {
     silent = refl;
+    later = λ shape all. (keeps told shape all).later;
     keeps = λ shape all image left. ⊎_elim (first_like shape all image) (λ like. like) ((keeps told shape all).only old.moment image (omega arith) left);
     spared = spared;
     cause = cause;
@@ -67,7 +68,7 @@ unopened_as Works Broken Looks Lacks old TooLong new kind outcome = outcome
 unopened_as Works Broken Looks Lacks old ReadFault new kind outcome = outcome
 unopened_as Works Broken Looks Lacks old WriteFault new kind outcome = absurd kind
 unopened_as Works Broken Looks Lacks old MediaFault new kind (inl fails) =
-    inl (record { silent = fails.silent; keeps = fails.keeps; spared = fails.spared; cause = ⊎_elim (λ within. inl within) (λ none. absurd none) fails.cause })
+    inl (record { silent = fails.silent; later = fails.later; keeps = fails.keeps; spared = fails.spared; cause = ⊎_elim (λ within. inl within) (λ none. absurd none) fails.cause })
 unopened_as Works Broken Looks Lacks old MediaFault new kind (inr none) = absurd none
 unopened_as Works Broken Looks Lacks old NoMemory new kind (inl short) = inl short
 unopened_as Works Broken Looks Lacks old NoMemory new kind (inr (inl none)) = absurd none.cause

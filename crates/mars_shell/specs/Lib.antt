@@ -17,5 +17,6 @@ pub mod Commands
 pub mod Formats
 pub mod Joint
 pub mod Asked
+pub mod Next
 pub mod Fault
 pub mod Room

@@ -14,9 +14,10 @@ use Rattle.mars_shell.specs.declared.status.Status.{Status}
 use Rattle.mars_shell.specs.declared.status.Status.TheVariants.{Good, Usage, WriteFault, MediaFault, NoMemory, Damaged, BadRow, NotMars, BadShape}
 
 -- No line was answered, for this cause, and nothing was written to the sink. If all that a loss of power could leave at first opens, then
--- all that it might have left since opens with data of one of those images. Nothing was written to the medium unless MayWrite holds.
+-- no moment is repeated, and all that it might have left since opens with data of one of those images. Nothing was written to the medium unless MayWrite holds.
 pub record Idle (MayWrite Cause : Type 0) (old new : View) (cut : Bool) (text : List ℕ) : Type 0 where
   pub silent : IsWritten cut text []
+  pub later : (shape : Shape) → AllOpen shape old.content → old.moment ≤ new.moment
   pub keeps : (shape : Shape) → AllOpen shape old.content → (image : List ℕ) → new.left_since old.moment image → OpensLike shape old.content image
   pub spared : Touched [] old.content new.content ⊎ MayWrite
   pub cause : Cause

@@ -8,7 +8,6 @@ ghost use Rattle.history_text.specs.Text.{done_lines, work_text, all_fate_lines}
 ghost use Rattle.texts.specs.MediaFault.{media_line};
 ghost use Rattle.texts.specs.Written.{Appends, IsWritten, Wrote};
 ghost use Rattle.mars_shell.specs.Joint.{TellsWork, IsBrokenOff};
-ghost use Rattle.texts.specs.MediaFault.{media_line};
 
 use crate::ending::write_ended;
 use caller_plans::LineFault;

@@ -1,5 +1,5 @@
 // Laws of whole runs, which follow from the definitions alone.
-ghost use Rattle.std.specs.Prelude.{ℕ, ◌<◌, List, Bool, None};
+ghost use Rattle.std.specs.Prelude.{ℕ, ◌≡◌, ◌⊎◌, ◌<◌, List, Bool, None, IsTrue};
 ghost use Rattle.history.specs.Writes.{Table};
 ghost use Rattle.caller_steps.specs.State.{State, Index, opened};
 ghost use Rattle.caller_steps.specs.Room.{Limits};
@@ -9,7 +9,19 @@ ghost use Rattle.caller_plans.specs.Plans.{planned, calls_by};
 ghost use Rattle.caller_work.specs.Fated.{AreFated};
 ghost use Rattle.caller_work.specs.Worked.{of_caller};
 ghost use Rattle.script_run.specs.declared.ended.Ended.{Ended};
+ghost use Rattle.array_shape.specs.declared.shape.Shape.{Shape};
+ghost use Rattle.command_words.specs.declared.words.FormatNumbers.{FormatNumbers};
+ghost use Rattle.command_words.specs.declared.words.Words.{Words};
+ghost use Rattle.command_words.specs.declared.words.Words.TheVariants.{Eaw};
+ghost use Rattle.eaw_device.specs.Opens.{AllOpen};
+ghost use Rattle.mars_shell.specs.Asked.{OutcomeFor};
+ghost use Rattle.mars_shell.specs.Formats.{FormatOutcome};
 ghost use Rattle.mars_shell.specs.Joint.{JointWork};
+ghost use Rattle.mars_shell.specs.Next.{AllSound, IsOfRecords, LeavesFresh};
+ghost use Rattle.mars_shell.specs.Run.{HoldsRecords};
+ghost use Rattle.mars_shell.specs.declared.status.Status.{Status};
+
+use pcm_media::Media;
 
 /// What the fates of callers on threads say of the history of a run: the transactions of each caller are those of its plans that committed,
 /// in their order and each once, with just the calls of the plan and under the number that was told. No other caller has any.
@@ -19,4 +31,17 @@ pub fn what_callers_are_told()
         → (caller : ℕ) → caller < callers → AreFated caller (planned None (calls_by caller work.said)) (of_caller work.fates caller) (commits_of caller final.history) }
     ensures others { (base : Table) (index : Index) (limits : Limits) (turns : List Turn) (final : State) → Runs limits (opened base index) turns final
         → (callers tries : ℕ) (input text : List ℕ) (ended : Ended) (cut : Bool) → JointWork callers tries input ended cut text limits turns final → HasNoOthers callers final }
+{}
+
+/// Runs compose, over a medium that tells its bytes. If all that a loss of power may leave is sound, then that is so after a run too, whatever
+/// its status and also where it was refused; and it is what the clauses of the next run ask for. After raw commands all still opens, and after
+/// a format that made an array all is sound, whatever was there before.
+pub fn runs_compose<M: Media>()
+    ensures premises { (media : M) (shape : Shape) (form : ℕ) → IsTrue M.tells → AllSound shape form (M.view media).content → AllOpen shape (M.view media).content × HoldsRecords shape (M.view media) }
+    ensures run { (old new : M) (shape : Shape) (form : ℕ) (asked : Words) (status : Status) (input text : List ℕ) (cut : Bool) → IsTrue M.tells → IsOfRecords asked
+        → AllSound shape form (M.view old).content → OutcomeFor asked (M.view old) status (M.view new) input cut text → AllSound shape form (M.view new).content }
+    ensures raw { (old new : M) (shape : Shape) (status : Status) (input text : List ℕ) (cut : Bool) → IsTrue M.tells
+        → AllOpen shape (M.view old).content → OutcomeFor Eaw (M.view old) status (M.view new) input cut text → AllOpen shape (M.view new).content }
+    ensures fresh { (old new : M) (numbers : FormatNumbers) (status : Status) (text : List ℕ) (cut : Bool) → (status ≡ Status.Good) ⊎ (status ≡ Status.WriteFault)
+        → FormatOutcome numbers (M.view old) status (M.view new) cut text → LeavesFresh numbers (M.view new).content }
 {}

@@ -24,9 +24,10 @@ mod tally;
 mod turns;
 mod whole;
 
-pub use caller_work::{Gate, OpenGate, Place};
+pub use caller_plans::Fate;
+pub use caller_work::{Gate, OpenGate, Place, Stop, Worker, caller_work};
 pub use fault::fault_text;
-pub use laws::what_callers_are_told;
+pub use laws::{runs_compose, what_callers_are_told};
 pub use media_room::room;
 pub use status::Status;
 pub use whole::run;

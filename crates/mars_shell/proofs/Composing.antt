@@ -1,0 +1,143 @@
+-- What a run leaves is what the next one needs.
+use Rattle.std.proofs.Common.{◌≡◌, ℕ, ◌≤◌, ◌⊎◌, inl, inr, ⊎_elim, List, length, Bool, true, sym, ap, subst, ◌∙◌, arith}
+use Rattle.std.specs.Prelude.{IsTrue}
+use Rattle.pcm_media.specs.Images.{MayLeave}
+use Rattle.pcm_media.specs.View.{View}
+use Rattle.pcm_media.proofs.Left.{left_as_read}
+use Rattle.array_shape.specs.declared.shape.Shape.{Shape}
+use Rattle.array_image.specs.Decided.{settled_data}
+use Rattle.row_bytes.proofs.OneShape.{one_shape}
+use Rattle.command_words.specs.declared.words.FormatNumbers.{FormatNumbers}
+use Rattle.command_words.specs.declared.words.Words.{Words}
+use Rattle.command_words.specs.declared.words.Words.TheVariants.{Run, Callers, Eaw, Dump, Drill, Format}
+use Rattle.eaw_device.specs.Opens.{header_of, Opens, AllOpen, IsArray, HoldsArray}
+use Rattle.page_store.specs.Index.{Index}
+use Rattle.caller_steps.specs.State.{State}
+use Rattle.caller_steps.specs.Room.{Limits}
+use Rattle.caller_steps.specs.Run.{Turn}
+use Rattle.script_run.specs.declared.ended.Ended.{Ended}
+use Rattle.script_run.specs.declared.ended.Ended.TheVariants as script
+use Rattle.mars_shell.specs.Asked.{OutcomeFor}
+use Rattle.mars_shell.specs.Commands.{Obeys}
+use Rattle.mars_shell.specs.Drill.{Drills}
+use Rattle.mars_shell.specs.Dump.{Dumps, Spares}
+use Rattle.mars_shell.specs.Formats.{IsFormatted, FormatOutcome}
+use Rattle.mars_shell.specs.Forms.{index_of_form, index_at, index_in}
+use Rattle.mars_shell.specs.Joint.{JointWork}
+use Rattle.mars_shell.specs.Next.{AllSound, IsOfRecords, LeavesFresh}
+use Rattle.mars_shell.specs.Outcome.{Idle, OutcomeOf}
+use Rattle.mars_shell.specs.Run.{HoldsRecords, TakesTurns, Answers, IsDamaged, Exceeds, OverRecords}
+use Rattle.mars_shell.specs.declared.status.Status.{Status}
+use Rattle.mars_shell.specs.declared.status.Status.TheVariants.{Good, Usage, TooLong, ReadFault, WriteFault, MediaFault, NoMemory, Damaged, BadRow, NotMars, BadShape}
+use Rattle.mars_shell.proofs.Forming.{sound_is_own}
+
+-- ---- what is asked for
+
+module _ (media : View) (shape : Shape) (form : ℕ) (sound : AllSound shape form media.content) where
+  -- what a read gives is one of the images
+  here : (bytes : List ℕ) × Opens shape media.content.bytes bytes × (index_of_form form).sound bytes
+  here = sound media.content.bytes (left_as_read media.content)
+
+  settled_sound : (index_of_form form).sound (settled_data shape media.content.bytes)
+  settled_sound = subst (λ (b : List ℕ). (index_of_form form).sound b) (sym here.1.stands.gives) here.2
+
+  pub own_index : index_in shape media ≡ index_of_form form
+  own_index = sound_is_own form (settled_data shape media.content.bytes) settled_sound
+
+  pub all_open : AllOpen shape media.content
+  all_open image left = let opens = sound image left in (opens.0, opens.1)
+
+  array : length media.content.bytes ≡ media.size → IsArray shape media
+  array long = record { header = here.1.header; sized = sym long ∙ here.1.stands.lawful.long; good = here.1.stands.lawful.good }
+
+  pub holds_records : length media.content.bytes ≡ media.size → HoldsRecords shape media
+  holds_records long = record { array = array long; sound = subst (λ (i : Index). i.sound (settled_data shape media.content.bytes)) (sym own_index) settled_sound }
+
+pub premises : (media : View) → length media.content.bytes ≡ media.size → (shape : Shape) (form : ℕ) → AllSound shape form media.content → AllOpen shape media.content × HoldsRecords shape media
+premises media long shape form sound = (all_open media shape form sound, holds_records media shape form sound long)
+
+-- ---- what is left
+
+-- an outcome gives what each of its cases gives
+outcome_gives : (P : Type 0) (Works : Ended → Type 0) (Broken : ℕ → Type 0) (Looks Lacks : Type 0) (old : View) (status : Status) (new : View) (cut : Bool) (text : List ℕ)
+    → ((MayWrite Cause : Type 0) → Idle MayWrite Cause old new cut text → P) → ((ended : Ended) → Works ended → P) → OutcomeOf Works Broken Looks Lacks old status new cut text → P
+outcome_gives P Works Broken Looks Lacks old Good new cut text idle works outcome = works script.All outcome
+outcome_gives P Works Broken Looks Lacks old WriteFault new cut text idle works outcome = works script.WriteFault outcome
+outcome_gives P Works Broken Looks Lacks old MediaFault new cut text idle works outcome = ⊎_elim (λ i. idle _ _ i) (λ w. works script.MediaFault w) outcome
+outcome_gives P Works Broken Looks Lacks old NoMemory new cut text idle works outcome = ⊎_elim (λ i. idle _ _ i) (λ later. ⊎_elim (λ i. idle _ _ i) (λ w. works script.NoMemory w) later) outcome
+outcome_gives P Works Broken Looks Lacks old Usage new cut text idle works outcome = idle _ _ outcome
+outcome_gives P Works Broken Looks Lacks old TooLong new cut text idle works outcome = idle _ _ outcome
+outcome_gives P Works Broken Looks Lacks old ReadFault new cut text idle works outcome = idle _ _ outcome
+outcome_gives P Works Broken Looks Lacks old (Damaged page) new cut text idle works outcome = idle _ _ outcome
+outcome_gives P Works Broken Looks Lacks old (BadRow logger tid) new cut text idle works outcome = idle _ _ outcome
+outcome_gives P Works Broken Looks Lacks old NotMars new cut text idle works outcome = idle _ _ outcome
+outcome_gives P Works Broken Looks Lacks old (BadShape which given) new cut text idle works outcome = idle _ _ outcome
+
+module _ (tells : Bool) (told : IsTrue tells) (old new : View) (counts_now : (t : ℕ) (image : List ℕ) → IsTrue tells → t ≤ new.moment → MayLeave new.content image → new.left_since t image) (shape : Shape) where
+  module _ (all : AllOpen shape old.content) where
+    -- an array to which nothing was done still opens,
+    idle_open : (cut : Bool) (text : List ℕ) (MayWrite Cause : Type 0) → Idle MayWrite Cause old new cut text → AllOpen shape new.content
+    idle_open cut text MayWrite Cause idle image left =
+        let like = idle.keeps shape all image (counts_now old.moment image told (idle.later shape all) left) in
+        (like.2, like.4)
+
+    first_opens : Opens shape old.content.bytes (all old.content.bytes (left_as_read old.content)).0
+    first_opens = (all old.content.bytes (left_as_read old.content)).1
+
+    -- and so does one that raw commands were done on
+    obeyed_open : (input : List ℕ) (cut : Bool) (text : List ℕ) (ended : Ended) → Obeys old input ended new cut text → AllOpen shape new.content
+    obeyed_open input cut text ended obeys image left =
+        let now = obeys.now image left in
+        let same : obeys.shape ≡ shape = one_shape (header_of old.content.bytes) obeys.shape shape obeys.array.header first_opens.header in
+        (now.0, subst (λ (s : Shape). Opens s image now.0) same now.1)
+
+    pub next_open : (status : Status) (input : List ℕ) (cut : Bool) (text : List ℕ) → OutcomeFor Eaw old status new input cut text → AllOpen shape new.content
+    next_open status input cut text outcome =
+        outcome_gives (AllOpen shape new.content) (λ ended. Obeys old input ended new cut text) (λ page. ⊥) ⊥ ⊥ old status new cut text (idle_open cut text) (obeyed_open input cut text) outcome
+
+  module _ (form : ℕ) (sound : AllSound shape form old.content) where
+    opened : Opens shape old.content.bytes (sound old.content.bytes (left_as_read old.content)).0
+    opened = (sound old.content.bytes (left_as_read old.content)).1
+
+    -- records to which nothing was done are still sound: each image opens as one did that could be left at first
+    idle_sound : (cut : Bool) (text : List ℕ) (MayWrite Cause : Type 0) → Idle MayWrite Cause old new cut text → AllSound shape form new.content
+    idle_sound cut text MayWrite Cause idle image left =
+        let all = all_open old shape form sound in
+        let like = idle.keeps shape all image (counts_now old.moment image told (idle.later shape all) left) in
+        let first = sound like.0 like.1 in
+        let same : first.0 ≡ like.2 = sym first.1.stands.gives ∙ like.3.stands.gives in
+        (like.2, like.4, subst (λ (b : List ℕ). (index_of_form form).sound b) same first.2)
+
+    -- and so are those on which callers took turns
+    turns_sound : (Says : Limits → List Turn → State → Type 0) (ended : Ended) → TakesTurns Says old ended new → AllSound shape form new.content
+    turns_sound Says ended taken image left =
+        let same : taken.shape ≡ shape = one_shape (header_of old.content.bytes) taken.shape shape taken.holds.array.header opened.header in
+        let now = (taken.prefix_law.now image left).opens in (
+          now.bytes,
+          subst (λ (s : Shape). Opens s image now.bytes) same now.opened,
+          subst (λ (i : Index). i.sound now.bytes) (ap (λ (s : Shape). index_in s old) same ∙ own_index old shape form sound) now.sound,
+        )
+
+    records_sound : (callers : ℕ) (Works : Ended → Type 0) (status : Status) (cut : Bool) (text : List ℕ) → ((ended : Ended) → Works ended → AllSound shape form new.content)
+        → OverRecords callers Works old status new cut text → AllSound shape form new.content
+    records_sound callers Works status cut text works outcome =
+        outcome_gives (AllSound shape form new.content) Works (λ page. IsDamaged old page × (Exceeds callers old → ⊥)) (HoldsArray old × (Exceeds callers old → ⊥)) (Exceeds callers old) old status new cut text
+        (idle_sound cut text) works outcome
+
+    pub next_sound : (asked : Words) (status : Status) (input : List ℕ) (cut : Bool) (text : List ℕ) → IsOfRecords asked → OutcomeFor asked old status new input cut text → AllSound shape form new.content
+    next_sound Run status input cut text of outcome = records_sound 0 (λ ended. TakesTurns (Answers input ended cut text) old ended new) status cut text (λ ended taken. turns_sound (Answers input ended cut text) ended taken) outcome
+    next_sound (Callers numbers) status input cut text of outcome = records_sound numbers.callers (λ ended. TakesTurns (JointWork numbers.callers numbers.tries input ended cut text) old ended new) status cut text (λ ended taken. turns_sound (JointWork numbers.callers numbers.tries input ended cut text) ended taken) outcome
+    next_sound Dump status input cut text of outcome = records_sound 0 (λ ended. (taken : TakesTurns (Dumps ended cut text) old ended new) × Spares taken.shape old new) status cut text (λ ended taken. turns_sound (Dumps ended cut text) ended taken.0) outcome
+    next_sound (Drill numbers) status input cut text of outcome = records_sound 0 (λ ended. TakesTurns (Drills numbers ended cut text) old ended new) status cut text (λ ended taken. turns_sound (Drills numbers ended cut text) ended taken) outcome
+    next_sound Eaw status input cut text of outcome = absurd of
+    next_sound (Format numbers) status input cut text of outcome = absurd of
+
+-- ---- a fresh array
+
+formatted_sound : (numbers : FormatNumbers) (old new : View) (cut : Bool) (text : List ℕ) → IsFormatted numbers old new cut text → LeavesFresh numbers new.content
+formatted_sound numbers old new cut text made = (made.begun.shape, made.begun.numbers, λ image left. (_, made.opens image left, made.records.sound))
+
+pub fresh_sound : (numbers : FormatNumbers) (old new : View) (status : Status) (cut : Bool) (text : List ℕ) → (status ≡ Good) ⊎ (status ≡ WriteFault) → FormatOutcome numbers old status new cut text
+    → LeavesFresh numbers new.content
+fresh_sound numbers old new status cut text (inl is) outcome = formatted_sound numbers old new cut text (subst (λ (s : Status). FormatOutcome numbers old s new cut text) is outcome).1
+fresh_sound numbers old new status cut text (inr is) outcome = formatted_sound numbers old new cut text (subst (λ (s : Status). FormatOutcome numbers old s new cut text) is outcome).1
