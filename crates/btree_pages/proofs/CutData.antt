@@ -40,7 +40,7 @@ use Rattle.btree_pages.proofs.Belonging.{split_stays, half_named, under_way}
 use Rattle.btree_pages.proofs.Apart.{start_of, sub_of}
 use Rattle.btree_pages.proofs.Descending.{Child, child_step}
 use Rattle.btree_pages.proofs.Entries.{with_inserted, entry_child, page_for_last}
-use Rattle.btree_pages.proofs.Puts.{AllApart, Stand, applied_long, applied_away, applied_stand}
+use Rattle.index_pages.proofs.Puts.{AllApart, Stand, applied_long, applied_away, applied_stand}
 use Rattle.btree_pages.proofs.Splitting.{halves, sound_tree_splits}
 use Rattle.btree_pages.proofs.Ways.{Way, way_of, way_own, child_given}
 use Rattle.btree_pages.specs.TreeFacts.{tree_level, under_own}
