@@ -1,19 +1,14 @@
 -- What adding a pair does to the data.
-use Rattle.std.proofs.Common.{◌≡◌, ◌≢◌, ℕ, suc, ◌+◌, ◌*◌, ◌/◌, ◌%◌, ◌^◌, ◌<◌, ◌≤◌, inl, inr, List, Option, length, refl, sym, ◌∙◌, ap, subst, arith}
-use Rattle.std.proofs.lemmas.Bool.{cases_lt}
+use Rattle.std.proofs.Common.{◌≡◌, ◌≢◌, ℕ, suc, ◌+◌, ◌*◌, ◌^◌, ◌<◌, ◌≤◌, inl, inr, List, length, sym, ◌∙◌, ap, subst, arith}
 use Rattle.std.proofs.lemmas.Bool.Decides.{eqb_tells}
-use Rattle.mars_base.specs.Bytes.{range}
 use Rattle.array_shape.specs.declared.shape.Shape.{Shape}
 use Rattle.array_shape.specs.Places.{data_len}
 use Rattle.array_shape.specs.Places as array
-use Rattle.array_shape.specs.Logged.{Part, applied, AllFit}
-use Rattle.record_slots.specs.Slots.{slot_said}
-use Rattle.record_slots.specs.Super.{count_bytes}
+use Rattle.array_shape.specs.Logged.{applied}
 use Rattle.record_slots.specs.declared.super_page.Super.{Super}
-use Rattle.record_slots.specs.Places.{page_bytes, page_count, first_slot_page, slot_at, slot_of, next_slot, next_page, IsSuper, IsOfKey, Carries}
+use Rattle.record_slots.specs.Places.{page_bytes, page_count, first_slot_page, slot_of, next_slot, next_page, IsSuper}
 use Rattle.page_store.specs.Index.{slots_of, index_pages_of, Grows}
 use Rattle.page_store.specs.Pairs.{Pair, inserted}
-use Rattle.page_store.specs.Shown.{address}
 use Rattle.index_pages.specs.Keys.{key_end}
 use Rattle.index_pages.specs.Fetched.{IsFront}
 use Rattle.index_pages.specs.Page.{pairs_said, kind_said, level_said, link_said, level_of}
@@ -26,7 +21,6 @@ use Rattle.index_pages.proofs.Rising.{length-inserted}
 use Rattle.index_pages.proofs.Writing.{small_inserted, written_kind, written_level, written_link, written_pairs}
 use Rattle.btree_pages.specs.Checked.{IsFrontOf}
 use Rattle.btree_pages.specs.Descent.{page_for}
-use Rattle.index_pages.specs.Written.{written_page}
 use Rattle.btree_pages.specs.OnWay.{IsOnWay}
 use Rattle.btree_pages.specs.Tree.{IsUnder, IsSoundTree, pairs_of_tree}
 use Rattle.btree_pages.specs.Sound.{IsTree}
@@ -35,9 +29,7 @@ use Rattle.btree_pages.specs.Index.{tree}
 use Rattle.btree_pages.proofs.Ways.{Way, way_of, way_own}
 use Rattle.std.specs.Prelude.{None}
 use Rattle.record_slots.specs.Slots.{slot_bytes}
-use Rattle.record_slots.specs.declared.slot.Slot.{Slot}
 use Rattle.record_slots.specs.declared.slot.Slot.TheVariants.{Absent}
-use Rattle.record_slots.proofs.SlotLemmas.{length-slot_bytes, slot_said-slot_bytes}
 use Rattle.page_store.specs.Index.{Gains}
 use Rattle.page_store.specs.Pairs.{found}
 use Rattle.index_pages.proofs.Given.{above_zero}

@@ -1,5 +1,5 @@
 -- What the actions of an insertion make of the data.
-use Rattle.std.proofs.Common.{◌≡◌, ◌≢◌, ℕ, suc, ◌+◌, ◌*◌, ◌/◌, ◌%◌, ◌^◌, ◌<◌, ◌≤◌, true, false, nat_lt, inl, inr, List, length, take, drop, None, Option, refl, sym, ◌∙◌, ap, subst, arith}
+use Rattle.std.proofs.Common.{◌≡◌, ◌≢◌, ℕ, suc, ◌+◌, ◌*◌, ◌^◌, ◌<◌, ◌≤◌, true, false, nat_lt, inl, inr, List, length, take, drop, None, sym, ◌∙◌, ap, subst, arith}
 use Rattle.std.proofs.lemmas.Bool.{cases_lt}
 use Rattle.std.proofs.lemmas.Bool.Decides.{eqb_tells, leb_tells}
 use Rattle.std.proofs.lemmas.List.{length-take-le, length-drop}
@@ -8,13 +8,11 @@ use Rattle.array_shape.specs.declared.shape.Shape.{Shape}
 use Rattle.array_shape.specs.Places.{data_len}
 use Rattle.array_shape.specs.Places as array
 use Rattle.array_shape.specs.Logged.{Part, applied, AllFit}
-use Rattle.record_slots.specs.Slots.{slot_said, slot_bytes}
+use Rattle.record_slots.specs.Slots.{slot_bytes}
 use Rattle.record_slots.specs.Super.{count_bytes}
 use Rattle.record_slots.specs.declared.super_page.Super.{Super}
-use Rattle.record_slots.specs.declared.slot.Slot.{Slot}
 use Rattle.record_slots.specs.declared.slot.Slot.TheVariants.{Absent}
-use Rattle.record_slots.specs.Places.{page_bytes, page_count, first_slot_page, slot_at, slot_of, next_slot, next_page, IsSuper, IsOfKey, Carries}
-use Rattle.record_slots.proofs.SlotLemmas.{length-slot_bytes, slot_said-slot_bytes}
+use Rattle.record_slots.specs.Places.{page_bytes, page_count, first_slot_page, slot_at, slot_of, next_slot, next_page, IsSuper}
 use Rattle.page_store.specs.Index.{slots_of, index_pages_of, Grows, Rests, Gains}
 use Rattle.page_store.specs.Pairs.{Pair, found, inserted}
 use Rattle.page_store.specs.Shown.{address}

@@ -1,7 +1,7 @@
 -- A chain whose pages are as they were, and whose slots still carry their keys.
-use Rattle.std.proofs.Common.{◌≡◌, ◌≢◌, ℕ, zero, suc, ◌<◌, ◌≤◌, true, false, nat_eq, inl, inr, List, [], ◌∷◌, ◌++◌, refl, sym, ◌∙◌, ap, subst, arith}
+use Rattle.std.proofs.Common.{◌≡◌, ◌≢◌, ℕ, zero, suc, ◌<◌, ◌≤◌, true, false, nat_eq, inl, inr, List, [], ◌++◌, refl, sym, ◌∙◌, ap, subst, arith}
 use Rattle.std.proofs.lemmas.Bool.Decides.{eqb_tells}
-use Rattle.record_slots.specs.Places.{page_bytes, next_slot, next_page, AreGiven, page_count}
+use Rattle.record_slots.specs.Places.{page_bytes, next_page, AreGiven}
 use Rattle.page_store.specs.Index.{KeepsIndex, HasCounts}
 use Rattle.page_store.specs.Pairs.{Pair, Rise}
 use Rattle.index_pages.specs.Keys.{key_end}
