@@ -1,44 +1,35 @@
 -- What adding a pair does to the data.
-use Rattle.std.proofs.Common.{◌≡◌, ◌≢◌, ℕ, suc, ◌+◌, ◌*◌, ◌/◌, ◌%◌, ◌^◌, ◌<◌, ◌≤◌, inl, inr, List, Option, length, refl, sym, ◌∙◌, ap, subst, arith}
-use Rattle.std.proofs.lemmas.Bool.{cases_lt}
+use Rattle.std.proofs.Common.{◌≡◌, ◌≢◌, ℕ, suc, ◌+◌, ◌*◌, ◌^◌, ◌<◌, ◌≤◌, inl, inr, List, length, sym, ◌∙◌, ap, subst, arith}
 use Rattle.std.proofs.lemmas.Bool.Decides.{eqb_tells}
-use Rattle.mars_base.specs.Bytes.{range}
 use Rattle.array_shape.specs.declared.shape.Shape.{Shape}
 use Rattle.array_shape.specs.Places.{data_len}
 use Rattle.array_shape.specs.Places as array
-use Rattle.array_shape.specs.Logged.{Part, applied, AllFit}
-use Rattle.record_slots.specs.Slots.{slot_said}
-use Rattle.record_slots.specs.Super.{count_bytes}
+use Rattle.array_shape.specs.Logged.{applied}
 use Rattle.record_slots.specs.declared.super_page.Super.{Super}
-use Rattle.record_slots.specs.Places.{page_bytes, page_count, first_slot_page, slot_at, slot_of, next_slot, next_page, IsSuper, IsOfKey, Carries}
+use Rattle.record_slots.specs.Places.{page_bytes, page_count, first_slot_page, slot_of, next_slot, next_page, IsSuper}
 use Rattle.page_store.specs.Index.{slots_of, index_pages_of, Grows}
 use Rattle.page_store.specs.Pairs.{Pair, inserted}
-use Rattle.page_store.specs.Shown.{address}
 use Rattle.index_pages.specs.Keys.{key_end}
 use Rattle.index_pages.specs.Fetched.{IsFront}
 use Rattle.index_pages.specs.Page.{pairs_said, kind_said, level_said, link_said, level_of}
 use Rattle.index_pages.specs.Ways.{above, Keeps, IsOwn}
-use Rattle.index_pages.proofs.Fronts.{length-count_bytes, super_written}
+use Rattle.index_pages.proofs.Fronts.{super_written}
 use Rattle.index_pages.proofs.Carrying.{carries_on, carries_absent}
 use Rattle.index_pages.proofs.PageFacts.{length-page_pairs}
-use Rattle.index_pages.proofs.Ranges.{Apart}
+use Rattle.index_pages.proofs.Added.{IsAdded, added_is}
 use Rattle.index_pages.proofs.Rising.{length-inserted}
-use Rattle.index_pages.proofs.Writing.{small_inserted, written_kind, written_level, written_link, written_pairs, length-written_page}
+use Rattle.index_pages.proofs.Writing.{small_inserted, written_kind, written_level, written_link, written_pairs}
 use Rattle.btree_pages.specs.Checked.{IsFrontOf}
 use Rattle.btree_pages.specs.Descent.{page_for}
-use Rattle.index_pages.specs.Written.{written_page}
 use Rattle.btree_pages.specs.OnWay.{IsOnWay}
 use Rattle.btree_pages.specs.Tree.{IsUnder, IsSoundTree, pairs_of_tree}
 use Rattle.btree_pages.specs.Sound.{IsTree}
 use Rattle.btree_pages.specs.Writes.{IsRead}
 use Rattle.btree_pages.specs.Index.{tree}
-use Rattle.btree_pages.proofs.Puts.{AllApart, Stand, applied_long, applied_away, applied_stand}
 use Rattle.btree_pages.proofs.Ways.{Way, way_of, way_own}
 use Rattle.std.specs.Prelude.{None}
 use Rattle.record_slots.specs.Slots.{slot_bytes}
-use Rattle.record_slots.specs.declared.slot.Slot.{Slot}
 use Rattle.record_slots.specs.declared.slot.Slot.TheVariants.{Absent}
-use Rattle.record_slots.proofs.SlotLemmas.{length-slot_bytes, slot_said-slot_bytes}
 use Rattle.page_store.specs.Index.{Gains}
 use Rattle.page_store.specs.Pairs.{found}
 use Rattle.index_pages.proofs.Given.{above_zero}
@@ -62,36 +53,8 @@ module _ (shape : Shape) (old : List ℕ) (half : ℕ) (long : length old ≡ da
   eight : front.next_slot < 8 * half
   eight = omega (arith, slot, all)
 
-  place : ℕ
-  place = address (half + front.next_slot / 8) (front.next_slot % 8 * 64)
-
-  place_is : place ≡ 512 * half + 64 * front.next_slot
-  unfolding place
-  place_is = omega arith
-
-  record_bytes : List ℕ
-  record_bytes = slot_bytes (Absent key)
-
-  leaf_new : List ℕ
-  leaf_new = written_page 0 0 (inserted pairs key front.next_slot)
-
-  counts : List ℕ
-  counts = count_bytes (front.next_slot + 1) front.next_page
-
   leaf_few : length (inserted pairs key front.next_slot) ≤ 30
   leaf_few = omega (arith, length-inserted key front.next_slot pairs)
-
-  len1 : length record_bytes ≡ 64
-  unfolding record_bytes
-  len1 = length-slot_bytes (Absent key) fits
-
-  len2 : length leaf_new ≡ 512
-  unfolding leaf_new
-  len2 = length-written_page 0 0 (inserted pairs key front.next_slot) leaf_few (omega arith)
-
-  len3 : length counts ≡ 8
-  unfolding counts
-  len3 = length-count_bytes (front.next_slot + 1) front.next_page
 
   own_root : IsOwn old 1
   own_root = (omega arith, omega (arith, sound.0.some_pages))
@@ -111,71 +74,21 @@ module _ (shape : Shape) (old : List ℕ) (half : ℕ) (long : length old ≡ da
   leaf_below : leaf < half
   leaf_below = omega (arith, own_leaf, sound.0.pages, first)
 
-  parts : List Part
-  parts = adding_parts half front leaf 0 pairs key
-
   added : List ℕ
   added = applied (adding_parts half front leaf 0 pairs key) old
 
-  fit : AllFit (length old) parts
-  unfolding parts place record_bytes leaf_new counts
-  fit = (omega (arith, len1, size, eight, place_is), (omega (arith, len2, size, leaf_below), (omega (arith, len3, size, leaf_below), tt)))
-
-  apart : AllApart parts
-  unfolding parts place record_bytes leaf_new counts
-  apart = ((inr (omega (arith, len2, leaf_below, place_is)), (inr (omega (arith, len3, leaf_below, place_is)), tt)), ((inr (omega (arith, len3, own_leaf)), tt), (tt, tt)))
-
-  added_long : length added ≡ length old
-  unfolding added parts
-  added_long = applied_long parts old fit
-
-  added_count : page_count added ≡ half + half
-  added_count = omega (arith, added_long, size)
-
-  stand : Stand parts added
-  unfolding added parts
-  stand = applied_stand parts old fit apart
-
-  slot_new : slot_of added front.next_slot ≡ slot_bytes (Absent key)
-  unfolding slot_of parts place record_bytes
-  slot_new =
-      ap (λ (x : ℕ). range added x 64) (let e : slot_at added front.next_slot ≡ address (half + front.next_slot / 8) (front.next_slot % 8 * 64) = omega (arith, added_count, place_is) in e)
-      ∙ ap (λ (n : ℕ). range added (address (half + front.next_slot / 8) (front.next_slot % 8 * 64)) n) (sym len1) ∙ stand.0
-
-  page_new : page_bytes added leaf ≡ leaf_new
-  unfolding page_bytes parts leaf_new
-  page_new = ap (λ (n : ℕ). range added n 512) (let z : 512 * leaf ≡ address leaf 0 = omega arith in z) ∙ ap (λ (n : ℕ). range added (address leaf 0) n) (sym len2) ∙ stand.1.0
-
-  counts_new : range added 8 8 ≡ counts
-  unfolding parts counts
-  counts_new = ap (λ (n : ℕ). range added 8 n) (sym len3) ∙ stand.1.1.0
-
-  away : (at n : ℕ) → Apart at n place (length record_bytes) → Apart at n (address leaf 0) (length leaf_new) → Apart at n (address 0 8) (length counts) → range added at n ≡ range old at n
-  unfolding added parts place record_bytes leaf_new counts
-  away at n a b e = applied_away parts old at n fit (a, (b, (e, tt)))
-
-  zero_new : range added 0 8 ≡ range old 0 8
-  zero_new = away 0 8 (inl (omega (arith, place_is, leaf_below))) (inl (omega (arith, own_leaf))) (inl (omega arith))
+  is : IsAdded old added half front leaf 0 pairs key
+  unfolding added
+  is = added_is old half size front leaf 0 pairs key fits eight own_leaf.0 leaf_below (omega arith) room
 
   page_old : (x : ℕ) → 1 ≤ x → x < next_page old → x ≢ leaf → page_bytes added x ≡ page_bytes old x
-  unfolding page_bytes
-  page_old x some lt other =
-      let below : x < half = omega (arith, sound.0.pages, first) in
-      let apart_leaf : Apart (512 * x) 512 (address leaf 0) (length leaf_new) = elim (cases_lt x leaf) [ inl a ↦ inl (omega arith) | inr a ↦ (let ne : x ≡ leaf → ⊥ = other in inr (omega (arith, len2))) ] in
-      away (512 * x) 512 (inl (omega (arith, place_is))) apart_leaf (inr (omega (arith, len3)))
+  page_old x some lt other = is.pages x some (omega (arith, sound.0.pages, first)) other
 
   slot_old : (j : ℕ) → j < next_slot old → slot_of added j ≡ slot_of old j
-  unfolding slot_of
-  slot_old j lt =
-      let at : slot_at added j ≡ 512 * half + 64 * j = omega (arith, added_count) in
-      let at' : slot_at old j ≡ 512 * half + 64 * j = omega (arith, count) in
-      ap (λ (x : ℕ). range added x 64) at
-      ∙ away (512 * half + 64 * j) 64 (inl (omega (arith, place_is, says.slots))) (inr (omega (arith, len2, leaf_below))) (inr (omega (arith, len3, leaf_below)))
-      ∙ ap (λ (x : ℕ). range old x 64) (sym at')
+  slot_old j lt = is.slots j (omega (arith, says.slots))
 
   counted : (next_slot added ≡ front.next_slot + 1) × (next_page added ≡ front.next_page) × IsSuper 1 added
-  unfolding counts
-  counted = super_written 1 old added half (front.next_slot + 1) front.next_page added_count few zero_new counts_new (omega (arith, eight)) front_is.some (omega (arith, front_is.pages, half_is)) sound.0
+  counted = super_written 1 old added half (front.next_slot + 1) front.next_page (omega (arith, is.size, size)) few is.mark is.counts (omega (arith, eight)) front_is.some (omega (arith, front_is.pages, half_is)) sound.0
 
   keeps : Keeps old added
   keeps = record {
@@ -185,16 +98,15 @@ module _ (shape : Shape) (old : List ℕ) (half : ℕ) (long : length old ≡ da
   }
 
   takes : TakesPair old added leaf key front.next_slot
-  unfolding leaf_new
   takes = record {
     room = omega (arith, room, ap (λ (ps : List Pair). length ps) way.pairs_are, length-page_pairs old leaf);
-    kind = ap kind_said page_new ∙ written_kind 0 0 (inserted pairs key front.next_slot) leaf_few (omega arith);
-    level = ap level_said page_new ∙ written_level 0 0 (inserted pairs key front.next_slot) leaf_few (omega arith);
-    link = ap link_said page_new ∙ written_link 0 0 (inserted pairs key front.next_slot) leaf_few (omega arith);
-    pairs = ap pairs_said page_new ∙ written_pairs 0 0 (inserted pairs key front.next_slot) leaf_few (omega arith) (small_inserted key front.next_slot pairs read.small fits (omega (arith, eight)))
+    kind = ap kind_said is.bytes ∙ written_kind 0 0 (inserted pairs key front.next_slot) leaf_few (omega arith);
+    level = ap level_said is.bytes ∙ written_level 0 0 (inserted pairs key front.next_slot) leaf_few (omega arith);
+    link = ap link_said is.bytes ∙ written_link 0 0 (inserted pairs key front.next_slot) leaf_few (omega arith);
+    pairs = ap pairs_said is.bytes ∙ written_pairs 0 0 (inserted pairs key front.next_slot) leaf_few (omega arith) (small_inserted key front.next_slot pairs read.small fits (omega (arith, eight)))
         ∙ ap (λ (ps : List Pair). inserted ps key front.next_slot) way.pairs_are;
     given = omega (arith, counted.0);
-    carries = carries_absent added key front.next_slot fits slot_new;
+    carries = carries_absent added key front.next_slot fits is.slot;
   }
 
   leaf_there : leaf ≡ page_for (level_of old 1) old 1 key
@@ -217,7 +129,7 @@ module _ (shape : Shape) (old : List ℕ) (half : ℕ) (long : length old ≡ da
   adding_grows = (
     record {
       sound = adds.0;
-      size = added_long;
+      size = is.size;
       slots = slot_old;
       later = omega (arith, counted.1, says.pages);
       few = omega (arith, counted.1, says.pages);
@@ -228,7 +140,7 @@ module _ (shape : Shape) (old : List ℕ) (half : ℕ) (long : length old ≡ da
     record {
       pairs = adds.1 ∙ ap (λ (s : ℕ). inserted (pairs_of_tree old) key s) says.slots;
       slots = counted.0 ∙ (let e : front.next_slot + 1 ≡ suc (next_slot old) = omega (arith, says.slots) in e);
-      fresh = subst (λ (s : ℕ). slot_of added s ≡ slot_bytes (Absent key)) says.slots slot_new;
+      fresh = subst (λ (s : ℕ). slot_of added s ≡ slot_bytes (Absent key)) says.slots is.slot;
     },
   )
 

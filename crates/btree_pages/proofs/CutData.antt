@@ -9,10 +9,9 @@ use Rattle.array_shape.specs.declared.shape.Shape.{Shape}
 use Rattle.array_shape.specs.Places.{data_len}
 use Rattle.array_shape.specs.Places as array
 use Rattle.array_shape.specs.Logged.{Part, applied, AllFit}
-use Rattle.record_slots.specs.Slots.{slot_said}
 use Rattle.record_slots.specs.Super.{count_bytes}
 use Rattle.record_slots.specs.declared.super_page.Super.{Super}
-use Rattle.record_slots.specs.Places.{page_bytes, page_count, first_slot_page, slot_at, slot_of, next_slot, next_page, IsSuper, IsOfKey, Carries}
+use Rattle.record_slots.specs.Places.{page_bytes, page_count, first_slot_page, slot_at, slot_of, next_slot, next_page, IsSuper}
 use Rattle.page_store.specs.Index.{index_pages_of, Grows, Rests}
 use Rattle.page_store.specs.Pairs.{Pair, inserted}
 use Rattle.page_store.specs.Shown.{address}
@@ -40,7 +39,7 @@ use Rattle.btree_pages.proofs.Belonging.{split_stays, half_named, under_way}
 use Rattle.btree_pages.proofs.Apart.{start_of, sub_of}
 use Rattle.btree_pages.proofs.Descending.{Child, child_step}
 use Rattle.btree_pages.proofs.Entries.{with_inserted, entry_child, page_for_last}
-use Rattle.btree_pages.proofs.Puts.{AllApart, Stand, applied_long, applied_away, applied_stand}
+use Rattle.index_pages.proofs.Puts.{AllApart, Stand, applied_long, applied_away, applied_stand}
 use Rattle.btree_pages.proofs.Splitting.{halves, sound_tree_splits}
 use Rattle.btree_pages.proofs.Ways.{Way, way_of, way_own, child_given}
 use Rattle.btree_pages.specs.TreeFacts.{tree_level, under_own}

@@ -33,7 +33,7 @@ use Rattle.btree_pages.specs.Writes.{IsRead, growing_parts}
 use Rattle.btree_pages.proofs.Actions.{half_actions}
 use Rattle.btree_pages.proofs.Belonging.{grown_stays, left_named, right_named}
 use Rattle.btree_pages.proofs.CutData.{small_at, tree_kind}
-use Rattle.btree_pages.proofs.Puts.{AllApart, Stand, applied_long, applied_away, applied_stand}
+use Rattle.index_pages.proofs.Puts.{AllApart, Stand, applied_long, applied_away, applied_stand}
 use Rattle.btree_pages.proofs.Splitting.{sound_tree_grows}
 use Rattle.btree_pages.specs.TreeFacts.{under_own}
 

@@ -10,7 +10,6 @@ pub mod Checks
 pub mod Cutting
 pub mod Actions
 pub mod Belonging
-pub mod Puts
 pub mod Entries
 pub mod CutData
 pub mod AddData

@@ -1,7 +1,7 @@
 -- A tree whose pages are as they were and whose slots still carry their keys.
-use Rattle.std.proofs.Common.{◌≡◌, ℕ, zero, suc, List, [], ◌∷◌, ◌++◌, sym, ◌∙◌, ap, subst, arith, None}
+use Rattle.std.proofs.Common.{◌≡◌, ℕ, zero, suc, List, [], ◌∷◌, sym, ◌∙◌, ap, subst, arith, None}
 use Rattle.mars_base.specs.Check.{Check}
-use Rattle.record_slots.specs.Places.{page_bytes, next_slot, next_page, AreGiven, page_count}
+use Rattle.record_slots.specs.Places.{AreGiven}
 use Rattle.page_store.specs.Index.{KeepsIndex, HasCounts}
 use Rattle.page_store.specs.Pairs.{Pair}
 use Rattle.index_pages.specs.Keys.{key_end}

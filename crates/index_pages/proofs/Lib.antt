@@ -18,3 +18,5 @@ pub mod Going
 pub mod Carrying
 pub mod Slotted
 pub mod Parting
+pub mod Puts
+pub mod Added

@@ -12,7 +12,7 @@ use Rattle.index_pages.proofs.Given.{given_inserted, inserted_local, same_local,
 use Rattle.index_pages.proofs.Halves.{given_take, joined_two}
 use Rattle.key_list.specs.Chain.{behind, first_key, chain_pieces, IsSoundChain, pairs_of_chain, chain_page_for, page_of_key}
 use Rattle.key_list.specs.Seen.{IsChainPage, IsChain, pages_of_sound, sound_by_pages, pieces_have}
-use Rattle.key_list.specs.Resting.{page_kept, joined_from}
+use Rattle.key_list.specs.Resting.{page_kept, step_kept, joined_from}
 use Rattle.key_list.specs.Changes.{TakesPairInChain, SplitsPage}
 use Rattle.index_pages.specs.Keys.{key_at, key_end}
 use Rattle.index_pages.specs.Page.{link_said, pairs_said, count_of, link_of, page_pairs}
@@ -57,29 +57,15 @@ module _ (old new : List ℕ) (keeps : Keeps old new) where
       let link : link_of new page ≡ link_of old page = ap link_said e in
       let pairs : page_pairs new page ≡ page_pairs old page = ap pairs_said e in
       let r : Rise low' key_end (page_pairs old page) = rise_from_less (first_key (page_pairs old page)) low' key_end (page_pairs old page) le first.1 in
-      let here = page_kept old new keeps page low low' e c.0 r in
-      elim (eqb_tells (link_of old page) 0) [
-        | inl last ↦
-            let b : nat_eq (link_of old page) 0 ≡ true = last.0 in
-            let b' : nat_eq (link_of new page) 0 ≡ true = ap (λ (x : ℕ). nat_eq x 0) link ∙ b in (
-              (here, λ other. absurd (other (link ∙ last.1))),
-              λ from. rw (b, b') (ap (λ (ps : List Pair). ps ++ []) pairs),
-            )
-        | inr more ↦
-            let b : nat_eq (link_of old page) 0 ≡ false = more.0 in
-            let b' : nat_eq (link_of new page) 0 ≡ false = ap (λ (x : ℕ). nat_eq x 0) link ∙ b in
-            let to = c.0.link more.1 in
-            let head = chain_head n old (link_of old page) (behind low (page_pairs old page)) (c.1 more.1) in
-            let some' = later_some old (link_of old page) (behind low (page_pairs old page)) to.0 head in
-            let first' = first_from (behind low (page_pairs old page)) key_end (page_pairs old (link_of old page)) some' head.rises in
-            let same = behind_same low low' key_end (page_pairs old page) some c.0.rises in
-            let up = wide_behind low key_end (page_pairs old page) some c.0.rises in
-            let rest = chain_kept n (link_of old page) (behind low (page_pairs old page)) (behind low' (page_pairs old page)) q (omega (arith, to.0), to.1) to.0 (c.1 more.1) (omega (arith, first'.0)) (omega arith) kept in (
-              (here, λ other. rw (link, pairs) rest.0),
-              λ from. rw (b, b') (rw (link, pairs) (ap (λ (ps : List Pair). page_pairs old page ++ ps)
-                  (joined_from n new (link_of old page) (first_key (page_pairs new (link_of old page))) 0 ∙ rest.1 0 ∙ joined_from n old (link_of old page) 0 (first_key (page_pairs old (link_of old page)))))),
-            )
-      ]
+      step_kept old new n page low' link pairs (page_kept old new keeps page low low' e c.0 r)
+      (λ more.
+      let to = c.0.link more in
+      let head = chain_head n old (link_of old page) (behind low (page_pairs old page)) (c.1 more) in
+      let some' = later_some old (link_of old page) (behind low (page_pairs old page)) to.0 head in
+      let first' = first_from (behind low (page_pairs old page)) key_end (page_pairs old (link_of old page)) some' head.rises in
+      let same = behind_same low low' key_end (page_pairs old page) some c.0.rises in
+      let up = wide_behind low key_end (page_pairs old page) some c.0.rises in
+      chain_kept n (link_of old page) (behind low (page_pairs old page)) (behind low' (page_pairs old page)) q (omega (arith, to.0), to.1) to.0 (c.1 more) (omega (arith, first'.0)) (omega arith) kept)
 
 -- a chain of at most n pages is one of at most more
 pub chain_more : (n e : ℕ) (bytes : List ℕ) (page low : ℕ) → IsChain n bytes page low

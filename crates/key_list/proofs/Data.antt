@@ -1,5 +1,5 @@
 -- What the actions of an insertion make of the data.
-use Rattle.std.proofs.Common.{◌≡◌, ◌≢◌, ℕ, suc, ◌+◌, ◌*◌, ◌/◌, ◌%◌, ◌^◌, ◌<◌, ◌≤◌, true, false, nat_lt, inl, inr, List, length, take, drop, None, Option, refl, sym, ◌∙◌, ap, subst, arith}
+use Rattle.std.proofs.Common.{◌≡◌, ◌≢◌, ℕ, suc, ◌+◌, ◌*◌, ◌^◌, ◌<◌, ◌≤◌, true, false, nat_lt, inl, inr, List, length, take, drop, None, sym, ◌∙◌, ap, subst, arith}
 use Rattle.std.proofs.lemmas.Bool.{cases_lt}
 use Rattle.std.proofs.lemmas.Bool.Decides.{eqb_tells, leb_tells}
 use Rattle.std.proofs.lemmas.List.{length-take-le, length-drop}
@@ -7,14 +7,12 @@ use Rattle.mars_base.specs.Bytes.{range}
 use Rattle.array_shape.specs.declared.shape.Shape.{Shape}
 use Rattle.array_shape.specs.Places.{data_len}
 use Rattle.array_shape.specs.Places as array
-use Rattle.array_shape.specs.Logged.{applied}
-use Rattle.record_slots.specs.Slots.{slot_said, slot_bytes}
+use Rattle.array_shape.specs.Logged.{Part, applied, AllFit}
+use Rattle.record_slots.specs.Slots.{slot_bytes}
 use Rattle.record_slots.specs.Super.{count_bytes}
 use Rattle.record_slots.specs.declared.super_page.Super.{Super}
-use Rattle.record_slots.specs.declared.slot.Slot.{Slot}
 use Rattle.record_slots.specs.declared.slot.Slot.TheVariants.{Absent}
-use Rattle.record_slots.specs.Places.{page_bytes, page_count, first_slot_page, slot_at, slot_of, next_slot, next_page, IsSuper, IsOfKey, Carries}
-use Rattle.record_slots.proofs.SlotLemmas.{length-slot_bytes, slot_said-slot_bytes}
+use Rattle.record_slots.specs.Places.{page_bytes, page_count, first_slot_page, slot_at, slot_of, next_slot, next_page, IsSuper}
 use Rattle.page_store.specs.Index.{slots_of, index_pages_of, Grows, Rests, Gains}
 use Rattle.page_store.specs.Pairs.{Pair, found, inserted}
 use Rattle.page_store.specs.Shown.{address}
@@ -24,7 +22,9 @@ use Rattle.index_pages.specs.Keys.{key_at}
 use Rattle.index_pages.specs.Page.{page_pairs, pairs_said, kind_said, level_said, link_said, link_of}
 use Rattle.index_pages.specs.Ways.{Keeps}
 use Rattle.index_pages.specs.Written.{AreSmall, written_page}
-use Rattle.index_pages.proofs.Ranges.{Apart, three_long, three_away, three_first, three_second, three_third}
+use Rattle.index_pages.proofs.Added.{IsAdded, added_is}
+use Rattle.index_pages.proofs.Puts.{AllApart, Stand, applied_long, applied_away, applied_stand}
+use Rattle.index_pages.proofs.Ranges.{Apart}
 use Rattle.index_pages.proofs.Fronts.{length-count_bytes, super_written}
 use Rattle.index_pages.proofs.Carrying.{carries_on, carries_absent}
 use Rattle.index_pages.proofs.Writing.{small_take, small_inserted, written_kind, written_level, written_link, written_pairs, length-written_page}
@@ -52,21 +52,6 @@ module _ (shape : Shape) (old : List ℕ) (half : ℕ) (long : length old ≡ da
 
   -- a pair is added
   module _ (slot : front.next_slot < slots_of shape) (room : length pairs < 30) (none : found (pairs_of_chain old) key ≡ None) where
-    a1 : ℕ
-    a1 = address (half + front.next_slot / 8) (front.next_slot % 8 * 64)
-
-    b1 : List ℕ
-    b1 = slot_bytes (Absent key)
-
-    a2 : ℕ
-    a2 = address page 0
-
-    b2 : List ℕ
-    b2 = written_page 0 link (inserted pairs key front.next_slot)
-
-    b3 : List ℕ
-    b3 = count_bytes (front.next_slot + 1) front.next_page
-
     many : length (inserted pairs key front.next_slot) ≤ 30
     many = omega (arith, length-inserted key front.next_slot pairs)
 
@@ -79,102 +64,15 @@ module _ (shape : Shape) (old : List ℕ) (half : ℕ) (long : length old ≡ da
     eight : front.next_slot < 8 * half
     eight = omega (arith, slot, all)
 
-    len1 : length b1 ≡ 64
-    unfolding b1
-    len1 = length-slot_bytes (Absent key) fits
-
-    len2 : length b2 ≡ 512
-    unfolding b2
-    len2 = length-written_page 0 link (inserted pairs key front.next_slot) many link_fits
-
-    len3 : length b3 ≡ 8
-    unfolding b3
-    len3 = length-count_bytes (front.next_slot + 1) front.next_page
-
-    page_below : page < half
-    page_below = omega (arith, loc.inside, half_is)
-
-    fits1 : a1 + length b1 ≤ length old
-    unfolding a1
-    fits1 = omega (arith, len1, size, eight)
-
-    fits2 : a2 + length b2 ≤ length old
-    unfolding a2
-    fits2 = omega (arith, len2, size, page_below)
-
-    fits3 : address 0 8 + length b3 ≤ length old
-    fits3 = omega (arith, len3, size, page_below)
-
-    apart12 : Apart a1 (length b1) a2 (length b2)
-    unfolding a1 a2
-    apart12 = inr (omega (arith, len2, page_below))
-
-    apart13 : Apart a1 (length b1) (address 0 8) (length b3)
-    unfolding a1
-    apart13 = inr (omega (arith, len3, page_below, loc.some))
-
-    apart23 : Apart a2 (length b2) (address 0 8) (length b3)
-    unfolding a2
-    apart23 = inr (omega (arith, len3, loc.some))
-
-    away : (at n : ℕ) → Apart at n a1 (length b1) → Apart at n a2 (length b2) → Apart at n (address 0 8) (length b3) → range added at n ≡ range old at n
-    unfolding a1 b1 a2 b2 b3 added
-    away at n x y z = three_away old a1 b1 a2 b2 (address 0 8) b3 fits1 fits2 fits3 apart12 apart13 apart23 at n x y z
-
-    added_long : length added ≡ length old
-    unfolding a1 b1 a2 b2 b3 added
-    added_long = three_long old a1 b1 a2 b2 (address 0 8) b3 fits1 fits2 fits3 apart12 apart13 apart23
-
-    added_count : page_count added ≡ half + half
-    added_count = omega (arith, added_long, size)
-
-    slot_place : slot_at added front.next_slot ≡ a1
-    unfolding a1
-    slot_place = omega (arith, added_count)
-
-    slot_new : slot_of added front.next_slot ≡ slot_bytes (Absent key)
-    unfolding slot_of a1 b1 a2 b2 b3 added
-    slot_new = ap (λ (x : ℕ). range added x 64) slot_place ∙ three_first old a1 b1 a2 b2 (address 0 8) b3 fits1 fits2 fits3 apart12 apart13 apart23 64 (sym len1)
-
-    page_new : page_bytes added page ≡ written_page 0 link (inserted pairs key front.next_slot)
-    unfolding page_bytes a1 b1 a2 b2 b3 added
-    page_new =
-        ap (λ (x : ℕ). range added x 512) (let e : 512 * page ≡ address page 0 = omega arith in e)
-        ∙ three_second old a1 b1 a2 b2 (address 0 8) b3 fits1 fits2 fits3 apart12 apart13 apart23 512 (sym len2)
-
-    counts_new : range added 8 8 ≡ count_bytes (front.next_slot + 1) front.next_page
-    unfolding a1 b1 a2 b2 b3 added
-    counts_new = three_third old a1 b1 a2 b2 (address 0 8) b3 fits1 fits2 fits3 apart12 apart13 apart23 8 (sym len3)
-
-    zero_new : range added 0 8 ≡ range old 0 8
-    unfolding a1 a2
-    zero_new = away 0 8 (inl (omega (arith, page_below, loc.some))) (inl (omega (arith, loc.some))) (inl (omega arith))
-
-    page_old : (x : ℕ) → 1 ≤ x → x < half → x ≢ page → page_bytes added x ≡ page_bytes old x
-    unfolding page_bytes a1 a2
-    page_old x some lt other =
-        let apart : Apart (512 * x) 512 (address page 0) (length b2) = elim (cases_lt x page) [
-          | inl below ↦ inl (omega arith)
-          | inr above ↦ (let ne : x ≡ page → ⊥ = other in inr (omega (arith, len2)))
-        ] in
-        away (512 * x) 512 (inl (omega arith)) apart (inr (omega (arith, len3)))
-
-    slot_old : (j : ℕ) → j < 8 * half → j ≢ front.next_slot → slot_of added j ≡ slot_of old j
-    unfolding slot_of a1 a2
-    slot_old j lt other =
-        let place : slot_at added j ≡ 512 * half + 64 * j = omega (arith, added_count) in
-        let place' : slot_at old j ≡ 512 * half + 64 * j = omega (arith, count) in
-        let apart : Apart (512 * half + 64 * j) 64 (address (half + front.next_slot / 8) (front.next_slot % 8 * 64)) (length b1) = elim (cases_lt j front.next_slot) [
-          | inl below ↦ inl (omega arith)
-          | inr above ↦ (let ne : j ≡ front.next_slot → ⊥ = other in inr (omega (arith, len1)))
-        ] in
-        ap (λ (x : ℕ). range added x 64) place ∙ away (512 * half + 64 * j) 64 apart (inr (omega (arith, len2, page_below))) (inr (omega (arith, len3, page_below))) ∙ ap (λ (x : ℕ). range old x 64) (sym place')
+    is : IsAdded old added half front page link pairs key
+    unfolding added
+    is = added_is old half size front page link pairs key fits eight loc.some (omega (arith, loc.inside, half_is)) link_fits room
 
     counted : (next_slot added ≡ front.next_slot + 1) × (next_page added ≡ front.next_page) × IsSuper 0 added
-    counted = super_written 0 old added half (front.next_slot + 1) front.next_page added_count few zero_new counts_new (omega (arith, eight)) loc.front_is.some (omega (arith, loc.front_is.pages, half_is)) sound.0
+    counted = super_written 0 old added half (front.next_slot + 1) front.next_page (omega (arith, is.size, size)) few is.mark is.counts (omega (arith, eight)) loc.front_is.some (omega (arith, loc.front_is.pages, half_is)) sound.0
 
     slots_stay : (j : ℕ) → j < next_slot old → slot_of added j ≡ slot_of old j
-    slots_stay j lt = slot_old j (omega (arith, eight, says.slot_is)) (λ e. omega (arith, says.slot_is))
+    slots_stay j lt = is.slots j (omega (arith, says.slot_is))
 
     keeps : Keeps old added
     keeps = record {
@@ -189,16 +87,16 @@ module _ (shape : Shape) (old : List ℕ) (half : ℕ) (long : length old ≡ da
     takes : TakesPairInChain old added page key front.next_slot
     takes = record {
       room = omega (arith, room, ap (λ (ps : List Pair). length ps) says.pairs_are, length-page_pairs old page);
-      kind = ap kind_said page_new ∙ written_kind 0 link (inserted pairs key front.next_slot) many link_fits;
-      level = ap level_said page_new ∙ written_level 0 link (inserted pairs key front.next_slot) many link_fits;
-      link = ap link_said page_new ∙ written_link 0 link (inserted pairs key front.next_slot) many link_fits ∙ says.link_is;
-      pairs = ap pairs_said page_new ∙ written_pairs 0 link (inserted pairs key front.next_slot) many link_fits small ∙ ap (λ (ps : List Pair). inserted ps key front.next_slot) says.pairs_are;
+      kind = ap kind_said is.bytes ∙ written_kind 0 link (inserted pairs key front.next_slot) many link_fits;
+      level = ap level_said is.bytes ∙ written_level 0 link (inserted pairs key front.next_slot) many link_fits;
+      link = ap link_said is.bytes ∙ written_link 0 link (inserted pairs key front.next_slot) many link_fits ∙ says.link_is;
+      pairs = ap pairs_said is.bytes ∙ written_pairs 0 link (inserted pairs key front.next_slot) many link_fits small ∙ ap (λ (ps : List Pair). inserted ps key front.next_slot) says.pairs_are;
       given = omega (arith, counted.0);
-      carries = carries_absent added key front.next_slot fits slot_new;
+      carries = carries_absent added key front.next_slot fits is.slot;
     }
 
     pages_stay : (x : ℕ) → 1 ≤ x → x < next_page old → x ≢ page → page_bytes added x ≡ page_bytes old x
-    pages_stay x some lt other = page_old x some (omega (arith, sound.0.pages, first)) other
+    pages_stay x some lt other = is.pages x some (omega (arith, sound.0.pages, first)) other
 
     adds : IsSoundChain added × (pairs_of_chain added ≡ inserted (pairs_of_chain old) key front.next_slot)
     adds = sound_chain_takes old added key front.next_slot sound keeps counted.2 (counted.1 ∙ says.next_is) fits none
@@ -218,7 +116,7 @@ module _ (shape : Shape) (old : List ℕ) (half : ℕ) (long : length old ≡ da
     adding_grows = (
       record {
         sound = adds.0;
-        size = added_long;
+        size = is.size;
         slots = slots_stay;
         later = omega (arith, counted.1, says.next_is);
         few = omega (arith, counted.1, says.next_is);
@@ -229,7 +127,7 @@ module _ (shape : Shape) (old : List ℕ) (half : ℕ) (long : length old ≡ da
       record {
         pairs = adds.1 ∙ ap (λ (s : ℕ). inserted (pairs_of_chain old) key s) says.slot_is;
         slots = counted.0 ∙ (let e : front.next_slot + 1 ≡ suc (next_slot old) = omega (arith, says.slot_is) in e);
-        fresh = subst (λ (s : ℕ). slot_of added s ≡ slot_bytes (Absent key)) says.slot_is slot_new;
+        fresh = subst (λ (s : ℕ). slot_of added s ≡ slot_bytes (Absent key)) says.slot_is is.slot;
       },
       counted.1 ∙ says.next_is,
     )
@@ -278,50 +176,44 @@ module _ (shape : Shape) (old : List ℕ) (half : ℕ) (long : length old ≡ da
     unfolding c3
     clen3 = length-count_bytes front.next_slot (front.next_page + 1)
 
-    cfits1 : address page 0 + length c1 ≤ length old
-    cfits1 = omega (arith, clen1, size, page_first, next_below)
+    parts : List Part
+    parts = cutting_parts front page link pairs
 
-    cfits2 : address front.next_page 0 + length c2 ≤ length old
-    cfits2 = omega (arith, clen2, size, next_below)
+    fit : AllFit (length old) parts
+    unfolding parts c1 c2 c3
+    fit = (omega (arith, clen1, size, page_first, next_below), (omega (arith, clen2, size, next_below), (omega (arith, clen3, size, next_below), tt)))
 
-    cfits3 : address 0 8 + length c3 ≤ length old
-    cfits3 = omega (arith, clen3, size, next_below)
+    apart : AllApart parts
+    unfolding parts c1 c2 c3
+    apart = ((inl (omega (arith, clen1, page_first)), (inr (omega (arith, clen3, loc.some)), tt)), ((inr (omega (arith, clen3, loc.front_is.some)), tt), (tt, tt)))
 
-    capart12 : Apart (address page 0) (length c1) (address front.next_page 0) (length c2)
-    capart12 = inl (omega (arith, clen1, page_first))
-
-    capart13 : Apart (address page 0) (length c1) (address 0 8) (length c3)
-    capart13 = inr (omega (arith, clen3, loc.some))
-
-    capart23 : Apart (address front.next_page 0) (length c2) (address 0 8) (length c3)
-    capart23 = inr (omega (arith, clen3, loc.front_is.some))
+    stand : Stand parts cut
+    unfolding cut parts
+    stand = applied_stand parts old fit apart
 
     caway : (at n : ℕ) → Apart at n (address page 0) (length c1) → Apart at n (address front.next_page 0) (length c2) → Apart at n (address 0 8) (length c3) → range cut at n ≡ range old at n
-    unfolding c1 c2 c3 cut
-    caway at n x y z = three_away old (address page 0) c1 (address front.next_page 0) c2 (address 0 8) c3 cfits1 cfits2 cfits3 capart12 capart13 capart23 at n x y z
+    unfolding cut parts c1 c2 c3
+    caway at n x y z = applied_away parts old at n fit (x, (y, (z, tt)))
 
     cut_long : length cut ≡ length old
-    unfolding c1 c2 c3 cut
-    cut_long = three_long old (address page 0) c1 (address front.next_page 0) c2 (address 0 8) c3 cfits1 cfits2 cfits3 capart12 capart13 capart23
+    unfolding cut parts
+    cut_long = applied_long parts old fit
 
     cut_count : page_count cut ≡ half + half
     cut_count = omega (arith, cut_long, size)
 
     lower_new : page_bytes cut page ≡ written_page 0 front.next_page (take 15 pairs)
-    unfolding page_bytes c1 c2 c3 cut
-    lower_new =
-        ap (λ (x : ℕ). range cut x 512) (let e : 512 * page ≡ address page 0 = omega arith in e)
-        ∙ three_first old (address page 0) c1 (address front.next_page 0) c2 (address 0 8) c3 cfits1 cfits2 cfits3 capart12 capart13 capart23 512 (sym clen1)
+    unfolding page_bytes parts c1
+    lower_new = ap (λ (x : ℕ). range cut x 512) (let e : 512 * page ≡ address page 0 = omega arith in e) ∙ ap (λ (n : ℕ). range cut (address page 0) n) (sym clen1) ∙ stand.0
 
     upper_new : page_bytes cut front.next_page ≡ written_page 0 link (drop 15 pairs)
-    unfolding page_bytes c1 c2 c3 cut
+    unfolding page_bytes parts c2
     upper_new =
-        ap (λ (x : ℕ). range cut x 512) (let e : 512 * front.next_page ≡ address front.next_page 0 = omega arith in e)
-        ∙ three_second old (address page 0) c1 (address front.next_page 0) c2 (address 0 8) c3 cfits1 cfits2 cfits3 capart12 capart13 capart23 512 (sym clen2)
+        ap (λ (x : ℕ). range cut x 512) (let e : 512 * front.next_page ≡ address front.next_page 0 = omega arith in e) ∙ ap (λ (n : ℕ). range cut (address front.next_page 0) n) (sym clen2) ∙ stand.1.0
 
     counts_cut : range cut 8 8 ≡ count_bytes front.next_slot (front.next_page + 1)
-    unfolding c1 c2 c3 cut
-    counts_cut = three_third old (address page 0) c1 (address front.next_page 0) c2 (address 0 8) c3 cfits1 cfits2 cfits3 capart12 capart13 capart23 8 (sym clen3)
+    unfolding parts c3
+    counts_cut = ap (λ (n : ℕ). range cut 8 n) (sym clen3) ∙ stand.1.1.0
 
     zero_cut : range cut 0 8 ≡ range old 0 8
     zero_cut = caway 0 8 (inl (omega (arith, loc.some))) (inl (omega (arith, loc.front_is.some))) (inl (omega arith))

@@ -24,7 +24,7 @@ pub record IsChainHead (page : ℕ) (said : List ℕ) : Type 0 where
 abbrev pub pair_check : List ℕ → ℕ → ℕ → Pair → Check ℕ
 pair_check bytes page low pair = both (test (low ≤ pair.0) page) (slot_check bytes page pair)
 
--- the pairs of a page, one after another; no key is above all keys
+-- the pairs of a page, one after another, whose keys are numbers of 64 bits
 abbrev pub pairs_check : List ℕ → ℕ → ℕ → List Pair → Check ℕ
 pairs_check bytes page low [] = test (low ≤ key_end) page
 pairs_check bytes page low (p ∷ ps) = both (pair_check bytes page low p) (pairs_check bytes page (suc p.0) ps)

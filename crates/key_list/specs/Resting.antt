@@ -1,7 +1,7 @@
 -- A chain whose pages are as they were, and whose slots still carry their keys.
-use Rattle.std.proofs.Common.{◌≡◌, ◌≢◌, ℕ, zero, suc, ◌<◌, ◌≤◌, true, false, nat_eq, inl, inr, List, [], ◌∷◌, ◌++◌, refl, sym, ◌∙◌, ap, subst, arith}
+use Rattle.std.proofs.Common.{◌≡◌, ◌≢◌, ℕ, zero, suc, ◌<◌, ◌≤◌, true, false, nat_eq, inl, inr, List, [], ◌++◌, refl, sym, ◌∙◌, ap, subst, arith}
 use Rattle.std.proofs.lemmas.Bool.Decides.{eqb_tells}
-use Rattle.record_slots.specs.Places.{page_bytes, next_slot, next_page, AreGiven, page_count}
+use Rattle.record_slots.specs.Places.{page_bytes, next_page, AreGiven}
 use Rattle.page_store.specs.Index.{KeepsIndex, HasCounts}
 use Rattle.page_store.specs.Pairs.{Pair, Rise}
 use Rattle.index_pages.specs.Keys.{key_end}
@@ -31,32 +31,37 @@ module _ (old new : List ℕ) (keeps : Keeps old new) where
     link = subst (λ (b : List ℕ). link_said b ≢ 0 → (2 ≤ link_said b) × (link_said b < next_page new)) (sym e) (λ h. let l = t.link h in (l.0, omega (arith, l.1, keeps.pages)));
   }
 
+-- a page that says the same, before pages that do
+pub step_kept : (old new : List ℕ) (n page low : ℕ) → link_of new page ≡ link_of old page → page_pairs new page ≡ page_pairs old page → IsChainPage new page low
+    → (link_of old page ≢ 0 → IsChain n new (link_of old page) (behind low (page_pairs old page))
+    × ((from : ℕ) → joined (chain_pieces n new (link_of old page) from) ≡ joined (chain_pieces n old (link_of old page) from)))
+    → IsChain (suc n) new page low × ((from : ℕ) → joined (chain_pieces (suc n) new page from) ≡ joined (chain_pieces (suc n) old page from))
+step_kept old new n page low link pairs here later =
+    elim (eqb_tells (link_of old page) 0) [
+      | inl last ↦
+          let b : nat_eq (link_of old page) 0 ≡ true = last.0 in
+          let b' : nat_eq (link_of new page) 0 ≡ true = ap (λ (x : ℕ). nat_eq x 0) link ∙ b in (
+            (here, λ other. absurd (other (link ∙ last.1))),
+            λ from. rw (b, b') (ap (λ (ps : List Pair). ps ++ []) pairs),
+          )
+      | inr more ↦
+          let b : nat_eq (link_of old page) 0 ≡ false = more.0 in
+          let b' : nat_eq (link_of new page) 0 ≡ false = ap (λ (x : ℕ). nat_eq x 0) link ∙ b in
+          let rest = later more.1 in (
+            (here, λ other. rw (link, pairs) rest.0),
+            λ from. rw (b, b') (rw (link, pairs) (ap (λ (ps : List Pair). page_pairs old page ++ ps)
+                (joined_from n new (link_of old page) (first_key (page_pairs new (link_of old page))) 0 ∙ rest.1 0 ∙ joined_from n old (link_of old page) 0 (first_key (page_pairs old (link_of old page)))))),
+          )
+    ]
+
 module _ (old new : List ℕ) (keeps : Keeps old new) (same : (x : ℕ) → 1 ≤ x → x < next_page old → page_bytes new x ≡ page_bytes old x) where
-  pub chain_rests : (n page low : ℕ) → IsOwn old page → IsChain n old page low
+  chain_rests : (n page low : ℕ) → IsOwn old page → IsChain n old page low
       → IsChain n new page low × ((from : ℕ) → joined (chain_pieces n new page from) ≡ joined (chain_pieces n old page from))
   chain_rests zero page low own c = absurd c
   chain_rests (suc n) page low own c =
       let e : page_bytes new page ≡ page_bytes old page = same page own.0 own.1 in
-      let link : link_of new page ≡ link_of old page = ap link_said e in
-      let pairs : page_pairs new page ≡ page_pairs old page = ap pairs_said e in
-      let here = page_kept old new keeps page low low e c.0 c.0.rises in
-      elim (eqb_tells (link_of old page) 0) [
-        | inl last ↦
-            let b : nat_eq (link_of old page) 0 ≡ true = last.0 in
-            let b' : nat_eq (link_of new page) 0 ≡ true = ap (λ (x : ℕ). nat_eq x 0) link ∙ b in (
-              (here, λ other. absurd (other (link ∙ last.1))),
-              λ from. rw (b, b') (ap (λ (ps : List Pair). ps ++ []) pairs),
-            )
-        | inr more ↦
-            let b : nat_eq (link_of old page) 0 ≡ false = more.0 in
-            let b' : nat_eq (link_of new page) 0 ≡ false = ap (λ (x : ℕ). nat_eq x 0) link ∙ b in
-            let to = c.0.link more.1 in
-            let rest = chain_rests n (link_of old page) (behind low (page_pairs old page)) (omega (arith, to.0), to.1) (c.1 more.1) in (
-              (here, λ other. rw (link, pairs) rest.0),
-              λ from. rw (b, b') (rw (link, pairs) (ap (λ (ps : List Pair). page_pairs old page ++ ps)
-                  (joined_from n new (link_of old page) (first_key (page_pairs new (link_of old page))) 0 ∙ rest.1 0 ∙ joined_from n old (link_of old page) 0 (first_key (page_pairs old (link_of old page)))))),
-            )
-      ]
+      step_kept old new n page low (ap link_said e) (ap pairs_said e) (page_kept old new keeps page low low e c.0 c.0.rises)
+      (λ more. let to = c.0.link more in chain_rests n (link_of old page) (behind low (page_pairs old page)) (omega (arith, to.0), to.1) (c.1 more))
 
 -- writes into slots leave a sound chain as it is
 pub sound_chain_rests : (old new : List ℕ) → IsSoundChain old → KeepsIndex old new → IsSoundChain new × (pairs_of_chain new ≡ pairs_of_chain old)
