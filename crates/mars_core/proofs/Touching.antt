@@ -47,11 +47,6 @@ mask-push calls mask call reply is stripe =
     bit_at_or mask (mask_of call) stripe ∙ ap (λ (n : ℕ). max n (bit_at (mask_of call) stripe)) (is stripe) ∙ ap (max (cond (touched calls stripe) 1 0)) (mask_of_call call stripe)
     ∙ either (touched calls stripe) (touches call stripe) ∙ ap (λ (b : Bool). cond b 1 0) (sym (touched-push calls call reply stripe))
 
--- a reply touches nothing
-pub mask_same : (calls : Granted) (mask : ℕ) (call : Call) (was reply : Reply) → IsMaskOf (calls ++ (call, was) ∷ []) mask → IsMaskOf (calls ++ (call, reply) ∷ []) mask
-mask_same calls mask call was reply is stripe =
-    is stripe ∙ ap (λ (b : Bool). cond b 1 0) (touched-push calls call was stripe ∙ sym (touched-push calls call reply stripe))
-
 module _ (calls : Granted) (mask : ℕ) (call : Call) (is : IsMaskOf calls mask) where
   both_bits : (stripe : ℕ) → bit_at (bit_and mask (mask_of call)) stripe ≡ min (cond (touched calls stripe) 1 0) (cond (touches call stripe) 1 0)
   both_bits stripe = bit_at_and mask (mask_of call) stripe ∙ ap (λ (n : ℕ). min n (bit_at (mask_of call) stripe)) (is stripe) ∙ ap (min (cond (touched calls stripe) 1 0)) (mask_of_call call stripe)
