@@ -62,21 +62,6 @@ module _ (old items : Seats) (caller at : ℕ) (view : items ≡ old) (is : at �
     pub live-at : live_in old caller ≡ found
     live-at = ap (option_and_then (λ (calls : Option Granted). calls)) (slice_get-get_or old caller found within) ∙ subst (λ (x : Seats × ℕ). get_or x.0 x.1 found ≡ found) (λ i. (view i, is i)) (sym value)
 
-    pub not_none : {P : Type 0} (calls : Granted) → found ≡ None → live_in old caller ≡ Some calls → P
-    not_none calls none some = (let e : None ≡ Some calls = sym none ∙ sym live-at ∙ some in absurd (cc))
-
-    module _ (live : Granted) (here : found ≡ Some live) where
-      pub live-same : (calls : Granted) → live_in old caller ≡ Some calls → live ≡ calls
-      live-same calls some = (let e : Some live ≡ Some calls = sym here ∙ sym live-at ∙ some in cc)
-
-      -- nothing is changed
-      pub same_seats : (now : Granted) → now ≡ live → set items at (Some now) ≡ old
-      same_seats now same = ap (λ (o : Option Granted). set items at o) (ap Some same ∙ sym here ∙ value) ∙ set-get_or items at found ∙ view
-
-      -- one more call
-      pub pushed : (now more : Granted) → now ≡ live ++ more → now ≡ calls_at old caller ++ more
-      pushed now more same = same ∙ ap (λ (o : Option Granted). unwrap_or o [] ++ more) (sym here ∙ sym live-at)
-
 -- beyond the callers there is no live transaction
 pub none_beyond : (seats : Seats) (caller : ℕ) → length seats ≤ caller → live_in seats caller ≡ None
 none_beyond [] caller le = refl

@@ -54,11 +54,6 @@ mask-push calls mask call reply is stripe =
     ∙ either (is_some (touched calls stripe)) (is_some (touches call stripe))
     ∙ ap (λ (b : Bool). cond b 1 0) (sym (ap (λ (o : Option Mode). is_some o) (touched-push calls call reply stripe) ∙ is_touch (touched calls stripe) (touches call stripe)))
 
--- a reply touches nothing
-pub mask_same : (calls : Granted) (mask : ℕ) (call : Call) (was reply : Reply) → IsMaskOf (calls ++ (call, was) ∷ []) mask → IsMaskOf (calls ++ (call, reply) ∷ []) mask
-mask_same calls mask call was reply is stripe =
-    is stripe ∙ ap (λ (o : Option Mode). cond (is_some o) 1 0) (touched-push calls call was stripe ∙ sym (touched-push calls call reply stripe))
-
 module _ (calls : Granted) (mask : ℕ) (call : Call) (is : IsMaskOf calls mask) where
   both_bits : (stripe : ℕ) → bit_at (bit_and mask (mask_of call)) stripe ≡ min (cond (is_some (touched calls stripe)) 1 0) (cond (is_some (touches call stripe)) 1 0)
   both_bits stripe =
