@@ -8,7 +8,6 @@ use Rattle.array_image.specs.Joined.{joined}
 use Rattle.array_shape.specs.Logged.{Part, applied, places_of}
 use Rattle.array_image.specs.Image.{row_of, cell_of, parts_from, row_parts, data_of, IsGoodCell}
 use Rattle.array_image.specs.Decided.{decided, decided_parts, number_parts, all_decided, settled_data}
-use Rattle.array_image.specs.Standing.{IsGoodRow}
 use Rattle.array_image.proofs.Data.{outside_list, applied_more}
 use Rattle.array_image.proofs.Rows.{parts_same}
 use Rattle.array_image.proofs.Standing.{not_decided_parts}

@@ -1,5 +1,5 @@
 -- Images with the same rows and cells settle by the same parts.
-use Rattle.std.proofs.Common.{◌≡◌, ℕ, ◌<◌, ◌≤◌, Bool, true, cond, ⊎_elim, List, [], length, sym, ◌∙◌, ap, subst, arith}
+use Rattle.std.proofs.Common.{◌≡◌, ℕ, ◌<◌, Bool, true, cond, ⊎_elim, List, [], length, sym, ◌∙◌, ap, subst, arith}
 use Rattle.std.proofs.lemmas.Bool.{cases_Bool}
 use Rattle.pcm_media.specs.Images.{SameOutside}
 use Rattle.array_shape.specs.declared.shape.Shape.{Shape}

@@ -1,11 +1,8 @@
 -- What the table and heads that were read say of the image.
-use Rattle.std.proofs.Common.{◌≡◌, ℕ, ◌+◌, ◌<◌, ◌≤◌, List, drop, sym, ◌∙◌, ap, subst, arith}
-use Rattle.std.proofs.lemmas.List.{take-take}
-use Rattle.mars_base.specs.Bytes.{range}
+use Rattle.std.proofs.Common.{◌≡◌, ℕ, ◌+◌, ◌<◌, ◌≤◌, List, sym, ◌∙◌, ap, subst, arith}
 use Rattle.array_shape.specs.declared.shape.Shape.{Shape}
 use Rattle.row_bytes.specs.declared.row.Row.{Row}
 use Rattle.row_bytes.specs.declared.head.Head.{Head}
-use Rattle.row_bytes.specs.Said.{head_said}
 use Rattle.array_shape.specs.Logged.{IsOwned}
 use Rattle.array_image.specs.Image.{row_of, cell_of, cell_head, IsGoodCell}
 use Rattle.array_image.specs.Decided.{decided}

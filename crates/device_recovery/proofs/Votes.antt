@@ -1,5 +1,5 @@
 -- One vote after another is cleared.
-use Rattle.std.proofs.Common.{◌≡◌, ◌≢◌, ℕ, ◌<◌, Bool, true, false, cond, List, [], ◌∷◌, refl, sym, ap, subst, arith}
+use Rattle.std.proofs.Common.{◌≡◌, ℕ, ◌<◌, true, cond, List, [], ◌∷◌, ap, subst, arith}
 use Rattle.pcm_media.specs.Images.{SameOutside, IsOutside}
 use Rattle.array_shape.specs.declared.shape.Shape.{Shape}
 use Rattle.array_shape.specs.Places.{row_at}

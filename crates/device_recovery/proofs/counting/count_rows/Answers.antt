@@ -1,10 +1,9 @@
-use Rattle.std.proofs.Common.{◌≡◌, ◌*◌, ◌≤◌, ℕ, true, false, not, ◌&&◌, List, length, sym, ◌∙◌, ap, arith}
+use Rattle.std.proofs.Common.{◌≡◌, ◌*◌, ◌≤◌, true, false, not, ◌&&◌, sym, ◌∙◌, ap, arith}
 use Rattle.std.proofs.lemmas.Bool.{not-true, not-false, and_left, and_right, and_from, not_from_true, not_from_false}
 use Rattle.std.proofs.lemmas.Nat.{mul-le}
 use Rattle.row_bytes.specs.declared.row.Row.{Row}
 use Rattle.array_image.proofs.Deciding.{not_decided}
 use Rattle.device_recovery.specs.Table.{row_in, decided_in}
-use Rattle.device_recovery.specs.Recovered.{row_name}
 use Rattle.device_recovery.proofs.Lists.{row_counts, row_counts_not, rows_counted}
 use Rattle.device_recovery.proofs.counting.count_rows.Goals as goal
 

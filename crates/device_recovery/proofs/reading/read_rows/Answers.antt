@@ -1,4 +1,4 @@
-use Rattle.std.proofs.Common.{true, ◌≡◌, ◌+◌, ◌*◌, ℕ, [], sym, ◌∙◌, ap, refl, set, arith}
+use Rattle.std.proofs.Common.{true, ◌≡◌, ◌+◌, ◌*◌, ℕ, [], ◌∙◌, ap, refl, set, arith}
 use Rattle.std.proofs.lemmas.List.{length-set}
 use Rattle.std.proofs.lemmas.Result.{err_from_is_err_and}
 use Rattle.mars_base.proofs.Costing.{costs_all}

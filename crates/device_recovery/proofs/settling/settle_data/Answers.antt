@@ -1,4 +1,4 @@
-use Rattle.std.proofs.Common.{refl, ◌≡◌, ◌+◌, ◌*◌, ℕ, true, false, ◌∙◌, sym, ap, subst, length, arith}
+use Rattle.std.proofs.Common.{refl, ◌≡◌, ◌+◌, ◌*◌, ℕ, ◌∙◌, sym, ap, subst, length, arith}
 use Rattle.std.proofs.lemmas.Result.{on_ok_weaker, IfOk-from_err}
 use Rattle.pcm_media.specs.Images.{IsOutside}
 use Rattle.array_shape.specs.declared.shape.Shape.{Shape}
