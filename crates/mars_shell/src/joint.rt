@@ -5,10 +5,11 @@ ghost use Rattle.std.specs.List.{flat_map};
 ghost use Rattle.eaw_face.specs.Causes.{IsAlive};
 ghost use Rattle.history.specs.Legal.{records};
 ghost use Rattle.history_text.specs.Text.{done_lines, work_text, all_fate_lines};
+ghost use Rattle.texts.specs.MediaFault.{media_line};
 ghost use Rattle.texts.specs.Written.{Appends, IsWritten, Wrote};
 ghost use Rattle.history.specs.Rows.{table_of};
 ghost use Rattle.mars_shell.specs.Forms.{index_at};
-ghost use Rattle.mars_shell.specs.Joint.{media_line, TellsWork, IsBrokenOff, JointWork};
+ghost use Rattle.mars_shell.specs.Joint.{TellsWork, IsBrokenOff, JointWork};
 ghost use Rattle.mars_shell.specs.Served.{Serves, ServedCounts};
 
 use crate::forms::find_form;
