@@ -1,4 +1,7 @@
-//! The numbers of an array, and where its rows, cells and data lie on the medium.
+//! The shape of an array: its four numbers, and where rows, cells and pages lie on the medium.
+//!
+//! Read first `shape.rt`, and `specs/Places`, which has each place as one line. `specs/Parts` cuts a write at the pages, `specs/Numbers` has
+//! the ranges of the numbers. The laws in `laws.rt` say that places share no byte and that the parts of a write are the write.
 #![tactic(auto)]
 
 mod bad_shape;

@@ -1,4 +1,7 @@
-//! Recovery: it makes an array at rest of what a loss of power left.
+//! Recovery: it makes an array at rest of what a loss of power left, and may itself be cut off at any moment.
+//!
+//! Read first `recovery.rt`, and `specs/Recovered`: what recovery finds, says and writes. Its promise is in terms of `array_image`: at every
+//! moment what is left settles to the same data.
 #![tactic(auto)]
 
 mod checking;

@@ -1,4 +1,7 @@
-//! The array of editable atomic writes over a medium.
+//! The array over a medium: `Eaw` is an `EawStore` over any medium, `format` makes a fresh one, and an opening recovers first.
+//!
+//! Read first `device.rt` (the commands) and `opening.rt`; of `specs/` read `Opens` (what an image opens with), `Fresh` (what a fresh array
+//! holds) and `Costs` (calls of the medium for each command).
 #![tactic(auto)]
 
 mod attach;

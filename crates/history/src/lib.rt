@@ -1,4 +1,8 @@
-//! Calls on a table and their replies, the transactions that they form, and histories of transactions.
+//! What records mean, without any medium: calls and replies, the one-thread table, and which histories of transactions are legal on it.
+//!
+//! Read first `call.rt`, then `specs/Table` (the table's replies, and what calls leave), `specs/Legal` (each transaction is right on what
+//! those before it left) and `specs/Locks` (which stripes a call touches). `play` and `is_legal` run a history. The laws in `laws.rt` are
+//! strict locking: transactions that touch no common stripe leave each other's calls right.
 #![tactic(auto)]
 
 mod call;

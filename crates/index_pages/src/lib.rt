@@ -1,4 +1,6 @@
-//! What the pages of an index say: pairs of keys and slots. Their laws, the codec of a page, and the nested top actions that change pages.
+//! What both indexes share: the codec of an index page, the words for pairs on pages, and nested top actions of a few parts.
+//!
+//! Read first `specs/Page` (what a page says) and `specs/Pieces` (pairs in pieces, each under its low key), then `action.rt`.
 #![tactic(auto)]
 
 mod action;

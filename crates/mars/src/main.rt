@@ -1,4 +1,7 @@
-//! The program: it makes the real source, sink and image and hands them to the whole run.
+//! The program: it makes the real source, sink and image, and hands them to `mars_shell::run`.
+//!
+//! Read first `main.rt`. `choice.rt` says which image the words name, `ending.rt` what is told on standard error and with which status the
+//! program ends.
 #![tactic(auto)]
 
 mod choice;

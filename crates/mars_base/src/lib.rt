@@ -1,5 +1,9 @@
-//! What all crates share: a call that failed at the object itself, running out of memory, and, in `specs/`,
-//! counted faults and what a loss of power at some moment might have left.
+//! The base: what all crates share. `Failed` is a call that failed at the object itself, `NoMemory` is running out of memory, and `Listed` a
+//! list that contracts see as the list of its items.
+//!
+//! The words of the contracts are in `specs/`. Read first `Causes` (a failure raises a count of faults, so none is hidden) and `Moments`
+//! (each call of a medium is a moment, and what a loss of power since then might have left); then `Check` (tests in order, of which the
+//! first that fails says what is bad), `Room` (the first logger without room), `Costs` (so many calls) and `Bytes` (bytes at a place).
 #![tactic(auto)]
 
 mod listed;

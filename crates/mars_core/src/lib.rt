@@ -1,4 +1,7 @@
-//! Callers by turns over records of a table, with locks on keys and a history of what was committed.
+//! `Core`: callers by turns over the records of any `EawStore` under any index, with locks on keys and the history of what was committed.
+//!
+//! Read first `turns.rt`, whose `step` is one step of `caller_steps`. `specs/Held` says what a core shows, `specs/Over` how that is tied to
+//! the store below, and `specs/Kept` is the invariant.
 #![tactic(auto)]
 
 mod asking;

@@ -1,4 +1,8 @@
-//! The program over a source, a sink and a medium that are handed in.
+//! The program over a source, a sink and a medium that are handed in. The contract of `run` is the theorem of the program, which
+//! `docs/THEOREM.md` retells from the top.
+//!
+//! Read first `whole.rt`, then `specs/Outcome` (what a run leaves and writes, by its status), `specs/Run` (turns of callers) and
+//! `specs/PrefixLaw` (what a loss of power leaves). The law in `laws.rt`: what the callers of a script are told.
 #![tactic(auto)]
 
 mod callers;

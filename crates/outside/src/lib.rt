@@ -1,5 +1,8 @@
-//! Sources and sinks of bytes, each with a count of its faults: two in memory, which fail at the calls that a test lists, and
-//! two over std's reader and writer.
+//! Where bytes come from and where they go: the traits `Source` and `Sink`, each with a count of its faults. `MemorySource` and `MemorySink`
+//! are for tests and fail at just the calls that are listed. `StdSource` and `StdSink` are over std's reader and writer.
+//!
+//! Read first `source.rt` and `sink.rt`, and `specs/Told`: what a read and a write do to the bytes. An object that does not tell its bytes
+//! has no clause on them.
 #![tactic(auto)]
 
 mod memory_sink;

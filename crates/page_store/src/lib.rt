@@ -1,5 +1,7 @@
-//! Pages with savepoints and nested top actions over an array of editable atomic writes, the laws of their model, and the trait of an
-//! index over them.
+//! Pages with savepoints and nested top actions over any `EawStore`, and the trait `KeyIndex` of an index over them.
+//!
+//! Read first `specs/State` and `specs/Command` (the model: a line for each call), then `pages.rt`. What an index has to do is `index.rt`
+//! with `specs/Index`. The laws in `laws.rt`: a write is seen, a way back restores, the end of a top action keeps all views.
 #![tactic(auto)]
 
 mod fault;

@@ -1,5 +1,8 @@
-//! The value of a record, the slot of 64 bytes that holds it, the super page, the head of an index page, and the pages of data
-//! without records.
+//! The bytes of records: a value, the slot of 64 bytes that holds it, the super page, the head of an index page, and where they lie in
+//! the data.
+//!
+//! Read first `specs/Slots`, `specs/Super` and `specs/Places`, which are the layout of `docs/FORMAT.md`, and `specs/Fresh`: the pages of
+//! data without records. The law in `laws.rt`: what is written into a slot is read back.
 #![tactic(auto)]
 
 mod fresh;

@@ -1,4 +1,7 @@
-//! The codec for an array's header, its rows and the heads of its cells.
+//! The codec of what the array keeps beside the data: the header, the rows of the loggers and the heads of the cells.
+//!
+//! Read first `specs/Header` and `specs/Said`: what the bytes say, which is the layout of `docs/FORMAT.md`. Each writer here is proved to
+//! write bytes that say what it was given.
 #![tactic(auto)]
 
 mod head;
