@@ -4,4 +4,4 @@ mod counting;
 mod histories;
 mod lists;
 mod opening;
-mod texts;
+mod reply_texts;

@@ -74,7 +74,7 @@ mod page_call;
 mod ran;
 mod report;
 mod run;
-mod texts;
+mod text_lines;
 
 pub use case::{Case, Image, Play};
 pub use comparing::{compare, compare_ran};

@@ -2,7 +2,7 @@ use crate::draws::push_drawn;
 use crate::fault::LineFault;
 use crate::fields::{bytes, number, size, span, two_words, word_and_rest, words};
 use crate::loads::push_loads;
-use crate::texts::push_lines;
+use crate::text_lines::push_lines;
 use std::alloc::Global;
 
 /// Bytes, and the place in the image where they begin.
