@@ -3,6 +3,11 @@
 //!
 //! Read first `whole.rt`, then `specs/Outcome` (what a run leaves and writes, by its status), `specs/Run` (turns of callers) and
 //! `specs/PrefixLaw` (what a loss of power leaves). The law in `laws.rt`: what the callers of a script are told.
+//!
+//! `run` does what the words of the command line ask for, and answers with a status. What comes of it stands in `specs/Asked.antt`, by
+//! command and status: begin there, and go on with `specs/Outcome.antt` (what was not begun) and `specs/Run.antt` (work over records). The
+//! trait of such work is in `core_work`, and `records` goes with it from the opening to the status. `runs_compose` says that what a run
+//! leaves is what the next one needs, and `what_callers_are_told` what the fates of callers say of the history.
 #![tactic(auto)]
 
 mod callers;
