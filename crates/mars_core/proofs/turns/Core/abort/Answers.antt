@@ -6,7 +6,6 @@ use Rattle.history.specs.Rows.{table_of}
 use Rattle.history.specs.Table.{Granted}
 use Rattle.history.specs.declared.call.Call.TheVariants.{Abort}
 use Rattle.history.specs.declared.call.Reply.TheVariants.{Fine}
-use Rattle.record_table.specs.Command.{abort}
 use Rattle.record_table.specs.declared.fault.TableFault.{TableFault}
 use Rattle.caller_steps.specs.Core.{Steps}
 use Rattle.mars_core.specs.Held.{Held, core_of, state_at}
