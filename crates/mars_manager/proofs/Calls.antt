@@ -19,7 +19,6 @@ use Rattle.caller_steps.proofs.Running.{own_commits, last_here, turn_run, turn_t
 use Rattle.caller_steps.proofs.Owning.{number_of_commit, turns_live}
 use Rattle.atomic_table.specs.Table.{rest}
 use Rattle.mars_manager.specs.declared.view.Known.{Known}
-use Rattle.mars_manager.specs.declared.view.View.{View}
 use Rattle.mars_manager.specs.declared.setup.Setup.{Setup}
 use Rattle.mars_manager.specs.Pass.{Fits, AllFit, finds, told_of}
 use Rattle.mars_manager.specs.Sharing.{CanShare, Since, Called, IsLegalIn, done_of, mine_of, HasCommitted, Commits}

@@ -4,7 +4,6 @@ use Rattle.caller_steps.proofs.Continuing.{grows_none}
 use mathlib.Core.Option.{none}
 use Rattle.atomic_table.specs.Table.{rest, Allows, step}
 use Rattle.mars_manager.specs.declared.view.Known.{Known}
-use Rattle.mars_manager.specs.declared.view.View.{View}
 use Rattle.mars_manager.specs.Pass.{PassView, told_of, times, finds}
 use Rattle.mars_manager.specs.Sharing.{MarsView, Called, Commits, IsLegalIn}
 use Rattle.mars_manager.specs.Seat.{SeatOf, first_of}

@@ -1,6 +1,5 @@
 use Rattle.std.proofs.Common.{ℕ, ◌<◌, List, [], ◌∷◌, ◌++◌, Option, refl, sym, ap, ◌∙◌, subst, arith, map}
 use Rattle.std.specs.Option.{IsSome}
-use Rattle.mars_manager.specs.declared.view.View.{View}
 use Rattle.mars_manager.specs.Pass.{PassView, AllOf, HasEach, times, known_of}
 use Rattle.mars_manager.specs.Sharing.{MarsView, Since, AreGathered}
 use Rattle.mars_manager.specs.Seat.{SeatOf, view}
