@@ -1,13 +1,13 @@
 //! The program over a source, a sink and a medium that are handed in. The contract of `run` is the theorem of the program, which
 //! `docs/THEOREM.md` retells from the top.
 //!
-//! Read first `whole.rt`, then `specs/Outcome` (what a run leaves and writes, by its status), `specs/Run` (turns of callers) and
-//! `specs/PrefixLaw` (what a loss of power leaves). The law in `laws.rt`: what the callers of a script are told.
+//! `run` does what the words of the command line ask for, and answers with a status. Read first `whole.rt`, then `specs/Asked` (what
+//! comes of it, by command and status), `specs/Outcome` (what was not begun), `specs/Run` (turns of callers over records) and
+//! `specs/PrefixLaw` (what a loss of power leaves). The trait of work over records is in `core_work.rt`, and `records.rt` goes with it
+//! from the opening to the status.
 //!
-//! `run` does what the words of the command line ask for, and answers with a status. What comes of it stands in `specs/Asked.antt`, by
-//! command and status: begin there, and go on with `specs/Outcome.antt` (what was not begun) and `specs/Run.antt` (work over records). The
-//! trait of such work is in `core_work`, and `records` goes with it from the opening to the status. `runs_compose` says that what a run
-//! leaves is what the next one needs, and `what_callers_are_told` what the fates of callers say of the history.
+//! The laws in `laws.rt`: what a run leaves is what the next one needs (`runs_compose`), and what the fates of callers say of the history
+//! (`what_callers_are_told`).
 #![tactic(auto)]
 
 mod callers;
