@@ -7,6 +7,7 @@ use Rattle.pcm_media.proofs.Left.{left_as_read}
 use Rattle.array_shape.specs.declared.shape.Shape.{Shape}
 use Rattle.array_image.specs.Decided.{settled_data}
 use Rattle.row_bytes.proofs.OneShape.{one_shape}
+use Rattle.device_recovery.proofs.Goods.{good_rows}
 use Rattle.command_words.specs.declared.words.FormatNumbers.{FormatNumbers}
 use Rattle.command_words.specs.declared.words.Words.{Words}
 use Rattle.command_words.specs.declared.words.Words.TheVariants.{Run, Callers, Eaw, Dump, Drill, Format}
@@ -48,7 +49,7 @@ module _ (media : View) (shape : Shape) (form : ℕ) (sound : AllSound shape for
   all_open image left = let opens = sound image left in (opens.0, opens.1)
 
   array : length media.content.bytes ≡ media.size → IsArray shape media
-  array long = record { header = here.1.header; sized = sym long ∙ here.1.stands.lawful.long; good = here.1.stands.lawful.good }
+  array long = record { header = here.1.header; sized = sym long ∙ here.1.stands.lawful.long; good = good_rows shape media.content.bytes here.1.stands.lawful.good }
 
   pub holds_records : length media.content.bytes ≡ media.size → HoldsRecords shape media
   holds_records long = record { array = array long; sound = subst (λ (i : Index). i.sound (settled_data shape media.content.bytes)) (sym own_index) settled_sound }

@@ -30,9 +30,9 @@ unfolding index_at
 of_form form bytes is = ap index_of_form is
 
 pub sound_is_own : (form : ℕ) (bytes : List ℕ) → (index_of_form form).sound bytes → index_at bytes ≡ index_of_form form
-sound_is_own zero bytes sound = of_form 0 bytes sound.front.form_is
-sound_is_own (suc zero) bytes sound = of_form 1 bytes sound.front.form_is
-sound_is_own (suc (suc form)) bytes sound = of_form 0 bytes sound.front.form_is
+sound_is_own zero bytes sound = of_form 0 bytes sound.0.form_is
+sound_is_own (suc zero) bytes sound = of_form 1 bytes sound.0.form_is
+sound_is_own (suc (suc form)) bytes sound = of_form 0 bytes sound.0.form_is
 
 -- data that is sound under the index of other data names that index too
 pub sound_says : (old new : List ℕ) → (index_at old).sound new → index_at new ≡ index_at old
