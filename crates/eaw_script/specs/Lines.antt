@@ -15,8 +15,8 @@ use Rattle.eaw_script.specs.Progress.{Progress}
 abbrev pub RawLineGives : Progress → ℕ → List ℕ → List ℕ → Progress → Type 0
 RawLineGives old n line text new = (IsPassedOver line × (text ≡ []) × (new ≡ old))
     ⊎ (((t : ℕ) × (raw : Raw) × IsLineOf (IsTextOf t raw) old.shape.numbers t line × (answer : Answer) × (state : State)
-      × AnswersWith old.shape (logged_in old.state t) old.state t raw answer state × (text ≡ told_line t (answer_text t answer))
-      × (new ≡ record old { state = state; past = old.past ++ old.state.bytes ∷ [] }))
+    × AnswersWith old.shape (logged_in old.state t) old.state t raw answer state × (text ≡ told_line t (answer_text t answer))
+    × (new ≡ record old { state = state; past = old.past ++ old.state.bytes ∷ [] }))
     ⊎ ((IsPassedOver line → ⊥) × ((t : ℕ) (raw : Raw) → IsLineOf (IsTextOf t raw) old.shape.numbers t line → ⊥) × (text ≡ bad_line n) × (new ≡ old)))
 
 -- the medium fails in number t's command, which passes each test and uses the medium, so the data that it was to make is in doubt
