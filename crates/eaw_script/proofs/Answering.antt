@@ -8,8 +8,8 @@ use Rattle.array_shape.specs.declared.shape.Shape.{Shape}
 use Rattle.eaw_face.specs.StoreView.{StoreView}
 use Rattle.script_text.specs.Eaw.{Raw}
 use Rattle.script_text.specs.EawLines.{nothing, told, bad, Means, ShowsCall, SaysEaw}
-use Rattle.script_text.specs.AnswerLines.{answer_line}
-use Rattle.script_text.specs.Replies.{bad_line}
+use Rattle.script_text.specs.AnswerLines.{answer_text}
+use Rattle.script_text.specs.Replies.{told_line, bad_line}
 use Rattle.script_text.specs.declared.answer.Answer.{Answer}
 use Rattle.script_text.specs.declared.eaw_call.EawCall.{EawCall}
 use Rattle.script_text.specs.declared.eaw_line.EawLine.TheVariants.{Nothing, Told, Bad}
@@ -61,13 +61,13 @@ module _ (Opens : Shape → List ℕ → List ℕ → Type 0) (store : StoreView
 
   -- a line that is passed over, and a bad one
   pub passed_over : (text : List ℕ) → text ≡ [] → SaysEaw store.shape.numbers line Nothing → Answers raw_script (Shows store) (Comes Opens store (at store past) store) (at store past) n line text (let r : Reply = Ok tt in r)
-  passed_over text is says = (at store past, (nothing, means_nothing store.shape.numbers line says, (is, refl)), shows_at store past, stays)
+  passed_over text is says = (at store past, inl (means_nothing store.shape.numbers line says, is, refl), shows_at store past, stays)
 
   pub refused : (text : List ℕ) → text ≡ bad_line n → SaysEaw store.shape.numbers line Bad → Answers raw_script (Shows store) (Comes Opens store (at store past) store) (at store past) n line text (let r : Reply = Ok tt in r)
-  refused text is says = (at store past, (bad, means_bad store.shape.numbers line says, (is, refl)), shows_at store past, stays)
+  refused text is says = let means = means_bad store.shape.numbers line says in (at store past, inr (inr (means.0, means.1, is, refl)), shows_at store past, stays)
 
   pub refused_short : (text : List ℕ) → SaysEaw store.shape.numbers line Bad → Answers raw_script (Shows store) (Comes Opens store (at store past) store) (at store past) n line text (let r : Reply = Err NoMemory in r)
-  refused_short text says = (at store past, (bad_line n, (bad, means_bad store.shape.numbers line says, (refl, refl))), stays)
+  refused_short text says = let means = means_bad store.shape.numbers line says in (at store past, (bad_line n, inr (inr (means.0, means.1, refl, refl))), stays)
 
 module _ (tells : Bool) (tell : IsTrue tells) (Opens : Shape → List ℕ → List ℕ → Type 0) (old new : StoreView) (n : ℕ) (line : List ℕ) (t : ℕ) (raw : Raw)
     (outline : old.ranges t ≡ logged_in old.state t) (means : Means old.shape.numbers line (told t raw)) (past : List (List ℕ)) where
@@ -89,14 +89,19 @@ module _ (tells : Bool) (tell : IsTrue tells) (Opens : Shape → List ℕ → Li
           now = λ image left. (new.state.bytes, subst (λ (s : Shape). Opens s image new.state.bytes) did.shape (only image left), inl refl);
         }
 
-    gives : RawLineGives (at old past) n line (answer_line t answer) (moved (at old past) new.state)
-    gives = (
-      told t raw,
+    gives : RawLineGives (at old past) n line (told_line t (answer_text t answer)) (moved (at old past) new.state)
+    gives = inr (inl (
+      t,
+      raw,
       means,
-      (answer, new.state, subst (λ (log : Option (List (ℕ × ℕ))). AnswersWith old.shape log old.state t raw answer new.state) outline (did.answers tell), refl, refl),
-    )
+      answer,
+      new.state,
+      subst (λ (log : Option (List (ℕ × ℕ))). AnswersWith old.shape log old.state t raw answer new.state) outline (did.answers tell),
+      refl,
+      refl,
+    ))
 
-    pub performed : (text : List ℕ) → text ≡ answer_line t answer → Answers raw_script (Shows new) (Comes Opens old (at old past) new) (at old past) n line text (let r : Reply = Ok tt in r)
+    pub performed : (text : List ℕ) → text ≡ told_line t (answer_text t answer) → Answers raw_script (Shows new) (Comes Opens old (at old past) new) (at old past) n line text (let r : Reply = Ok tt in r)
     performed text is = (
       moved (at old past) new.state,
       subst (λ (txt : List ℕ). RawLineGives (at old past) n line txt (moved (at old past) new.state)) (sym is) gives,
@@ -106,7 +111,7 @@ module _ (tells : Bool) (tell : IsTrue tells) (Opens : Shape → List ℕ → Li
 
     -- there is no memory for its answer
     pub performed_short : (text : List ℕ) → Answers raw_script (Shows new) (Comes Opens old (at old past) new) (at old past) n line text (let r : Reply = Err NoMemory in r)
-    performed_short text = (moved (at old past) new.state, (answer_line t answer, gives), moved_on)
+    performed_short text = (moved (at old past) new.state, (told_line t (answer_text t answer), gives), moved_on)
 
   -- The medium failed: what the command was to make may have become durable or not.
   module _ (e : Failed) (did : Performed tells (Opens old.shape) old new t raw (Err e)) (only : (image : List ℕ) → old.left_since old.moment image → Opens old.shape image old.state.bytes)

@@ -1,7 +1,8 @@
 -- What a script writes line by line, and the state that it leaves.
 use Rattle.std.specs.Prelude.{ℕ, ◌≡◌, ◌+◌, List, [], ◌∷◌, ◌++◌, Bool, true, false}
+use Rattle.std.specs.Fmt.{decimal}
 use Rattle.std.specs.List.{concat}
-use Rattle.texts.specs.MediaFault.{numbered_media_line}
+use Rattle.texts.specs.MediaFault.{media_line}
 use Rattle.texts.specs.Written.{IsWritten}
 use Rattle.script_run.specs.Script.{Script}
 use Rattle.script_run.specs.declared.ended.Ended.{Ended}
@@ -13,7 +14,7 @@ abbrev pub Ends : {State : Type 0} → Script State → State → ℕ → List �
 -- the answer is cut short, but what the line asks for has been done
 Ends script old n line WriteFault cut rest new = (cut ≡ true) × (answer : List ℕ) × script.gives old n line answer new × IsWritten true rest answer
 -- the medium failed, and the answer says so; it too may be cut short
-Ends script old n line MediaFault cut rest new = (number : ℕ) × script.breaks old line number new × IsWritten cut rest (numbered_media_line number)
+Ends script old n line MediaFault cut rest new = (number : ℕ) × script.breaks old line number new × IsWritten cut rest (decimal number ++ 32 ∷ media_line)
 -- nothing of an answer is written
 Ends script old n line NoMemory cut rest new = (cut ≡ false) × (rest ≡ []) × script.stops old n line new
 Ends script old n line All cut rest new = ⊥

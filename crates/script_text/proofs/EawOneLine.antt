@@ -6,7 +6,8 @@ use Rattle.std.proofs.lemmas.Fmt.{decimal_injective}
 use Rattle.std.proofs.lemmas.List.{append_cancel_left}
 use Rattle.eaw_face.specs.Command.{Command, log_write, log_edit, commit, abort, nested_top, partial_abort, atomic_write, log_read, read}
 use Rattle.script_text.specs.HexText.{hex_of, IsBlock}
-use Rattle.script_text.specs.Eaw.{Raw, does, read_log, log_len, held, IsTextOf, IsLineOf}
+use Rattle.script_text.specs.Eaw.{Raw, does, read_log, log_len, held, IsTextOf}
+use Rattle.script_text.specs.Line.{IsLineOf}
 use Rattle.script_text.specs.EawLines.{Meaning, nothing, told, bad, Means}
 use Rattle.script_text.proofs.Words.{first_space}
 use Rattle.script_text.proofs.Numbers.{decimal_is_word}
@@ -65,7 +66,7 @@ does_letters (log_read u) = (λ e. omega (arith, e), λ e. omega (arith, e), λ 
 does_letters (read addr len) = (λ e. omega (arith, e), λ e. omega (arith, e), λ e. omega (arith, e))
 
 same_bytes : (a b : List ℕ) → IsBlock a → IsBlock b → hex_of a ≡ hex_of b → a ≡ b
-same_bytes a b is js e = hex_of_injective a b is.fits js.fits e
+same_bytes a b is js e = hex_of_injective a b is.2 js.2 e
 
 -- a front and a number determine the number
 same_number : (front : List ℕ) (m n : ℕ) → m < 2 ^ 32 → n < 2 ^ 32 → front ++ decimal m ≡ front ++ decimal n → m ≡ n
@@ -113,7 +114,7 @@ same_raw t log_len (does command) text is js = absurd ((does_letters command).1 
 same_raw t (held n) (does command) text is js = absurd ((does_letters command).2 (same_letters t (does command) (held n) text js is))
 same_raw t raw other text is js = absurd (let h : letters raw ≡ letters other = same_letters t raw other text is js in omega (arith, h))
 
-pub same_eaw_line : (numbers c d : ℕ) (raw other : Raw) (line : List ℕ) → numbers ≤ 2 ^ 64 → IsLineOf numbers c raw line → IsLineOf numbers d other line → (c ≡ d) × (raw ≡ other)
+pub same_eaw_line : (numbers c d : ℕ) (raw other : Raw) (line : List ℕ) → numbers ≤ 2 ^ 64 → IsLineOf (IsTextOf c raw) numbers c line → IsLineOf (IsTextOf d other) numbers d line → (c ≡ d) × (raw ≡ other)
 same_eaw_line numbers c d raw other line few is js =
     let cf : c < 2 ^ 64 = omega (arith, few, is.0) in
     let df : d < 2 ^ 64 = omega (arith, few, js.0) in

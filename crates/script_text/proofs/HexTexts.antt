@@ -87,15 +87,15 @@ pub is_text_of_bytes : (text : List ℕ) → 0 < length text → length text ≤
 is_text_of_bytes text some most even is =
     let made = bytes_of_digits text even is in
     let long : length text ≡ 2 * length made.0 = ap length made.2 ∙ length-hex_of made.0 in
-    (made.0, record { some = omega (arith, long); most = omega (arith, long); fits = made.1 }, made.2)
+    (made.0, (omega (arith, long), omega (arith, long), made.1), made.2)
 
 pub hex_is_long : (text : List ℕ) → IsHex text → (0 < length text) × (length text ≤ 2048) × (length text % 2 ≡ 0)
 hex_is_long text is =
     let long : length text ≡ 2 * length is.0 = ap length is.2 ∙ length-hex_of is.0 in
-    (omega (arith, long, is.1.some), omega (arith, long, is.1.most), omega (arith, long))
+    (omega (arith, long, is.1.0), omega (arith, long, is.1.1), omega (arith, long))
 
 pub hex_is_digits : (text : List ℕ) → IsHex text → All IsDigit text
-hex_is_digits text is = All-same IsDigit text (hex_of is.0) is.2 (digits_of_bytes is.0 is.1.fits)
+hex_is_digits text is = All-same IsDigit text (hex_of is.0) is.2 (digits_of_bytes is.0 is.1.2)
 
 -- what the decoder makes of such a text, in a front of the right length
 pub decoded : (text bytes buf : List ℕ) (result : Result Unit FromHexError) (out : List ℕ) → IsBlock bytes → text ≡ hex_of bytes → length text ≤ 2 * length buf
@@ -105,7 +105,7 @@ decoded text bytes buf result out is says fits found =
     let long : length text ≡ 2 * length bytes = ap length says ∙ length-hex_of bytes in
     let half : length text / 2 ≡ length bytes = omega (arith, long) in
     let room : length (take (length text / 2) buf) ≡ length bytes = simp length-take (omega (arith, long)) in
-    let read : decode_sized text (length bytes) ≡ Ok bytes = rw says (decode_sized-encode_lower bytes (length bytes) refl is.fits) in
+    let read : decode_sized text (length bytes) ≡ Ok bytes = rw says (decode_sized-encode_lower bytes (length bytes) refl is.2) in
     let both = rw read at (rw room at found) in
     (both.0, both.1, half)
 

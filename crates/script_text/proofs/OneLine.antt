@@ -6,7 +6,7 @@ use Rattle.std.proofs.lemmas.Fmt.{decimal_injective, decimal_digit, decimal_none
 use Rattle.std.proofs.lemmas.List.{append_cancel_left, get_or_append_left, length-append}
 use Rattle.history.specs.declared.call.Call.{Call}
 use Rattle.history.specs.declared.call.Call.TheVariants.{Begin, Get, Put, Del, Scan, Save, Back, Commit, Abort}
-use Rattle.script_text.specs.Line.{IsCallText, IsCallLine, IsPassedOver, LineSays}
+use Rattle.script_text.specs.Line.{IsCallText, IsLineOf, IsPassedOver, LineSays}
 use Rattle.script_text.specs.declared.line.Line.{Line}
 use Rattle.script_text.specs.declared.line.Line.TheVariants.{Nothing, Told, Bad}
 use Rattle.script_text.proofs.Words.{first_space}
@@ -70,7 +70,7 @@ same_call Commit Commit text is js = refl
 same_call Abort Abort text is js = refl
 same_call call other text is js = absurd (let h : letters call ≡ letters other = same_letters call other text is js in omega (arith, h))
 
-pub same_line : (callers c d : ℕ) (call other : Call) (line : List ℕ) → callers ≤ 2 ^ 64 → IsCallLine callers c call line → IsCallLine callers d other line
+pub same_line : (callers c d : ℕ) (call other : Call) (line : List ℕ) → callers ≤ 2 ^ 64 → IsLineOf (IsCallText call) callers c line → IsLineOf (IsCallText other) callers d line
     → (c ≡ d) × (call ≡ other)
 same_line callers c d call other line few is js =
     let cf : c < 2 ^ 64 = omega (arith, few, is.0) in

@@ -6,13 +6,16 @@ use Rattle.std.proofs.lemmas.List.{append-nil}
 use Rattle.history.specs.declared.call.Reply.{Reply}
 use Rattle.history.specs.declared.call.Reply.TheVariants.{Listed, LogFull, Media}
 use Rattle.texts.specs.MediaFault.{media_fault, numbered_media_line}
-use Rattle.script_text.specs.Replies.{reply_text, told_line, row_line, row_lines, reply_line, bad_line}
+use Rattle.script_text.specs.Replies.{reply_text, told_line, row_lines, reply_line, bad_line}
 
 -- the number, the words and the newline
 pub told_pieces : (caller : ℕ) (words number : List ℕ) → number ≡ decimal caller → (number ++ 32 ∷ []) ++ (words ++ 10 ∷ []) ≡ told_line caller words
 told_pieces caller words number is = rw is (simp append_assoc)
 
 -- the line of a row
+abbrev pub row_line : ℕ → ℕ × List ℕ → List ℕ
+row_line caller row = told_line caller (codes "row " ++ decimal row.0 ++ 32 ∷ row.1)
+
 pub row_pieces : (caller at : ℕ) (value number key text : List ℕ) → number ≡ decimal caller → key ≡ decimal at → text ≡ value
     → number ++ (codes " row " ++ (key ++ 32 ∷ (text ++ 10 ∷ []))) ≡ row_line caller (at, value)
 row_pieces caller at value number key text first second third = rw (first, second, third) (simp append_assoc)

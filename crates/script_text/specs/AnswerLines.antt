@@ -17,7 +17,3 @@ answer_text number Unknown = codes "unknown " ++ decimal number
 answer_text number BadRange = codes "bad range"
 answer_text number Live = codes "live"
 answer_text number (LogFull logger held needed) = codes "log full " ++ decimal logger ++ 32 ∷ decimal held ++ 32 ∷ decimal needed
-
--- the number, a space, the words, a newline
-unfoldable pub answer_line : ℕ → Answer → List ℕ
-answer_line number answer = decimal number ++ 32 ∷ answer_text number answer ++ 10 ∷ []

@@ -28,7 +28,3 @@ IsTextOf t (does (read addr len)) text = (addr < 2 ^ 32) × (1 ≤ len) × (len 
 IsTextOf t (read_log pos) text = (pos < 2 ^ 32) × (text ≡ codes "readlog " ++ decimal pos)
 IsTextOf t log_len text = text ≡ codes "loglen"
 IsTextOf t (held logger) text = (logger < 8) × (text ≡ codes "held " ++ decimal logger)
-
--- a line with a command of number t, one of this many numbers
-abbrev pub IsLineOf : ℕ → ℕ → Raw → List ℕ → Type 0
-IsLineOf numbers t raw line = (t < numbers) × (text : List ℕ) × IsTextOf t raw text × (line ≡ decimal t ++ 32 ∷ text)

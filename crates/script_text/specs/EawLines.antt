@@ -1,9 +1,9 @@
 -- What a line of raw commands means, and what reads it.
 use Rattle.std.specs.Prelude.{ℕ, ◌≡◌, List}
 use Rattle.eaw_face.specs.Command.{log_write, log_edit, commit, abort, nested_top, partial_abort, atomic_write, read}
-use Rattle.script_text.specs.Line.{IsPassedOver}
+use Rattle.script_text.specs.Line.{IsPassedOver, IsLineOf}
 use Rattle.script_text.specs.HexText.{hex_of}
-use Rattle.script_text.specs.Eaw.{Raw, does, read_log, log_len, held, IsLineOf}
+use Rattle.script_text.specs.Eaw.{Raw, does, read_log, log_len, held, IsTextOf}
 use Rattle.script_text.specs.declared.eaw_call.EawCall.{EawCall}
 use Rattle.script_text.specs.declared.eaw_call.EawCall.TheVariants.{LogWrite, Commit, Abort, Nested, Partial, Atomic, EditLog, ReadLog, Read, LogLen, Held}
 use Rattle.script_text.specs.declared.eaw_line.EawLine.{EawLine}
@@ -18,8 +18,8 @@ pub data Meaning : Type 0 where
 -- the meaning of a line: it is passed over, it is a number's command, or it is neither
 abbrev pub Means : ℕ → List ℕ → Meaning → Type 0
 Means numbers line nothing = IsPassedOver line
-Means numbers line (told t raw) = IsLineOf numbers t raw line
-Means numbers line bad = (IsPassedOver line → ⊥) × ((t : ℕ) (raw : Raw) → IsLineOf numbers t raw line → ⊥)
+Means numbers line (told t raw) = IsLineOf (IsTextOf t raw) numbers t line
+Means numbers line bad = (IsPassedOver line → ⊥) × ((t : ℕ) (raw : Raw) → IsLineOf (IsTextOf t raw) numbers t line → ⊥)
 
 -- A call shows a command of number t: it has the command's numbers and the text of its bytes.
 abbrev pub ShowsCall : ℕ → EawCall → Raw → Type 0

@@ -7,10 +7,8 @@ abbrev pub hex_of : List ℕ → List ℕ
 hex_of bytes = encode_lower bytes
 
 -- 1 to 1,024 bytes
-pub record IsBlock (bytes : List ℕ) : Type 0 where
-  pub some : 1 ≤ length bytes
-  pub most : length bytes ≤ 1024
-  pub fits : IsBytes bytes
+abbrev pub IsBlock : List ℕ → Type 0
+IsBlock bytes = (1 ≤ length bytes) × (length bytes ≤ 1024) × IsBytes bytes
 
 -- the hexadecimal text of 1 to 1,024 bytes
 abbrev pub IsHex : List ℕ → Type 0

@@ -19,9 +19,9 @@ IsCallText (Back save) text = (save < 2 ^ 32) × (text ≡ codes "back " ++ deci
 IsCallText Commit text = text ≡ codes "commit"
 IsCallText Abort text = text ≡ codes "abort"
 
--- a line with a call of this caller, one of this many
-abbrev pub IsCallLine : ℕ → ℕ → Call → List ℕ → Type 0
-IsCallLine callers caller call line = (caller < callers) × (text : List ℕ) × IsCallText call text × (line ≡ decimal caller ++ 32 ∷ text)
+-- a line of this number, one of this many: the number, a space, and a text of this kind
+abbrev pub IsLineOf : (List ℕ → Type 0) → ℕ → ℕ → List ℕ → Type 0
+IsLineOf IsText numbers number line = (number < numbers) × (text : List ℕ) × IsText text × (line ≡ decimal number ++ 32 ∷ text)
 
 -- no bytes, or a # as the first
 abbrev pub IsPassedOver : List ℕ → Type 0
@@ -31,5 +31,5 @@ IsPassedOver (byte ∷ bytes) = byte ≡ 35
 -- What a line says: nothing, a call of a caller, or it is bad.
 abbrev pub LineSays : ℕ → List ℕ → Line → Type 0
 LineSays callers line Nothing = IsPassedOver line
-LineSays callers line (Told caller call) = IsCallLine callers caller call line
-LineSays callers line Bad = (IsPassedOver line → ⊥) × ((caller : ℕ) (call : Call) → IsCallLine callers caller call line → ⊥)
+LineSays callers line (Told caller call) = IsLineOf (IsCallText call) callers caller line
+LineSays callers line Bad = (IsPassedOver line → ⊥) × ((caller : ℕ) (call : Call) → IsLineOf (IsCallText call) callers caller line → ⊥)

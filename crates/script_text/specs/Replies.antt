@@ -31,13 +31,9 @@ reply_text (Damaged page) = codes "damaged " ++ decimal page
 abbrev pub told_line : ℕ → List ℕ → List ℕ
 told_line caller words = decimal caller ++ 32 ∷ words ++ 10 ∷ []
 
--- the line of a row: its key and its value
-abbrev pub row_line : ℕ → ℕ × List ℕ → List ℕ
-row_line caller row = told_line caller (codes "row " ++ decimal row.0 ++ 32 ∷ row.1)
-
--- the lines of the rows, after a reply that lists them
+-- the lines of the rows, each with its key and its value, after a reply that lists them
 abbrev pub row_lines : ℕ → Reply → List ℕ
-row_lines caller (Listed rows) = flat_map (row_line caller) rows
+row_lines caller (Listed rows) = flat_map (λ row. told_line caller (codes "row " ++ decimal row.0 ++ 32 ∷ row.1)) rows
 row_lines caller _ = []
 
 -- the line of a reply and those of its rows

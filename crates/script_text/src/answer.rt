@@ -1,7 +1,8 @@
 ghost use Rattle.std.specs.Prelude.{◌≡◌, ℕ, List, [], ◌∷◌, ◌++◌, codes, decimal, OnOk, OnErr};
 ghost use Rattle.texts.specs.Pieces.{text_of};
 ghost use Rattle.script_text.specs.HexText.{hex_of};
-ghost use Rattle.script_text.specs.AnswerLines.{answer_line};
+ghost use Rattle.script_text.specs.AnswerLines.{answer_text};
+ghost use Rattle.script_text.specs.Replies.{told_line};
 
 use crate::hex_text::append_hex;
 use crate::lent::Lent;
@@ -33,7 +34,7 @@ pub enum Answer<'a> {
 
 /// Appends the line of an answer, with bytes in hexadecimal.
 pub fn write_answer(out: &mut Vec<u8>, number: u8, answer: &Answer<'_>) -> Result<(), NoMemory>
-    ensures ok { OnOk result (out.new.items ≡ out.old.items ++ answer_line number answer.now) }
+    ensures ok { OnOk result (out.new.items ≡ out.old.items ++ told_line number (answer_text number answer.now)) }
     ensures err { OnErr result (out.new.items ≡ out.old.items) }
 {
     let told = Piece::Number(u64::from(number));

@@ -1,5 +1,6 @@
 ghost use Rattle.script_text.specs.Reads.{ReadsShown};
-ghost use Rattle.script_text.specs.Eaw.{IsLineOf};
+ghost use Rattle.script_text.specs.Line.{IsLineOf};
+ghost use Rattle.script_text.specs.Eaw.{IsTextOf};
 ghost use Rattle.script_text.specs.EawLines.{SaysEaw, ShowsTold};
 
 use crate::eaw_call::{EawCall, read_eaw_call};
@@ -29,7 +30,7 @@ pub fn read_eaw(bytes: &[u8], numbers: u8) -> EawLine<'_>
 }
 
 fn read_eaw_told(bytes: &[u8], numbers: u8) -> Option<(u8, EawCall<'_>)>
-    ensures { ReadsShown ShowsTold (λ m. IsLineOf numbers m.0 m.1) bytes.now result }
+    ensures { ReadsShown ShowsTold (λ m. IsLineOf (IsTextOf m.0 m.1) numbers m.0) bytes.now result }
 {
     let (number, rest) = split_below(bytes, numbers)?;
     let call = read_eaw_call(rest)?;

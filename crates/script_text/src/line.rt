@@ -1,5 +1,5 @@
 ghost use Rattle.script_text.specs.Reads.{ReadsText};
-ghost use Rattle.script_text.specs.Line.{LineSays, IsCallLine};
+ghost use Rattle.script_text.specs.Line.{LineSays, IsLineOf, IsCallText};
 
 use crate::call::read_call;
 use crate::number::split_below;
@@ -29,7 +29,7 @@ pub fn read_line(bytes: &[u8], callers: u8) -> Line
 }
 
 fn read_told(bytes: &[u8], callers: u8) -> Option<(u8, Call)>
-    ensures { ReadsText (λ t. IsCallLine callers t.0 t.1) bytes.now result }
+    ensures { ReadsText (λ t. IsLineOf (IsCallText t.1) callers t.0) bytes.now result }
 {
     let (caller, rest) = split_below(bytes, callers)?;
     let call = read_call(rest)?;

@@ -1,7 +1,6 @@
-ghost use Rattle.std.specs.Prelude.{◌≡◌, [], ◌∷◌, ◌++◌, decimal, OnOk, OnErr};
-ghost use Rattle.std.specs.List.{flat_map};
+ghost use Rattle.std.specs.Prelude.{◌≡◌, [], ◌∷◌, ◌++◌, codes, decimal, OnOk, OnErr};
 ghost use Rattle.texts.specs.Written.{Appends};
-ghost use Rattle.script_text.specs.Replies.{reply_text, told_line, reply_line, row_line, bad_line};
+ghost use Rattle.script_text.specs.Replies.{reply_text, told_line, row_lines, reply_line, bad_line};
 
 use history::Reply;
 use mars_base::NoMemory;
@@ -114,7 +113,7 @@ fn put_log_full<E, T: TextOut<E>>(out: &mut T, logger: u8, held: u16, needed: u1
 
 // Puts a line for each row.
 fn put_rows<E, T: TextOut<E>>(out: &mut T, caller: u8, rows: &[(u64, Value)]) -> Result<(), E>
-    ensures { Appends T.tells (T.view out.old) (T.view out.new) result (flat_map (row_line caller) rows.now) }
+    ensures { Appends T.tells (T.view out.old) (T.view out.new) result (row_lines caller (Reply.Listed rows.now)) }
 {
     for row in rows {
         put_row(out, caller, row.0, &row.1)?;
@@ -123,7 +122,7 @@ fn put_rows<E, T: TextOut<E>>(out: &mut T, caller: u8, rows: &[(u64, Value)]) ->
 }
 
 fn put_row<E, T: TextOut<E>>(out: &mut T, caller: u8, key: u64, value: &Value) -> Result<(), E>
-    ensures { Appends T.tells (T.view out.old) (T.view out.new) result (row_line caller (key, value.now)) }
+    ensures { Appends T.tells (T.view out.old) (T.view out.new) result (told_line caller (codes "row " ++ decimal key ++ 32 ∷ value.now)) }
 {
     put_pieces(
         out,

@@ -2,8 +2,8 @@ use Rattle.std.proofs.Common.{[], refl, sym, ap, ◌∙◌}
 use Rattle.std.proofs.lemmas.List.{append-nil}
 use Rattle.std.specs.List.{flat_map}
 use Rattle.texts.proofs.Appending.{same_text, all_of, and_then, cut_there}
-use Rattle.script_text.specs.Replies.{row_line, row_lines}
-use Rattle.script_text.proofs.ReplyLemmas.{reply_lines, no_rows}
+use Rattle.script_text.specs.Replies.{row_lines}
+use Rattle.script_text.proofs.ReplyLemmas.{row_line, reply_lines, no_rows}
 use Rattle.script_text.proofs.reply.put_reply.Goals as goal
 
 pub returns-in_err-put_told : goal.returns-in_err-put_told

@@ -1,6 +1,6 @@
 use Rattle.std.proofs.Common.{ap}
 use Rattle.texts.proofs.Appending.{cut_at}
-use Rattle.script_text.specs.Replies.{row_line}
+use Rattle.script_text.proofs.ReplyLemmas.{row_line}
 use Rattle.script_text.proofs.reply.put_rows.Goals as goal
 
 pub returns-in_err-put_row : goal.returns-in_err-put_row

@@ -1,7 +1,7 @@
 use Rattle.std.proofs.Common.{take}
 use Rattle.std.specs.List.{flat_map}
 use Rattle.texts.proofs.Appending.{AppendsAll}
-use Rattle.script_text.specs.Replies.{row_line}
+use Rattle.script_text.proofs.ReplyLemmas.{row_line}
 use Rattle.script_text.proofs.reply.put_rows.Given as goal
 
 -- the lines so far were appended

@@ -1,8 +1,8 @@
 use Rattle.std.proofs.Common.{◌++◌, Ok, Err, ap, subst, ◌∙◌}
 use Rattle.array_shape.specs.declared.shape.Shape.{Shape}
-use Rattle.script_text.specs.AnswerLines.{answer_line}
+use Rattle.script_text.specs.AnswerLines.{answer_text}
 use Rattle.script_text.specs.EawLines.{SaysEaw}
-use Rattle.script_text.specs.Replies.{bad_line}
+use Rattle.script_text.specs.Replies.{told_line, bad_line}
 use Rattle.script_text.specs.declared.eaw_line.EawLine.TheVariants.{Nothing, Told, Bad}
 use Rattle.script_run.specs.declared.responder.Stop.TheVariants.{Media, NoMemory}
 use Rattle.eaw_script.proofs.Answering.{Reply, from_past, means_told, passed_over, refused, refused_short, performed, performed_short, failed}
@@ -42,7 +42,7 @@ returns-in-Ok-write_answer-clause-answers g c = λ tell.
     let is = means_told _ _ t c.in-Told.call says in
     let did = c.in-Ok-perform.ensures is.0 is.2.1 is.1 is.2.2 in
     let new = c.perform.new.store in
-    let text = c.in-Ok-write_answer.ensures.ok ∙ ap (λ xs. xs ++ answer_line t c.in-Ok-perform.answer) c.clear.ensures.items in
+    let text = c.in-Ok-write_answer.ensures.ok ∙ ap (λ xs. xs ++ told_line t (answer_text t c.in-Ok-perform.answer)) c.clear.ensures.items in
     from_past s.opens (s.view store) (s.view new) c.args.n c.args.line.now c.write_answer.new.out.items (let r : Reply = Ok tt in r)
     (λ past. performed s.tells tell s.opens (s.view store) (s.view new) c.args.n c.args.line.now t is.0 (g.met.S.EawStore.outlines store t tell c.requires) is.2 past
     c.in-Ok-perform.answer did (λ image left. g.met.S.EawStore.only_now new image tell did.alive left) _ text)
