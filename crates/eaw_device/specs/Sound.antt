@@ -48,6 +48,6 @@ view_of media shape logs is_dead = record {
 
 -- why a number has no log to work on
 abbrev pub LacksLog : StoreView → ℕ → EawFault → Type 0
-LacksLog store t (UnknownTid u) = (store.is_dead ≡ false) × (u ≡ t) × (IsLive store t → ⊥)
+LacksLog store t (UnknownTid u) = (store.is_dead ≡ false) × (IsLive store t → ⊥) × (u ≡ t)
 LacksLog store t Dead = store.is_dead ≡ true
 LacksLog store t _ = ⊥

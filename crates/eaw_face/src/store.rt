@@ -6,13 +6,14 @@ ghost use Rattle.mars_base.specs.Costs.{Costs};
 ghost use Rattle.array_shape.specs.declared.shape.Shape.{Shape};
 ghost use Rattle.array_shape.specs.Places.{data_len, IsShape};
 ghost use Rattle.array_shape.specs.Logged.{ranges_of};
-ghost use Rattle.eaw_face.specs.State.{listed, range_at, part_at, count_on};
-ghost use Rattle.eaw_face.specs.Command.{Command, log_write, log_edit, commit, abort, nested_top, partial_abort, atomic_write, log_read, read};
+ghost use Rattle.array_shape.specs.NumberSet.{members};
+ghost use Rattle.eaw_face.specs.State.{listed, group_log, range_at, part_at, count_on};
+ghost use Rattle.eaw_face.specs.Command.{Command, log_write, log_edit, commit, commit_group, abort, nested_top, partial_abort, atomic_write, log_read, read};
 ghost use Rattle.eaw_face.specs.StoreView.{StoreView, IsLive, ArePlaced, LeavesSome, log_len};
 ghost use Rattle.eaw_face.specs.Does.{Does};
 
 use crate::fault::EawFault;
-use array_shape::Shape;
+use array_shape::{NumberSet, Shape};
 
 /// An array of editable atomic writes (SOSP 2013). A write is logged under a transaction number, cut into parts at the
 /// multiples of 512, and changes the data when that number commits. Until then its log can be read and edited.
@@ -51,6 +52,16 @@ pub trait EawStore {
         ensures due { IsErrOf result EawFault.Media → 0 < log_len (view self.old) tid }
         ensures idle { log_len (view self.old) tid ≡ 0 → (view self.new).moment ≡ (view self.old).moment }
         ensures costs { Costs tells (calls (commit tid) (view self.old)) (view self.old).moment (view self.new).moment result }
+        ensures refused { IfErr result (λ fault. fault ≢ EawFault.Media → self.new ≡ self.old) };
+
+    /// CommitGroup: commits several numbers at once. All that they have logged is written into the data, that of the lowest number first,
+    /// and the numbers are free. The refusal of a number that is not live names the lowest such one. A set with no number in it is done
+    /// with no call of the medium.
+    fn commit_group(&mut self, tids: NumberSet) -> Result<(), EawFault>
+        ensures does { Does tells (opens (view self.old).shape) (commit_group (members tids)) (view self.old) (view self.new) result }
+        ensures due { IsErrOf result EawFault.Media → 0 < length (group_log (view self.old).ranges (members tids)) }
+        ensures idle { length (group_log (view self.old).ranges (members tids)) ≡ 0 → (view self.new).moment ≡ (view self.old).moment }
+        ensures costs { Costs tells (calls (commit_group (members tids)) (view self.old)) (view self.old).moment (view self.new).moment result }
         ensures refused { IfErr result (λ fault. fault ≢ EawFault.Media → self.new ≡ self.old) };
 
     /// Abort: drops all that the number has logged, and frees the number.
