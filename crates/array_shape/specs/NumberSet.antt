@@ -9,11 +9,11 @@ abbrev pub has : ℕ → ℕ → Bool
 has bits t = nat_eq (bit_at bits t) 1
 
 -- those of the n numbers from t on that are in it, rising
-abbrev pub numbers_from : ℕ → ℕ → ℕ → List ℕ
+unfoldable pub numbers_from : ℕ → ℕ → ℕ → List ℕ
 numbers_from bits t n = filter (has bits) (range_with_len t n)
 
 -- all of them: there are 64 numbers at most
-unfoldable pub numbers_in : ℕ → List ℕ
+abbrev pub numbers_in : ℕ → List ℕ
 numbers_in bits = numbers_from bits 0 64
 
 -- the numbers of a set, rising
