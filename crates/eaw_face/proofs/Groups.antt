@@ -53,28 +53,28 @@ with_each_two P f g ts x y here there u = go (is_one_of ts u) refl
 module _ (p : ℕ → Bool) where
   pub passes_in : (ts : List ℕ) (u : ℕ) → is_one_of (filter p ts) u ≡ true → p u ≡ true
   passes_in [] u is = absurd (false≢true is)
-  passes_in (t ∷ ts) u is = go (p t) refl is
+  passes_in (t ∷ ts) u is = go (p t) refl (passes_in ts u) is
     where
-      here : (same : Bool) → nat_eq u t ≡ same → p t ≡ true → same || is_one_of (filter p ts) u ≡ true → p u ≡ true
-      here true same passes is = ap p (eqb-true u t same) ∙ passes
-      here false same passes is = passes_in ts u is
+      here : (same : Bool) → nat_eq u t ≡ same → p t ≡ true → (is_one_of (filter p ts) u ≡ true → p u ≡ true) → same || is_one_of (filter p ts) u ≡ true → p u ≡ true
+      here true same passes later is = ap p (eqb-true u t same) ∙ passes
+      here false same passes later is = later is
 
-      go : (b : Bool) → p t ≡ b → is_one_of (cond b (t ∷ filter p ts) (filter p ts)) u ≡ true → p u ≡ true
-      go true passes is = here (nat_eq u t) refl passes is
-      go false fails is = passes_in ts u is
+      go : (b : Bool) → p t ≡ b → (is_one_of (filter p ts) u ≡ true → p u ≡ true) → is_one_of (cond b (t ∷ filter p ts) (filter p ts)) u ≡ true → p u ≡ true
+      go true passes later is = here (nat_eq u t) refl passes later is
+      go false fails later is = later is
 
   -- a number that passes is among them if it is one of the group
   pub passing_in : (ts : List ℕ) (u : ℕ) → p u ≡ true → is_one_of (filter p ts) u ≡ is_one_of ts u
   passing_in [] u passes = refl
-  passing_in (t ∷ ts) u passes = go (p t) refl
+  passing_in (t ∷ ts) u passes = go (p t) refl (passing_in ts u passes)
     where
-      other : (same : Bool) → nat_eq u t ≡ same → p t ≡ false → is_one_of (filter p ts) u ≡ (same || is_one_of ts u)
-      other true same fails = absurd (false≢true (sym fails ∙ ap p (sym (eqb-true u t same)) ∙ passes))
-      other false same fails = passing_in ts u passes
+      other : (same : Bool) → nat_eq u t ≡ same → p t ≡ false → is_one_of (filter p ts) u ≡ is_one_of ts u → is_one_of (filter p ts) u ≡ (same || is_one_of ts u)
+      other true same fails later = absurd (false≢true (sym fails ∙ ap p (sym (eqb-true u t same)) ∙ passes))
+      other false same fails later = later
 
-      go : (b : Bool) → p t ≡ b → is_one_of (cond b (t ∷ filter p ts) (filter p ts)) u ≡ is_one_of (t ∷ ts) u
-      go true same = ap (λ (b : Bool). nat_eq u t || b) (passing_in ts u passes)
-      go false same = other (nat_eq u t) refl same
+      go : (b : Bool) → p t ≡ b → is_one_of (filter p ts) u ≡ is_one_of ts u → is_one_of (cond b (t ∷ filter p ts) (filter p ts)) u ≡ is_one_of (t ∷ ts) u
+      go true same later = ap (λ (b : Bool). nat_eq u t || b) later
+      go false same later = other (nat_eq u t) refl same later
 
   pub one_of_all : (ts : List ℕ) (u : ℕ) → is_one_of (filter p ts) u ≡ true → is_one_of ts u ≡ true
   one_of_all ts u is = sym (passing_in ts u (passes_in ts u is)) ∙ is

@@ -1,6 +1,6 @@
 -- A command changes what the number that it names has logged, and no other's.
 use Rattle.std.proofs.Common.{◌≡◌, ℕ, Bool, true, false, cond, List, refl, ap}
-use Rattle.std.specs.Prelude.{Option}
+use Rattle.std.specs.Prelude.{Option, None}
 use Rattle.std.proofs.lemmas.Bool.{ne_eqb}
 use Rattle.eaw_face.specs.State.{Logs, with_log, is_one_of, with_each}
 use Rattle.eaw_face.specs.Command.{Command, log_write, log_edit, commit, commit_group, abort, nested_top, partial_abort, atomic_write, log_read, read, ranges_after}
