@@ -1,5 +1,5 @@
 -- Groups of numbers, one number after another.
-use Rattle.std.proofs.Common.{◌≡◌, ℕ, ◌+◌, Bool, true, false, cond, ◌||◌, nat_eq, inl, inr, List, [], ◌∷◌, ◌++◌, length, refl, sym, ◌∙◌, ap, arith}
+use Rattle.std.proofs.Common.{◌≡◌, ℕ, ◌+◌, Bool, true, false, cond, ◌||◌, nat_eq, inl, inr, ⊎_elim, List, [], ◌∷◌, ◌++◌, length, refl, sym, ◌∙◌, ap, arith}
 use Rattle.std.specs.Prelude.{Option, Some, None, is_some, filter}
 use Rattle.std.proofs.lemmas.Bool.{eqb-true, false≢true}
 use Rattle.std.proofs.lemmas.List.{length-append}
@@ -107,3 +107,18 @@ module _ {A : Type 0} (logs : Logs A) where
 
   pub each_live : (ts : List ℕ) → with_each logs (filter (λ t. is_some (logs t)) ts) None ≡ with_each logs ts None
   each_live ts = λ i u. freed_live ts u (logs u) refl i
+
+-- what is live in one store is live in another
+pub known_there : (store other : StoreView) → ((t : ℕ) → IsLive store t → IsLive other t) → (ts : List ℕ) → known store (commit_group ts) None → known other (commit_group ts) None
+known_there store other live [] is = tt
+known_there store other live (t ∷ ts) is = (live t is.0, known_there store other live ts is.1)
+
+-- none of the live numbers of a group is unknown
+pub none_unknown : (store : StoreView) → ((t : ℕ) → is_some (store.ranges t) ≡ true → IsLive store t) → (ts : List ℕ) (u : ℕ) → known store (commit_group (filter (λ t. is_some (store.ranges t)) ts)) (Some u) → ⊥
+none_unknown store live [] u bad = bad
+none_unknown store live (t ∷ ts) u bad = go (is_some (store.ranges t)) refl (none_unknown store live ts u) bad
+  where
+    go : (b : Bool) → is_some (store.ranges t) ≡ b → (known store (commit_group (filter (λ v. is_some (store.ranges v)) ts)) (Some u) → ⊥)
+        → known store (commit_group (cond b (t ∷ filter (λ v. is_some (store.ranges v)) ts) (filter (λ v. is_some (store.ranges v)) ts))) (Some u) → ⊥
+    go true some later bad = ⊎_elim (λ here. here.0 (live t some)) (λ rest. later rest.1) bad
+    go false none later bad = later bad

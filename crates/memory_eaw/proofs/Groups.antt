@@ -1,22 +1,22 @@
 -- The steps of a commit of several numbers.
-use Rattle.std.proofs.Common.{◌≡◌, ℕ, ◌+◌, ◌<◌, Bool, true, false, cond, inl, inr, List, [], ◌∷◌, ◌++◌, length, drop, refl, sym, ◌∙◌, ap, subst, arith}
+use Rattle.std.proofs.Common.{◌≡◌, ℕ, ◌+◌, ◌<◌, Bool, true, false, cond, inl, inr, List, [], ◌∷◌, ◌++◌, length, get_or, drop, refl, sym, ◌∙◌, ap, subst, arith}
 use Rattle.std.specs.Prelude.{Option, Some, None}
 use Rattle.std.specs.Option.{option_map}
-use Rattle.std.proofs.lemmas.List.{length-append}
+use Rattle.std.proofs.lemmas.List.{length-append, nil_from_length}
 use Rattle.array_shape.specs.Logged.{Part, applied, ranges_of}
 use Rattle.eaw_face.specs.State.{State, Logs, listed, is_one_of, with_each, with_log, group_log}
 use Rattle.eaw_face.specs.StoreView.{StoreView, IsLive}
 use Rattle.eaw_face.specs.Command.{commit_group, after}
 use Rattle.eaw_face.specs.Causes.{IsAlive, known}
 use Rattle.eaw_face.specs.Does.{Does}
-use Rattle.eaw_face.proofs.Groups.{with_each_next, applied_append, group_ranges}
+use Rattle.eaw_face.proofs.Groups.{with_each_next, applied_append, group_ranges, known_there}
 use Rattle.memory_eaw.specs.Kept.{Kept, changed, MustFailChange}
 use Rattle.memory_eaw.specs.Log.{Log, logged, outline}
 use Rattle.memory_eaw.specs.Plain.{Plain, IsData, view_of, IsSound}
 use Rattle.memory_eaw.specs.Steps.{log_at, relogged, committed}
 use Rattle.memory_eaw.specs.Calls.{IsCounted, Counts}
 use Rattle.memory_eaw.proofs.Parts.{length-ranges_of}
-use Rattle.memory_eaw.proofs.Views.{logged-set, listed-map, parts_are}
+use Rattle.memory_eaw.proofs.Views.{logged-set, listed-map, parts_are, log_is}
 use Rattle.memory_eaw.proofs.Doing.{done, does_done}
 use Rattle.memory_eaw.proofs.Commands.{counts_parts, same-committed, moment-committed}
 use Rattle.memory_eaw.proofs.Time.{time_committed, bytes-committed, logs-committed}
@@ -31,13 +31,13 @@ pub record Applies (first now : Plain) (all left : List ℕ) : Type 0 where
   pub same : now ≡ record first { bytes = now.bytes }
   pub bytes : applied (group_log (logged first.logs) left) now.bytes ≡ applied (group_log (logged first.logs) all) first.bytes
 
-pub applies_next : (first now next : Plain) (all left : List ℕ) (t : ℕ) (rest : List ℕ) → IsSound first → left ≡ t ∷ rest → Applies first now all left
-    → next ≡ record now { bytes = applied (drop 0 (log_at now.logs t).parts) now.bytes } → Applies first next all rest
-applies_next first now next all left t rest sound is stands step =
+pub applies_next : (first now next : Plain) (all left : List ℕ) (t at : ℕ) (rest : List ℕ) → IsSound first → left ≡ t ∷ rest → at ≡ t → Applies first now all left
+    → next ≡ record now { bytes = applied (drop 0 (log_at now.logs at).parts) now.bytes } → Applies first next all rest
+applies_next first now next all left t at rest sound is at_is stands step =
     let here = first_small (view_of first) left t rest is stands.live in
     let logs : now.logs ≡ first.logs = ap (λ (p : Plain). p.logs) stands.same in
     let lt : t < length first.logs = omega (arith, here.0.small, sound.numbers) in
-    let parts : (log_at now.logs t).parts ≡ listed (logged first.logs t) = ap (λ (ls : List Log). (log_at ls t).parts) logs ∙ sym (parts_are first.shape first.logs sound.logs t lt) in
+    let parts : (log_at now.logs at).parts ≡ listed (logged first.logs t) = (λ i. (log_at (logs i) (at_is i)).parts) ∙ sym (parts_are first.shape first.logs sound.logs t lt) in
     let bytes : next.bytes ≡ applied (listed (logged first.logs t)) now.bytes = ap (λ (p : Plain). p.bytes) step ∙ ap (λ (ps : List Part). applied ps now.bytes) parts in
     record {
       live = here.1;
@@ -47,6 +47,30 @@ applies_next first now next all left t rest sound is stands step =
           ∙ ap (λ (ts : List ℕ). applied (group_log (logged first.logs) ts) now.bytes) (sym is)
           ∙ stands.bytes;
     }
+
+-- what the first number of a group has logged, while those before it have logged nothing
+module _ (first : Plain) (sound : IsSound first) (all left : List ℕ) (t n : ℕ) (rest : List ℕ) (log : Log) (is : left ≡ t ∷ rest) (n_is : n ≡ t) (read : log ≡ get_or first.logs n log) (live : known (view_of first) (commit_group left) None)
+    (empty : group_log (logged first.logs) left ≡ group_log (logged first.logs) all) where
+  here : (IsLive (view_of first) t) × known (view_of first) (commit_group rest) None
+  here = first_small (view_of first) left t rest is live
+
+  its_parts : listed (logged first.logs t) ≡ log.parts
+  unfolding here
+  its_parts =
+      let lt : t < length first.logs = omega (arith, here.0.small, sound.numbers) in
+      parts_are first.shape first.logs sound.logs t lt ∙ ap (λ (l : Log). l.parts) (sym (log_is first.logs t n log lt n_is read))
+
+  whole : log.parts ++ group_log (logged first.logs) rest ≡ group_log (logged first.logs) all
+  unfolding here its_parts
+  whole = ap (λ (ps : List Part). ps ++ group_log (logged first.logs) rest) (sym its_parts) ∙ ap (group_log (logged first.logs)) (sym is) ∙ empty
+
+  pub has_some : 0 < length log.parts → 0 < length (group_log (logged first.logs) all)
+  unfolding here its_parts whole
+  has_some some = omega (arith, some, ap length whole, length-append log.parts (group_log (logged first.logs) rest))
+
+  pub has_none : length log.parts ≡ 0 → group_log (logged first.logs) rest ≡ group_log (logged first.logs) all
+  unfolding here its_parts whole
+  has_none none = ap (λ (ps : List Part). ps ++ group_log (logged first.logs) rest) (sym (nil_from_length log.parts none)) ∙ whole
 
 -- Where a loop stands that frees the numbers of a group: these are left.
 pub record Frees (first now : Plain) (all left : List ℕ) : Type 0 where
@@ -90,6 +114,7 @@ module _ (old mid new : Plain) (ts : List ℕ) (alive : IsAlive (view_of old)) (
   rest = same-committed ps old
 
   logs_are : logged new.logs ≡ with_each (logged old.logs) ts None
+  unfolding ps
   logs_are = logs ∙ ap (λ (p : Plain). with_each (logged p.logs) ts None) first ∙ ap (λ (ls : List Log). with_each (logged ls) ts None) (logs-committed ps old)
 
   bytes_are : new.bytes ≡ applied ps old.bytes
@@ -117,3 +142,8 @@ module _ (old mid new : Plain) (ts : List ℕ) (alive : IsAlive (view_of old)) (
 
   pub moment_stays : length (group_log (logged old.logs) ts) ≡ 0 → new.kept.moment ≡ old.kept.moment
   moment_stays none = ap (λ (p : Plain). p.kept.moment) same ∙ ap (λ (p : Plain). p.kept.moment) first ∙ ap (λ (k : Kept). k.moment) (moment-committed (group_log (logged old.logs) ts) old none)
+
+-- the numbers of a group are live while parts are committed
+pub known_committed : (old : Plain) (ps : List Part) (ts : List ℕ) → known (view_of old) (commit_group ts) None → known (view_of (committed ps old)) (commit_group ts) None
+known_committed old [] ts live = live
+known_committed old (p ∷ ps) ts live = known_there (view_of old) (view_of (committed (p ∷ ps) old)) (λ t is. record { small = is.small; live = is.live }) ts live
