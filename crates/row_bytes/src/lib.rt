@@ -10,4 +10,4 @@ mod row;
 
 pub use head::{Head, read_head, write_head};
 pub use header::{HeaderFault, read_array_header, write_array_header};
-pub use row::{Row, read_row, vote_byte, write_row};
+pub use row::{Ballot, Row, read_row, vote_byte, write_row};
