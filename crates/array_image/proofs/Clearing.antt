@@ -8,14 +8,15 @@ use Rattle.pcm_media.specs.Images.{SameOutside}
 use Rattle.array_shape.specs.declared.shape.Shape.{Shape}
 use Rattle.array_shape.specs.Places.{data_len}
 use Rattle.array_shape.specs.Logged.{Part, applied, AllFit, AllOwned, AllPlaced, parts_at}
-use Rattle.row_bytes.specs.declared.row.Ballot.{Ballot}
+use Rattle.row_bytes.specs.declared.ballot.Ballot.{Ballot}
 use Rattle.array_image.specs.Joined.{joined}
 use Rattle.array_image.proofs.Applied.{applied_twice, applied-append, length-applied}
 use Rattle.array_image.proofs.Data.{length-data_of, all_fit, all_placed, joined_placed, all_placed-append}
 use Rattle.array_image.proofs.Joined.{joined_none, joined_same, joined_first}
 use Rattle.array_image.proofs.Orders.{applied_any_order, parts_at-joined, parts_at-append}
 use Rattle.array_image.specs.Image.{row_of}
-use Rattle.array_image.specs.Decided.{ballot_of, has, decided, decided_as, decided_parts, order_parts, all_decided, orders}
+use Rattle.row_bytes.specs.Ballots.{ballot_of, has}
+use Rattle.array_image.specs.Decided.{decided, decided_as, decided_parts, order_parts, all_decided, orders}
 use Rattle.array_image.specs.Standing.{IsLawful, IsSettled}
 use Rattle.array_image.specs.Votes.{dropped, votes_of}
 use Rattle.array_image.proofs.Deciding.{decided_has, decided_carried, decided_voted, decided_still, carried_decides}

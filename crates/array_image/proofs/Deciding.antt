@@ -4,8 +4,9 @@ use Rattle.std.specs.Prelude.{nat_eq, nat_lt}
 use Rattle.std.specs.Cmp.{both_ways}
 use Rattle.std.proofs.lemmas.Bool.{and_left, and_right, and_parts, cases_eq, and_from, eq-eqb, eqb-true, lt-ltb, ltb-true, false≢true, false_from_ne_true}
 use Rattle.row_bytes.specs.declared.row.Row.{Row}
-use Rattle.row_bytes.specs.declared.row.Ballot.{Ballot}
-use Rattle.array_image.specs.Decided.{all_below, ballot_of, has_row, same_ballot, agrees, carried, decides}
+use Rattle.row_bytes.specs.declared.ballot.Ballot.{Ballot}
+use Rattle.row_bytes.specs.Ballots.{ballot_of, has_row, same_ballot}
+use Rattle.array_image.specs.Decided.{all_below, agrees, carried, decides}
 
 pub all_from : (n : ℕ) (p : ℕ → Bool) → ((k : ℕ) → k < n → p k ≡ true) → all_below n p ≡ true
 all_from zero p f = refl

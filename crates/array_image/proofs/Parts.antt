@@ -64,7 +64,7 @@ module _ (shape : Shape) where
     -- those of one logger with one order number
     pub at_logger : (o g : ℕ) → g < shape.loggers → parts_at shape g (order_parts shape image o) ≡ joined (λ t. decided_parts shape image o t g) 0 shape.numbers
     at_logger o g lt =
-        parts_at_each g (λ t. joined (decided_parts shape image o t) 0 shape.loggers) 0 shape.numbers
+        parts_at_each shape g (λ t. joined (decided_parts shape image o t) 0 shape.loggers) 0 shape.numbers
         ∙ joined_same (λ t. parts_at shape g (joined (decided_parts shape image o t) 0 shape.loggers)) (λ t. decided_parts shape image o t g) 0 shape.numbers (λ t le lt'.
         parts_at-joined shape (decided_parts shape image o t) 0 shape.loggers (λ h le' below. parts_own o t h (omega arith) (omega arith)) g (omega arith) (omega arith))
 

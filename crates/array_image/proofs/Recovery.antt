@@ -6,7 +6,7 @@ use Rattle.pcm_media.specs.Images.{SameOutside}
 use Rattle.array_shape.specs.declared.shape.Shape.{Shape}
 use Rattle.array_shape.specs.Places.{media_len}
 use Rattle.array_shape.specs.Logged.{Part, applied, AllPlaced, places_of}
-use Rattle.row_bytes.specs.declared.row.Ballot.{Ballot}
+use Rattle.row_bytes.specs.declared.ballot.Ballot.{Ballot}
 use Rattle.array_image.specs.Joined.{joined}
 use Rattle.array_image.specs.Image.{parts_from, data_of, IsGoodCell, row_of, row_parts}
 use Rattle.array_image.specs.Standing.{SameCells, IsGoodRow, IsLawful, StandsFor}

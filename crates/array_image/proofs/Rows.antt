@@ -12,7 +12,7 @@ use Rattle.row_bytes.specs.declared.row.Row.{Row}
 use Rattle.row_bytes.specs.Said.{row_said}
 use Rattle.array_shape.specs.Logged.{AllOwned, IsOwned}
 use Rattle.array_image.specs.Image.{row_of, cell_of, cell_head, cell_part, parts_from, IsGoodCell}
-use Rattle.array_image.specs.Decided.{ballot_of}
+use Rattle.row_bytes.specs.Ballots.{ballot_of}
 use Rattle.array_image.proofs.Places.{cell_fits_in}
 
 pub little_same : (i n : ℕ) (xs ys : List ℕ) → ((k : ℕ) → i ≤ k → k < i + n → get_or xs k 0 ≡ get_or ys k 0) → little_from i n xs ≡ little_from i n ys

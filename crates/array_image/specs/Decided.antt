@@ -1,32 +1,17 @@
 -- Which rows of an image are decided, and the data that it settles to.
 use Rattle.std.specs.Prelude.{ℕ, zero, suc, ◌^◌, Bool, true, not, ◌&&◌, ◌||◌, nat_eq, nat_lt, if◌then◌else◌, List, []}
-use Rattle.std.specs.Int.{bit_at}
 use Rattle.array_shape.specs.declared.shape.Shape.{Shape}
 use Rattle.array_shape.specs.Logged.{Part, applied}
-use Rattle.row_bytes.specs.declared.row.Ballot.{Ballot}
+use Rattle.row_bytes.specs.declared.ballot.Ballot.{Ballot}
 use Rattle.row_bytes.specs.declared.row.Row.{Row}
+use Rattle.row_bytes.specs.Ballots.{ballot_of, has_row, same_ballot}
 use Rattle.array_image.specs.Joined.{joined}
 use Rattle.array_image.specs.Image.{data_of, row_of, row_parts}
-
--- a mask has a logger, or a group has a number
-abbrev pub has : ℕ → ℕ → Bool
-has bits n = nat_eq (bit_at bits n) 1
 
 -- the test holds for each number below n
 abbrev pub all_below : ℕ → (ℕ → Bool) → Bool
 all_below zero p = true
 all_below (suc n) p = p n && all_below n p
-
--- what the row of number t is voted with: group 0 stands for t alone
-abbrev pub ballot_of : ℕ → Row → Ballot
-ballot_of t row = record { mask = row.mask; group = if nat_eq row.group 0 then 2 ^ t else row.group; order = row.order }
-
--- the row of number t at logger g is one of the commit's
-abbrev pub has_row : Ballot → ℕ → ℕ → Bool
-has_row ballot g t = has ballot.mask g && has ballot.group t
-
-abbrev pub same_ballot : Ballot → Ballot → Bool
-same_ballot a b = nat_eq a.mask b.mask && nat_eq a.group b.group && nat_eq a.order b.order
 
 -- the row is none of the commit's, or it is voted with its ballot
 abbrev pub agrees : Ballot → (ℕ → ℕ → Row) → ℕ → ℕ → Bool

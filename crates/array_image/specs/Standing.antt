@@ -4,7 +4,8 @@ use Rattle.pcm_media.specs.Images.{Content, IsOutside}
 use Rattle.array_shape.specs.declared.shape.Shape.{Shape}
 use Rattle.array_shape.specs.Places.{media_len}
 use Rattle.array_image.specs.Image.{cell_of, data_of, IsGoodCell, row_of}
-use Rattle.array_image.specs.Decided.{ballot_of, decided, settled_data}
+use Rattle.row_bytes.specs.Ballots.{ballot_of}
+use Rattle.array_image.specs.Decided.{decided, settled_data}
 
 -- the cells that a row names exist, and each holds a part of its logger
 pub record IsGoodRow (shape : Shape) (image : List ℕ) (g t : ℕ) : Type 0 where

@@ -6,7 +6,8 @@ ghost use Rattle.array_shape.specs.Logged.{Part, AllFit, AllPlaced, applied, par
 ghost use Rattle.array_image.specs.Image.{data_of, row_of};
 ghost use Rattle.array_image.specs.Joined.{joined};
 ghost use Rattle.array_image.specs.Standing.{AllSettled, IsRecovering, IsLawful, IsSettled, StandsFor};
-ghost use Rattle.array_image.specs.Decided.{all_decided, ballot_of, decided, decided_as, has_row, order_parts, orders, settled_data};
+ghost use Rattle.row_bytes.specs.Ballots.{ballot_of, has_row};
+ghost use Rattle.array_image.specs.Decided.{all_decided, decided, decided_as, order_parts, orders, settled_data};
 ghost use Rattle.array_image.specs.Votes.{dropped, votes_of};
 
 use array_shape::Shape;

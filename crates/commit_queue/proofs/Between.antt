@@ -18,7 +18,8 @@ use Rattle.array_image.proofs.Frames.{chosen_outside, left_sure, AllWithin, befo
 use Rattle.array_image.proofs.Joined.{outside_joined}
 use Rattle.array_image.proofs.Places.{row_fits_in, same_row, row_no_cell, row_no_data, cell_no_data}
 use Rattle.array_image.proofs.Rows.{cell_away, rest_of_same, voted_same, row_away}
-use Rattle.array_image.specs.Decided.{has_row, orders}
+use Rattle.row_bytes.specs.Ballots.{has_row}
+use Rattle.array_image.specs.Decided.{orders}
 use Rattle.array_image.specs.Votes.{votes_of}
 use Rattle.array_image.proofs.Deciding.{decided_where_voted, not_decided}
 use Rattle.commit_queue.specs.Queue.{Commit, IsWritten, IsVoted, Each, some_has, IsQueued, queue_parts}

@@ -3,8 +3,9 @@ use Rattle.std.proofs.Common.{◌≡◌, ◌≢◌, ℕ, suc, ◌-◌, ◌<◌, 
 use Rattle.std.specs.Prelude.{nat_eq}
 use Rattle.std.proofs.lemmas.Bool.{and_parts, and_from, eq-eqb, eqb-true, false_from_ne_true, not_from_true, not_from_false}
 use Rattle.array_shape.specs.declared.shape.Shape.{Shape}
-use Rattle.row_bytes.specs.declared.row.Ballot.{Ballot}
-use Rattle.array_image.specs.Decided.{all_below, has_row, decided, decided_as, orders}
+use Rattle.row_bytes.specs.declared.ballot.Ballot.{Ballot}
+use Rattle.row_bytes.specs.Ballots.{has_row}
+use Rattle.array_image.specs.Decided.{all_below, decided, decided_as, orders}
 use Rattle.array_image.proofs.Deciding.{all_from, none_from}
 use Rattle.array_image.specs.Image.{row_of}
 use Rattle.commit_queue.specs.Deferred.{any_below, is_order, deferred_orders}

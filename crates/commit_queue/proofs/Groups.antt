@@ -10,7 +10,7 @@ use Rattle.array_image.proofs.Data.{joined_placed}
 use Rattle.array_image.proofs.Joined.{joined_same}
 use Rattle.array_image.proofs.Orders.{applied_any_order, parts_at-joined, parts_at_each}
 use Rattle.array_image.proofs.Rows.{parts_owned}
-use Rattle.array_image.specs.Decided.{has_row}
+use Rattle.row_bytes.specs.Ballots.{has_row}
 use Rattle.commit_queue.specs.Queue.{Commit, named_at, IsWritten}
 use Rattle.commit_queue.proofs.Moments.{written_placed}
 

@@ -4,14 +4,15 @@ use Rattle.std.proofs.lemmas.Bool.{cases_Bool, false_from_ne_true, or_left, or_r
 use Rattle.array_shape.specs.declared.shape.Shape.{Shape}
 use Rattle.array_shape.specs.Places.{media_len}
 use Rattle.array_shape.specs.Logged.{Part, applied, AllPlaced}
-use Rattle.row_bytes.specs.declared.row.Ballot.{Ballot}
+use Rattle.row_bytes.specs.declared.ballot.Ballot.{Ballot}
 use Rattle.array_image.specs.Joined.{joined}
 use Rattle.array_image.specs.Image.{parts_from, data_of, cell_of, IsGoodCell, row_of}
 use Rattle.array_image.proofs.Joined.{joined_same}
 use Rattle.array_image.proofs.Applied.{applied-append}
 use Rattle.array_image.proofs.Data.{all_placed, joined_placed, all_placed-append}
 use Rattle.array_image.proofs.Rows.{parts_same, parts_owned, SameRest, rest_ballot}
-use Rattle.array_image.specs.Decided.{decided, has_row, carried}
+use Rattle.row_bytes.specs.Ballots.{has_row}
+use Rattle.array_image.specs.Decided.{decided, carried}
 use Rattle.array_image.specs.Standing.{StandsFor}
 use Rattle.commit_queue.specs.Queue.{Commit, named_at, named_parts, IsWritten, IsVoted, Each, some_has, IsQueued, queue_parts, carried_parts}
 use Rattle.commit_queue.proofs.Orders.{In, each_in}

@@ -3,7 +3,8 @@ use Rattle.std.proofs.Common.{◌≡◌, ◌≢◌, ℕ, zero, suc, ◌+◌, ◌
 use Rattle.std.proofs.lemmas.Bool.{cases_Bool, cases_eq, false≢true}
 use Rattle.array_image.specs.Joined.{joined}
 use Rattle.array_image.proofs.Joined.{joined_none, joined_first}
-use Rattle.array_image.specs.Decided.{has_row, orders}
+use Rattle.row_bytes.specs.Ballots.{has_row}
+use Rattle.array_image.specs.Decided.{orders}
 use Rattle.commit_queue.specs.Queue.{Commit, Each, Rise, some_has}
 
 -- what a function gives for each commit, joined

@@ -5,11 +5,12 @@ use Rattle.std.specs.Cmp.{both_ways}
 use Rattle.std.proofs.lemmas.Bool.{cases_Bool, and_parts, and_from, eq-eqb, eqb-true, false≢true, false_from_ne_true}
 use Rattle.array_shape.specs.declared.shape.Shape.{Shape}
 use Rattle.array_shape.specs.Logged.{Part, applied}
-use Rattle.row_bytes.specs.declared.row.Ballot.{Ballot}
+use Rattle.row_bytes.specs.declared.ballot.Ballot.{Ballot}
 use Rattle.array_image.specs.Joined.{joined}
 use Rattle.array_image.specs.Image.{parts_from, row_of, row_parts}
 use Rattle.array_image.proofs.Joined.{joined_none, joined_same}
-use Rattle.array_image.specs.Decided.{has_row, carried, decided, decided_parts, order_parts, all_decided, orders}
+use Rattle.row_bytes.specs.Ballots.{has_row}
+use Rattle.array_image.specs.Decided.{carried, decided, decided_parts, order_parts, all_decided, orders}
 use Rattle.array_image.specs.Standing.{IsLawful, StandsFor}
 use Rattle.array_image.proofs.Deciding.{IsCarried, carried_means, carried_from, decided_carried, carried_decides}
 use Rattle.array_image.proofs.Parts.{no_parts, its_parts, no_order_parts}

@@ -1,12 +1,12 @@
 -- A device between its calls: what keeps the queue of its commits, and what changes it.
-use Rattle.std.proofs.Common.{◌≡◌, ℕ, ◌<◌, true, false, List, [], ◌∷◌, ◌++◌, length, sym, subst}
+use Rattle.std.proofs.Common.{◌≡◌, ℕ, ◌<◌, Bool, true, false, List, [], ◌∷◌, ◌++◌, length, sym, subst}
 use Rattle.std.proofs.lemmas.List.{ext_get_or}
 use Rattle.pcm_media.specs.Images.{Content, MayLeave, Touched, partly}
 use Rattle.pcm_media.proofs.Left.{left_as_read, left_partly}
 use Rattle.array_shape.specs.declared.shape.Shape.{Shape}
 use Rattle.array_shape.specs.Logged.{applied, AllPlaced, places_of}
 use Rattle.array_image.specs.Image.{row_of}
-use Rattle.array_image.specs.Decided.{has_row}
+use Rattle.row_bytes.specs.Ballots.{has_row}
 use Rattle.array_image.specs.Standing.{AllSettled, IsRecovering}
 use Rattle.array_image.specs.Votes.{votes_of}
 use Rattle.array_image.proofs.Deciding.{not_decided}

@@ -10,7 +10,8 @@ use Rattle.array_shape.specs.Logged.{applied, places_of}
 use Rattle.array_image.specs.Image.{cell_of, data_of, IsGoodCell, row_of}
 use Rattle.array_image.proofs.Applied.{applied-append}
 use Rattle.array_image.proofs.Frames.{AllWithin}
-use Rattle.array_image.specs.Decided.{ballot_of, has_row, orders}
+use Rattle.row_bytes.specs.Ballots.{ballot_of, has_row}
+use Rattle.array_image.specs.Decided.{orders}
 use Rattle.array_image.specs.Standing.{StandsFor, IsEither, AllSettled}
 use Rattle.array_image.specs.Votes.{votes_of}
 use Rattle.commit_queue.specs.Queue.{Commit, named_parts, IsWritten, IsVoted, Each, queue_parts}

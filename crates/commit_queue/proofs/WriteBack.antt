@@ -9,7 +9,8 @@ use Rattle.array_image.specs.Image.{data_of, row_of}
 use Rattle.array_image.proofs.Applied.{applied_equal, applied-append}
 use Rattle.array_image.proofs.Data.{data_outside, all_fit_in}
 use Rattle.array_image.proofs.Frames.{data_cells, torn_cells, torn_data, torn_rest, torn_kept, data_rows}
-use Rattle.array_image.specs.Decided.{ballot_of, has_row, orders}
+use Rattle.row_bytes.specs.Ballots.{ballot_of, has_row}
+use Rattle.array_image.specs.Decided.{orders}
 use Rattle.array_image.specs.Standing.{StandsFor}
 use Rattle.array_image.specs.Votes.{votes_of}
 use Rattle.array_image.proofs.Deciding.{decided_has, decided_voted, decided_still, decides_same, not_decided}

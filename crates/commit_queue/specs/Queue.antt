@@ -3,10 +3,11 @@ use Rattle.std.specs.Prelude.{ℕ, ◌+◌, ◌^◌, ◌<◌, ◌≤◌, ◌≡�
 use Rattle.array_shape.specs.declared.shape.Shape.{Shape}
 use Rattle.array_shape.specs.Places.{media_len}
 use Rattle.array_shape.specs.Logged.{Part}
-use Rattle.row_bytes.specs.declared.row.Ballot.{Ballot}
+use Rattle.row_bytes.specs.declared.ballot.Ballot.{Ballot}
 use Rattle.array_image.specs.Joined.{joined}
 use Rattle.array_image.specs.Image.{cell_of, parts_from, data_of, IsGoodCell, row_of}
-use Rattle.array_image.specs.Decided.{ballot_of, has_row, carried, decided, orders}
+use Rattle.row_bytes.specs.Ballots.{ballot_of, has_row}
+use Rattle.array_image.specs.Decided.{carried, decided, orders}
 
 -- a commit: its ballot, the first cell and the count of each row by logger and number, and its parts in their order
 pub record Commit : Type 0 where

@@ -24,17 +24,6 @@ pub struct Row {
     pub order: u16,
 }
 
-/// What all rows of a commit are voted with.
-#[derive(Clone, Copy, Debug, PartialEq, Eq)]
-pub struct Ballot {
-    /// The loggers that have rows of the commit, one bit each.
-    pub mask: u8,
-    /// The numbers that are committed together, one bit each.
-    pub group: u64,
-    /// The place of the commit among those that wait for their write-back.
-    pub order: u16,
-}
-
 /// What the bytes of a row say.
 pub fn read_row(bytes: &[u8; 16]) -> Row
     ensures { result ≡ row_said bytes.now }
@@ -69,6 +58,7 @@ pub fn write_row(row: &Row, out: &mut [u8; 16])
         group,
         order,
     } = *row;
+    out.fill(0);
     out[0] = vote_byte(voted);
     out[1] = mask;
     LittleEndian::write_u16(&mut out[2..], first);

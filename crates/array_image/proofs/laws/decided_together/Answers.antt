@@ -1,5 +1,5 @@
 use Rattle.array_image.specs.Image.{row_of}
-use Rattle.array_image.specs.Decided.{ballot_of}
+use Rattle.row_bytes.specs.Ballots.{ballot_of}
 use Rattle.array_image.proofs.Deciding.{decided_carried, carried_decides}
 use Rattle.array_image.proofs.laws.decided_together.Goals as goal
 

@@ -1,4 +1,4 @@
-use Rattle.std.proofs.Common.{absurd}
+use Rattle.std.proofs.Common.{false}
 use Rattle.std.proofs.lemmas.Bool.{false≢true}
 use Rattle.commit_queue.proofs.Resting.{free_rests, free_at_rest}
 use Rattle.commit_queue.proofs.laws.cells_change_nothing.Goals as goal
