@@ -1,6 +1,6 @@
 -- Cells that are written, in part or whole.
 use Rattle.std.proofs.Common.{◌≡◌, ℕ, zero, suc, ◌+◌, ◌*◌, ◌^◌, ◌<◌, ◌≤◌, inl, inr, List, [], ◌∷◌, ◌++◌, length, get_or, take, drop, refl, sym, ◌∙◌, ap, subst, arith}
-use Rattle.std.proofs.lemmas.List.{get_or_append_left, get_or-drop, get_or-take, length-take-le, length-drop, ext_get_or}
+use Rattle.std.proofs.lemmas.List.{get_or_append_left, get_or-append-add, get_or-drop, get_or-take, length-take-le, length-drop, ext_get_or}
 use Rattle.std.proofs.lemmas.Bool.{cases_lt, cases_eq}
 use Rattle.std.proofs.lemmas.Nat.{mul-le}
 use Rattle.mars_base.specs.Bytes.{put, range}
@@ -96,7 +96,7 @@ module _ (shape : Shape) (g t : ℕ) (there : g < shape.loggers) (small : t < sh
         let whole = length-range (put_one image e p) at 528 (omega (arith, inside, length-put_one)) in
         ext_get_or 0 (take (length p.1) (drop 16 cell)) p.1 (length-take-le (length p.1) (drop 16 cell) (omega (arith, length-drop 16 cell, whole))) (λ i lt.
         let few : i < length p.1 = omega (arith, length-take-le (length p.1) (drop 16 cell) (omega (arith, length-drop 16 cell, whole))) in
-        get_or-take (length p.1) (drop 16 cell) i 0 few ∙ get_or-drop 16 cell i 0 ∙ one_byte (16 + i) (omega arith))
+        get_or-take (length p.1) (drop 16 cell) i 0 few ∙ get_or-drop 16 cell i 0 ∙ one_byte (16 + i) (omega arith) ∙ get_or-append-add (head_bytes (head_for p)) p.1 i 0)
 
     pub one_part : p.0 < 2 ^ 64 → cell_part cell ≡ p
     one_part fits = (λ i. ((one_head fits i).addr, take (one_head fits i).len (drop 16 cell))) ∙ ap (λ (bytes : List ℕ). (p.0, bytes)) one_bytes

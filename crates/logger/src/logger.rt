@@ -44,21 +44,21 @@ impl Logger {
     }
 
     /// Writes a row except for its vote: bytes 1 to 15, and never byte 0. Whether the row is voted is not looked at.
-    pub fn put_row<M: Media>(self, media: &mut M, tid: u8, row: &Row) -> Result<(), Failed>
+    pub fn put_row<M: Media>(self, media: &mut M, tid: u8, row: Row) -> Result<(), Failed>
         requires size { (M.view media.old).size ≡ media_len self.shape }
         requires tid { tid < self.shape.numbers }
         ensures written { IsTrue M.tells → OnOk result ((M.view media.new).content ≡
-            written (row_at self.shape self.number tid + 1) (row_rest row.now) (M.view media.old).content) }
+            written (row_at self.shape self.number tid + 1) (row_rest row) (M.view media.old).content) }
         ensures row { IsTrue M.tells → OnOk result (
             row_of self.shape (M.view media.new).content.bytes self.number tid ≡
-            (let said = row.now in
+            (let said = row in
             record said { voted = (row_of self.shape (M.view media.old).content.bytes self.number tid).voted })) }
         ensures costs { Costs true 1 (M.view media.old).moment (M.view media.new).moment result }
         ensures does { Writes M.tells ((row_at self.shape self.number tid + 1, 15) ∷ [])
             (M.view media.old) (M.view media.new) result }
     {
         let mut bytes = [0; 16];
-        write_row(row, &mut bytes);
+        write_row(&row, &mut bytes);
         media.write(self.shape.row_at(self.number, tid) + 1, &bytes[1..])
     }
 
