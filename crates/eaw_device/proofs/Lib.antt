@@ -2,6 +2,7 @@ pub mod Attaching
 pub mod Formatting
 pub mod FreshLemmas
 pub mod Spared
+pub mod Cells
 pub mod OpeningLemmas
 pub mod ReadingLemmas
 pub mod Dealt

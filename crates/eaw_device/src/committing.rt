@@ -5,9 +5,10 @@ ghost use Rattle.pcm_media.specs.View.{LeavesOnly};
 ghost use Rattle.array_shape.specs.Places.{media_len};
 ghost use Rattle.array_shape.specs.Logged.{applied};
 ghost use Rattle.array_image.specs.Image.{data_of};
-ghost use Rattle.array_image.specs.Standing.{IsEither, IsClean, SameCells};
+ghost use Rattle.array_image.specs.Standing.{IsEither, SameCells};
 ghost use Rattle.eaw_device.specs.Logs.{ranges_in, parts_in, IsKept, IsHeld};
 ghost use Rattle.coordinator.specs.Costs.{commit_calls};
+ghost use Rattle.eaw_device.specs.Sound.{IsClean};
 ghost use Rattle.eaw_device.specs.Steps.{WritesBehind};
 ghost use Rattle.eaw_device.specs.Costs.{counts_of};
 
