@@ -1,17 +1,18 @@
 -- Writes into cells alone: no commit waits before them, and none after; the data stays.
-use Rattle.std.proofs.Common.{◌≡◌, ℕ, ◌+◌, ◌<◌, ◌≤◌, false, true, List, [], length, refl, sym, subst}
+use Rattle.std.proofs.Common.{◌≡◌, ℕ, ◌+◌, ◌<◌, ◌≤◌, false, true, List, [], length, refl, sym, subst, arith}
 use Rattle.std.proofs.lemmas.Bool.{false≢true}
 use Rattle.pcm_media.specs.Images.{Content, MayLeave, SameOutside, IsOutside, Touched, partly}
 use Rattle.array_shape.specs.declared.shape.Shape.{Shape}
-use Rattle.array_shape.specs.Places.{cell_at, row_at, place_of, data_len}
-use Rattle.array_image.specs.Image.{data_of}
+use Rattle.array_shape.specs.Places.{cell_at, row_at, place_of, data_len, media_len}
+use Rattle.array_image.specs.Image.{data_of, row_of}
 use Rattle.array_image.specs.Standing.{StandsFor}
 use Rattle.array_image.proofs.Places.{row_no_cell, cell_no_data}
 use Rattle.array_image.proofs.Data.{data_away}
+use Rattle.array_image.proofs.Deciding.{not_decided}
 use Rattle.array_image.proofs.Frames.{AllWithin}
 use Rattle.commit_queue.specs.Between.{AreFree, IsAtRest}
 use Rattle.commit_queue.proofs.Between.{holds_stands}
-use Rattle.commit_queue.proofs.Resting.{free_rests, free_at_rest}
+use Rattle.commit_queue.proofs.Resting.{free_rests, free_at_rest, rest_by_bytes}
 use Rattle.eaw_device.specs.Sound.{IsClean}
 
 -- a place that no cell has is outside the ranges
@@ -48,3 +49,20 @@ module _ (shape : Shape) (ranges : List (ℕ × ℕ)) (in_cells : AreInCells sha
     staging_clean new touched =
         subst (λ (d : List ℕ). IsAtRest shape [] d new) (sym (staged_data old.bytes new.bytes touched.bytes))
         (free_at_rest shape [] (data_of shape old.bytes) (λ g t. false) ranges free old within clean (λ image' left' g t lt below so. absurd (false≢true so)) new touched)
+
+-- an array of which all is settled, and no row is voted
+pub unvoted_clean : (shape : Shape) (content : Content) → length content.bytes ≡ media_len shape → content.unsettled ≡ [] → ((g t : ℕ) → g < shape.loggers → t < shape.numbers → (row_of shape content.bytes g t).voted ≡ false) → IsClean shape content
+unvoted_clean shape content long settled none =
+    rest_by_bytes shape [] (data_of shape content.bytes) content (λ i. subst (λ (us : List (ℕ × ℕ)). IsOutside us i) (sym settled) tt) (record {
+      holds = record {
+        queued = record {
+          long = long;
+          rise = tt;
+          written = tt;
+          others = λ g t lt lt' away. not_decided shape.loggers shape.numbers (row_of shape content.bytes) g t lt lt' (none g t lt lt');
+          holds = refl;
+        };
+        voted = tt;
+      };
+      quiet = λ g t lt lt' away. none g t lt lt';
+    })
