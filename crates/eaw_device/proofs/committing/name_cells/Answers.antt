@@ -1,6 +1,7 @@
 use Rattle.std.proofs.Common.{◌≡◌, ◌≢◌, ◌-◌, ◌+◌, ◌*◌, ℕ, ◌<◌, ◌≤◌, inl, inr, length, take, sym, ◌∙◌, ap, arith}
 use Rattle.std.specs.Prelude.{slice_index, slice_set}
 use Rattle.std.proofs.lemmas.Bool.{cases_eq}
+use Rattle.std.proofs.lemmas.List.{length-set}
 use Rattle.coordinator.specs.declared.cells.Cells.{Cells}
 use Rattle.coordinator.specs.Commits.{cells_in}
 use Rattle.eaw_device.specs.Logs.{cells_on}
@@ -23,8 +24,9 @@ loop-logger-preserved c =
     let count = c.counts_of_first-firsts.ensures.counts k lt in
     let x : Cells = record { first = slice_index c.counts_of_first-firsts.result k; count = slice_index log.held k - slice_index c.counts_of_first-firsts.result k } in
     let few : k < 8 = omega (arith, shape.in_range.most_loggers) in
-    let there : 8 * c.from.result + k < length c.loop-logger.cells = omega (arith, c.from.ensures, c.requires.tid, shape.in_range.most_numbers) in
+    let there : 8 * c.from.result + k < length c.loop-logger.cells = omega (arith, c.loop-logger.invariant.long, c.from.ensures, c.requires.tid, shape.in_range.most_numbers) in
     record {
+      long = length-set c.loop-logger.cells (8 * c.from.result + k) x ∙ c.loop-logger.invariant.long;
       here = λ g below. elim (cases_eq g k) [
         | inl is ↦ ap (λ (h : ℕ). cells_in (slice_set c.loop-logger.cells (8 * c.from.result + k) x) h c.args.tid) is
             ∙ named_here c.loop-logger.cells c.from.result c.args.tid k c.from.ensures x there
