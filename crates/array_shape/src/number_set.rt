@@ -1,5 +1,5 @@
 // Sets of transaction numbers.
-ghost use Rattle.std.specs.Prelude.{◌≡◌, ◌≢◌, ◌<◌, ℕ, [], true};
+ghost use Rattle.std.specs.Prelude.{◌≡◌, ◌≢◌, ◌<◌, ℕ, [], true, false};
 ghost use Rattle.array_shape.specs.NumberSet.{has, numbers_in, members};
 
 use crate::shape::NUMBERS_MAX;
@@ -14,7 +14,8 @@ pub struct NumberSet {
 impl NumberSet {
     /// The set with no number in it.
     pub fn empty() -> NumberSet
-        ensures { members result ≡ [] }
+        ensures none { members result ≡ [] }
+        ensures lacks { (t : ℕ) → has result.bits t ≡ false }
     {
         NumberSet { bits: 0 }
     }

@@ -25,7 +25,7 @@ use Rattle.coordinator.specs.Costs.{total, decide_calls, write_back_calls, commi
 use Rattle.eaw_device.specs.Groups.{cell_parts, group_parts, HaveCells, HaveParts, group_rows, group_count, group_calls}
 
 -- sums over the numbers below one
-total_more : (f : ℕ → ℕ) (n : ℕ) → total f (suc n) ≡ total f n + f n
+pub total_more : (f : ℕ → ℕ) (n : ℕ) → total f (suc n) ≡ total f n + f n
 total_more f n =
     let one : suc n ≡ n + 1 = omega arith in
     ap (total f) one ∙ sum_by-map-range_with_len_more (λ (k : ℕ). k) f 0 n n (omega arith)

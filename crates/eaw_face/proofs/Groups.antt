@@ -15,7 +15,7 @@ known_next store t ts live None is = (live, is)
 known_next store t ts live (Some u) is = inr (live, is)
 
 -- one number after another is given x
-pub with_each_next : {A : Type 0} (f : ℕ → Option (List A)) (t : ℕ) (ts : List ℕ) (x : Option (List A)) → with_each (with_log f t x) ts x ≡ with_each f (t ∷ ts) x
+pub with_each_next : {A : Type 0} (f : ℕ → A) (t : ℕ) (ts : List ℕ) (x : A) → with_each (λ (u : ℕ). cond (nat_eq u t) x (f u)) ts x ≡ with_each f (t ∷ ts) x
 with_each_next {A} f t ts x = λ i u. go u (is_one_of ts u) (nat_eq u t) i
   where
     go : (u : ℕ) (later here : Bool) → cond later x (cond here x (f u)) ≡ cond (here || later) x (f u)
@@ -23,6 +23,16 @@ with_each_next {A} f t ts x = λ i u. go u (is_one_of ts u) (nat_eq u t) i
     go u true false = refl
     go u false true = refl
     go u false false = refl
+
+-- one that has x already stays
+pub with_each_there : {A : Type 0} (f : ℕ → A) (t : ℕ) (ts : List ℕ) (x : A) → f t ≡ x → with_each f ts x ≡ with_each f (t ∷ ts) x
+with_each_there {A} f t ts x there = λ i u. go u (is_one_of ts u) (nat_eq u t) refl i
+  where
+    go : (u : ℕ) (later here : Bool) → nat_eq u t ≡ here → cond later x (f u) ≡ cond (here || later) x (f u)
+    go u true true is = refl
+    go u true false is = refl
+    go u false true is = ap f (eqb-true u t is) ∙ there
+    go u false false is = refl
 
 pub applied_append : (ps qs : List Part) (bytes : List ℕ) → applied (ps ++ qs) bytes ≡ applied qs (applied ps bytes)
 applied_append [] qs bytes = refl
@@ -122,3 +132,8 @@ none_unknown store live (t ∷ ts) u bad = go (is_some (store.ranges t)) refl (n
         → known store (commit_group (cond b (t ∷ filter (λ v. is_some (store.ranges v)) ts) (filter (λ v. is_some (store.ranges v)) ts))) (Some u) → ⊥
     go true some later bad = ⊎_elim (λ here. here.0 (live t some)) (λ rest. later rest.1) bad
     go false none later bad = later bad
+
+-- a group of live numbers has no unknown one
+pub known_whole : (store : StoreView) (ts : List ℕ) (u : ℕ) → known store (commit_group ts) None → known store (commit_group ts) (Some u) → ⊥
+known_whole store [] u live bad = bad
+known_whole store (t ∷ ts) u live bad = ⊎_elim (λ here. here.0 live.0) (λ later. known_whole store ts u live.1 later.1) bad

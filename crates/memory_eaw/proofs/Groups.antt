@@ -1,5 +1,5 @@
 -- The steps of a commit of several numbers.
-use Rattle.std.proofs.Common.{◌≡◌, ℕ, ◌+◌, ◌<◌, Bool, true, false, cond, inl, inr, List, [], ◌∷◌, ◌++◌, length, get_or, drop, refl, sym, ◌∙◌, ap, subst, arith}
+use Rattle.std.proofs.Common.{◌≡◌, ℕ, ◌+◌, ◌<◌, Bool, true, false, cond, inl, inr, ⊎_elim, List, [], ◌∷◌, ◌++◌, length, get_or, drop, refl, sym, ◌∙◌, ap, subst, arith}
 use Rattle.std.specs.Prelude.{Option, Some, None}
 use Rattle.std.specs.Option.{option_map}
 use Rattle.std.proofs.lemmas.List.{length-append, nil_from_length}
@@ -9,16 +9,20 @@ use Rattle.eaw_face.specs.StoreView.{StoreView, IsLive}
 use Rattle.eaw_face.specs.Command.{commit_group, after}
 use Rattle.eaw_face.specs.Causes.{IsAlive, known}
 use Rattle.eaw_face.specs.Does.{Does}
-use Rattle.eaw_face.proofs.Groups.{with_each_next, applied_append, group_ranges, known_there}
+use Rattle.eaw_face.proofs.Groups.{with_each_next, applied_append, group_ranges, known_there, known_whole}
 use Rattle.memory_eaw.specs.Kept.{Kept, changed, MustFailChange}
 use Rattle.memory_eaw.specs.Log.{Log, logged, outline}
 use Rattle.memory_eaw.specs.Plain.{Plain, IsData, view_of, IsSound}
-use Rattle.memory_eaw.specs.Steps.{log_at, relogged, committed}
+use Rattle.memory_eaw.specs.Steps.{log_at, relogged, committed, IsUnknownIn}
 use Rattle.memory_eaw.specs.Calls.{IsCounted, Counts}
 use Rattle.memory_eaw.proofs.Parts.{length-ranges_of}
 use Rattle.memory_eaw.proofs.Views.{logged-set, listed-map, parts_are, log_is}
 use Rattle.memory_eaw.proofs.Doing.{done, does_done}
 use Rattle.memory_eaw.proofs.Commands.{counts_parts, same-committed, moment-committed}
+use Rattle.eaw_face.specs.declared.fault.EawFault.{EawFault}
+use Rattle.eaw_face.specs.declared.fault.EawFault.TheVariants.{UnknownTid, Media, Dead}
+use Rattle.std.proofs.lemmas.Bool.{false≢true}
+use Rattle.memory_eaw.proofs.Stopping.{stop}
 use Rattle.memory_eaw.proofs.Time.{time_committed, bytes-committed, logs-committed}
 
 -- the first number of a group that is known is one of the array's
@@ -147,3 +151,20 @@ module _ (old mid new : Plain) (ts : List ℕ) (alive : IsAlive (view_of old)) (
 pub known_committed : (old : Plain) (ps : List Part) (ts : List ℕ) → known (view_of old) (commit_group ts) None → known (view_of (committed ps old)) (commit_group ts) None
 known_committed old [] ts live = live
 known_committed old (p ∷ ps) ts live = known_there (view_of old) (view_of (committed (p ∷ ps) old)) (λ t is. record { small = is.small; live = is.live }) ts live
+
+-- a commit of a group that was refused is not counted
+pub counts_unknown : (old : Plain) (ts : List ℕ) (fault : EawFault) → IsUnknownIn (view_of old) ts fault → Counts (commit_group ts) (view_of old) old.kept old.kept (stop (Unit {0}) fault)
+counts_unknown old ts fault unknown = record {
+  fails = (λ is. absurd (other is), λ both. absurd (free both.0));
+  counted = λ counted. absurd (free counted);
+  uncounted = λ not. refl;
+}
+  where
+    free : IsCounted (view_of old) (commit_group ts) → ⊥
+    free counted = ⊎_elim
+        (λ dead. false≢true (sym counted.alive ∙ dead.1))
+        (λ lacks. known_whole (view_of old) ts lacks.0 counted.knows lacks.3)
+        unknown
+
+    other : stop (Unit {0}) fault ≡ stop (Unit {0}) Media → ⊥
+    other is = ⊎_elim (λ dead. let never : ⊥ = cc (dead.0, is) in never) (λ lacks. let never : ⊥ = cc (lacks.1, is) in never) unknown

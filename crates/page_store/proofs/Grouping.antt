@@ -1,7 +1,8 @@
 -- The end of a group of numbers.
 use Rattle.std.proofs.Common.{◌≡◌, ℕ, ◌<◌, ◌≤◌, Bool, true, false, inl, inr, List, [], ◌∷◌, length, Result, Ok, Err, refl, sym, ◌∙◌, ap, subst, arith}
-use Rattle.std.specs.Prelude.{Option, Some, None, IsTrue, IfErr, OnOk, OnErr, is_some, filter}
+use Rattle.std.specs.Prelude.{Option, Some, None, IsTrue, IfErr, OnOk, OnErr, IsErrOf, is_some, filter}
 use Rattle.std.proofs.lemmas.Bool.{cases_lt, false≢true}
+use Rattle.std.proofs.lemmas.Result.{IfErr-at_err}
 use Rattle.eaw_face.specs.State.{is_one_of}
 use Rattle.eaw_face.specs.StoreView.{StoreView, IsLive}
 use Rattle.eaw_face.specs.Command.{Command, commit_group}
@@ -17,6 +18,7 @@ use Rattle.page_store.specs.Outline.{outline_after}
 use Rattle.page_store.specs.Shown.{PagesView, outline_of}
 use Rattle.page_store.specs.Told.{IsKnown, TellsAs}
 use Rattle.page_store.specs.declared.fault.PageFault.{PageFault}
+use Rattle.page_store.specs.declared.fault.PageFault.TheVariants.{LogFull, Media, Dead}
 use Rattle.page_store.proofs.Lifting.{Makes, lifted}
 use Rattle.page_store.proofs.Shown.{IsTold}
 
@@ -56,3 +58,11 @@ module _ (tells : Bool) (Opens : List ℕ → List ℕ → Type 0) (ts live : Li
       → OnOk s ((new.counts ≡ (outline_after (end_group ts) (outline_of old)).counts) × (new.top ≡ (outline_after (end_group ts) (outline_of old)).top))
       → OnErr s ((new.counts ≡ old.counts) × (new.top ≡ old.top)) → Does tells Opens (end_group ts) old new s
   group_does = lifted tells Opens (end_group ts) (commit_group live) old new makes
+
+-- only a fault of the medium is told as one
+pub media_of : (r : Result (Unit {0}) EawFault) (p : PageFault) → (let s : Result (Unit {0}) PageFault = Err p in TellsAs r s) → p ≡ Media → IsErrOf r fault.Media
+media_of (Ok x) p told is = absurd told
+media_of (Err (fault.UnknownTid t)) p told is = absurd told.0
+media_of (Err (fault.LogFull g h n)) p told is = let never : ⊥ = cc (told.1, is) in absurd never
+media_of (Err fault.Media) p told is = refl
+media_of (Err fault.Dead) p told is = let never : ⊥ = cc (told.1, is) in absurd never

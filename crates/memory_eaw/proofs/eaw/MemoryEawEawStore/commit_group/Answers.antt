@@ -13,7 +13,7 @@ use Rattle.memory_eaw.specs.Shown.{plain_of, shown}
 use Rattle.memory_eaw.specs.Steps.{committed}
 use Rattle.memory_eaw.proofs.Stopping.{counts_failed}
 use Rattle.memory_eaw.proofs.Commands.{calls-committed}
-use Rattle.memory_eaw.proofs.Groups.{group_len, does_group, counts_group, moment_stays, known_committed}
+use Rattle.memory_eaw.proofs.Groups.{group_len, does_group, counts_group, moment_stays, known_committed, counts_unknown}
 use Rattle.memory_eaw.proofs.eaw.MemoryEawEawStore.commit_group.Goals as goal
 
 pub returns-in_err-commit_all-clause-idle : goal.returns-in_err-commit_all-clause-idle
@@ -74,3 +74,8 @@ returns-clause-costs c =
     let first = ap (λ (p : Plain). p.kept.moment) c.in_ok-commit_all.ensures.done.1 in
     let one = calls-committed (group_log (logged self.logs.items) (members c.args.tids)) (plain_of self) in
     costs_all true _ _ _ _ (omega (arith, same, first, one, group_len (plain_of self) (members c.args.tids)))
+
+pub returns-in_err-check_group-clause-calls : goal.returns-in_err-check_group-clause-calls
+returns-in_err-check_group-clause-calls c =
+    let p = err_from_is_err_and c.from_residual.result c.from_residual.ensures.1 in
+    rw (p.1, p.2) (counts_unknown (plain_of c.args.self.now) (members c.args.tids) _ c.in_err-check_group.ensures.refused)
