@@ -1,3 +1,5 @@
 pub mod Calls
 pub mod Costing
 pub mod Applying
+pub mod Placing
+pub mod Committing
