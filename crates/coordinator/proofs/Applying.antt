@@ -1,18 +1,20 @@
 -- The parts of one row after another are written into the data.
 use Rattle.std.proofs.Common.{◌≡◌, ℕ, ◌+◌, ◌<◌, ◌≤◌, ⊎_elim, Bool, true, false, cond, List, [], length, refl, sym, ◌∙◌, ap, subst, arith}
-use Rattle.std.proofs.lemmas.Bool.{cases_Bool}
+use Rattle.std.specs.Int.{bit_at}
+use Rattle.std.proofs.lemmas.Bool.{and_left, cases_Bool, ne_eqb}
+use Rattle.std.proofs.lemmas.Nat.Bits.{bit_at-zero}
 use Rattle.pcm_media.specs.Images.{SameOutside, IsOutside}
 use Rattle.array_shape.specs.declared.shape.Shape.{Shape}
 use Rattle.array_shape.specs.Places.{media_len}
 use Rattle.array_shape.specs.Logged.{Part, applied, AllOwned, AllPlaced, places_of}
 use Rattle.row_bytes.specs.declared.ballot.Ballot.{Ballot}
-use Rattle.row_bytes.specs.Ballots.{has_row}
+use Rattle.row_bytes.specs.Ballots.{has, has_row}
 use Rattle.array_image.specs.Image.{cell_of, data_of, parts_from, IsGoodCell}
 use Rattle.array_image.specs.Joined.{joined}
 use Rattle.array_image.specs.Standing.{SameCells}
 use Rattle.array_image.proofs.Data.{all_placed, applied_more, joined_placed, outside_list}
 use Rattle.array_image.proofs.Frames.{data_cells}
-use Rattle.array_image.proofs.Joined.{joined_same}
+use Rattle.array_image.proofs.Joined.{joined_none, joined_same}
 use Rattle.array_image.proofs.Rows.{parts_owned, parts_same}
 use Rattle.commit_queue.specs.Queue.{named_at}
 use Rattle.coordinator.specs.declared.cells.Cells.{Cells}
@@ -50,6 +52,11 @@ module _ (shape : Shape) (ballot : Ballot) (cells : List Cells) (there : AreTher
 
   pub all_same : (old new : List ℕ) → SameCells shape old new → parts_named shape new ballot cells ≡ parts_named shape old ballot cells
   all_same old new same = joined_same (number_parts shape new ballot cells) (number_parts shape old ballot cells) 0 shape.numbers (λ t le lt'. number_same old new same t (omega arith))
+
+  -- no logger takes part
+  pub none_named : ballot.mask ≡ 0 → (image : List ℕ) → parts_named shape image ballot cells ≡ []
+  none_named empty image = joined_none (number_parts shape image ballot cells) 0 shape.numbers (λ t le' lt'. joined_none (named image t) 0 shape.loggers (λ g le lt. named_none image t g
+      (and_left (has ballot.mask g) (has ballot.group t) (ne_eqb (bit_at ballot.mask g) 1 (λ one. omega (arith, ap (λ (m : ℕ). bit_at m g) empty, bit_at-zero g, one))))))
 
   module _ (base : List ℕ) (long : length base ≡ media_len shape) (good : AreGood shape base ballot cells) where
     named_owned : (g t : ℕ) → g < shape.loggers → t < shape.numbers → AllOwned shape g (named base t g)

@@ -3,3 +3,4 @@ pub mod Costing
 pub mod Applying
 pub mod Placing
 pub mod Committing
+pub mod Masks
