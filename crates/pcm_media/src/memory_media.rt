@@ -11,7 +11,8 @@ ghost use Rattle.pcm_media.specs.Choice.{IsLeftBy};
 
 use crate::choice::choose;
 use crate::journal::Journal;
-use crate::{Call, Media, Record};
+use crate::Media;
+use crate::call::Call;
 use mars_base::{Failed, NoMemory};
 use std::alloc::Global;
 use std::marker::Model;
@@ -99,27 +100,13 @@ impl MemoryMedia {
             m ≡ fresh_memory m.start self.now.kept.calls_room self.now.kept.bytes_room) }
     {
         let mut image = Vec::from_slice(self.alloc, &self.bytes)?;
-        choose(&mut image, self.journal.records(), choice);
+        choose(&mut image, self.journal.unsettled(), choice);
         MemoryMedia::over(
             self.alloc,
             image,
             self.journal.calls_room(),
             self.journal.bytes_room(),
         )
-    }
-
-    /// Its calls, the oldest first.
-    pub fn calls(&self) -> &[Record]
-        ensures { result.now ≡ self.now.kept.records }
-    {
-        self.journal.records()
-    }
-
-    /// The bytes of the writes that were done, one write after another.
-    pub fn written(&self) -> &[u8]
-        ensures { result.now ≡ self.now.kept.written }
-    {
-        self.journal.written()
     }
 }
 
@@ -158,14 +145,10 @@ impl Media for MemoryMedia {
 
         ensures listed { HasRoom self.old.kept 0 → (IsErr result ↔ MustFail self.old.kept) }
         ensures past_room { MustFail self.old.kept → IsErr result }
-        ensures made { Makes (Read at (length buf.old)) [] self.old.kept self.new.kept result }
+        ensures made { Makes Read [] self.old.kept self.new.kept result }
         ensures start { self.new.start ≡ self.old.start }
     {
-        let call = Call::Read {
-            at,
-            len: buf.len() as u64,
-        };
-        self.journal.make(call, &[])?;
+        self.journal.make(Call::Read, &[])?;
         let at = at as usize;
         buf.copy_from_slice(&self.bytes[at..at + buf.len()]);
         Ok(())
