@@ -1,8 +1,0 @@
-pub mod Between
-pub mod Masks
-pub mod Calls
-pub mod Applying
-pub mod Committing
-pub mod Whole
-pub mod Header
-pub mod Costing
