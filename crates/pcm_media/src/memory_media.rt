@@ -18,7 +18,8 @@ use std::alloc::Global;
 use std::marker::Model;
 
 /// A medium in memory, which keeps all its calls. As long as its room suffices and its moment is below the last value, a call
-/// fails exactly when it is listed. Beyond its room, a call also fails if memory runs out.
+/// fails exactly when it is listed. Beyond its room, a call also fails if memory runs out, and once it has for the record of a call,
+/// each call behind that one does. Of a read the record has no place.
 #[derive(Drop)]
 pub struct MemoryMedia {
     alloc: Global,
