@@ -14,10 +14,10 @@ use Rattle.commit_queue.specs.Between.{Holds}
 use Rattle.commit_queue.proofs.Orders.{each_of, In, each_in, each_same, joined_rising}
 use Rattle.commit_queue.proofs.Queues.{all_or_none, voted_carried, commit_of, its_rows}
 
-any_from : (n : ℕ) (p : ℕ → Bool) (k : ℕ) → k < n → p k ≡ true → any_below n p ≡ true
+pub any_from : (n : ℕ) (p : ℕ → Bool) (k : ℕ) → k < n → p k ≡ true → any_below n p ≡ true
 any_from n p k lt so = not_from_false (all_below n (λ i. not (p i))) (none_from n (λ i. not (p i)) k lt (not_from_true (p k) so))
 
-any_none : (n : ℕ) (p : ℕ → Bool) → ((k : ℕ) → k < n → p k ≡ false) → any_below n p ≡ false
+pub any_none : (n : ℕ) (p : ℕ → Bool) → ((k : ℕ) → k < n → p k ≡ false) → any_below n p ≡ false
 any_none n p none = not_from_true (all_below n (λ i. not (p i))) (all_from n (λ i. not (p i)) (λ k lt. not_from_false (p k) (none k lt)))
 
 some_orders : 0 < orders

@@ -28,9 +28,18 @@ fn takes_part(shape: &Shape, cells: &[Cells; 512], group: u64, logger: u8) -> bo
     ensures { result ≡ takes_part shape.now cells.now group logger }
 {
     for tid in 0..shape.numbers {
-        if (group >> tid) & 1 == 1 && cells_in(cells, logger, tid).count > 0 {
+        if has_cells(cells, group, logger, tid) {
             return true;
         }
     }
     false
+}
+
+// Whether number `tid` is of the group, and names a cell at a logger.
+fn has_cells(cells: &[Cells; 512], group: u64, logger: u8, tid: u8) -> bool
+    requires logger { logger < 8 }
+    requires tid { tid < 64 }
+    ensures { result ≡ (has group tid && nat_lt 0 (cells_in cells.now logger tid).count) }
+{
+    (group >> tid) & 1 == 1 && cells_in(cells, logger, tid).count > 0
 }

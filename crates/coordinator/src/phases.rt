@@ -54,11 +54,12 @@ fn put_rows_of<M: Media>(
         → Says ballot cells.now g tid (row_of shape.now (M.view media.new).content.bytes g tid)) }
 {
     for number in 0..shape.loggers {
-        if ballot.has_row(number, tid) {
-            let Cells { first, count } = cells_in(cells, number, tid);
-            let row = ballot.row(tid, first, count);
-            Logger::new(*shape, number).put_row(media, tid, row)?;
+        if !ballot.has_row(number, tid) {
+            continue;
         }
+        let Cells { first, count } = cells_in(cells, number, tid);
+        let row = ballot.row(tid, first, count);
+        Logger::new(*shape, number).put_row(media, tid, row)?;
     }
     Ok(())
 }
@@ -98,9 +99,10 @@ fn set_votes_of<M: Media>(
         → (row_of shape.now (M.view media.new).content.bytes g tid).voted ≡ voted) }
 {
     for number in 0..shape.loggers {
-        if ballot.has_row(number, tid) {
-            Logger::new(*shape, number).set_vote(media, tid, voted)?;
+        if !ballot.has_row(number, tid) {
+            continue;
         }
+        Logger::new(*shape, number).set_vote(media, tid, voted)?;
     }
     Ok(())
 }
@@ -144,10 +146,11 @@ fn install_of<M: Media>(
         applied (number_parts shape.now (M.view media.old).content.bytes ballot cells.now tid) (data_of shape.now (M.view media.old).content.bytes)) }
 {
     for number in 0..shape.loggers {
-        if ballot.has_row(number, tid) {
-            let Cells { first, count } = cells_in(cells, number, tid);
-            Logger::new(*shape, number).apply(media, tid, first, count)?;
+        if !ballot.has_row(number, tid) {
+            continue;
         }
+        let Cells { first, count } = cells_in(cells, number, tid);
+        Logger::new(*shape, number).apply(media, tid, first, count)?;
     }
     Ok(())
 }

@@ -1,0 +1,8 @@
+/// Rows that recovery goes over together.
+#[derive(Clone, Copy)]
+pub(crate) enum Which {
+    /// The voted rows that are not decided.
+    Dropped,
+    /// The decided rows with this order number.
+    DecidedAs(u16),
+}
