@@ -8,7 +8,7 @@ use Rattle.pcm_media.specs.View.{View}
 use Rattle.array_shape.specs.declared.shape.Shape.{Shape}
 use Rattle.eaw_face.specs.State.{Logs}
 use Rattle.eaw_face.specs.StoreView.{StoreView, IsLive, LeavesOnly}
-use Rattle.eaw_face.specs.Command.{Command, after}
+use Rattle.eaw_face.specs.Command.{commit_group, Command, after}
 use Rattle.eaw_face.specs.Causes.{IsAlive, known, IsNumberOf, room_for, Cause}
 use Rattle.eaw_face.proofs.Others.{others_after}
 use Rattle.eaw_face.specs.Does.{Becomes, IsEither, Does}
@@ -16,7 +16,7 @@ use Rattle.eaw_face.specs.declared.fault.EawFault.{EawFault}
 use Rattle.eaw_face.specs.declared.fault.EawFault.TheVariants.{UnknownTid, LogFull, Media, Dead}
 use Rattle.eaw_device.specs.declared.log.Log.{Log}
 use Rattle.eaw_device.specs.Logs.{IsKept, IsHeld}
-use Rattle.eaw_device.specs.Sound.{IsSound, IsTold, LacksLog, view_of}
+use Rattle.eaw_device.specs.Sound.{IsSound, IsTold, LacksLog, LacksGroup, view_of}
 use Rattle.eaw_device.proofs.Tables.{found_log, live_there}
 
 module _ (tells : Bool) (Opens : List ℕ → List ℕ → Type 0) (command : Command) (old new : StoreView) (shape : new.shape ≡ old.shape) (later : old.faults ≤ new.faults)
@@ -114,3 +114,16 @@ one_log logs t a b one two = by (sym one ∙ two)
   where
     by : Some a ≡ Some b → a ≡ b
     by is = cc
+
+-- a commit of numbers of which one has no log
+pub lacking_group : {T : Type 0} (tells : Bool) (Opens : List ℕ → List ℕ → Type 0) (store : StoreView) (ts : List ℕ) (fault : EawFault) → LacksGroup store ts fault → (let r : Result T EawFault = Err fault in Does tells Opens (commit_group ts) store store r)
+lacking_group {T} tells Opens store ts (UnknownTid u) lacks = refused {T = T} tells Opens (commit_group ts) store (UnknownTid u) lacks (λ is. cc) (Err (UnknownTid u)) refl
+lacking_group {T} tells Opens store ts Dead lacks = refused {T = T} tells Opens (commit_group ts) store Dead lacks (λ is. cc) (Err Dead) refl
+lacking_group {T} tells Opens store ts Media lacks = absurd lacks
+lacking_group {T} tells Opens store ts (LogFull g h n) lacks = absurd lacks
+
+pub lacking_group_other : (store : StoreView) (ts : List ℕ) (fault : EawFault) → LacksGroup store ts fault → fault ≡ Media → ⊥
+lacking_group_other store ts (UnknownTid u) lacks is = cc
+lacking_group_other store ts Dead lacks is = cc
+lacking_group_other store ts Media lacks is = lacks
+lacking_group_other store ts (LogFull g h n) lacks is = lacks

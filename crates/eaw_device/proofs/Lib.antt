@@ -25,6 +25,7 @@ pub mod Cutting
 pub mod Clearing
 pub mod Gathering
 pub mod Commits
+pub mod GroupCommits
 pub mod Writes
 pub mod Atomic
 pub mod Looks

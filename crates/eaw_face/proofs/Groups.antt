@@ -1,5 +1,5 @@
 -- Groups of numbers, one number after another.
-use Rattle.std.proofs.Common.{◌≡◌, ℕ, ◌+◌, Bool, true, false, cond, ◌||◌, nat_eq, inl, inr, ⊎_elim, List, [], ◌∷◌, ◌++◌, length, refl, sym, ◌∙◌, ap, arith}
+use Rattle.std.proofs.Common.{◌≡◌, ℕ, ◌+◌, Bool, true, false, cond, ◌||◌, nat_eq, inl, inr, ⊎_elim, List, [], ◌∷◌, ◌++◌, length, refl, sym, ◌∙◌, ap, subst, arith}
 use Rattle.std.specs.Prelude.{Option, Some, None, is_some, filter}
 use Rattle.std.proofs.lemmas.Bool.{eqb-true, false≢true}
 use Rattle.std.proofs.lemmas.List.{length-append}
@@ -137,3 +137,12 @@ none_unknown store live (t ∷ ts) u bad = go (is_some (store.ranges t)) refl (n
 pub known_whole : (store : StoreView) (ts : List ℕ) (u : ℕ) → known store (commit_group ts) None → known store (commit_group ts) (Some u) → ⊥
 known_whole store [] u live bad = bad
 known_whole store (t ∷ ts) u live bad = ⊎_elim (λ here. here.0 live.0) (λ later. known_whole store ts u live.1 later.1) bad
+
+-- each number of a group of live ones is live
+pub known_one : (store : StoreView) (ts : List ℕ) → known store (commit_group ts) None → (t : ℕ) → is_one_of ts t ≡ true → IsLive store t
+known_one store [] live t so = absurd (false≢true so)
+known_one store (u ∷ ts) live t so = go (nat_eq t u) refl so (known_one store ts live.1 t)
+  where
+    go : (b : Bool) → nat_eq t u ≡ b → (b || is_one_of ts t) ≡ true → (is_one_of ts t ≡ true → IsLive store t) → IsLive store t
+    go true is so later = subst (IsLive store) (sym (eqb-true t u is)) live.0
+    go false is so later = later so

@@ -81,6 +81,10 @@ module _ (marks : List Marked) (t k : ℕ) (k_is : k ≡ t) (there : t < length 
 pub counts_past : (marks : List Marked) (t : ℕ) → length marks ≤ t → counts_in marks t ≡ []
 counts_past marks t past = ap (λ (o : Option Marked). unwrap_or (option_map (λ x. x.counts) o) []) (slice_get_past marks t past)
 
+-- nor begun a top action
+pub top_past : (marks : List Marked) (t : ℕ) → length marks ≤ t → top_in marks t ≡ None
+top_past marks t past = ap (λ (o : Option Marked). option_and_then (λ x. x.top) o) (slice_get_past marks t past)
+
 -- a list that is written over a list of its length
 pub written_over : (n : ℕ) (items new : List Marked) → n ≡ length items → length new ≡ length items → take n (new ++ drop (length new) items) ≡ new
 written_over n items new is same = take-append-le n new (drop (length new) items) (omega arith) ∙ take_all n new (omega arith)

@@ -263,7 +263,7 @@ impl<S: EawStore> Pages<S> {
     /// Commits the live numbers of a set, all at once, and forgets the saves of all its numbers. They are then free. What the lowest
     /// number has written goes into the data first.
     pub fn end_group(&mut self, tids: NumberSet) -> Result<(), PageFault>
-        requires closed { IsAlive (S.view self.old.store) → (t : ℕ) → is_one_of (members tids) t ≡ true → top_in self.old.marks t ≡ None }
+        requires closed { IsAlive (S.view self.old.store) → (t : ℕ) → t < (S.view self.old.store).shape.numbers → is_one_of (members tids) t ≡ true → top_in self.old.marks t ≡ None }
         ensures does { Does S.tells (S.opens (S.view self.old.store).shape) (end_group (members tids))
             (pages_of (S.view self.old.store) self.old) (pages_of (S.view self.new.store) self.new) result }
         ensures refused { IfErr result (λ fault. fault ≢ PageFault.Media → self.new ≡ self.old) }

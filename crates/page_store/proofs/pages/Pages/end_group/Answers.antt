@@ -1,5 +1,6 @@
-use Rattle.std.proofs.Common.{◌≡◌, ℕ, ◌<◌, true, List, [], Some, None, false, Ok, Err, Result, length, refl, sym, ◌∙◌, ap, subst, arith}
+use Rattle.std.proofs.Common.{◌≡◌, ℕ, ◌<◌, true, inl, inr, List, [], Some, None, false, Ok, Err, Result, length, refl, sym, ◌∙◌, ap, subst, arith}
 use Rattle.std.specs.Prelude.{IsTrue, IsErrOf}
+use Rattle.std.proofs.lemmas.Bool.{cases_lt}
 use Rattle.std.proofs.lemmas.Result.{err_from_is_err_and, IfErr-at_err}
 use Rattle.array_shape.specs.NumberSet.{members}
 use Rattle.eaw_face.specs.State.{group_log, is_one_of}
@@ -16,7 +17,7 @@ use Rattle.page_store.specs.declared.fault.PageFault.TheVariants.{Media}
 use Rattle.page_store.proofs.Shown.{IsTold}
 use Rattle.page_store.proofs.Ordered.{ordered_after}
 use Rattle.page_store.proofs.Grouping.{live_in, answer_known, group_does, media_of}
-use Rattle.page_store.proofs.Marking.{written_over}
+use Rattle.page_store.proofs.Marking.{written_over, top_past}
 use Rattle.page_store.proofs.pages.Pages.end_group.Given.{Over}
 use Rattle.page_store.proofs.pages.Pages.end_group.Goals as goal
 
@@ -41,7 +42,10 @@ module _ (g : Over) (c : goal.After-commit_group g) where
   }
 
   closed : (t : ℕ) → is_one_of (members c.args.tids) t ≡ true → top_in c.self.inside.marks.items t ≡ None
-  closed = rw (← c.self.view_is) at c.requires.closed alive
+  closed t so = elim (cases_lt t (g.S.EawStore.view c.self.inside.store).shape.numbers) [
+    | inl lt ↦ (rw (← c.self.view_is) at c.requires.closed) alive t lt so
+    | inr past ↦ top_past c.self.inside.marks.items t (omega (arith, c.self.invariant.many))
+  ]
 
   whole : group_log (g.S.EawStore.view c.self.inside.store).ranges (members c.live_among-live.result) ≡ group_log (g.S.EawStore.view c.self.inside.store).ranges (members c.args.tids)
   whole = ap (group_log (g.S.EawStore.view c.self.inside.store).ranges) c.live_among-live.ensures ∙ group_live (g.S.EawStore.view c.self.inside.store).ranges (members c.args.tids)
