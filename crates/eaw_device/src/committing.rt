@@ -94,11 +94,15 @@ fn name_group(cells: &mut [Cells; 512], shape: &Shape, logs: &[Log], tids: Numbe
 {
     let mut group = NumberSet::empty();
     for tid in 0..shape.numbers {
-        let log = &logs[usize::from(tid)];
-        if tids.contains(tid) && !log.entries.is_empty() {
-            name_cells(cells, shape, tid, log, 0);
-            group = group.with(tid);
+        if !tids.contains(tid) {
+            continue;
         }
+        let log = &logs[usize::from(tid)];
+        if log.entries.is_empty() {
+            continue;
+        }
+        name_cells(cells, shape, tid, log, 0);
+        group = group.with(tid);
     }
     group
 }
