@@ -1,8 +1,8 @@
-use Rattle.std.proofs.Common.{◌≡◌, ℕ, ◌+◌, ◌*◌, ◌<◌, refl, ◌∙◌, ap, length, arith}
+use Rattle.std.proofs.Common.{◌≡◌, ◌+◌, ◌*◌, refl, ◌∙◌, ap, length, arith}
 use Rattle.array_shape.specs.Places.{media_len}
 use Rattle.array_image.proofs.Calls.{goes_on, hands_on}
 use Rattle.mars_base.proofs.Costing.{costs_one, costs_more, costs_err, costs_then}
-use Rattle.coordinator.specs.Costs.{parts_at, parts_in_all, total}
+use Rattle.coordinator.specs.Costs.{parts_at, total}
 use Rattle.coordinator.proofs.Applying.{good_same, all_cells, number_within, number_applied}
 use Rattle.coordinator.proofs.Costing.{total_le, total_more}
 use Rattle.coordinator.proofs.phases.install.Goals as goal
