@@ -103,8 +103,8 @@ loop-number-preserved g c =
     record {
       costs = costs_more m.tells _ (2 * total count c.loop-number.number) _ _ _ _ _ (omega (arith, one, number)) c.loop-number.invariant.costs c.in_ok-apply.ensures.costs;
       does = goes_on m.tells _ _ _ _ _ (λ told i out.
-    let long : length base ≡ media_len shape = g.met.M.Media.long c.args.media.now told ∙ c.requires.size in
-    subst (λ rs. IsOutside rs i) (sym places) (row_within shape ballot cells c.requires.there base long (c.requires.good told) c.args.tid c.requires.tid cur (c.loop-number.invariant.does.touched told).bytes n (omega arith) has i out))
+          let long : length base ≡ media_len shape = g.met.M.Media.long c.args.media.now told ∙ c.requires.size in
+          subst (λ rs. IsOutside rs i) (sym places) (row_within shape ballot cells c.requires.there base long (c.requires.good told) c.args.tid c.requires.tid cur (c.loop-number.invariant.does.touched told).bytes n (omega arith) has i out))
           c.loop-number.invariant.does c.in_ok-apply.ensures.does refl;
       applied = λ told.
           let long : length base ≡ media_len shape = g.met.M.Media.long c.args.media.now told ∙ c.requires.size in
