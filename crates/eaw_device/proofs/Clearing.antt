@@ -16,7 +16,7 @@ use Rattle.eaw_device.specs.declared.log.Log.{Log}
 use Rattle.eaw_device.specs.Logs.{ranges_in, parts_in, cells_on, IsKept, IsHeld, IsCleared, entries_of, entries_at, ranges_logged, parts_logged}
 use Rattle.eaw_device.specs.Sound.{IsSure, IsSound}
 use Rattle.eaw_device.proofs.Keeping.{length-cells_on_kept}
-use Rattle.eaw_device.proofs.Tables.{slice_get-set_same, slice_get-set_other, entries_free, others_kept, held_kept}
+use Rattle.eaw_device.proofs.Tables.{found_log, slice_get-set_same, slice_get-set_other, entries_free, others_kept, held_kept}
 
 -- Where a loop stands that frees the numbers of a group: these are left.
 pub record Clears (shape : Shape) (first now : List Log) (all left : List ℕ) : Type 0 where
@@ -37,12 +37,15 @@ clears_first shape first all left is there kept = record {
   within = λ t so. ap (λ (ts : List ℕ). is_one_of ts t) (sym is) ∙ so;
 }
 
-module _ (shape : Shape) (first now : List Log) (all left : List ℕ) (t at : ℕ) (rest : List ℕ) (is : left ≡ t ∷ rest) (at_is : at ≡ t) (stands : Clears shape first now all left) (log : Log) (kept : IsKept shape log) (cleared : IsCleared log) where
+module _ (shape : Shape) (first now : List Log) (all left : List ℕ) (t at : ℕ) (rest : List ℕ) (is : left ≡ t ∷ rest) (at_is : at ≡ t) (stands : Clears shape first now all left) where
   here : is_one_of left t ≡ true
   here = ap (λ (ts : List ℕ). is_one_of ts t) is ∙ ap (λ (b : Bool). b || is_one_of rest t) (eq-eqb t t refl)
 
   pub clears_there : at < length now
   clears_there = omega (arith, stands.there t here, stands.many)
+
+  pub clears_kept : (l : Log) → l ≡ get_or now at l → IsKept shape l
+  clears_kept l got = stands.kept t l (found_log now at t l at_is (omega (arith, clears_there)) got)
 
   later : (u : ℕ) → is_one_of rest u ≡ true → is_one_of left u ≡ true
   later u so = ap (λ (ts : List ℕ). is_one_of ts u) is ∙ both (nat_eq u t) so
@@ -54,30 +57,31 @@ module _ (shape : Shape) (first now : List Log) (all left : List ℕ) (t at : �
   done : (u : ℕ) → u ≢ t → is_one_of rest u ≡ false → is_one_of left u ≡ false
   done u ne away = ap (λ (ts : List ℕ). is_one_of ts u) is ∙ (λ i. ne_eqb u t ne i || away i)
 
-  at_t : (P : Log → Type 0) → P log → ForSome (slice_get (slice_set now at log) t) P
-  at_t P p = subst (λ (o : Option Log). ForSome o P) (sym (ap (λ (k : ℕ). slice_get (slice_set now k log) t) at_is ∙ slice_get-set_same now t log (omega (arith, clears_there)))) (λ l same. subst P (some_same same) p)
-    where
-      some_same : {l : Log} → Some log ≡ Some l → log ≡ l
-      some_same same = cc
+  module _ (log : Log) (kept : IsKept shape log) (cleared : IsCleared log) where
+    at_t : (P : Log → Type 0) → P log → ForSome (slice_get (slice_set now at log) t) P
+    at_t P p = subst (λ (o : Option Log). ForSome o P) (sym (ap (λ (k : ℕ). slice_get (slice_set now k log) t) at_is ∙ slice_get-set_same now t log (omega (arith, clears_there)))) (λ l same. subst P (some_same same) p)
+      where
+        some_same : {l : Log} → Some log ≡ Some l → log ≡ l
+        some_same same = cc
 
-  beside : (u : ℕ) → u ≢ t → slice_get (slice_set now at log) u ≡ slice_get now u
-  beside u ne = slice_get-set_other now at u log (λ same. ne (same ∙ at_is))
+    beside : (u : ℕ) → u ≢ t → slice_get (slice_set now at log) u ≡ slice_get now u
+    beside u ne = slice_get-set_other now at u log (λ same. ne (same ∙ at_is))
 
-  pub clears_next : Clears shape first (slice_set now at log) all rest
-  clears_next = record {
-    many = length-set now at log ∙ stands.many;
-    there = λ u so. stands.there u (later u so);
-    kept = λ u. elim (cases_eq u t) [
-      | inl same ↦ subst (λ (k : ℕ). ForSome (slice_get (slice_set now at log) k) (IsKept shape)) (sym same) (at_t (IsKept shape) kept)
-      | inr ne ↦ subst (λ (o : Option Log). ForSome o (IsKept shape)) (sym (beside u ne)) (stands.kept u)
-    ];
-    freed = λ u so away. elim (cases_eq u t) [
-      | inl same ↦ subst (λ (k : ℕ). ForSome (slice_get (slice_set now at log) k) IsCleared) (sym same) (at_t IsCleared cleared)
-      | inr ne ↦ subst (λ (o : Option Log). ForSome o IsCleared) (sym (beside u ne)) (stands.freed u so (done u ne away))
-    ];
-    others = λ u away. beside u (λ same. false≢true (sym away ∙ ap (is_one_of all) same ∙ stands.within t here)) ∙ stands.others u away;
-    within = λ u so. stands.within u (later u so);
-  }
+    pub clears_next : Clears shape first (slice_set now at log) all rest
+    clears_next = record {
+      many = length-set now at log ∙ stands.many;
+      there = λ u so. stands.there u (later u so);
+      kept = λ u. elim (cases_eq u t) [
+        | inl same ↦ subst (λ (k : ℕ). ForSome (slice_get (slice_set now at log) k) (IsKept shape)) (sym same) (at_t (IsKept shape) kept)
+        | inr ne ↦ subst (λ (o : Option Log). ForSome o (IsKept shape)) (sym (beside u ne)) (stands.kept u)
+      ];
+      freed = λ u so away. elim (cases_eq u t) [
+        | inl same ↦ subst (λ (k : ℕ). ForSome (slice_get (slice_set now at log) k) IsCleared) (sym same) (at_t IsCleared cleared)
+        | inr ne ↦ subst (λ (o : Option Log). ForSome o IsCleared) (sym (beside u ne)) (stands.freed u so (done u ne away))
+      ];
+      others = λ u away. beside u (λ same. false≢true (sym away ∙ ap (is_one_of all) same ∙ stands.within t here)) ∙ stands.others u away;
+      within = λ u so. stands.within u (later u so);
+    }
 
 -- a log without entries holds no cell
 cleared_held : (shape : Shape) (image : List ℕ) (t : ℕ) (log : Log) → IsKept shape log → IsCleared log → IsHeld shape image t log

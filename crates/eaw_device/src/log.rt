@@ -130,6 +130,7 @@ pub(crate) fn clear_logs(logs: &mut [Log], shape: &Shape, tids: NumberSet)
     ensures others { (t : ℕ) → is_one_of (members tids) t ≡ false → slice_get logs.new t ≡ slice_get logs.old t }
 {
     for tid in tids.members() {
-        logs[usize::from(tid)].clear(shape);
+        let at = usize::from(tid);
+        logs[at].clear(shape);
     }
 }

@@ -58,3 +58,43 @@ clear_logs-requires-clause-there g c = λ t so.
     let s = c.args.self.now in
     let live = known_one (view_of (g.M.Media.view s.media) s.shape s.logs.items s.is_dead) (members c.args.tids) c.in_ok-find_group.ensures.live t so in
     omega (arith, live.small, s.sound.many)
+
+pub clear_logs-requires-clause-kept : goal.clear_logs-requires-clause-kept
+clear_logs-requires-clause-kept g c = c.args.self.now.sound.kept
+
+pub invariant_of-self-2 : goal.invariant_of-self-2
+invariant_of-self-2 g c =
+    let m = g.M.Media in
+    let s = c.args.self.now in
+    let said = c.commit_logs.ensures in
+    let left = c.clear_logs.ensures in
+    let fine = sym c.is_err.ensures.value ∙ c.if-is_err.false in
+    record {
+      sound = group_now_sound m.tells (m.view s.media) (m.view c.commit_logs.new.media) s.shape s.logs.items s.is_dead s.sound c.in_ok-find_group.ensures.alive (members c.args.tids) c.in_ok-find_group.ensures.live
+          c.commit_logs.result said.does (λ told. g.met.M.Media.long s.media told ∙ s.sound.sized) said.any_moment
+          (λ told. when_ok c.commit_logs.result fine (said.clean told)) (λ told. when_ok c.commit_logs.result fine (said.committed told)) said.cells c.clear_logs.new.logs left.many left.kept left.freed left.others;
+    }
+
+pub returns-clause-does : goal.returns-clause-does
+returns-clause-does g c =
+    let m = g.M.Media in
+    let s = c.args.self.now in
+    let said = c.commit_logs.ensures in
+    let left = c.clear_logs.ensures in
+    let fine = sym c.is_err.ensures.value ∙ c.if-is_err.false in
+    group_done m.tells (m.view s.media) (m.view c.commit_logs.new.media) s.shape s.logs.items s.is_dead s.sound c.in_ok-find_group.ensures.alive (members c.args.tids) c.in_ok-find_group.ensures.live
+    c.commit_logs.result said.does (λ told. g.met.M.Media.long s.media told ∙ s.sound.sized) said.any_moment
+    (λ told. when_ok c.commit_logs.result fine (said.clean told)) (λ told. when_ok c.commit_logs.result fine (said.committed told)) said.cells c.clear_logs.new.logs left.many left.kept left.freed left.others
+    (when_ok c.commit_logs.result fine said.does.does.cause.kept)
+
+pub returns-clause-idle : goal.returns-clause-idle
+returns-clause-idle g c = λ none. let same = c.commit_logs.ensures.idle none in cc
+
+pub returns-clause-due : goal.returns-clause-due
+returns-clause-due g c = λ is. cc
+
+pub returns-clause-refused : goal.returns-clause-refused
+returns-clause-refused g c = tt
+
+pub returns-clause-costs : goal.returns-clause-costs
+returns-clause-costs g c = costs_done g.M.Media.tells _ _ _ _ c.commit_logs.result tt (sym c.is_err.ensures.value ∙ c.if-is_err.false) refl c.commit_logs.ensures.costs
