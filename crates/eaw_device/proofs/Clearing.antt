@@ -1,5 +1,5 @@
 -- The logs of a group, freed one after another.
-use Rattle.std.proofs.Common.{◌≡◌, ◌≢◌, ℕ, ◌<◌, Bool, true, false, cond, ◌||◌, nat_eq, inl, inr, ⊎_elim, List, [], ◌∷◌, length, refl, sym, ◌∙◌, ap, subst, arith}
+use Rattle.std.proofs.Common.{◌≡◌, ◌≢◌, ℕ, ◌<◌, Bool, true, false, cond, ◌||◌, nat_eq, inl, inr, ⊎_elim, List, [], ◌∷◌, length, get_or, refl, sym, ◌∙◌, ap, subst, arith}
 use Rattle.std.specs.Prelude.{slice_get, slice_set, slice_index, Option, Some, None, IsTrue}
 use Rattle.std.specs.Option.{option_map, option_and_then, ForSome}
 use Rattle.std.proofs.lemmas.Bool.{cases_eq, cases_Bool, eqb-true, ne_eqb, eq-eqb, false≢true}

@@ -1,8 +1,6 @@
-use Rattle.std.proofs.Common.{◌≡◌, ◌<◌, ℕ, List, [], ◌∷◌, length, sym, ◌∙◌, ap, arith}
-use Rattle.std.specs.Prelude.{slice_get, Some}
+use Rattle.std.proofs.Common.{List, ◌∙◌, ap}
 use Rattle.array_shape.specs.NumberSet.{members}
 use Rattle.eaw_face.specs.State.{is_one_of}
-use Rattle.eaw_device.specs.declared.log.Log.{Log}
 use Rattle.eaw_device.proofs.Clearing.{clears_first, clears_there, clears_kept, clears_next}
 use Rattle.eaw_device.proofs.log.clear_logs.Goals as goal
 
