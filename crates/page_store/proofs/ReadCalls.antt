@@ -33,7 +33,7 @@ module _ (tells : Bool) (Opens : List ℕ → List ℕ → Type 0) (t : ℕ) (d 
     (unknown : (u : ℕ) → causes.known old d (Some u) → ⊥) (room : (g h n : ℕ) → causes.room_for old d (Some (g, h, n)) → ⊥) where
   cause_of : {T : Type 0} (r : Result T EawFault) → causes.Cause old d new.faults r → ReadCause old new.faults r
   cause_of (Ok x) cause = cause.0
-  cause_of (Err (fault.UnknownTid u)) cause = absurd (unknown u (cause.1, cause.2))
+  cause_of (Err (fault.UnknownTid u)) cause = absurd (unknown u cause.1)
   cause_of (Err (fault.LogFull g h n)) cause = absurd (room g h n cause.2)
   cause_of (Err fault.Media) cause = (cause.0, cause.3)
   cause_of (Err fault.Dead) cause = cause
