@@ -1,9 +1,9 @@
 -- The logs of a group, freed one after another.
-use Rattle.std.proofs.Common.{◌≡◌, ◌≢◌, ℕ, ◌<◌, Bool, true, false, cond, ◌||◌, nat_eq, inl, inr, ⊎_elim, List, [], ◌∷◌, length, get_or, refl, sym, ◌∙◌, ap, subst, arith}
+use Rattle.std.proofs.Common.{◌≡◌, ◌≢◌, ℕ, ◌<◌, Bool, true, false, cond, ◌||◌, nat_eq, inl, inr, ⊎_elim, List, [], ◌∷◌, ◌++◌, length, take, drop, get_or, refl, sym, ◌∙◌, ap, subst, arith}
 use Rattle.std.specs.Prelude.{slice_get, slice_set, slice_index, Option, Some, None, IsTrue}
 use Rattle.std.specs.Option.{option_map, option_and_then, ForSome}
 use Rattle.std.proofs.lemmas.Bool.{cases_eq, cases_Bool, eqb-true, ne_eqb, eq-eqb, false≢true}
-use Rattle.std.proofs.lemmas.List.{length-set}
+use Rattle.std.proofs.lemmas.List.{length-set, take-append-le, take_all}
 use Rattle.std.proofs.lemmas.Option.{slice_get_within}
 use Rattle.pcm_media.specs.View.{View}
 use Rattle.array_shape.specs.declared.shape.Shape.{Shape}
@@ -138,3 +138,7 @@ module _ (tells : Bool) (old new : View) (shape : Shape) (logs now : List Log) (
       go : (t : ℕ) (b : Bool) → is_one_of ts t ≡ b → option_map (parts_in shape new.content.bytes t) (entries_at now t) ≡ cond b None (option_map (parts_in shape old.content.bytes t) (entries_at logs t))
       go t true so = ap (option_map (parts_in shape new.content.bytes t)) (gone t so)
       go t false away = ap (λ (o : Option Log). option_map (parts_in shape new.content.bytes t) (option_and_then entries_of o)) (others t away) ∙ others_kept shape logs old.content.bytes new.content.bytes t (sound.kept t) (same told t)
+
+-- a list that is written over a list of its length
+pub written_over : (n : ℕ) (items new : List Log) → n ≡ length items → length new ≡ length items → take n (new ++ drop (length new) items) ≡ new
+written_over n items new is same = take-append-le n new (drop (length new) items) (omega arith) ∙ take_all n new (omega arith)
