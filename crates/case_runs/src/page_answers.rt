@@ -102,9 +102,12 @@ fn end_group<S: EawStore>(pages: &mut Pages<S>, tids: NumberSet) -> Answer {
 fn has_open_top<S: EawStore>(pages: &Pages<S>, tids: NumberSet) -> bool
     ensures { OnFalse result ((t : ℕ) → t < (S.view pages.now.store).shape.numbers → is_one_of (members tids) t ≡ true → top_in pages.now.marks t ≡ None) }
 {
+    let numbers = pages.shape().numbers;
     for tid in tids.members() {
-        if tid < pages.shape().numbers && pages.open_top(tid).is_some() {
-            return true;
+        if tid < numbers {
+            if pages.open_top(tid).is_some() {
+                return true;
+            }
         }
     }
     false

@@ -5,6 +5,7 @@ use Rattle.std.specs.List.{range_with_len}
 use Rattle.std.proofs.lemmas.Bool.{cases_Bool, cases_eq, lt-ltb, le-ltb, false≢true}
 use Rattle.std.proofs.lemmas.List.{length-append, nil_from_length}
 use Rattle.std.proofs.lemmas.List.Elements.{filter-append}
+use Rattle.std.proofs.Math.Nat.{add-mul}
 use Rattle.array_shape.specs.declared.shape.Shape.{Shape}
 use Rattle.array_shape.specs.Places.{media_len, data_len, IsShape}
 use Rattle.array_shape.specs.Logged.{Part, applied, AllPlaced, parts_at}
@@ -35,26 +36,37 @@ picked {A} bits f k (suc n) = ap (λ (rest : List A). cond (has bits k) (f k) []
 -- as many as in all lists
 total_joined : {A : Type 0} (f : ℕ → List A) (n : ℕ) → total (λ u. length (f u)) n ≡ length (joined f 0 n)
 total_joined f zero = refl
-total_joined f (suc n) = omega (arith, total_more (λ u. length (f u)) n, total_joined f n, ap length (joined_more f 0 n), length-append (joined f 0 n) (f (0 + n)))
+total_joined f (suc n) =
+    let same : 0 + n ≡ n = omega arith in
+    total_more (λ u. length (f u)) n
+    ∙ ap (λ (k : ℕ). k + length (f n)) (total_joined f n)
+    ∙ sym (length-append (joined f 0 n) (f n))
+    ∙ ap (λ (k : ℕ). length (joined f 0 n ++ f k)) (sym same)
+    ∙ sym (ap length (joined_more f 0 n))
 
 counted_joined : (shape : Shape) (g : ℕ) (f : ℕ → List (ℕ × ℕ)) (n : ℕ) → total (λ u. count_on shape g (f u)) n ≡ count_on shape g (joined f 0 n)
 counted_joined shape g f zero = refl
-counted_joined shape g f (suc n) = omega (
-  arith,
-  total_more (λ u. count_on shape g (f u)) n,
-  counted_joined shape g f n,
-  ap (count_on shape g) (joined_more f 0 n),
-  ap length (filter-append (is_range_on shape g) (joined f 0 n) (f (0 + n))),
-  length-append (filter (is_range_on shape g) (joined f 0 n)) (filter (is_range_on shape g) (f (0 + n))),
-)
+counted_joined shape g f (suc n) =
+    let same : 0 + n ≡ n = omega arith in
+    total_more (λ u. count_on shape g (f u)) n
+    ∙ ap (λ (k : ℕ). k + count_on shape g (f n)) (counted_joined shape g f n)
+    ∙ sym (length-append (filter (is_range_on shape g) (joined f 0 n)) (filter (is_range_on shape g) (f n)))
+    ∙ ap length (sym (filter-append (is_range_on shape g) (joined f 0 n) (f n)))
+    ∙ ap (λ (k : ℕ). count_on shape g (joined f 0 n ++ f k)) (sym same)
+    ∙ sym (ap (count_on shape g) (joined_more f 0 n))
 
 total_times : (p : ℕ → Bool) (l n : ℕ) → total (λ u. cond (p u) l 0) n ≡ total (λ u. one_if (p u)) n * l
 total_times p l zero = refl
-total_times p l (suc n) = ap (λ (k : ℕ). k) (total_more (λ u. cond (p u) l 0) n) ∙ one (p n) ∙ ap (λ (k : ℕ). k * l) (sym (total_more (λ u. one_if (p u)) n))
+total_times p l (suc n) =
+    total_more (λ u. cond (p u) l 0) n
+    ∙ ap (λ (k : ℕ). k + cond (p n) l 0) (total_times p l n)
+    ∙ ap (λ (k : ℕ). total (λ u. one_if (p u)) n * l + k) (one (p n))
+    ∙ sym (add-mul (total (λ u. one_if (p u)) n) (one_if (p n)) l)
+    ∙ ap (λ (k : ℕ). k * l) (sym (total_more (λ u. one_if (p u)) n))
   where
-    one : (b : Bool) → total (λ u. cond (p u) l 0) n + cond b l 0 ≡ (total (λ u. one_if (p u)) n + one_if b) * l
-    one true = omega (arith, total_times p l n)
-    one false = omega (arith, total_times p l n)
+    one : (b : Bool) → cond b l 0 ≡ one_if b * l
+    one true = omega arith
+    one false = refl
 
 kept_one : (p : ℕ → Bool) (ts : List ℕ) → length (filter p ts) ≡ length (flat_map (λ t. cond (p t) (t ∷ []) []) ts)
 kept_one p [] = refl

@@ -44,8 +44,8 @@ loop-tid-preserved-then-is_empty c =
     let some = λ (u : ℕ). nat_lt 0 (length (listed (ranges_logged logs u))) in
     let at = c.loop-tid.invariant in
     let none = passed_past c.args.tids.bits some t c.loop-tid.group.bits at.numbers t (omega arith) in
-    let log = c.index-log.result.now in
-    let there = found_log logs c.from.result t log c.from.ensures (omega (arith, c.requires.many)) c.index-log.ensures in
+    let log = c.index-logs-from.result in
+    let there = found_log logs c.from.result t log c.from.ensures (omega (arith, c.requires.many)) c.index-logs-from.is in
     let empty : length (listed (ranges_logged logs t)) ≡ 0 =
     omega (arith, ap length (ranges_there c.args.shape.now logs t log there (c.requires.kept t log there)), length-ranges_in log.entries.items, eqb-true (length log.entries.items) 0 (sym c.is_empty.ensures ∙ c.if-is_empty.true)) in
     record {
@@ -57,8 +57,8 @@ loop-tid-preserved-then-is_empty c =
 pub name_cells-requires-clause-kept : goal.name_cells-requires-clause-kept
 name_cells-requires-clause-kept c =
     let logs = c.args.logs.now in
-    let log = c.index-log.result.now in
-    let there = found_log logs c.from.result c.loop-tid.tid log c.from.ensures (omega (arith, c.requires.many)) c.index-log.ensures in
+    let log = c.index-logs-from.result in
+    let there = found_log logs c.from.result c.loop-tid.tid log c.from.ensures (omega (arith, c.requires.many)) c.index-logs-from.is in
     c.requires.kept c.loop-tid.tid log there
 
 pub loop-tid-preserved : goal.loop-tid-preserved
@@ -68,8 +68,8 @@ loop-tid-preserved c =
     let t = c.loop-tid.tid in
     let some = λ (u : ℕ). nat_lt 0 (length (listed (ranges_logged logs u))) in
     let at = c.loop-tid.invariant in
-    let log = c.index-log.result.now in
-    let there = found_log logs c.from.result t log c.from.ensures (omega (arith, c.requires.many)) c.index-log.ensures in
+    let log = c.index-logs-from.result in
+    let there = found_log logs c.from.result t log c.from.ensures (omega (arith, c.requires.many)) c.index-logs-from.is in
     let filled = eqb-false (length log.entries.items) 0 (sym c.is_empty.ensures ∙ c.if-is_empty.false) in
     let logged : 0 < length (listed (ranges_logged logs t)) =
     omega (arith, ap length (ranges_there shape logs t log there (c.requires.kept t log there)), length-ranges_in log.entries.items, filled) in
