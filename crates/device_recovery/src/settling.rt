@@ -43,11 +43,7 @@ pub(crate) fn settle_data<M: Media>(
 }
 
 // The same, before the barrier.
-fn apply_all<M: Media>(
-    media: &mut M,
-    shape: &Shape,
-    rows: &[Row; ROWS_MAX],
-) -> Result<(), Failed>
+fn apply_all<M: Media>(media: &mut M, shape: &Shape, rows: &[Row; ROWS_MAX]) -> Result<(), Failed>
     requires size { (M.view media.old).size ≡ media_len shape.now }
     requires fits { (g t : ℕ) → g < shape.now.loggers → t < shape.now.numbers → decided_in shape.now rows.now g t ≡ true → (row_in rows.now g t).first + (row_in rows.now g t).count ≤ shape.now.entries }
     requires rows { IsTrue M.tells → RowsAre shape.now (M.view media.old).content.bytes shape.now.numbers rows.now }

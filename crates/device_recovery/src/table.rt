@@ -110,9 +110,7 @@ pub(crate) fn is_one_of(
     let row = row_in(rows, logger, tid);
     match which {
         Which::Dropped => row.voted && !is_decided(rows, shape, logger, tid),
-        Which::DecidedAs(order) => {
-            is_decided(rows, shape, logger, tid) && row.order == order
-        }
+        Which::DecidedAs(order) => { is_decided(rows, shape, logger, tid) && row.order == order }
     }
 }
 
