@@ -1,13 +1,13 @@
 -- The order of parts on different loggers does not matter: their pages are apart.
 use Rattle.std.proofs.Common.{◌≡◌, ℕ, zero, suc, ◌+◌, ◌/◌, ◌%◌, ◌<◌, ◌≤◌, Bool, cond, ◌⊎◌, inl, inr, ⊎_elim, List, [], ◌∷◌, ◌++◌, length, get_or, refl, sym, ◌∙◌, ap, subst, arith}
-use Rattle.std.specs.Prelude.{slice_index, nat_eq}
+use Rattle.std.specs.Prelude.{nat_eq}
 use Rattle.std.proofs.lemmas.Bool.{cases_Bool, cases_eq, cases_lt, eq-eqb, ne_eqb, false≢true}
 use Rattle.std.proofs.lemmas.List.{ext_get_or, append-nil}
 use Rattle.mars_base.specs.Bytes.{put}
 use Rattle.mars_base.proofs.Puts.{length-put, get_or-put_inside}
 use Rattle.pcm_media.proofs.Left.{get_or-put_outside}
 use Rattle.array_shape.specs.declared.shape.Shape.{Shape}
-use Rattle.array_shape.specs.Places.{data_len, logger_of, media_len}
+use Rattle.array_shape.specs.Places.{data_len, logger_of}
 use Rattle.array_image.specs.Joined.{joined}
 use Rattle.array_shape.specs.Logged.{Part, applied, AllFit, AllPlaced, AllOwned, parts_at}
 use Rattle.array_image.proofs.Places.{logger_below}

@@ -1,5 +1,5 @@
 -- What recovery leaves between its barriers.
-use Rattle.std.proofs.Common.{◌≡◌, ℕ, ◌<◌, ◌≤◌, true, false, List, []}
+use Rattle.std.proofs.Common.{◌≡◌, ℕ, ◌<◌, ◌≤◌, true, List}
 use Rattle.pcm_media.specs.Images.{Content, MayLeave, Touched, partly}
 use Rattle.array_shape.specs.declared.shape.Shape.{Shape}
 use Rattle.array_shape.specs.Logged.{places_of}

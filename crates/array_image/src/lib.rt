@@ -8,5 +8,8 @@
 mod laws;
 
 pub use laws::{
-    application_changes_nothing, applied_again_is_applied, decided_together, dropped_votes_change_nothing, lowest_votes_change_nothing, order_of_loggers_is_free, orders_one_after_another, recovery_applies, recovery_clears, recovery_drops, suffix_changes_nothing,
+    application_changes_nothing, applied_again_is_applied, decided_together,
+    dropped_votes_change_nothing, lowest_votes_change_nothing, order_of_loggers_is_free,
+    orders_one_after_another, recovery_applies, recovery_clears, recovery_drops,
+    suffix_changes_nothing,
 };

@@ -3,7 +3,7 @@ use Rattle.std.proofs.Common.{⊎_elim, ◌≡◌, ℕ, zero, suc, ◌+◌, ◌<
 use Rattle.std.proofs.lemmas.List.{ext_get_or}
 use Rattle.std.proofs.lemmas.Bool.{cases_order, false≢true, false_from_ne_true, or_parts, or_from, cases_Bool}
 use Rattle.pcm_media.specs.Images.{Content, MayLeave, SameOutside, IsOutside, Touched, partly}
-use Rattle.pcm_media.proofs.Left.{left_as_read, left_partly, outside-both}
+use Rattle.pcm_media.proofs.Left.{left_as_read, left_partly}
 use Rattle.array_shape.specs.declared.shape.Shape.{Shape}
 use Rattle.array_shape.specs.Places.{media_len, row_at, cell_at, place_of}
 use Rattle.array_shape.specs.Logged.{Part, applied, AllPlaced, places_of}
@@ -11,7 +11,7 @@ use Rattle.array_shape.proofs.Apart.{cells_in_order, cell_end, data_end, region_
 use Rattle.row_bytes.specs.declared.row.Row.{Row}
 use Rattle.array_image.specs.Image.{data_of, row_of}
 use Rattle.array_image.specs.Joined.{joined}
-use Rattle.array_image.specs.Standing.{SameCells, StandsFor, AllSettled, IsRecovering}
+use Rattle.array_image.specs.Standing.{SameCells, StandsFor, AllSettled}
 use Rattle.array_image.proofs.Applied.{applied_twice}
 use Rattle.array_image.proofs.Data.{data_away, all_fit_in}
 use Rattle.array_image.proofs.Frames.{chosen_outside, left_sure, AllWithin, before_all, torn_kept, data_rows}
@@ -21,7 +21,7 @@ use Rattle.array_image.proofs.Rows.{cell_away, rest_of_same, voted_same, row_awa
 use Rattle.row_bytes.specs.Ballots.{has_row}
 use Rattle.array_image.specs.Decided.{orders}
 use Rattle.array_image.specs.Votes.{votes_of}
-use Rattle.array_image.proofs.Deciding.{decided_where_voted, not_decided}
+use Rattle.array_image.proofs.Deciding.{decided_where_voted}
 use Rattle.commit_queue.specs.Queue.{Commit, IsWritten, IsVoted, Each, some_has, IsQueued, queue_parts}
 use Rattle.commit_queue.specs.Between.{Holds, IsHeld, AreUnvoted, IsQuiet, AreFree, bodies_of, IsJoining, IsLeaving}
 use Rattle.commit_queue.proofs.Orders.{each_in, found}

@@ -1,14 +1,13 @@
 -- What an image stands for that has the rows of a queue of commits.
-use Rattle.std.proofs.Common.{◌≡◌, ◌≢◌, ℕ, ◌<◌, ⊎_elim, Bool, true, false, cond, ◌&&◌, List, [], ◌∷◌, ◌++◌, refl, sym, ◌∙◌, ap, subst, arith}
-use Rattle.std.specs.Prelude.{nat_eq}
+use Rattle.std.proofs.Common.{◌≡◌, ◌≢◌, ℕ, ◌<◌, ⊎_elim, Bool, true, false, cond, List, [], ◌∷◌, ◌++◌, refl, sym, ◌∙◌, ap, subst, arith}
 use Rattle.std.specs.Cmp.{both_ways}
-use Rattle.std.proofs.lemmas.Bool.{cases_Bool, and_parts, and_from, eq-eqb, eqb-true, false≢true, false_from_ne_true}
+use Rattle.std.proofs.lemmas.Bool.{cases_Bool, false≢true, false_from_ne_true}
 use Rattle.array_shape.specs.declared.shape.Shape.{Shape}
 use Rattle.array_shape.specs.Logged.{Part, applied}
 use Rattle.row_bytes.specs.declared.ballot.Ballot.{Ballot}
 use Rattle.array_image.specs.Joined.{joined}
-use Rattle.array_image.specs.Image.{parts_from, row_of, row_parts}
-use Rattle.array_image.proofs.Joined.{joined_none, joined_same}
+use Rattle.array_image.specs.Image.{parts_from, row_of}
+use Rattle.array_image.proofs.Joined.{joined_same}
 use Rattle.row_bytes.specs.Ballots.{has_row}
 use Rattle.array_image.specs.Decided.{carried, decided, decided_parts, order_parts, all_decided, orders}
 use Rattle.array_image.specs.Standing.{IsLawful, StandsFor}

@@ -4,7 +4,6 @@ use Rattle.std.proofs.lemmas.List.{ext_get_or}
 use Rattle.pcm_media.specs.Images.{Content, MayLeave, Touched, partly}
 use Rattle.pcm_media.proofs.Left.{left_as_read, left_partly}
 use Rattle.array_shape.specs.declared.shape.Shape.{Shape}
-use Rattle.array_shape.specs.Logged.{applied, AllPlaced, places_of}
 use Rattle.array_image.specs.Image.{row_of}
 use Rattle.row_bytes.specs.Ballots.{has_row}
 use Rattle.array_image.specs.Standing.{AllSettled, IsRecovering}
@@ -12,7 +11,7 @@ use Rattle.array_image.specs.Votes.{votes_of}
 use Rattle.array_image.proofs.Deciding.{not_decided}
 use Rattle.array_image.proofs.Frames.{AllWithin, before_all}
 use Rattle.commit_queue.specs.Queue.{Commit, IsVoted, some_has}
-use Rattle.commit_queue.specs.Between.{Holds, IsHeld, IsQuiet, Rests, IsAtRest, AreFree, AreUnvoted, IsJoining, IsLeaving}
+use Rattle.commit_queue.specs.Between.{IsHeld, IsQuiet, Rests, IsAtRest, AreFree, AreUnvoted, IsJoining, IsLeaving}
 use Rattle.commit_queue.proofs.Between.{free_same, free_quiet, votes_after, clearing_after, joined_quiet, left_quiet}
 
 module _ (shape : Shape) where

@@ -1,5 +1,5 @@
 -- The parts of one row after another are written into the data.
-use Rattle.std.proofs.Common.{◌≡◌, ℕ, ◌+◌, ◌<◌, ◌≤◌, ⊎_elim, Bool, true, false, cond, List, [], length, refl, sym, ◌∙◌, ap, subst, arith}
+use Rattle.std.proofs.Common.{◌≡◌, ℕ, ◌+◌, ◌<◌, ⊎_elim, Bool, true, false, cond, List, [], length, sym, ◌∙◌, ap, subst, arith}
 use Rattle.std.specs.Int.{bit_at}
 use Rattle.std.proofs.lemmas.Bool.{and_left, cases_Bool, ne_eqb}
 use Rattle.std.proofs.lemmas.Nat.Bits.{bit_at-zero}
@@ -9,7 +9,7 @@ use Rattle.array_shape.specs.Places.{media_len}
 use Rattle.array_shape.specs.Logged.{Part, applied, AllOwned, AllPlaced, places_of}
 use Rattle.row_bytes.specs.declared.ballot.Ballot.{Ballot}
 use Rattle.row_bytes.specs.Ballots.{has, has_row}
-use Rattle.array_image.specs.Image.{cell_of, data_of, parts_from, IsGoodCell}
+use Rattle.array_image.specs.Image.{data_of, parts_from, IsGoodCell}
 use Rattle.array_image.specs.Joined.{joined}
 use Rattle.array_image.specs.Standing.{SameCells}
 use Rattle.array_image.proofs.Data.{all_placed, applied_more, joined_placed, outside_list}

@@ -1,8 +1,7 @@
 -- A commit from its phases: what it does, whatever phase it comes to.
-use Rattle.std.proofs.Common.{◌≡◌, ℕ, ◌+◌, ◌<◌, ◌≤◌, ◌^◌, Bool, true, false, cond, ⊎_elim, inl, inr, List, [], ◌∷◌, ◌++◌, length, append-nil, Result, Ok, Err, refl, sym, ◌∙◌, ap, subst, arith}
+use Rattle.std.proofs.Common.{◌≡◌, ℕ, ◌+◌, ◌<◌, ◌^◌, Bool, true, false, cond, ⊎_elim, List, [], ◌∷◌, ◌++◌, length, Result, Ok, Err, refl, sym, ◌∙◌, ap, subst, arith}
 use Rattle.std.specs.Prelude.{IsTrue, IsOk, IsErr}
 use Rattle.std.proofs.lemmas.Bool.{cases_Bool}
-use Rattle.mars_base.proofs.Going.{then, weaker}
 use Rattle.pcm_media.specs.Images.{Content, MayLeave, IsOutside, Touched, partly}
 use Rattle.pcm_media.specs.View.{View, LeavesOnly, Writes}
 use Rattle.pcm_media.proofs.Left.{left_as_read}
@@ -21,7 +20,7 @@ use Rattle.array_image.proofs.Calls.{SoFar, none_yet, goes_on, hands_on, ends_wi
 use Rattle.array_image.proofs.Joined.{joined_same}
 use Rattle.array_image.proofs.Frames.{data_cells, torn_cells}
 use Rattle.commit_queue.specs.Queue.{Commit, IsWritten, named_at, queue_parts}
-use Rattle.commit_queue.specs.Between.{bodies_of, IsAtRest, IsHeld, IsJoining, IsLeaving, IsQuiet}
+use Rattle.commit_queue.specs.Between.{bodies_of, IsAtRest, IsHeld, IsJoining, IsLeaving}
 use Rattle.commit_queue.proofs.Between.{bodies_cells, bodies_free, data_quiet, free_quiet}
 use Rattle.commit_queue.proofs.Moments.{written_placed}
 use Rattle.commit_queue.proofs.Resting.{rest_held, rest_unvoted, joined_at_rest, left_at_rest}

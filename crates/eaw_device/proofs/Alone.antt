@@ -42,7 +42,7 @@ pub own_small : (shape : Shape) (t : ℕ) → t < shape.numbers → 1 * 2 ^ t % 
 own_small shape t lt = subst (λ (k : ℕ). k < 2 ^ shape.numbers) (sym (own_bit shape t lt)) (pow-lt lt)
 
 only_own : (t u : ℕ) → has (2 ^ t) u ≡ true → u ≡ t
-only_own t u so = elim (cases_eq u t) [ | inl is ↦ is | inr ne ↦ absurd (false≢true (sym (has_other t u ne) ∙ so)) ]
+only_own t u so = elim (cases_eq u t) [ inl is ↦ is | inr ne ↦ absurd (false≢true (sym (has_other t u ne) ∙ so)) ]
 
 abbrev one_if : Bool → ℕ
 one_if b = cond b 1 0

@@ -137,8 +137,8 @@ module _ (shape : Shape) (group : ℕ) (cells : List Cells) (ballot : Ballot) (g
   calls_same = elim (cases_eq (group_count shape group cells) 0) [
     | inl none ↦
         (let zero_mask : ballot.mask ≡ 0 = none_takes (λ g t lt lt' so.
-            sym (ap (λ (b : Bool). cond b (cells_in cells g t).count 0) so)
-            ∙ total_none (λ h. cond (has group t) (cells_in cells h t).count 0) shape.loggers (total_none (λ u. total (λ h. cond (has group u) (cells_in cells h u).count 0) shape.loggers) shape.numbers none t lt') g lt) in
+        sym (ap (λ (b : Bool). cond b (cells_in cells g t).count 0) so)
+        ∙ total_none (λ h. cond (has group t) (cells_in cells h t).count 0) shape.loggers (total_none (λ u. total (λ h. cond (has group u) (cells_in cells h u).count 0) shape.loggers) shape.numbers none t lt') g lt) in
         let left : commit_calls shape ballot cells ≡ 0 = ap (λ (b : Bool). cond b 0 (decide_calls shape ballot + write_back_calls shape ballot cells)) (eq-eqb ballot.mask 0 zero_mask) in
         let right : group_calls shape group cells ≡ 0 = ap (λ (b : Bool). cond b 0 (3 * group_rows shape group cells + 2 * group_count shape group cells + 4)) (eq-eqb (group_count shape group cells) 0 none) in
         left ∙ sym right)

@@ -24,11 +24,7 @@ impl Ballot {
         requires { tid < 64 }
         ensures { result ≡ ballots.ballot_of tid row.now }
     {
-        let group = if row.group == 0 {
-            1 << tid
-        } else {
-            row.group
-        };
+        let group = if row.group == 0 { 1 << tid } else { row.group };
         Ballot {
             mask: row.mask,
             group,

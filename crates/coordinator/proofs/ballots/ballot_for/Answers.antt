@@ -1,4 +1,4 @@
-use Rattle.std.proofs.Common.{◌≡◌, ℕ, ◌+◌, true, false, sym, ◌∙◌, subst, arith}
+use Rattle.std.proofs.Common.{◌+◌, true, false, sym, ◌∙◌, subst, arith}
 use Rattle.coordinator.specs.Commits.{IsMaskOf, takes_part}
 use Rattle.coordinator.proofs.Masks.{mask_gains, mask_skips}
 use Rattle.coordinator.proofs.ballots.ballot_for.Goals.{then-takes_part, else-takes_part}

@@ -1,4 +1,4 @@
-use Rattle.std.proofs.Common.{◌≡◌, ◌<◌, ℕ, ◌&&◌, true, false, sym, ◌∙◌, arith}
+use Rattle.std.proofs.Common.{◌&&◌, true, sym, ◌∙◌, arith}
 use Rattle.std.specs.Prelude.{nat_lt}
 use Rattle.row_bytes.specs.Ballots.{has}
 use Rattle.commit_queue.proofs.Counting.{any_from, any_none}

@@ -1,4 +1,4 @@
-use Rattle.std.proofs.Common.{◌≡◌, ℕ, ◌<◌, true, false, inr, List, [], ◌∷◌, ◌++◌, refl, sym, ◌∙◌, ap, subst, append-nil}
+use Rattle.std.proofs.Common.{◌≡◌, ℕ, true, inr, List, [], ◌∷◌, ◌++◌, refl, sym, ap, subst, append-nil}
 use Rattle.std.specs.Prelude.{IsTrue}
 use Rattle.mars_base.proofs.Going.{then, weaker}
 use Rattle.pcm_media.specs.Images.{IsOutside}
@@ -7,7 +7,7 @@ use Rattle.array_image.specs.Standing.{StandsFor}
 use Rattle.array_image.proofs.Calls.{ends_with, hands_on, none_yet}
 use Rattle.commit_queue.specs.Queue.{Commit}
 use Rattle.commit_queue.specs.Between.{IsAtRest}
-use Rattle.coordinator.specs.Commits.{MayJoin, Names, commit_of, parts_named}
+use Rattle.coordinator.specs.Commits.{Names, commit_of, parts_named}
 use Rattle.coordinator.specs.Places.{commit_places, row_places}
 use Rattle.coordinator.proofs.Applying.{all_same, none_named}
 use Rattle.coordinator.proofs.Committing.{succeeded}

@@ -1,7 +1,5 @@
-use Rattle.std.proofs.Common.{[], ◌≡◌, ℕ, List, ◌<◌, true, refl, ◌∙◌, arith}
+use Rattle.std.proofs.Common.{refl, arith}
 use Rattle.std.proofs.lemmas.Result.{on_ok_weaker}
-use Rattle.array_shape.specs.Places.{media_len}
-use Rattle.coordinator.specs.Commits.{AreGood, AreThere}
 use Rattle.coordinator.proofs.Committing.{Decides, Prepared, at_end, handed, in_rows, in_votes, succeeded}
 use Rattle.coordinator.proofs.commits.decide.Given.{Over}
 use Rattle.coordinator.proofs.commits.decide.Goals as goal

@@ -1,7 +1,5 @@
-use Rattle.std.proofs.Common.{◌≡◌, ℕ, ◌+◌, length, true, refl, ◌∙◌, arith}
-use Rattle.std.specs.Prelude.{IsTrue}
+use Rattle.std.proofs.Common.{refl, ◌∙◌}
 use Rattle.std.proofs.lemmas.Result.{on_ok_weaker}
-use Rattle.array_shape.specs.Places.{media_len}
 use Rattle.coordinator.proofs.Committing.{WritesBack, Installed, at_last, handed, in_clearing, in_install, succeeded}
 use Rattle.coordinator.proofs.commits.write_back.Given.{Over}
 use Rattle.coordinator.proofs.commits.write_back.Goals as goal

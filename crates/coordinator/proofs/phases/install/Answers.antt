@@ -1,8 +1,8 @@
-use Rattle.std.proofs.Common.{◌≡◌, ℕ, ◌+◌, ◌*◌, ◌<◌, refl, ◌∙◌, ap, length, arith}
+use Rattle.std.proofs.Common.{◌≡◌, ◌+◌, ◌*◌, refl, ◌∙◌, ap, length, arith}
 use Rattle.array_shape.specs.Places.{media_len}
 use Rattle.array_image.proofs.Calls.{goes_on, hands_on}
 use Rattle.mars_base.proofs.Costing.{costs_one, costs_more, costs_err, costs_then}
-use Rattle.coordinator.specs.Costs.{parts_at, parts_in_all, total}
+use Rattle.coordinator.specs.Costs.{parts_at, total}
 use Rattle.coordinator.proofs.Applying.{good_same, all_cells, number_within, number_applied}
 use Rattle.coordinator.proofs.Costing.{total_le, total_more}
 use Rattle.coordinator.proofs.phases.install.Goals as goal
@@ -43,8 +43,8 @@ loop-tid-preserved g c =
     record {
       costs = costs_more m.tells _ (2 * total (parts_at shape ballot cells) c.loop-tid.tid) _ _ _ _ _ (omega (arith, one)) c.loop-tid.invariant.costs c.in_ok-install_of.ensures.costs;
       does = goes_on m.tells _ _ _ _ _ (λ told i out.
-    let long : length base ≡ media_len shape = g.met.M.Media.long c.args.media.now told ∙ c.requires.size in
-    number_within shape ballot cells c.requires.there base long (c.requires.good told) cur (c.loop-tid.invariant.does.touched told).bytes c.loop-tid.tid (omega arith) i out)
+          let long : length base ≡ media_len shape = g.met.M.Media.long c.args.media.now told ∙ c.requires.size in
+          number_within shape ballot cells c.requires.there base long (c.requires.good told) cur (c.loop-tid.invariant.does.touched told).bytes c.loop-tid.tid (omega arith) i out)
           c.loop-tid.invariant.does c.in_ok-install_of.ensures.does refl;
       applied = λ told.
           let long : length base ≡ media_len shape = g.met.M.Media.long c.args.media.now told ∙ c.requires.size in

@@ -1,4 +1,4 @@
-use Rattle.std.proofs.Common.{◌≡◌, ℕ, ◌+◌, ◌*◌, ◌<◌, Bool, true, false, cond, [], refl, sym, ◌∙◌, ap, subst, length, arith}
+use Rattle.std.proofs.Common.{◌≡◌, ℕ, ◌+◌, ◌*◌, true, false, cond, refl, sym, ◌∙◌, ap, subst, length, arith}
 use Rattle.pcm_media.specs.Images.{IsOutside}
 use Rattle.array_shape.specs.declared.shape.Shape.{Shape}
 use Rattle.array_shape.specs.Places.{media_len}
@@ -6,10 +6,10 @@ use Rattle.array_shape.specs.Logged.{applied, places_of}
 use Rattle.row_bytes.specs.Ballots.{has_row}
 use Rattle.array_image.specs.Image.{data_of, cell_of, parts_from, IsGoodCell}
 use Rattle.array_image.proofs.Calls.{goes_on, hands_on}
-use Rattle.mars_base.proofs.Costing.{costs_more, costs_err, costs_ok, CostsSoFar}
+use Rattle.mars_base.proofs.Costing.{costs_more, costs_err, CostsSoFar}
 use Rattle.coordinator.specs.declared.cells.Cells.{Cells}
 use Rattle.coordinator.specs.Commits.{cells_in}
-use Rattle.coordinator.specs.Costs.{parts_at, total}
+use Rattle.coordinator.specs.Costs.{total}
 use Rattle.coordinator.proofs.Applying.{good_same, row_cells, row_skipped, row_within, row_applied}
 use Rattle.coordinator.proofs.Costing.{counted, not_counted, total_le, total_next}
 use Rattle.coordinator.proofs.phases.install_of.Goals as goal
@@ -103,8 +103,8 @@ loop-number-preserved g c =
     record {
       costs = costs_more m.tells _ (2 * total count c.loop-number.number) _ _ _ _ _ (omega (arith, one, number)) c.loop-number.invariant.costs c.in_ok-apply.ensures.costs;
       does = goes_on m.tells _ _ _ _ _ (λ told i out.
-    let long : length base ≡ media_len shape = g.met.M.Media.long c.args.media.now told ∙ c.requires.size in
-    subst (λ rs. IsOutside rs i) (sym places) (row_within shape ballot cells c.requires.there base long (c.requires.good told) c.args.tid c.requires.tid cur (c.loop-number.invariant.does.touched told).bytes n (omega arith) has i out))
+          let long : length base ≡ media_len shape = g.met.M.Media.long c.args.media.now told ∙ c.requires.size in
+          subst (λ rs. IsOutside rs i) (sym places) (row_within shape ballot cells c.requires.there base long (c.requires.good told) c.args.tid c.requires.tid cur (c.loop-number.invariant.does.touched told).bytes n (omega arith) has i out))
           c.loop-number.invariant.does c.in_ok-apply.ensures.does refl;
       applied = λ told.
           let long : length base ≡ media_len shape = g.met.M.Media.long c.args.media.now told ∙ c.requires.size in

@@ -1,4 +1,4 @@
-use Rattle.std.proofs.Common.{◌≡◌, ◌*◌, ℕ, cond, [], true, IsTrue}
+use Rattle.std.proofs.Common.{◌≡◌, ◌*◌, cond, [], IsTrue}
 use Rattle.mars_base.proofs.Costing.{CostsSoFar}
 use Rattle.row_bytes.specs.Ballots.{has_row}
 use Rattle.array_shape.specs.Logged.{applied, places_of}

@@ -1,14 +1,13 @@
-use Rattle.std.proofs.Common.{◌≡◌, ℕ, ◌+◌, ◌<◌, Bool, true, false, cond, [], ◌∷◌, refl, sym, ◌∙◌, ap, subst, arith}
+use Rattle.std.proofs.Common.{◌≡◌, ◌+◌, true, false, cond, [], ◌∷◌, refl, sym, ◌∙◌, ap, subst, arith}
 use Rattle.pcm_media.specs.Images.{IsOutside, Touched}
 use Rattle.array_shape.specs.Places.{row_at}
 use Rattle.row_bytes.specs.declared.row.Row.{Row}
 use Rattle.row_bytes.specs.Ballots.{ballot_of, has_row}
 use Rattle.array_image.specs.Image.{row_of}
 use Rattle.array_image.proofs.Calls.{goes_on, hands_on}
-use Rattle.mars_base.proofs.Costing.{costs_all, costs_err}
+use Rattle.mars_base.proofs.Costing.{costs_err}
 use Rattle.coordinator.specs.declared.cells.Cells.{Cells}
 use Rattle.coordinator.specs.Commits.{Says}
-use Rattle.coordinator.specs.Costs.{rows_at, total}
 use Rattle.coordinator.proofs.Calls.{body_within, one_skipped, rows_more}
 use Rattle.coordinator.proofs.Costing.{counted, not_counted, total_le, total_next}
 use Rattle.coordinator.proofs.phases.put_rows_of.Goals as goal

@@ -5,7 +5,6 @@ use Rattle.array_image.specs.Image.{row_of}
 use Rattle.array_image.proofs.Joined.{outside_at}
 use Rattle.array_image.proofs.Calls.{goes_on, hands_on, then_barrier, barrier_keeps}
 use Rattle.mars_base.proofs.Costing.{costs_one, costs_err, costs_then, so_far}
-use Rattle.array_image.specs.Votes.{votes_of}
 use Rattle.coordinator.specs.Costs.{rows_at, rows_in_all, total}
 use Rattle.coordinator.specs.Places.{votes_at}
 use Rattle.coordinator.proofs.Calls.{votes_in_rows, numbers_more}

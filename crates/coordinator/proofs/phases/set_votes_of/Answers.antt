@@ -1,12 +1,11 @@
-use Rattle.std.proofs.Common.{◌≡◌, ℕ, ◌+◌, ◌<◌, Bool, true, false, cond, [], ◌∷◌, refl, sym, ◌∙◌, ap, subst, arith}
+use Rattle.std.proofs.Common.{◌≡◌, ◌+◌, true, false, cond, [], ◌∷◌, refl, sym, ◌∙◌, ap, subst, arith}
 use Rattle.pcm_media.specs.Images.{IsOutside, Touched}
 use Rattle.array_shape.specs.Places.{row_at}
 use Rattle.row_bytes.specs.declared.row.Row.{Row}
 use Rattle.row_bytes.specs.Ballots.{has_row}
 use Rattle.array_image.specs.Image.{row_of}
 use Rattle.array_image.proofs.Calls.{goes_on, hands_on}
-use Rattle.mars_base.proofs.Costing.{costs_all, costs_err}
-use Rattle.coordinator.specs.Costs.{rows_at, total}
+use Rattle.mars_base.proofs.Costing.{costs_err}
 use Rattle.coordinator.proofs.Calls.{vote_within, one_skipped, rows_more}
 use Rattle.coordinator.proofs.Costing.{counted, not_counted, total_le, total_next}
 use Rattle.coordinator.proofs.phases.set_votes_of.Goals as goal

@@ -1,5 +1,4 @@
-use Rattle.std.proofs.Common.{true, [], ◌∷◌, ◌+◌, ◌≤◌, ◌<◌, ◌++◌, take, length, ap, subst, sym, arith}
-use Rattle.std.proofs.lemmas.List.{length-append}
+use Rattle.std.proofs.Common.{length, ap, arith}
 use Rattle.array_image.proofs.Places.{cell_fits_in}
 use Rattle.logger.proofs.logger.Logger.put_cell.Goals as goal
 
