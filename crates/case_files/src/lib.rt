@@ -77,6 +77,7 @@ mod report;
 mod run;
 mod text_lines;
 mod traced;
+mod traced_media;
 
 pub use case::{Case, Image, Play};
 pub use comparing::{compare, compare_ran};
@@ -88,3 +89,4 @@ pub use ran::Ran;
 pub use report::{CaseFault, Report};
 pub use run::{Left, Made, Placed, Run, Trouble, TroubleKind, Wanted};
 pub use traced::{Call, Record, has_failed};
+pub use traced_media::TracedMedia;

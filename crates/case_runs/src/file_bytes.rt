@@ -1,7 +1,6 @@
 // What a file has after its calls.
 use crate::image::media_of;
-use crate::traced_media::TracedMedia;
-use case_files::{CaseFault, Record};
+use case_files::{CaseFault, Record, TracedMedia};
 use media_file::{Done, HonestCalls};
 use pcm_media::{Media, MemoryMedia};
 use std::alloc::Global;

@@ -16,7 +16,6 @@ mod plain;
 mod playing;
 mod progress;
 mod tally;
-mod traced_media;
 mod way;
 
 use crate::tally::{Tally, play_folder};

@@ -1,7 +1,6 @@
 // One run of a case.
 use crate::image::media_of;
-use crate::traced_media::TracedMedia;
-use case_files::{CaseFault, Ran, Record, Run, TroubleKind, has_failed};
+use case_files::{CaseFault, Ran, Record, Run, TracedMedia, TroubleKind, has_failed};
 use mars_shell::{OpenGate, Status, fault_text, run};
 use outside::{MemorySink, MemorySource};
 use pcm_media::{FusedMedia, Media, MemoryMedia};

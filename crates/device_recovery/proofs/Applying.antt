@@ -1,15 +1,15 @@
 -- The parts of one decided row after another, and of one order number after another, are written into the data.
-use Rattle.std.proofs.Common.{◌≡◌, ℕ, ◌+◌, ◌*◌, ◌/◌, ◌%◌, ◌<◌, ◌≤◌, Bool, true, false, cond, List, [], ◌++◌, length, refl, sym, ◌∙◌, ap, subst, arith}
+use Rattle.std.proofs.Common.{◌≡◌, ℕ, ◌+◌, ◌*◌, ◌/◌, ◌%◌, ◌<◌, ◌≤◌, Bool, true, false, cond, List, [], length, refl, sym, ◌∙◌, ap, subst, arith}
 use Rattle.std.specs.Prelude.{nat_eq}
-use Rattle.std.proofs.lemmas.Bool.{and_parts, eqb-true}
+use Rattle.std.proofs.lemmas.Bool.{and_parts}
 use Rattle.pcm_media.specs.Images.{SameOutside, IsOutside}
 use Rattle.array_shape.specs.declared.shape.Shape.{Shape}
 use Rattle.array_shape.specs.Places.{media_len}
 use Rattle.row_bytes.specs.declared.row.Row.{Row}
 use Rattle.array_image.specs.Joined.{joined}
-use Rattle.array_shape.specs.Logged.{Part, AllPlaced, applied, places_of}
+use Rattle.array_shape.specs.Logged.{Part, applied, places_of}
 use Rattle.array_image.specs.Image.{row_of, cell_of, parts_from, row_parts, data_of, IsGoodCell}
-use Rattle.array_image.specs.Decided.{decided, decided_as, decided_parts, order_parts, all_decided, orders, settled_data}
+use Rattle.array_image.specs.Decided.{decided, decided_as, decided_parts, order_parts, all_decided, orders}
 use Rattle.array_image.specs.Standing.{SameCells, IsGoodRow}
 use Rattle.array_image.proofs.Applied.{applied-append}
 use Rattle.array_image.proofs.Data.{outside_list, applied_more}

@@ -1,12 +1,12 @@
 -- Where votes lie, and images in which none is cast.
-use Rattle.std.proofs.Common.{◌≡◌, ◌≢◌, ℕ, ◌<◌, ◌≤◌, true, cond, List, [], ◌∷◌, ap, subst, arith}
+use Rattle.std.proofs.Common.{◌≡◌, ◌≢◌, ℕ, ◌<◌, true, cond, List, [], ◌∷◌, ap, subst, arith}
 use Rattle.pcm_media.specs.Images.{IsOutside}
 use Rattle.array_shape.specs.declared.shape.Shape.{Shape}
 use Rattle.array_shape.specs.Places.{row_at}
 use Rattle.array_shape.specs.Logged.{Part, applied}
 use Rattle.array_image.specs.Joined.{joined}
 use Rattle.array_image.specs.Image.{row_of, data_of}
-use Rattle.array_image.specs.Decided.{all_decided, order_parts, settled_data, orders}
+use Rattle.array_image.specs.Decided.{order_parts, settled_data, orders}
 use Rattle.array_image.specs.Votes.{votes_of}
 use Rattle.array_image.proofs.Joined.{joined_none, outside_at}
 use Rattle.array_image.proofs.Deciding.{not_decided}

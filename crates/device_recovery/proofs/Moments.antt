@@ -1,5 +1,5 @@
 -- What recovery leaves while it applies parts and clears votes, and what holds after that.
-use Rattle.std.proofs.Common.{◌≡◌, ℕ, ◌<◌, true, Bool, not, List, [], length, refl, sym, ◌∙◌, ap, subst, arith}
+use Rattle.std.proofs.Common.{◌≡◌, ℕ, Bool, not, List, [], length, refl, sym, ◌∙◌, ap, subst, arith}
 use Rattle.std.proofs.lemmas.List.{ext_get_or}
 use Rattle.std.proofs.lemmas.Bool.{and_parts}
 use Rattle.mars_base.specs.Bytes.{range}

@@ -1,5 +1,5 @@
 -- The votes of one order number are cleared.
-use Rattle.std.proofs.Common.{◌≡◌, ℕ, ◌+◌, ◌<◌, ◌≤◌, List, refl, sym, ◌∙◌, subst, arith}
+use Rattle.std.proofs.Common.{◌≡◌, ℕ, ◌<◌, ◌≤◌, List, ◌∙◌, subst}
 use Rattle.mars_base.specs.Bytes.{range}
 use Rattle.pcm_media.specs.Images.{Content, MayLeave, Touched, partly}
 use Rattle.array_shape.specs.declared.shape.Shape.{Shape}

@@ -1,5 +1,5 @@
 -- What recovery finds, says and writes.
-use Rattle.std.specs.Prelude.{ℕ, ◌≡◌, ◌+◌, ◌*◌, ◌<◌, Bool, true, false, ◌&&◌, not, if◌then◌else◌, List, [], ◌∷◌, ◌++◌, length}
+use Rattle.std.specs.Prelude.{ℕ, ◌≡◌, ◌+◌, ◌*◌, ◌<◌, Bool, true, false, not, if◌then◌else◌, List, [], ◌∷◌, ◌++◌, length}
 use Rattle.mars_base.specs.Bytes.{range}
 use Rattle.mars_base.specs.Check.{Check, test, unless, each}
 use Rattle.pcm_media.specs.Images.{Content, MayLeave}

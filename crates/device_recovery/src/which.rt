@@ -1,3 +1,5 @@
+// Which rows recovery goes over at a time.
+
 /// Rows that recovery goes over together.
 #[derive(Clone, Copy)]
 pub(crate) enum Which {

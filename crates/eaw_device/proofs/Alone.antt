@@ -9,16 +9,14 @@ use Rattle.std.proofs.lemmas.Nat.Bits.{bit_at-pow_same, bit_at-pow_other}
 use Rattle.std.proofs.lemmas.Nat.{one_shl}
 use Rattle.std.proofs.Math.Pow.{pow-lt}
 use Rattle.array_shape.specs.declared.shape.Shape.{Shape}
-use Rattle.array_shape.specs.Places.{media_len, data_len, IsShape, logger_of}
+use Rattle.array_shape.specs.Places.{media_len, data_len}
 use Rattle.array_shape.specs.Logged.{Part, applied, AllPlaced, parts_at}
 use Rattle.row_bytes.specs.Ballots.{has}
 use Rattle.array_image.specs.Joined.{joined}
 use Rattle.array_image.specs.Image.{cell_of, parts_from, IsGoodCell}
 use Rattle.array_image.proofs.Joined.{joined_one}
-use Rattle.commit_queue.specs.Deferred.{any_below}
 use Rattle.coordinator.specs.declared.cells.Cells.{Cells}
 use Rattle.coordinator.specs.Commits.{cells_in, takes_part}
-use Rattle.coordinator.specs.Costs.{total}
 use Rattle.eaw_face.specs.State.{count_on}
 use Rattle.eaw_device.specs.declared.log.Log.{Log}
 use Rattle.eaw_device.specs.Logs.{ranges_in, parts_in, cells_on, IsKept, IsHeld}

@@ -1,5 +1,5 @@
 -- A commit writes behind the header alone, and leaves no commit waiting.
-use Rattle.std.proofs.Common.{◌≡◌, ℕ, List, [], Result, Ok, Err, sym, ◌∙◌, ap, subst, arith}
+use Rattle.std.proofs.Common.{◌≡◌, ℕ, List, [], Result, Ok, Err, sym, subst, arith}
 use Rattle.std.specs.Prelude.{OnOk}
 use Rattle.pcm_media.specs.Images.{Content}
 use Rattle.pcm_media.proofs.Left.{left_as_read}
@@ -8,7 +8,6 @@ use Rattle.array_shape.specs.Places.{row_at}
 use Rattle.array_shape.specs.Logged.{places_of}
 use Rattle.row_bytes.specs.declared.ballot.Ballot.{Ballot}
 use Rattle.row_bytes.specs.Ballots.{has_row}
-use Rattle.array_image.specs.Joined.{joined}
 use Rattle.array_image.specs.Image.{data_of}
 use Rattle.array_image.proofs.Frames.{chosen_outside}
 use Rattle.array_image.proofs.Headers.{AreBehind, places_behind, behind-append}

@@ -9,7 +9,7 @@ use Rattle.array_shape.specs.Places.{media_len}
 use Rattle.row_bytes.specs.Header.{SaysShape}
 use Rattle.row_bytes.specs.Said.{row_said}
 use Rattle.row_bytes.proofs.Heading.{header_bytes-says}
-use Rattle.array_image.specs.Image.{row_of, data_of}
+use Rattle.array_image.specs.Image.{data_of}
 use Rattle.array_image.proofs.Headers.{AreBehind, header_stays}
 use Rattle.array_image.proofs.Frames.{before_all, left_sure}
 use Rattle.eaw_device.specs.Opens.{header_of}

@@ -5,9 +5,9 @@ use Rattle.std.specs.List.{range_with_len}
 use Rattle.std.proofs.lemmas.Bool.{cases_eq, eq-eqb, ne_eqb}
 use Rattle.std.proofs.lemmas.List.Elements.{All-head, All-tail}
 use Rattle.array_shape.specs.declared.shape.Shape.{Shape}
-use Rattle.array_shape.specs.Places.{IsShape, logger_of, data_len, media_len}
+use Rattle.array_shape.specs.Places.{IsShape, logger_of}
 use Rattle.array_shape.specs.Parts.{is_write_part_on}
-use Rattle.array_shape.specs.Logged.{Part, applied, ranges_of, AllPlaced, parts_at}
+use Rattle.array_shape.specs.Logged.{Part, ranges_of, AllPlaced, parts_at}
 use Rattle.array_image.specs.Image.{cell_of, cell_part, parts_from}
 use Rattle.array_image.specs.Image.{IsGoodCell}
 use Rattle.eaw_face.specs.State.{is_range_on, count_on}

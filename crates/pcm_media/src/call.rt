@@ -1,4 +1,5 @@
 // The calls that a medium in memory keeps.
+use std::mem::size_of;
 
 /// A call of a medium.
 #[derive(Clone, Copy, Debug, PartialEq, Eq)]
@@ -38,3 +39,7 @@ pub struct Mark {
     pub writes: u64,
     pub pause: Pause,
 }
+
+// What a write takes in the record beside its own bytes, and what a pause takes.
+const _: () = prove!(size_of::<Place>() == 16);
+const _: () = prove!(size_of::<Mark>() == 16);

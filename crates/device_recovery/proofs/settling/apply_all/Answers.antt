@@ -1,12 +1,10 @@
-use Rattle.std.proofs.Common.{refl, ◌≡◌, ◌+◌, ◌<◌, ◌≤◌, ℕ, true, List, ◌∙◌, sym, ap, subst, length, arith, IsTrue}
-use Rattle.std.proofs.lemmas.Bool.{false≢true}
-use Rattle.pcm_media.specs.Images.{IsOutside}
+use Rattle.std.proofs.Common.{refl, ◌≡◌, ◌+◌, ◌<◌, ◌≤◌, ℕ, true, List, ◌∙◌, sym, ap, subst, length, arith}
 use Rattle.array_shape.specs.Places.{media_len}
-use Rattle.array_shape.specs.Logged.{Part, applied, places_of}
+use Rattle.array_shape.specs.Logged.{Part, applied}
 use Rattle.row_bytes.specs.declared.row.Row.{Row}
 use Rattle.array_image.specs.Joined.{joined}
 use Rattle.array_image.specs.Image.{row_of, data_of}
-use Rattle.array_image.specs.Decided.{decided, all_decided, order_parts, orders}
+use Rattle.array_image.specs.Decided.{decided, order_parts, orders}
 use Rattle.array_image.proofs.Calls.{goes_on, hands_on}
 use Rattle.array_image.proofs.Recovery.{no_more_orders}
 use Rattle.device_recovery.specs.Table.{row_in}

@@ -1,9 +1,8 @@
-use Rattle.std.proofs.Common.{refl, ◌≡◌, ◌+◌, ◌<◌, ◌≤◌, ℕ, List, true, ◌∙◌, sym, subst, arith, IsTrue}
+use Rattle.std.proofs.Common.{refl, ◌≡◌, ◌+◌, subst, arith}
 use Rattle.std.specs.Prelude.{nat_eq}
 use Rattle.std.proofs.lemmas.Bool.{and_parts}
 use Rattle.mars_base.specs.Bytes.{range}
 use Rattle.mars_base.proofs.Going.{weaker, then}
-use Rattle.pcm_media.specs.Images.{IsOutside}
 use Rattle.array_image.specs.Votes.{votes_of}
 use Rattle.array_image.proofs.Calls.{goes_on, hands_on}
 use Rattle.array_image.proofs.Headers.{header_stays}

@@ -1,4 +1,4 @@
-use Rattle.std.proofs.Common.{◌≡◌, ◌≤◌, ◌-◌, ℕ, List, IsTrue}
+use Rattle.std.proofs.Common.{◌≤◌, ◌-◌, ℕ, List, IsTrue}
 use Rattle.mars_base.specs.Bytes.{range}
 use Rattle.pcm_media.specs.View.{LeavesOnly}
 use Rattle.array_image.specs.Standing.{AllSettled, IsRecovering}

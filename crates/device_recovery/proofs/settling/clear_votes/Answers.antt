@@ -1,4 +1,4 @@
-use Rattle.std.proofs.Common.{refl, ◌≡◌, ◌+◌, ◌*◌, ◌<◌, ◌≤◌, ℕ, [], ◌∷◌, ◌∙◌, sym, ap, subst, arith, true, false, IsTrue}
+use Rattle.std.proofs.Common.{refl, ◌≡◌, ◌*◌, ◌<◌, ℕ, [], ◌∷◌, ◌∙◌, sym, ap, subst, arith, true, false, IsTrue}
 use Rattle.std.proofs.lemmas.Bool.{false≢true}
 use Rattle.std.proofs.lemmas.Result.{IfOk-from_err, on_ok_weaker}
 use Rattle.pcm_media.specs.Images.{IsOutside, SameOutside}

@@ -1,5 +1,4 @@
-use Rattle.std.proofs.Common.{◌≡◌, ℕ, List, [], sym, ◌∙◌, ap, subst}
-use Rattle.std.specs.Prelude.{OnOk, IsTrue}
+use Rattle.std.proofs.Common.{ℕ, List, ◌∙◌, ap, subst}
 use Rattle.mars_base.specs.Costs.{Costs}
 use Rattle.pcm_media.specs.View.{LeavesOnly}
 use Rattle.array_shape.specs.Logged.{Part, applied}

@@ -1,4 +1,4 @@
-use Rattle.std.proofs.Common.{◌≡◌, ℕ, ◌+◌, ◌*◌, ◌<◌, List, IsTrue}
+use Rattle.std.proofs.Common.{◌≡◌, ℕ, ◌+◌, ◌<◌, List, IsTrue}
 use Rattle.std.specs.Prelude.{slice_index}
 use Rattle.array_shape.specs.Parts.{parts_of_write, write_parts_on}
 use Rattle.array_shape.specs.Places.{logger_of}

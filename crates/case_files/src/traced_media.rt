@@ -1,7 +1,6 @@
 // A medium whose calls are kept, with the places that they read and wrote.
-ghost use Rattle.std.specs.Prelude.{◌≡◌};
-
-use case_files::{Call, CaseFault, Record};
+use crate::report::CaseFault;
+use crate::traced::{Call, Record};
 use mars_base::Failed;
 use pcm_media::Media;
 use std::alloc::Global;
