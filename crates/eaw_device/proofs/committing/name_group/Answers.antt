@@ -6,7 +6,7 @@ use Rattle.array_shape.proofs.Sets.{passed_first, passed_with, passed_skip, pass
 use Rattle.coordinator.specs.declared.cells.Cells.{Cells}
 use Rattle.coordinator.specs.Commits.{cells_in}
 use Rattle.eaw_face.specs.State.{listed, count_on}
-use Rattle.eaw_device.specs.Logs.{IsKept, ranges_logged}
+use Rattle.eaw_device.specs.Logs.{ranges_in, IsKept, ranges_logged}
 use Rattle.eaw_device.proofs.Entries.{length-ranges_in}
 use Rattle.eaw_device.proofs.Gathering.{held_is}
 use Rattle.eaw_device.proofs.Tables.{found_log, ranges_there}
@@ -46,8 +46,9 @@ loop-tid-preserved-then-is_empty c =
     let none = passed_past c.args.tids.bits some t c.loop-tid.group.bits at.numbers t (omega arith) in
     let log = c.index-logs-from.result in
     let there = found_log logs c.from.result t log c.from.ensures (omega (arith, c.requires.many)) c.index-logs-from.is in
+    let its_len : length (listed (ranges_logged logs t)) ≡ length (ranges_in log.entries.items) = ap length (ranges_there c.args.shape.now logs t log there (c.requires.kept t log there)) in
     let empty : length (listed (ranges_logged logs t)) ≡ 0 =
-    omega (arith, ap length (ranges_there c.args.shape.now logs t log there (c.requires.kept t log there)), length-ranges_in log.entries.items, eqb-true (length log.entries.items) 0 (sym c.is_empty.ensures ∙ c.if-is_empty.true)) in
+    omega (arith, its_len, length-ranges_in log.entries.items, eqb-true (length log.entries.items) 0 (sym c.is_empty.ensures ∙ c.if-is_empty.true)) in
     record {
       numbers = passed_skip c.args.tids.bits some t c.loop-tid.group.bits at.numbers ((λ i. (sym c.contains.ensures ∙ c.if-not-contains.false) i && le-ltb 0 (length (listed (ranges_logged logs t))) (omega (arith, empty)) i));
       first = λ g u lt below so. with_none c.loop-tid.group.bits t (λ v. (cells_in c.loop-tid.cells g v).first ≡ 0) none (λ v lt' so'. at.first g v lt lt' so') u below so;
@@ -71,8 +72,9 @@ loop-tid-preserved c =
     let log = c.index-logs-from.result in
     let there = found_log logs c.from.result t log c.from.ensures (omega (arith, c.requires.many)) c.index-logs-from.is in
     let filled = eqb-false (length log.entries.items) 0 (sym c.is_empty.ensures ∙ c.if-is_empty.false) in
+    let its_len : length (listed (ranges_logged logs t)) ≡ length (ranges_in log.entries.items) = ap length (ranges_there shape logs t log there (c.requires.kept t log there)) in
     let logged : 0 < length (listed (ranges_logged logs t)) =
-    omega (arith, ap length (ranges_there shape logs t log there (c.requires.kept t log there)), length-ranges_in log.entries.items, filled) in
+    omega (arith, its_len, length-ranges_in log.entries.items, filled) in
     let small : (g : ℕ) → g < shape.loggers → g < 8 = λ g lt. omega (arith, shape.in_range.most_loggers) in
     let cells = c.name_cells.new.cells in
     let older : (u : ℕ) → u ≢ t → has c.with-group.result.bits u ≡ true → has c.loop-tid.group.bits u ≡ true = λ u ne so. sym (c.with-group.ensures.others u ne) ∙ so in
