@@ -56,7 +56,7 @@ counted_joined shape g f (suc n) =
     ∙ sym (ap (count_on shape g) (joined_more f 0 n))
 
 total_times : (p : ℕ → Bool) (l n : ℕ) → total (λ u. cond (p u) l 0) n ≡ total (λ u. one_if (p u)) n * l
-total_times p l zero = refl
+total_times p l zero = let none : 0 * l ≡ 0 = omega arith in sym none
 total_times p l (suc n) =
     total_more (λ u. cond (p u) l 0) n
     ∙ ap (λ (k : ℕ). k + cond (p n) l 0) (total_times p l n)
@@ -65,8 +65,8 @@ total_times p l (suc n) =
     ∙ ap (λ (k : ℕ). k * l) (sym (total_more (λ u. one_if (p u)) n))
   where
     one : (b : Bool) → cond b l 0 ≡ one_if b * l
-    one true = omega arith
-    one false = refl
+    one true = let same : 1 * l ≡ l = omega arith in sym same
+    one false = let none : 0 * l ≡ 0 = omega arith in sym none
 
 kept_one : (p : ℕ → Bool) (ts : List ℕ) → length (filter p ts) ≡ length (flat_map (λ t. cond (p t) (t ∷ []) []) ts)
 kept_one p [] = refl

@@ -48,7 +48,7 @@ loop-tid-preserved-then-is_empty c =
     let there = found_log logs c.from.result t log c.from.ensures (omega (arith, c.requires.many)) c.index-logs-from.is in
     let its_len : length (listed (ranges_logged logs t)) ≡ length (ranges_in log.entries.items) = ap length (ranges_there c.args.shape.now logs t log there (c.requires.kept t log there)) in
     let empty : length (listed (ranges_logged logs t)) ≡ 0 =
-    omega (arith, its_len, length-ranges_in log.entries.items, eqb-true (length log.entries.items) 0 (sym c.is_empty.ensures ∙ c.if-is_empty.true)) in
+    omega (arith, its_len, length-ranges_in log.entries.items, eqb-true log.entries.len 0 (sym c.is_empty.ensures ∙ c.if-is_empty.true), log.entries.ok.0) in
     record {
       numbers = passed_skip c.args.tids.bits some t c.loop-tid.group.bits at.numbers ((λ i. (sym c.contains.ensures ∙ c.if-not-contains.false) i && le-ltb 0 (length (listed (ranges_logged logs t))) (omega (arith, empty)) i));
       first = λ g u lt below so. with_none c.loop-tid.group.bits t (λ v. (cells_in c.loop-tid.cells g v).first ≡ 0) none (λ v lt' so'. at.first g v lt lt' so') u below so;
@@ -71,10 +71,10 @@ loop-tid-preserved c =
     let at = c.loop-tid.invariant in
     let log = c.index-logs-from.result in
     let there = found_log logs c.from.result t log c.from.ensures (omega (arith, c.requires.many)) c.index-logs-from.is in
-    let filled = eqb-false (length log.entries.items) 0 (sym c.is_empty.ensures ∙ c.if-is_empty.false) in
+    let filled = eqb-false log.entries.len 0 (sym c.is_empty.ensures ∙ c.if-is_empty.false) in
     let its_len : length (listed (ranges_logged logs t)) ≡ length (ranges_in log.entries.items) = ap length (ranges_there shape logs t log there (c.requires.kept t log there)) in
     let logged : 0 < length (listed (ranges_logged logs t)) =
-    omega (arith, its_len, length-ranges_in log.entries.items, filled) in
+    omega (arith, its_len, length-ranges_in log.entries.items, filled, log.entries.ok.0) in
     let small : (g : ℕ) → g < shape.loggers → g < 8 = λ g lt. omega (arith, shape.in_range.most_loggers) in
     let cells = c.name_cells.new.cells in
     let older : (u : ℕ) → u ≢ t → has c.with-group.result.bits u ≡ true → has c.loop-tid.group.bits u ≡ true = λ u ne so. sym (c.with-group.ensures.others u ne) ∙ so in
