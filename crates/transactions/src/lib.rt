@@ -6,10 +6,12 @@
 
 mod calls;
 mod making;
+mod numbers;
 mod refusal;
 mod work;
 
 pub use calls::{abort, back, begin, commit, del, get, put, save, scan};
 pub use making::transaction;
+pub use numbers::{number_in, value_of};
 pub use refusal::Refusal;
 pub use work::{Stop, Work};
