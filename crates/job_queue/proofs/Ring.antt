@@ -104,7 +104,7 @@ push_queues size job old new jobs most q p = subst (λ (t : Table). IsQueue size
 
     lies : Lie size made p.first 0 (jobs ++ job ∷ [])
     lies = lie_more size p.first 0 made jobs job (lie_on size p.first 0 old made jobs kept (subst (λ (f : ℕ). Lie size old f 0 jobs) (sym first_is) q.lie))
-        (ap (λ (n : ℕ). get made (place size p.first n + 2)) (sym count_is) ∙ here)
+        (ap (λ (n : ℕ). get made (place size p.first n + 2)) (omega (arith, count_is)) ∙ here)
 
     queue : IsQueue size made (jobs ++ job ∷ [])
     queue = record {

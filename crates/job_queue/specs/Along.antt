@@ -1,8 +1,9 @@
 -- What a history makes of a queue.
-use Rattle.std.specs.Prelude.{ℕ, ◌≡◌, ◌⊎◌, List, [], ◌∷◌, ◌++◌}
+use Rattle.std.specs.Prelude.{ℕ, ◌≡◌, ◌≤◌, ◌⊎◌, List, [], ◌∷◌, ◌++◌, take}
 use Rattle.history.specs.Writes.{Table}
 use Rattle.history.specs.Table.{left_by}
 use Rattle.history.specs.declared.transaction.Done.{Done}
+use Rattle.caller_steps.specs.Core.{CoreView}
 use Rattle.caller_steps.specs.State.{State}
 use Rattle.job_queue.specs.Queue.{IsQueue}
 
@@ -53,3 +54,11 @@ StaysAlong size IsOne old new = (first : List (List ℕ)) (deeds : List Deed) �
 -- the deed takes some job
 abbrev pub IsTaking : Deed → Type 0
 IsTaking deed = (job : List ℕ) × (deed ≡ taken job)
+
+-- the image opens with a queue after the first deeds, at least so many
+pub record IsLeft (size : ℕ) (first : List (List ℕ)) (deeds : List Deed) (least : ℕ) (core : CoreView) (image : List ℕ) : Type 0 where
+  pub count : ℕ
+  pub at_least : least ≤ count
+  pub table : Table
+  pub opens : core.opens image table
+  pub kept : IsKept size table first (take count deeds)

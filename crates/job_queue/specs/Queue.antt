@@ -1,5 +1,5 @@
 -- A ring of jobs in a table: under key 0 the place of the first job, under key 1 how many there are, and from key 2 on the places.
-use Rattle.std.specs.Prelude.{ℕ, suc, ◌≡◌, ◌+◌, ◌-◌, ◌<◌, ◌≤◌, nat_lt, if◌then◌else◌, List, [], ◌∷◌, ◌++◌, length, Option, Some, None, decimal}
+use Rattle.std.specs.Prelude.{ℕ, suc, ◌≡◌, ◌+◌, ◌-◌, ◌^◌, ◌<◌, ◌≤◌, nat_lt, if◌then◌else◌, List, [], ◌∷◌, ◌++◌, length, Option, Some, None, decimal}
 use Rattle.std.specs.FinMap.{get, insert}
 use Rattle.history.specs.Writes.{Table}
 use Rattle.history.specs.Table.{found}
@@ -38,6 +38,7 @@ pub record Pushes (size : ℕ) (job : List ℕ) (old new : Table) : Type 0 where
   pub count : ℕ
   pub says_first : IsNumber first (get old 0)
   pub says_count : IsNumber count (get old 1)
+  pub most : size ≤ 2 ^ 32
   pub within : first < size
   pub room : count < size
   pub becomes : new ≡ insert (insert old (place size first count + 2) job) 1 (decimal (count + 1))
@@ -48,6 +49,7 @@ pub record Takes (size : ℕ) (job : List ℕ) (old new : Table) : Type 0 where
   pub count : ℕ
   pub says_first : IsNumber first (get old 0)
   pub says_count : IsNumber count (get old 1)
+  pub most : size ≤ 2 ^ 32
   pub within : first < size
   pub some : 0 < count
   pub fits : count ≤ size

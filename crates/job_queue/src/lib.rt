@@ -4,6 +4,8 @@
 //! `laws.rt`: whatever a loss of power leaves, the jobs that were taken and those that are still there are those that were pushed.
 #![tactic(auto)]
 
+mod laws;
 mod queue;
 
+pub use laws::no_job_is_lost;
 pub use queue::{Unmet, push, take};
