@@ -24,4 +24,4 @@ returns-in_err-put_reply_text g c =
 pub returns : goal.returns
 returns g c =
     same_text (told_pieces c.args.caller (reply_text c.args.reply.now) _ (ap decimal c.from.ensures))
-    (and_then (all_of c.in_ok-put_number.ensures) (and_then (all_of c.in_ok-put.ensures) (and_then (all_of c.in_ok-put_reply_text.ensures) c.put-in_ok-put_reply_text.ensures)))
+    (and_then (all_of c.in_ok-put_number.ensures) (and_then (all_of c.in_ok-put.ensures) (and_then (all_of c.in_ok-put_reply_text.ensures) c.put-2.ensures)))
