@@ -126,7 +126,7 @@ committed_long old caller call k new (refused is sure index e) = absurd (cc)
 committed_long old caller call k new (failed is index e) = absurd (cc)
 committed_long old caller call k new (began is re e) = absurd (cc)
 committed_long old caller call k new (granted calls live free answers index e) = absurd (table_commits_nothing _ call k answers)
-committed_long old caller call k new (committed calls is re live e) =
+committed_long old caller call k new (committed calls is re live index e) =
     let count : k ≡ length old.history + 1 = cc in
     omega (arith, count, ap (λ (s : State). length s.history) e, length-append old.history (done_by old caller calls ∷ []))
 committed_long old caller call k new (doubted calls is re live index e) = absurd (cc)
