@@ -48,7 +48,7 @@ pub fn work<S: EawStore, K: KeyIndex>(
 ) -> Result<Reply, TableFault>
     requires tid { tid < (S.view records.old.store).shape.numbers }
     requires saves { HasSaves (length (counts_in records.old.marks tid)) (call_of asked) }
-    ensures works { Works S.tells (S.opens (S.view records.old.store).shape) K.index tid (call_of asked)
+    ensures works { Works S.tells (S.opens (S.view records.old.store).shape) K.index tid (call_of asked.entry)
         (pages_of (S.view records.old.store) records.old) (pages_of (S.view records.new.store) records.new) result }
 {
     match asked {
