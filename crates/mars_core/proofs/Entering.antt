@@ -80,7 +80,7 @@ module _ (limits : Limits) (s : State) (named : (caller : ℕ) → AreNamed s.in
             (subst (λ (x : Index). length (filter (is_write_on limits x g) (log_of (calls_of new t)).writes) ≤ limits.entries) (sym indexed)
             (subst (λ (cs : Granted). length (filter (is_write_on limits ix g) (log_of cs).writes) ≤ limits.entries) (sym (calls_here s new t (Some (calls ++ (call, answer) ∷ [])) live))
             (subst (λ (l : Log). length (filter (is_write_on limits ix g) l.writes) ≤ limits.entries) (sym (log_of-push calls call answer)) (own_room call answer enters returns g))))
-        | inr ne ↦ subst (λ (x : ℕ → Option ℕ). length (filter (is_write_on limits (record s.index { slot_of = x }) g) (log_of (calls_of new caller)).writes) ≤ limits.entries) (sym indexed)
+        | inr ne ↦ subst (λ (x : Index). length (filter (is_write_on limits x g) (log_of (calls_of new caller)).writes) ≤ limits.entries) (sym indexed)
             (subst (λ (cs : Granted). length (filter (is_write_on limits ix g) (log_of cs).writes) ≤ limits.entries) (sym (calls_there s new t (Some (calls ++ (call, answer) ∷ [])) live caller ne)) (index_room caller g))
       ]
 

@@ -5,6 +5,7 @@ ghost use Rattle.mars_core.specs.TableCall.{call_of};
 ghost use Rattle.mars_core.specs.Works.{Works, HasSaves, IsSaveRefusal, Unmade, Made};
 
 use crate::live::Live;
+use crate::masks::mask_of;
 use crate::replies::{copy_of, found, removed};
 use crate::seats::Seats;
 use crate::table_call::TableCall;
@@ -100,19 +101,26 @@ pub fn answer<S: EawStore, K: KeyIndex>(
     if let Some(refusal) = refused_save(records.saves(caller), call) {
         return (live, refusal);
     }
+    let mask = live.touched();
     // Room is reserved before the call is made, so that nothing is written that there is no memory to keep.
-    let live = match live.with_room() {
-        Ok(live) => live,
-        Err(live) => return (live, Reply::NoMemory),
+    let calls = match live.into_calls().with_room() {
+        Ok(calls) => calls,
+        Err(calls) => return (Live::of(calls, mask), Reply::NoMemory),
     };
     if let Some(holder) = seats.holder(caller, call) {
-        return (live.into_live(), Reply::Busy { holder });
+        return (Live::of(calls.into_calls(), mask), Reply::Busy { holder });
     }
     match work(alloc, records, caller, asked) {
         Ok(reply) => match copy_of(&reply) {
-            Ok(kept) => (live.push(call, kept), reply),
-            Err(_) => (live.into_live(), Reply::NoMemory),
+            Ok(kept) => {
+                let calls = calls.push(*call, kept);
+                (Live::of(calls, mask | mask_of(call)), reply)
+            }
+            Err(_) => (Live::of(calls.into_calls(), mask), Reply::NoMemory),
         },
-        Err(fault) => (live.into_live(), Reply::from(fault)),
+        Err(fault) => (
+            Live::of(calls.into_calls(), mask),
+            Reply::from(fault),
+        ),
     }
 }
