@@ -28,7 +28,7 @@ use Rattle.script_run.specs.declared.ended.Ended.{Ended}
 use Rattle.script_run.specs.declared.ended.Ended.TheVariants as ends
 use Rattle.mars_shell.specs.Joint.{JointWork}
 use Rattle.mars_shell.specs.OnCore.{TurnsOn}
-use Rattle.mars_shell.specs.Told.{IsTold}
+use Rattle.mars_shell.specs.Told.{TellsEnd}
 
 -- each caller has its plans
 pub as_many : (caller callers : ℕ) (said : List Line) → length (plans_from caller callers said) ≡ callers
@@ -44,11 +44,11 @@ plans_at first (suc callers) (suc caller) at said less is = plans_at (suc first)
 -- the same text for equal things
 pub retold : (ended : Ended) (cut : Bool) (text : List ℕ) (faults faults' : List LineFault) (history history' : List Done) (base base' : List (ℕ × List ℕ)) (fates fates' : List (List Fate))
     → faults ≡ faults' → history ≡ history' → base ≡ base' → fates ≡ fates'
-    → IsTold ended cut text (work_text faults history fates (entries (records (rows.table_of base) history))) (flat_map done_lines history ++ media_line)
-    → IsTold ended cut text (work_text faults' history' fates' (entries (records (rows.table_of base') history'))) (flat_map done_lines history' ++ media_line)
+    → TellsEnd ended cut text (work_text faults history fates (entries (records (rows.table_of base) history))) (flat_map done_lines history ++ media_line)
+    → TellsEnd ended cut text (work_text faults' history' fates' (entries (records (rows.table_of base') history'))) (flat_map done_lines history' ++ media_line)
 retold ended cut text faults faults' history history' base base' fates fates' f h b t tells =
-    subst (λ (lines : List ℕ). IsTold ended cut text (work_text faults' history' fates' (entries (records (rows.table_of base') history'))) lines) (ap (λ (l : List Done). flat_map done_lines l ++ media_line) h)
-    (subst (λ (whole : List ℕ). IsTold ended cut text whole (flat_map done_lines history ++ media_line)) (λ i. work_text (f i) (h i) (t i) (entries (records (rows.table_of (b i)) (h i)))) tells)
+    subst (λ (lines : List ℕ). TellsEnd ended cut text (work_text faults' history' fates' (entries (records (rows.table_of base') history'))) lines) (ap (λ (l : List Done). flat_map done_lines l ++ media_line) h)
+    (subst (λ (whole : List ℕ). TellsEnd ended cut text whole (flat_map done_lines history ++ media_line)) (λ i. work_text (f i) (h i) (t i) (entries (records (rows.table_of (b i)) (h i)))) tells)
 
 module _ (tells : Bool) (core last : CoreView) (callers tries : ℕ) (input : List ℕ) (said : List Line) (says : AllSay callers (lines_of input) said)
     (plans : List (List Plan)) (plans_are : plans ≡ plans_from 0 callers said) (fates : List (List Fate)) (end : WorkEnd) (worked : Worked tells tries plans core last fates end) (enough : callers ≤ core.limits.callers) where
@@ -70,7 +70,7 @@ module _ (tells : Bool) (core last : CoreView) (callers tries : ℕ) (input : Li
   fault_of work.NoMemory is = absurd (true≢false (sym is))
 
   joint_work : (ended : Ended) (cut : Bool) (text : List ℕ) → (ended ≢ ends.MediaFault → ended ≢ ends.NoMemory → end ≡ work.All) → (ended ≡ ends.MediaFault) ↔ (end ≡ work.MediaFault)
-      → IsTold ended cut text (work_text (faults_from 1 (λ caller. false) said) last.state.history fates (entries (records last.state.base last.state.history))) (flat_map done_lines last.state.history ++ media_line)
+      → TellsEnd ended cut text (work_text (faults_from 1 (λ caller. false) said) last.state.history fates (entries (records last.state.base last.state.history))) (flat_map done_lines last.state.history ++ media_line)
       → JointWork callers tries input ended cut text core.limits worked.turns last.state
   joint_work ended cut text whole fault tells_work = record {
     enough = enough;
@@ -90,7 +90,7 @@ module _ (tells : Bool) (core last : CoreView) (callers tries : ℕ) (input : Li
   }
 
   pub joint_turns : IsTrue tells → (ended : Ended) (cut : Bool) (text : List ℕ) → (ended ≢ ends.MediaFault → ended ≢ ends.NoMemory → end ≡ work.All) → (ended ≡ ends.MediaFault) ↔ (end ≡ work.MediaFault)
-      → IsTold ended cut text (work_text (faults_from 1 (λ caller. false) said) last.state.history fates (entries (records last.state.base last.state.history))) (flat_map done_lines last.state.history ++ media_line)
+      → TellsEnd ended cut text (work_text (faults_from 1 (λ caller. false) said) last.state.history fates (entries (records last.state.base last.state.history))) (flat_map done_lines last.state.history ++ media_line)
       → TurnsOn (JointWork callers tries input ended cut text) core ended last
   joint_turns told ended cut text whole fault tells_work = record {
     turns = worked.turns;

@@ -21,7 +21,7 @@ use Rattle.mars_shell.specs.Drill.{summary_text, AreMade, Drills}
 use Rattle.mars_shell.specs.Made.{without_reply, GoOn, Made, EndsEarly, SummedUp}
 use Rattle.mars_shell.specs.OnCore.{TurnsOn}
 use Rattle.mars_shell.specs.Tally.{counts, tally_of, key_sum, tally_text}
-use Rattle.mars_shell.specs.Told.{IsTold}
+use Rattle.mars_shell.specs.Told.{TellsEnd}
 use Rattle.mars_shell.proofs.Lining.{safe_now}
 use Rattle.mars_shell.proofs.Making.{clean_all, living}
 
@@ -36,9 +36,9 @@ tally_is numbers turns rows = ap (λ (l : List ℕ). number_line (codes "drill "
     (number_line (codes "records") (length rows) ++ number_line (codes "sum") (key_sum rows)))
 
 -- it was written whole or cut short
-summed_as : (ended : Ended) (cut : Bool) (text whole : List ℕ) → ended ≡ (if cut then WriteFault else All) → IsWritten cut text whole → IsTold ended cut text whole media_line
-summed_as ended true text whole end wrote = subst (λ (e : Ended). IsTold e true text whole media_line) (sym end) (refl, wrote)
-summed_as ended false text whole end wrote = subst (λ (e : Ended). IsTold e false text whole media_line) (sym end) (refl, wrote)
+summed_as : (ended : Ended) (cut : Bool) (text whole : List ℕ) → ended ≡ (if cut then WriteFault else All) → IsWritten cut text whole → TellsEnd ended cut text whole media_line
+summed_as ended true text whole end wrote = subst (λ (e : Ended). TellsEnd e true text whole media_line) (sym end) (refl, wrote)
+summed_as ended false text whole end wrote = subst (λ (e : Ended). TellsEnd e false text whole media_line) (sym end) (refl, wrote)
 
 -- all calls were made
 made_as : (ended : Ended) (cut : Bool) (script : List (ℕ × Call)) (turns : List Turn) → ended ≡ (if cut then WriteFault else All) → map without_reply turns ≡ script → GoOn turns → AreMade ended script turns
@@ -53,7 +53,7 @@ module _ (numbers : DrillNumbers) (tells : Bool) (old new : CoreView) (callers :
   module _ (told : IsTrue tells) (ready : CanShare tells 0 old) where
     -- turns of the script, of which this is told
     turns_on : (ended : Ended) (cut : Bool) (text : List ℕ) (turns : List Turn) → Made tells old (drill numbers.seed numbers.count callers) turns new
-        → AreMade ended (drill numbers.seed numbers.count old.limits.callers) turns → IsTold ended cut text (summary_text numbers turns (entries (records_of new.state))) media_line
+        → AreMade ended (drill numbers.seed numbers.count old.limits.callers) turns → TellsEnd ended cut text (summary_text numbers turns (entries (records_of new.state))) media_line
         → (ended ≢ MediaFault → has_fault turns ≡ false) → TurnsOn (Drills numbers ended cut text) old ended new
     turns_on ended cut text turns made all said clean = record {
       turns = turns;

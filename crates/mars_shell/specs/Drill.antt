@@ -17,7 +17,7 @@ use Rattle.script_run.specs.declared.ended.Ended.{Ended}
 use Rattle.script_run.specs.declared.ended.Ended.TheVariants.{MediaFault, NoMemory}
 use Rattle.mars_shell.specs.Dump.{number_line}
 use Rattle.mars_shell.specs.Lines.{goes_on}
-use Rattle.mars_shell.specs.Told.{IsTold}
+use Rattle.mars_shell.specs.Told.{TellsEnd}
 
 -- the word under which the summary counts a reply to a call: a commit or an abort that was done, a locked key, or an array that is full
 abbrev pub word_of : Reply → Call → List ℕ
@@ -49,4 +49,4 @@ AreMade ended script turns = (length turns ≡ length script) × All (λ turn. I
 pub record Drills (numbers : DrillNumbers) (ended : Ended) (cut : Bool) (text : List ℕ) (limits : Limits) (turns : List Turn) (final : State) : Type 0 where
   pub drawn : map (λ (turn : Turn). (turn.0, turn.1)) turns ≡ take (length turns) (drill numbers.seed numbers.count limits.callers)
   pub made : AreMade ended (drill numbers.seed numbers.count limits.callers) turns
-  pub told : IsTold ended cut text (summary_text numbers turns (entries (records_of final))) media_line
+  pub told : TellsEnd ended cut text (summary_text numbers turns (entries (records_of final))) media_line

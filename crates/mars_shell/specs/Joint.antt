@@ -18,7 +18,7 @@ use Rattle.texts.specs.MediaFault.{media_line}
 use Rattle.script_text.specs.declared.line.Line.{Line}
 use Rattle.script_run.specs.declared.ended.Ended.{Ended}
 use Rattle.script_run.specs.declared.ended.Ended.TheVariants.{MediaFault, NoMemory}
-use Rattle.mars_shell.specs.Told.{IsTold}
+use Rattle.mars_shell.specs.Told.{TellsEnd}
 
 -- What comes of the callers' work on a core of these limits, which has at least as many callers: what the lines of the input say, and that
 -- each caller's turns are those that its plans ask for, of which its fates are told. The work ended at a fault of the medium exactly if the
@@ -34,5 +34,5 @@ pub record JointWork (callers tries : ℕ) (input : List ℕ) (ended : Ended) (c
   pub works : (caller : ℕ) → caller < callers → (stopped : Option Reply) × IsWork (Times tries) (planned None (calls_by caller said)) (turns_of caller turns) (of_caller fates caller) stopped
       × (ended ≢ MediaFault → ended ≢ NoMemory → stopped ≡ None)
   pub fault : (ended ≡ MediaFault) ↔ IsTrue final.is_dead
-  pub tells : IsTold ended cut text (work_text (faults_from 1 (λ caller. false) said) final.history fates (entries (records final.base final.history)))
+  pub tells : TellsEnd ended cut text (work_text (faults_from 1 (λ caller. false) said) final.history fates (entries (records final.base final.history)))
       (flat_map done_lines final.history ++ media_line)

@@ -6,7 +6,7 @@ use Rattle.script_run.specs.declared.ended.Ended.TheVariants.{All, WriteFault, M
 
 -- What is written, by how the work ended: the whole text, or a front of it if the sink cut it short. If the medium failed, it is another
 -- text, which too may be cut short. If memory ran out, nothing is written.
-abbrev pub IsTold : Ended → Bool → List ℕ → (whole broken : List ℕ) → Type 0
-IsTold MediaFault cut text whole broken = IsWritten cut text broken
-IsTold NoMemory cut text whole broken = (cut ≡ false) × (text ≡ [])
-IsTold ended cut text whole broken = (ended ≡ (if cut then WriteFault else All)) × IsWritten cut text whole
+abbrev pub TellsEnd : Ended → Bool → List ℕ → (whole broken : List ℕ) → Type 0
+TellsEnd MediaFault cut text whole broken = IsWritten cut text broken
+TellsEnd NoMemory cut text whole broken = (cut ≡ false) × (text ≡ [])
+TellsEnd ended cut text whole broken = (ended ≡ (if cut then WriteFault else All)) × IsWritten cut text whole

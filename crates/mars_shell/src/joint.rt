@@ -7,7 +7,7 @@ ghost use Rattle.history.specs.Rows.{table_of};
 ghost use Rattle.history_text.specs.Text.{done_lines, work_text, fate_line, numbered};
 ghost use Rattle.texts.specs.MediaFault.{media_line};
 ghost use Rattle.texts.specs.Written.{Appends, IsWritten, Wrote};
-ghost use Rattle.mars_shell.specs.Told.{IsTold};
+ghost use Rattle.mars_shell.specs.Told.{TellsEnd};
 
 use crate::ending::write_ended;
 use caller_plans::LineFault;
@@ -32,7 +32,7 @@ pub fn tell_end<K: Sink>(
 ) -> Ended
     requires few { length fates.now ≤ 255 }
     ensures told { Wrote K.tells (K.written sink.old) (K.written sink.new) (K.faults sink.old) (K.faults sink.new)
-        (λ cut text. IsTold result cut text (work_text faults.now history.now fates.now (entries (records (table_of base.now) history.now))) (flat_map done_lines history.now ++ media_line)) }
+        (λ cut text. TellsEnd result cut text (work_text faults.now history.now fates.now (entries (records (table_of base.now) history.now))) (flat_map done_lines history.now ++ media_line)) }
     ensures whole { result ≢ Ended.MediaFault → result ≢ Ended.NoMemory → end ≡ WorkEnd.All }
     ensures fault { (result ≡ Ended.MediaFault) ↔ (end ≡ WorkEnd.MediaFault) }
 {
