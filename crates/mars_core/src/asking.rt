@@ -118,9 +118,6 @@ pub fn answer<S: EawStore, K: KeyIndex>(
             }
             Err(_) => (Live::of(calls.into_calls(), mask), Reply::NoMemory),
         },
-        Err(fault) => (
-            Live::of(calls.into_calls(), mask),
-            Reply::from(fault),
-        ),
+        Err(fault) => (Live::of(calls.into_calls(), mask), Reply::from(fault)),
     }
 }
