@@ -5,7 +5,7 @@ use crate::page_stores::{device_pages, media_below, plain_pages};
 use crate::plain::data_in;
 use crate::progress::Progress;
 use case_files::{CaseFault, Image, PageLine};
-use pcm_media::MemoryMedia;
+use pcm_media::{Media, MemoryMedia};
 use std::alloc::Global;
 
 // The calls of a case, and what they come to over plain memory.
@@ -79,7 +79,7 @@ fn play_wholly(
 ) -> Result<u64, CaseFault> {
     let media = media_of(alloc, image)?;
     match play_device(alloc, played, media, u64::MAX, progress)? {
-        (None, media) => Ok(media.calls().len() as u64),
+        (None, media) => Ok(media.moment()),
         (Some(_), _) => Err(CaseFault::Differs {
             what: "a fault where no call failed",
         }),

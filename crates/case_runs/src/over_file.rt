@@ -31,8 +31,8 @@ pub fn run_over_file<R: AllocGlobal + Threads + Wait + Sync>(
     let file = HonestCalls::new(alloc, image, answers(alloc, way, fails)?)?;
     let mut sink = sink_of(alloc, asked, nth)?;
     let Ok(media) = FileMedia::over(file, room(alloc, &asked.words)?) else {
-        let (status, media) = (Status::MediaFault, media_of(alloc, image)?);
-        let ran = ran_with(alloc, status, sink, media, fails.is_some())?;
+        let left = (Vec::new(alloc), media_of(alloc, image)?);
+        let ran = ran_with(alloc, Status::MediaFault, sink, left, fails.is_some())?;
         return Ok(OverFile { ran, calls: None });
     };
     let (status, media) = run_over(rt, asked, nth, &mut sink, media)?;
