@@ -3,9 +3,7 @@ use crate::once::{failing_call, run_over_memory};
 use crate::over_file::{compare_memory, run_over_file};
 use crate::way::{WAYS, Way};
 use case_files::{Case, CaseFault, Image, Play, Ran, Run, compare};
-use case_pages::{
-    Progress, Trial, compare_plain, first_media, has_twin, image_before, play_pages,
-};
+use case_pages::{Progress, Trial, compare_plain, first_media, has_twin, image_before, play_pages};
 use pcm_media::MemoryMedia;
 use std::alloc::Global;
 use std::sync::Wait;
