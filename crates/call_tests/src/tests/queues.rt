@@ -1,5 +1,5 @@
 // A queue of jobs over an array in memory.
-ghost use Rattle.std.specs.Prelude.{◌<◌, ◌≡◌, IsTrue};
+ghost use Rattle.std.specs.Prelude.{◌<◌, IsTrue};
 ghost use Rattle.caller_steps.specs.Sound.{IsSound};
 
 use super::arrays::{CHOICES, fresh, media_of};

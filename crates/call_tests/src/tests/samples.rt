@@ -4,16 +4,15 @@ ghost use Rattle.caller_steps.specs.Sound.{IsSound};
 
 use super::arrays::{CHOICES, fresh, media_of};
 use super::opening::open_bank;
-use caller_steps::{Core as Steps, prefix_law};
+use caller_steps::Core as Steps;
 use eaw_device::Eaw;
 use eaw_face::EawStore;
 use pcm_media::{FusedMedia, MemoryMedia};
-use record_slots::Value;
 use sample_array::write_both;
 use sample_records::raise;
 use std::alloc::Global;
 use std::test::Fail;
-use transactions::{Refusal, Stop};
+use transactions::Refusal;
 
 // The two ranges that the first sample writes, as an image has them.
 fn both_ranges(alloc: Global, media: MemoryMedia) -> Option<([u8; 8], [u8; 8])> {
