@@ -42,10 +42,13 @@ fn changes_at_once(alloc: Global, is_done: bool, media: &MemoryMedia) -> bool {
         let Ok(left) = media.leave(choice) else {
             return false;
         };
-        match both_ranges(alloc, left) {
-            Some(([1, 1, 1, 1, 1, 1, 1, 1], [2, 2, 2, 2, 2, 2, 2, 2])) => {}
-            Some(([0, 0, 0, 0, 0, 0, 0, 0], [0, 0, 0, 0, 0, 0, 0, 0])) if !is_done => {}
-            _ => return false,
+        let Some((one, other)) = both_ranges(alloc, left) else {
+            return false;
+        };
+        let is_new = one == [1; 8] && other == [2; 8];
+        let is_old = one == [0; 8] && other == [0; 8];
+        if !is_new && (is_done || !is_old) {
+            return false;
         }
     }
     true
