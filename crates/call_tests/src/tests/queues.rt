@@ -108,7 +108,11 @@ fn may_be_left(
     done: (bool, bool),
 ) -> bool {
     let before = [Ok(jobs[0]), Ok(jobs[1]), Err(Stop::GivenUp(Unmet::Empty))];
-    let between = [Ok(jobs[1]), Err(Stop::GivenUp(Unmet::Empty)), Err(Stop::GivenUp(Unmet::Empty))];
+    let between = [
+        Ok(jobs[1]),
+        Err(Stop::GivenUp(Unmet::Empty)),
+        Err(Stop::GivenUp(Unmet::Empty)),
+    ];
     let after = [Ok(jobs[1]), Ok(jobs[2]), Err(Stop::GivenUp(Unmet::Empty))];
     let (is_taken, is_pushed) = done;
     if *left == before {
