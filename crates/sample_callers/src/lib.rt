@@ -9,7 +9,13 @@ use record_slots::Value;
 use std::sync::Wait;
 
 /// Puts a value as one transaction of the pass, and answers the last reply: `Committed`, or why not, as `Busy`.
-pub fn put_one<R: Wait, C: Core + Drop>(rt: &R, mars: &Mars<C>, pass: &mut Pass<C>, key: u64, value: Value) -> Reply
+pub fn put_one<R: Wait, C: Core + Drop>(
+    rt: &R,
+    mars: &Mars<C>,
+    pass: &mut Pass<C>,
+    key: u64,
+    value: Value,
+) -> Reply
     requires { pass.old.table ≡ mars.now.table }
     ensures { pass.new.table ≡ pass.old.table }
 {

@@ -1,5 +1,5 @@
 // A queue of jobs over an array in memory.
-ghost use Rattle.std.specs.Prelude.{◌<◌, ◌≡◌, IsTrue};
+ghost use Rattle.std.specs.Prelude.{◌≡◌, ◌<◌, IsTrue};
 ghost use Rattle.caller_steps.specs.Sound.{IsSound};
 
 use super::arrays::{CHOICES, fresh, media_of};
@@ -12,32 +12,58 @@ use std::alloc::Global;
 use std::test::Fail;
 use transactions::Stop;
 
-const PLACES: u64 = 3;
+const PLACES: u64 = 2;
 
-// The answers to pushes of four jobs into a queue of three places, and to the takes after them.
-fn fill_and_drain<C: Steps>(core: &mut C) -> Option<bool>
+// The answers to three pushes.
+fn push_all<C: Steps>(core: &mut C, jobs: &[Value; 3]) -> [Result<(), Stop<Unmet>>; 3]
+    requires inside { 0 < (C.view core.old).limits.callers }
+    requires sound { IsTrue C.tells → IsSound (C.view core.old).state }
+    ensures limits { (C.view core.new).limits ≡ (C.view core.old).limits }
+    ensures still { IsTrue C.tells → IsSound (C.view core.new).state }
+{
+    prefix_law::<C>();
+    let one = push(core, 0, PLACES, jobs[0]);
+    let two = push(core, 0, PLACES, jobs[1]);
+    let three = push(core, 0, PLACES, jobs[2]);
+    [one, two, three]
+}
+
+// The answers to three takes.
+fn take_all<C: Steps>(core: &mut C) -> [Result<Value, Stop<Unmet>>; 3]
     requires inside { 0 < (C.view core.old).limits.callers }
     requires sound { IsTrue C.tells → IsSound (C.view core.old).state }
 {
     prefix_law::<C>();
-    let (a, b, c) = (Value::of(b"a")?, Value::of(b"b")?, Value::of(b"c")?);
-    let is_filled = push(core, 0, PLACES, a).is_ok() && push(core, 0, PLACES, b).is_ok();
-    let first = take(core, 0, PLACES) == Ok(a);
-    let is_full = push(core, 0, PLACES, c).is_ok() && push(core, 0, PLACES, a).is_ok();
-    let refused = push(core, 0, PLACES, b) == Err(Stop::GivenUp(Unmet::Full));
-    let rest = take(core, 0, PLACES) == Ok(b) && take(core, 0, PLACES) == Ok(c) && take(core, 0, PLACES) == Ok(a);
-    let is_empty = take(core, 0, PLACES) == Err(Stop::GivenUp(Unmet::Empty));
-    Some(is_filled && first && is_full && refused && rest && is_empty)
+    let one = take(core, 0, PLACES);
+    let two = take(core, 0, PLACES);
+    let three = take(core, 0, PLACES);
+    [one, two, three]
 }
 
-fn drained(alloc: Global) -> Option<bool> {
+fn push_and_take<C: Steps>(core: &mut C, jobs: &[Value; 3]) -> bool
+    requires inside { 0 < (C.view core.old).limits.callers }
+    requires sound { IsTrue C.tells → IsSound (C.view core.old).state }
+{
+    let pushed = push_all(core, jobs);
+    let taken = take_all(core);
+    let are_pushed = pushed == [Ok(()), Ok(()), Err(Stop::GivenUp(Unmet::Full))];
+    let are_taken = taken == [Ok(jobs[0]), Ok(jobs[1]), Err(Stop::GivenUp(Unmet::Empty))];
+    are_pushed && are_taken
+}
+
+fn three_jobs() -> Option<[Value; 3]> {
+    Some([Value::of(b"a")?, Value::of(b"b")?, Value::of(b"c")?])
+}
+
+fn come_in_order(alloc: Global) -> Option<bool> {
+    let jobs = three_jobs()?;
     let mut core = open_bank(alloc, fresh(alloc)?)?;
-    fill_and_drain(&mut core)
+    Some(push_and_take(&mut core, &jobs))
 }
 
 #[test]
 fn jobs_come_in_their_order(rt: HostRuntime) -> Result<(), Fail> {
-    assert!(rt; drained(rt.alloc()) == Some(true));
+    assert!(rt; come_in_order(rt.alloc()) == Some(true));
     Ok(())
 }
 
@@ -53,67 +79,90 @@ fn push_both<C: Steps>(core: &mut C) -> Option<()>
     requires sound { IsTrue C.tells → IsSound (C.view core.old).state }
 {
     prefix_law::<C>();
-    push(core, 0, PLACES, Value::of(b"a")?).ok()?;
-    push(core, 0, PLACES, Value::of(b"b")?).ok()
+    let (a, b) = (Value::of(b"a")?, Value::of(b"b")?);
+    push(core, 0, PLACES, a).ok()?;
+    push(core, 0, PLACES, b).ok()
 }
 
-// Takes a job and pushes c: whether each was done.
-fn take_and_push<C: Steps>(core: &mut C) -> Option<(bool, bool)>
+// Takes a job and pushes another: whether each was done.
+fn take_and_push<C: Steps>(core: &mut C, job: Value) -> (bool, bool)
     requires inside { 0 < (C.view core.old).limits.callers }
     requires sound { IsTrue C.tells → IsSound (C.view core.old).state }
 {
     prefix_law::<C>();
-    let is_taken = take(core, 0, PLACES).is_ok();
-    let is_pushed = push(core, 0, PLACES, Value::of(b"c")?).is_ok();
-    Some((is_taken, is_pushed))
+    let taken = take(core, 0, PLACES);
+    let pushed = push(core, 0, PLACES, job);
+    (taken.is_ok(), pushed.is_ok())
 }
 
-// The jobs of a queue, first to last.
-fn jobs_of<C: Steps>(core: &mut C) -> [Option<Value>; 3]
-    requires inside { 0 < (C.view core.old).limits.callers }
-    requires sound { IsTrue C.tells → IsSound (C.view core.old).state }
-{
-    prefix_law::<C>();
-    let one = take(core, 0, PLACES).ok();
-    let two = take(core, 0, PLACES).ok();
-    let three = take(core, 0, PLACES).ok();
-    [one, two, three]
+// The jobs of a queue, first to last, and what comes after them.
+fn jobs_left(alloc: Global, media: MemoryMedia) -> Option<[Result<Value, Stop<Unmet>>; 3]> {
+    let mut core = open_bank(alloc, media)?;
+    Some(take_all(&mut core))
 }
 
-// Whether each image that may be left has these jobs: a and b, b alone, or b and c, but not those before what was answered.
-fn keeps_jobs(alloc: Global, media: &MemoryMedia, is_taken: bool, is_pushed: bool) -> Option<bool> {
-    let (a, b, c) = (Value::of(b"a")?, Value::of(b"b")?, Value::of(b"c")?);
+// Whether these are the jobs of a queue of a and b before a take, or between it and a push of c, or after both.
+fn may_be_left(
+    left: &[Result<Value, Stop<Unmet>>; 3],
+    jobs: &[Value; 3],
+    done: (bool, bool),
+) -> bool {
+    let before = [Ok(jobs[0]), Ok(jobs[1]), Err(Stop::GivenUp(Unmet::Empty))];
+    let between = [
+        Ok(jobs[1]),
+        Err(Stop::GivenUp(Unmet::Empty)),
+        Err(Stop::GivenUp(Unmet::Empty)),
+    ];
+    let after = [Ok(jobs[1]), Ok(jobs[2]), Err(Stop::GivenUp(Unmet::Empty))];
+    let (is_taken, is_pushed) = done;
+    if *left == before {
+        return !is_taken;
+    }
+    if *left == between {
+        return !is_pushed;
+    }
+    *left == after
+}
+
+fn keeps_jobs(alloc: Global, media: &MemoryMedia, jobs: &[Value; 3], done: (bool, bool)) -> bool {
     for choice in CHOICES {
-        let mut core = open_bank(alloc, media.leave(choice).ok()?)?;
-        let jobs = jobs_of(&mut core);
-        let is_before = jobs == [Some(a), Some(b), None] && !is_taken;
-        let is_between = jobs == [Some(b), None, None] && !is_pushed;
-        let is_after = jobs == [Some(b), Some(c), None];
-        if !(is_before || is_between || is_after) {
-            return Some(false);
+        let Ok(left) = media.leave(choice) else {
+            return false;
+        };
+        let Some(left) = jobs_left(alloc, left) else {
+            return false;
+        };
+        if !may_be_left(&left, jobs, done) {
+            return false;
         }
     }
-    Some(true)
+    true
 }
 
-// The same of a take and a push behind a fuse; none where the array was not opened.
-fn keeps_behind(alloc: Global, image: &[u8], passes: u64) -> Option<(bool, bool)> {
+// Whether a take and a push behind a fuse keep the jobs, and whether both were done; none where the array was not opened.
+fn keeps_behind(
+    alloc: Global,
+    image: &[u8],
+    jobs: &[Value; 3],
+    passes: u64,
+) -> Option<(bool, bool)> {
     let mut core = open_bank(alloc, FusedMedia::wrap(media_of(alloc, image)?, passes))?;
-    let (is_taken, is_pushed) = take_and_push(&mut core)?;
+    let done = take_and_push(&mut core, jobs[2]);
     let media = core.into_store().into_media().into_inner();
-    Some((keeps_jobs(alloc, &media, is_taken, is_pushed)?, is_pushed))
+    Some((keeps_jobs(alloc, &media, jobs, done), done.0 && done.1))
 }
 
 #[test]
 fn no_job_is_lost_wherever_power_is_lost(rt: HostRuntime) -> Result<(), Fail> {
     let media = with_jobs(rt.alloc()).ok_or("jobs")?;
-    let mut was_pushed = false;
+    let jobs = three_jobs().ok_or("values")?;
+    let mut was_done = false;
     for passes in 0..96 {
-        if let Some((is_kept, is_pushed)) = keeps_behind(rt.alloc(), media.bytes(), passes) {
-            was_pushed = is_pushed;
+        if let Some((is_kept, is_done)) = keeps_behind(rt.alloc(), media.bytes(), &jobs, passes) {
+            was_done = is_done;
             assert!(rt; is_kept);
         }
     }
-    assert!(rt; was_pushed);
+    assert!(rt; was_done);
     Ok(())
 }

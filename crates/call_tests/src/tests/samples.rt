@@ -4,16 +4,15 @@ ghost use Rattle.caller_steps.specs.Sound.{IsSound};
 
 use super::arrays::{CHOICES, fresh, media_of};
 use super::opening::open_bank;
-use caller_steps::{Core as Steps, prefix_law};
+use caller_steps::Core as Steps;
 use eaw_device::Eaw;
 use eaw_face::EawStore;
 use pcm_media::{FusedMedia, MemoryMedia};
-use record_slots::Value;
 use sample_array::write_both;
 use sample_records::raise;
 use std::alloc::Global;
 use std::test::Fail;
-use transactions::{Refusal, Stop};
+use transactions::Refusal;
 
 // The two ranges that the first sample writes, as an image has them.
 fn both_ranges(alloc: Global, media: MemoryMedia) -> Option<([u8; 8], [u8; 8])> {
@@ -43,10 +42,13 @@ fn changes_at_once(alloc: Global, is_done: bool, media: &MemoryMedia) -> bool {
         let Ok(left) = media.leave(choice) else {
             return false;
         };
-        match both_ranges(alloc, left) {
-            Some(([1, 1, 1, 1, 1, 1, 1, 1], [2, 2, 2, 2, 2, 2, 2, 2])) => {}
-            Some(([0, 0, 0, 0, 0, 0, 0, 0], [0, 0, 0, 0, 0, 0, 0, 0])) if !is_done => {}
-            _ => return false,
+        let Some((one, other)) = both_ranges(alloc, left) else {
+            return false;
+        };
+        let is_new = one == [1; 8] && other == [2; 8];
+        let is_old = one == [0; 8] && other == [0; 8];
+        if !is_new && (is_done || !is_old) {
+            return false;
         }
     }
     true
