@@ -22,7 +22,7 @@ module _ (caller from to amount : ℕ) (old new : CoreView) (apart : from ≢ to
   added : Adds (Moves from to amount) caller old new → IsBalanced new.state
   added adds =
       let certain : KeepsSum old.state.base old.state.history =
-          subst (λ (h : List Done). KeepsSum old.state.base h) (ap (λ (d : List Done). old.state.history ++ d) adds.before ∙ append-nil old.state.history) keeps in
+      subst (λ (h : List Done). KeepsSum old.state.base h) (ap (λ (d : List Done). old.state.history ++ d) adds.before ∙ append-nil old.state.history) keeps in
       along (old.state.history ++ done_by old.state caller adds.calls ∷ []) adds.left
       (keeps_more old.state.base old.state.history (done_by old.state caller adds.calls) certain
       (sum_transfers from to amount (records_of old.state) (left_by (records_of old.state) adds.calls) apart adds.does))

@@ -5,7 +5,6 @@
 
 mod accounts;
 mod laws;
-
 mod transfers;
 
 pub use accounts::Refusal;

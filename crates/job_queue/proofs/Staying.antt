@@ -26,7 +26,7 @@ module _ (size caller : ℕ) (old new : CoreView) (base : new.state.base ≡ old
       → Goes size (records_of old.state) (done_by old.state caller calls) deed → GoesAlong size first (deeds ++ deed ∷ []) new.state
   added deed calls before left goes =
       let certain : IsAlong size old.state.base first old.state.history deeds =
-          subst (λ (h : List Done). IsAlong size old.state.base first h deeds) (ap (λ (d : List Done). old.state.history ++ d) before ∙ append-nil old.state.history) along in
+      subst (λ (h : List Done). IsAlong size old.state.base first h deeds) (ap (λ (d : List Done). old.state.history ++ d) before ∙ append-nil old.state.history) along in
       moved (old.state.history ++ done_by old.state caller calls ∷ []) (deeds ++ deed ∷ []) left
       (along_more size old.state.base first old.state.history deeds (done_by old.state caller calls) deed goes certain)
 
@@ -38,12 +38,20 @@ pub push_stays : (size : ℕ) (job : List ℕ) (caller : ℕ) (old new : CoreVie
     → StaysAlong size (λ deed. deed ≡ pushed job) old.state new.state
 push_stays size job caller old new base grows first deeds along =
     ⊎_elim (λ is. inl (same size caller old new base first deeds along is))
-    (λ adds. inr (pushed job, refl, added size caller old new base first deeds along (pushed job) adds.calls adds.before adds.left
-    (λ jobs queue. (jobs ++ job ∷ [], refl, push_queues size job _ _ jobs adds.does.most queue adds.does)))) grows
+    (λ adds. inr (
+      pushed job,
+      refl,
+      added size caller old new base first deeds along (pushed job) adds.calls adds.before adds.left
+          (λ jobs queue. (jobs ++ job ∷ [], refl, push_queues size job _ _ jobs adds.does.most queue adds.does)),
+    )) grows
 
 -- after a take
 pub take_stays : (size : ℕ) (caller : ℕ) (old new : CoreView) → new.state.base ≡ old.state.base → MayAdd (Taking size) caller old new → StaysAlong size IsTaking old.state new.state
 take_stays size caller old new base grows first deeds along =
     ⊎_elim (λ is. inl (same size caller old new base first deeds along is))
-    (λ adds. inr (taken adds.answer, (adds.answer, refl), added size caller old new base first deeds along (taken adds.answer) adds.calls adds.before adds.left
-    (λ jobs queue. take_queues size adds.answer _ _ jobs adds.does.most queue adds.does))) grows
+    (λ adds. inr (
+      taken adds.answer,
+      (adds.answer, refl),
+      added size caller old new base first deeds along (taken adds.answer) adds.calls adds.before adds.left
+          (λ jobs queue. take_queues size adds.answer _ _ jobs adds.does.most queue adds.does),
+    )) grows

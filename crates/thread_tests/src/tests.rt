@@ -4,6 +4,5 @@ mod flags;
 mod held_media;
 mod holds;
 mod places;
-mod samples;
 mod sharing;
 mod sleeping;
