@@ -1,6 +1,6 @@
 // What a file has after its calls.
-use crate::image::media_of;
 use case_files::{CaseFault, Record, TracedMedia};
+use case_pages::media_of;
 use media_file::{Done, HonestCalls};
 use pcm_media::{Media, MemoryMedia};
 use std::alloc::Global;
@@ -15,10 +15,7 @@ pub fn lengthened(alloc: Global, bytes: &[u8], least: usize) -> Result<Vec<u8>, 
 }
 
 /// A medium of which just the same is sure as of a file, and the calls that make it so.
-pub fn same_as(
-    alloc: Global,
-    file: &HonestCalls,
-) -> Result<(Vec<Record>, MemoryMedia), CaseFault> {
+pub fn same_as(alloc: Global, file: &HonestCalls) -> Result<(Vec<Record>, MemoryMedia), CaseFault> {
     let mut media = traced(alloc, file.first())?;
     for call in file.calls() {
         follow_call(alloc, &mut media, &call.done)?;
@@ -53,11 +50,7 @@ fn resize(
     Ok(())
 }
 
-fn write(
-    media: &mut TracedMedia<MemoryMedia>,
-    at: u64,
-    bytes: &[u8],
-) -> Result<(), CaseFault> {
+fn write(media: &mut TracedMedia<MemoryMedia>, at: u64, bytes: &[u8]) -> Result<(), CaseFault> {
     if at > media.len() || media.len() - at < bytes.len() as u64 {
         return Err(CaseFault::Place);
     }

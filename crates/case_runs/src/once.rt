@@ -1,6 +1,6 @@
 // One run of a case.
-use crate::image::media_of;
 use case_files::{CaseFault, Ran, Record, Run, TracedMedia, TroubleKind, has_failed};
+use case_pages::media_of;
 use mars_shell::{OpenGate, Status, fault_text, run};
 use outside::{MemorySink, MemorySource};
 use pcm_media::{FusedMedia, Media, MemoryMedia};

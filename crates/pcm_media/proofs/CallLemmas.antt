@@ -84,10 +84,10 @@ one_read init before count places whole =
     let long : length back ≡ before = omega (arith, length-drop (all_under init) places) in
     let split : (n : ℕ) → calls_in (init ++ record { writes = before; pause = Reads n } ∷ []) places ≡ calls_in init front ++ (writes_at back true ++ replicate n (Read, true))
     = λ n.
-        ap (calls_in (init ++ record { writes = before; pause = Reads n } ∷ [])) (sym (take-append-drop (all_under init) places))
-        ∙ calls_in-append init (record { writes = before; pause = Reads n } ∷ []) front back (sym (length-take-le (all_under init) places (omega arith)))
-        ∙ ap (λ (l : List Place). calls_in init front ++ calls_in (record { writes = before; pause = Reads n } ∷ []) l) (sym (append-nil back))
-        ∙ ap (λ (l : List (Call × Bool)). calls_in init front ++ l) (calls_in-one (record { writes = before; pause = Reads n }) back [] (sym long) refl) in
+    ap (calls_in (init ++ record { writes = before; pause = Reads n } ∷ [])) (sym (take-append-drop (all_under init) places))
+    ∙ calls_in-append init (record { writes = before; pause = Reads n } ∷ []) front back (sym (length-take-le (all_under init) places (omega arith)))
+    ∙ ap (λ (l : List Place). calls_in init front ++ calls_in (record { writes = before; pause = Reads n } ∷ []) l) (sym (append-nil back))
+    ∙ ap (λ (l : List (Call × Bool)). calls_in init front ++ l) (calls_in-one (record { writes = before; pause = Reads n }) back [] (sym long) refl) in
     split (count + 1)
     ∙ ap (λ (l : List (Call × Bool)). calls_in init front ++ (writes_at back true ++ l)) (replicate-push count (Read, true))
     ∙ ap (λ (l : List (Call × Bool)). calls_in init front ++ l) (sym (append_assoc (writes_at back true) (replicate count (Read, true)) ((Read, true) ∷ [])))

@@ -22,9 +22,7 @@ pub struct Place {
 #[derive(Clone, Copy, Debug)]
 pub enum Pause {
     /// So many reads that were done.
-    Reads {
-        count: u32,
-    },
+    Reads { count: u32 },
     /// A barrier that was done.
     Settled,
     FailedRead,
@@ -42,4 +40,5 @@ pub struct Mark {
 
 // What a write takes in the record beside its own bytes, and what a pause takes.
 const _: () = prove!(size_of::<Place>() == 16);
+
 const _: () = prove!(size_of::<Mark>() == 16);

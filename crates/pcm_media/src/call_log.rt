@@ -40,7 +40,7 @@ fn read_mark(marks: &mut Vec<Mark>, writes: u64) -> Mark
     ensures room { vec_capacity marks.new ≡ vec_capacity marks.old }
     ensures mark { ((marks.new.items ≡ marks.old.items) × (result ≡ record { writes = writes; pause = Reads 1 }))
         ⊎ ((before count : ℕ) × (writes ≡ 0) × (marks.old.items ≡ marks.new.items ++ record { writes = before; pause = Reads count } ∷ [])
-            × (result ≡ record { writes = before; pause = Reads (count + 1) })) }
+        × (result ≡ record { writes = before; pause = Reads (count + 1) })) }
 {
     match marks.last().copied() {
         Some(

@@ -9,10 +9,10 @@ ghost use Rattle.pcm_media.specs.Kept.{MustFail, HasRoom, Makes};
 ghost use Rattle.pcm_media.specs.Memory.{fresh_memory, content_of, view_of, is_steady};
 ghost use Rattle.pcm_media.specs.Choice.{IsLeftBy};
 
-use crate::choice::choose;
-use crate::journal::Journal;
 use crate::Media;
 use crate::call::Call;
+use crate::choice::choose;
+use crate::journal::Journal;
 use mars_base::{Failed, NoMemory};
 use std::alloc::Global;
 use std::marker::Model;

@@ -1,13 +1,12 @@
 -- The digits of a number are the text of a value.
-use Rattle.std.proofs.Common.{◌≡◌, ℕ, ◌^◌, ◌<◌, ◌≤◌, true, List, [], ◌∷◌, length, refl, ◌∙◌, ap, arith}
+use Rattle.std.proofs.Common.{◌≡◌, ℕ, ◌^◌, ◌<◌, ◌≤◌, true, List, [], ◌∷◌, length, refl, arith}
 use Rattle.std.specs.Prelude.{decimal}
 use Rattle.std.specs.List.{list_all}
-use Rattle.std.specs.Str.Parse.{AllDigits, digits_value, without_leading_plus}
+use Rattle.std.specs.Str.Parse.{AllDigits}
 use Rattle.std.proofs.lemmas.Bool.{and_from, le-leb}
 use Rattle.std.proofs.lemmas.Fmt.{decimal_is_IsNumeral, length-decimal-le}
-use Rattle.std.proofs.lemmas.Str.Parse.{digit_from_value, without_leading_plus_none}
+use Rattle.std.proofs.lemmas.Str.Parse.{digit_from_value}
 use Rattle.record_slots.specs.Text.{is_visible, IsValue}
-use Rattle.bank.specs.Accounts.{worth}
 
 digits_visible : (ds : List ℕ) → AllDigits 10 ds → list_all is_visible ds ≡ true
 digits_visible [] digits = refl
@@ -21,11 +20,3 @@ value_decimal n fits = record {
   short = let h : length (decimal n) ≤ 20 = length-decimal-le 20 n (omega arith) (omega arith) fits in omega arith;
   visible = digits_visible (decimal n) (decimal_is_IsNumeral n fits).0.1;
 }
-
-no_plus : (ds : List ℕ) → AllDigits 10 ds → without_leading_plus ds ≡ ds
-no_plus [] digits = without_leading_plus_none [] (λ is. cc)
-no_plus (c ∷ cs) digits = without_leading_plus_none (c ∷ cs) (λ is. let range = digit_from_value c digits.0 in omega (arith, range, is))
-
--- they spell the number
-pub worth_decimal : (n : ℕ) → n < 2 ^ 64 → worth (decimal n) ≡ n
-worth_decimal n fits = ap (λ (ds : List ℕ). digits_value 10 ds) (no_plus (decimal n) (decimal_is_IsNumeral n fits).0.1) ∙ (decimal_is_IsNumeral n fits).1

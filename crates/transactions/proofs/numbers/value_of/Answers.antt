@@ -2,8 +2,8 @@ use Rattle.std.proofs.Common.{List, ℕ, sym, ◌∙◌, subst}
 use Rattle.std.proofs.lemmas.List.{append-nil}
 use Rattle.std.specs.Prelude.{decimal}
 use Rattle.record_slots.specs.Text.{IsValue}
-use Rattle.bank.proofs.Texts.{value_decimal}
-use Rattle.bank.proofs.accounts.value_of.Goals as goal
+use Rattle.transactions.proofs.Texts.{value_decimal}
+use Rattle.transactions.proofs.numbers.value_of.Goals as goal
 
 pub unreachable-requires : goal.unreachable-requires
 unreachable-requires c =
