@@ -4,7 +4,7 @@ use Rattle.std.specs.Int.{bit_at}
 use Rattle.std.specs.List.{range_with_len}
 use Rattle.array_shape.specs.declared.number_set.NumberSet.{NumberSet}
 
--- number t is in a set of these bits
+-- number t is in a set of these bits, of transaction numbers or of loggers
 abbrev pub has : ℕ → ℕ → Bool
 has bits t = nat_eq (bit_at bits t) 1
 

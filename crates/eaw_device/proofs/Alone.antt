@@ -11,7 +11,7 @@ use Rattle.std.proofs.Math.Pow.{pow-lt}
 use Rattle.array_shape.specs.declared.shape.Shape.{Shape}
 use Rattle.array_shape.specs.Places.{media_len, data_len}
 use Rattle.array_shape.specs.Logged.{Part, applied, AllPlaced, parts_at}
-use Rattle.row_bytes.specs.Ballots.{has}
+use Rattle.array_shape.specs.NumberSet.{has}
 use Rattle.array_image.specs.Joined.{joined}
 use Rattle.array_image.specs.Image.{cell_of, parts_from, IsGoodCell}
 use Rattle.array_image.proofs.Joined.{joined_one}

@@ -137,7 +137,7 @@ impl<M: Media> EawStore for Eaw<M> {
 
     ghost opens = { Opens };
 
-    ghost calls = { calls_of };
+    ghost calls = { λ s command. calls_of command (view_of (M.view s.media) s.shape s.logs.items s.is_dead) };
 
     ghost shaped = { λ s. s.sound.shaped };
 

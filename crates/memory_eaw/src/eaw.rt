@@ -347,7 +347,7 @@ impl EawStore for MemoryEaw {
 
     ghost opens = { λ shape. IsData };
 
-    ghost calls = { plain_calls };
+    ghost calls = { λ s command. plain_calls command (shown s) };
 
     ghost shaped = { λ s. s.shape.in_range };
 
