@@ -81,14 +81,14 @@ carried_parts shape image [] = []
 carried_parts shape image (c ∷ cs) = (if carried shape.loggers shape.numbers (row_of shape image) c.ballot then c.parts else []) ++ carried_parts shape image cs
 
 -- two commits have one ballot and the same parts, and name the same cells in their rows
-pub record SaysTheSame (a b : Commit) : Type 0 where
+pub record SaysTheSame (shape : Shape) (a b : Commit) : Type 0 where
   pub ballot_is : b.ballot ≡ a.ballot
-  pub first_is : (g t : ℕ) → has_row a.ballot g t ≡ true → b.first g t ≡ a.first g t
-  pub count_is : (g t : ℕ) → has_row a.ballot g t ≡ true → b.count g t ≡ a.count g t
+  pub first_is : (g t : ℕ) → g < shape.loggers → t < shape.numbers → has_row a.ballot g t ≡ true → b.first g t ≡ a.first g t
+  pub count_is : (g t : ℕ) → g < shape.loggers → t < shape.numbers → has_row a.ballot g t ≡ true → b.count g t ≡ a.count g t
   pub parts_are : b.parts ≡ a.parts
 
 -- so do the commits of two queues, one by one
-abbrev pub AreAlike : List Commit → List Commit → Type 0
-AreAlike [] [] = Unit {0}
-AreAlike (a ∷ as_) (b ∷ bs) = SaysTheSame a b × AreAlike as_ bs
-AreAlike _ _ = ⊥
+abbrev pub AreAlike : Shape → List Commit → List Commit → Type 0
+AreAlike shape [] [] = Unit {0}
+AreAlike shape (a ∷ q) (b ∷ r) = SaysTheSame shape a b × AreAlike shape q r
+AreAlike shape _ _ = ⊥

@@ -121,6 +121,6 @@ pub fn cells_change_nothing(shape: &Shape)
 
 /// What a commit says of rows that it does not have does not matter: queues whose commits say the same wait alike, and have the same parts.
 pub fn alike_commits_wait_alike(shape: &Shape)
-    ensures rest { (queue other : List Commit) (bytes : List ℕ) (now : Content) → AreAlike queue other → IsAtRest shape.now queue bytes now → IsAtRest shape.now other bytes now }
-    ensures parts { (queue other : List Commit) → AreAlike queue other → queue_parts other ≡ queue_parts queue }
+    ensures rest { (queue other : List Commit) (bytes : List ℕ) (now : Content) → AreAlike shape.now queue other → IsAtRest shape.now queue bytes now → IsAtRest shape.now other bytes now }
+    ensures parts { (queue other : List Commit) → AreAlike shape.now queue other → queue_parts other ≡ queue_parts queue }
 {}
