@@ -22,7 +22,7 @@ use Rattle.row_bytes.specs.Ballots.{has_row}
 use Rattle.array_image.specs.Decided.{orders}
 use Rattle.array_image.specs.Votes.{votes_of}
 use Rattle.array_image.proofs.Deciding.{decided_where_voted}
-use Rattle.commit_queue.specs.Queue.{Commit, IsWritten, IsVoted, Each, some_has, IsQueued, queue_parts}
+use Rattle.commit_queue.specs.Queue.{Commit, NamesCell, IsWritten, IsVoted, Each, some_has, IsQueued, queue_parts}
 use Rattle.commit_queue.specs.Between.{Holds, IsHeld, AreUnvoted, IsQuiet, AreFree, bodies_of, IsJoining, IsLeaving}
 use Rattle.commit_queue.proofs.Orders.{each_in, found}
 use Rattle.commit_queue.proofs.Moments.{each_from, queue_same, written_placed, voted_stands}
@@ -48,7 +48,7 @@ module _ (shape : Shape) where
       queued = subst (λ e. IsQueued shape queue e new) (data_away shape ranges old new same free.data_free ∙ holds.queued.holds) (queue_same shape queue b old new (record {
         long = same.long;
         rest = λ g t lt lt' has. rest_of_same (row_of shape old g t) (row_of shape new g t) (voted_row g t lt lt' (queue_voted g t lt lt' has));
-        cells = λ g t e lt lt' lt'' has. cell_away shape ranges old new g t e same (λ i from below. free.cells g t e i lt lt' lt'' has from below);
+        cells = each_from _ queue (λ c is_in g t e lt lt' lt'' names. cell_away shape ranges old new g t e same (λ i from below. each_in (λ (d : Commit). (h u k j : ℕ) → h < shape.loggers → u < shape.numbers → k < shape.entries → NamesCell d h u k → cell_at shape h u k ≤ j → j < cell_at shape h u k + 528 → IsOutside ranges j) queue c free.cells is_in g t e i lt lt' lt'' names from below));
         others = λ g t lt lt' none so. decided_where_voted shape.loggers shape.numbers (row_of shape new) (row_of shape old)
             (λ h u below below' vote. sym (voted_row h u below below' (sym (free_votes old new same h u below below') ∙ vote))) g t lt lt' so;
       }) holds.queued);
@@ -72,19 +72,23 @@ module _ (shape : Shape) where
     pub free_quiet : (old new : List ℕ) → SameOutside ranges old new → IsQuiet shape queue old → IsQuiet shape queue new
     free_quiet old new same quiet g t lt lt' none = free_votes old new same g t lt lt' ∙ quiet g t lt lt' none
 
-  -- a range within a cell of a row of no commit of the queue is free
-  pub cell_free : (queue : List Commit) (g t e from n : ℕ) → g < shape.loggers → t < shape.numbers → e < shape.entries → some_has queue g t ≡ false → from + n ≤ 528 → AreFree shape queue (λ h u. false) ((cell_at shape g t e + from, n) ∷ [])
+  -- a range within a cell that no commit of the queue names is free
+  pub cell_free : (queue : List Commit) (g t e from n : ℕ) → g < shape.loggers → t < shape.numbers → e < shape.entries → Each (λ c. NamesCell c g t e → ⊥) queue → from + n ≤ 528 → AreFree shape queue (λ h u. false) ((cell_at shape g t e + from, n) ∷ [])
   cell_free queue g t e from n lt lt' lt'' none fits = record {
     votes = λ h u below below'. ((λ le to. row_no_cell shape h g u t e (row_at shape h u) below' lt' lt'' (omega arith) (omega arith) (omega arith) (omega arith)), tt);
     data_free = λ addr small. ((λ le to. cell_no_data shape g t e addr (place_of shape addr) lt' lt'' small (omega arith) (omega arith) refl), tt);
     rows = λ h u i below below' has from' to'. ((λ le to. row_no_cell shape h g u t e i below' lt' lt'' from' to' (omega arith) (omega arith)), tt);
-    cells = λ h u k i below below' below'' has from' to'. ((λ le to. other h u k i below' below'' has from' to' (omega arith) (omega arith)), tt);
+    cells = each_from _ queue (λ c is_in h u k i below below' below'' names from' to'. ((λ le to. other c (each_in (λ (d : Commit). NamesCell d g t e → ⊥) queue c none is_in) h u k i below' below'' names from' to' (omega arith) (omega arith)), tt));
   }
     where
-      other : (h u k i : ℕ) → u < shape.numbers → k < shape.entries → some_has queue h u ≡ true → cell_at shape h u k ≤ i → i < cell_at shape h u k + 528 → cell_at shape g t e ≤ i → i < cell_at shape g t e + 528 → ⊥
-      other h u k i below below' has le to le' to' = elim (cases_order g h) [
+      other : (c : Commit) → (NamesCell c g t e → ⊥) → (h u k i : ℕ) → u < shape.numbers → k < shape.entries → NamesCell c h u k → cell_at shape h u k ≤ i → i < cell_at shape h u k + 528 → cell_at shape g t e ≤ i → i < cell_at shape g t e + 528 → ⊥
+      other c away h u k i below below' names le to le' to' = elim (cases_order g h) [
         | inl is ↦ (let at = ap (λ (n : ℕ). cell_at shape n u k) is in elim (cases_order t u) [
-          | inl is' ↦ false≢true (sym none ∙ (λ j. some_has queue (is j) (is' j)) ∙ has)
+          | inl is' ↦ (let here = ap (λ (n : ℕ). cell_at shape g n k) is' in elim (cases_order e k) [
+            | inl is'' ↦ away (subst (λ (n : ℕ). NamesCell c g t n) (sym is'') (subst (λ (n : ℕ). NamesCell c g n k) (sym is') (subst (λ (n : ℕ). NamesCell c n u k) (sym is) names)))
+            | inr (inl less) ↦ omega (arith, less, at, here)
+            | inr (inr more) ↦ omega (arith, more, at, here)
+          ])
           | inr (inl less) ↦ omega (arith, cells_in_order shape g t e u k lt'' less, at)
           | inr (inr more) ↦ omega (arith, cells_in_order shape g u k t e below' more, at)
         ])
@@ -106,7 +110,7 @@ module _ (shape : Shape) where
     rows = λ g t i lt lt' away from to. bodies_away test i (λ h u below below' so le to'.
         let one = same_row shape g h t u i lt' below' from to (omega arith) (omega arith) in
         false≢true (sym away ∙ (λ j. test (one.0 j) (one.1 j)) ∙ so));
-    cells = λ g t e i lt lt' lt'' has from to. bodies_away test i (λ h u below below' so le to'. row_no_cell shape h g u t e i below' lt' lt'' (omega arith) (omega arith) from to);
+    cells = each_from _ queue (λ c is_in g t e i lt lt' lt'' names from to. bodies_away test i (λ h u below below' so le to'. row_no_cell shape h g u t e i below' lt' lt'' (omega arith) (omega arith) from to));
   }
     where
       differ : (g h t u : ℕ) → g ≡ h → t ≡ u → row_at shape h u + 1 ≤ row_at shape g t → ⊥

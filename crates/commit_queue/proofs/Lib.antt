@@ -4,6 +4,7 @@ pub mod Moments
 pub mod WriteBack
 pub mod Between
 pub mod Resting
+pub mod Alike
 pub mod Groups
 pub mod Counting
 pub mod Whole

@@ -14,7 +14,7 @@ use Rattle.array_image.proofs.Rows.{parts_same, parts_owned, SameRest, rest_ball
 use Rattle.row_bytes.specs.Ballots.{has_row}
 use Rattle.array_image.specs.Decided.{decided, carried}
 use Rattle.array_image.specs.Standing.{StandsFor}
-use Rattle.commit_queue.specs.Queue.{Commit, named_at, named_parts, IsWritten, IsVoted, Each, some_has, IsQueued, queue_parts, carried_parts}
+use Rattle.commit_queue.specs.Queue.{Commit, NamesCell, named_at, named_parts, IsWritten, IsVoted, Each, some_has, IsQueued, queue_parts, carried_parts}
 use Rattle.commit_queue.proofs.Orders.{In, each_in}
 use Rattle.commit_queue.proofs.Queues.{voted_carried, queued_stands}
 
@@ -29,17 +29,17 @@ in_some (d ∷ ds) c g t is has = ⊎_elim
     (λ later. or_right (has_row d.ballot g t) (some_has ds g t) (in_some ds c g t later has))
     is
 
--- The rows and cells of the queue's commits are as they were but for votes, and no other row has become decided.
+-- The rows of the queue's commits are as they were but for votes, and the cells that they name are as they were; no other row has become decided.
 pub record SameQueue (shape : Shape) (queue : List Commit) (old new : List ℕ) : Type 0 where
   pub long : length new ≡ length old
   pub rest : (g t : ℕ) → g < shape.loggers → t < shape.numbers → some_has queue g t ≡ true → SameRest (row_of shape old g t) (row_of shape new g t)
-  pub cells : (g t e : ℕ) → g < shape.loggers → t < shape.numbers → e < shape.entries → some_has queue g t ≡ true → cell_of shape new g t e ≡ cell_of shape old g t e
+  pub cells : Each (λ c. (g t e : ℕ) → g < shape.loggers → t < shape.numbers → e < shape.entries → NamesCell c g t e → cell_of shape new g t e ≡ cell_of shape old g t e) queue
   pub others : (g t : ℕ) → g < shape.loggers → t < shape.numbers → some_has queue g t ≡ false → decided shape new g t ≡ true → decided shape old g t ≡ true
 
 module _ (shape : Shape) where
   -- cells that are the same hold the same parts
   pub named_same_cells : (old new : List ℕ) (c : Commit) → ((g t : ℕ) → g < shape.loggers → t < shape.numbers → has_row c.ballot g t ≡ true → c.first g t + c.count g t ≤ shape.entries)
-      → ((g t e : ℕ) → g < shape.loggers → t < shape.numbers → e < shape.entries → has_row c.ballot g t ≡ true → cell_of shape new g t e ≡ cell_of shape old g t e) → named_parts shape new c ≡ named_parts shape old c
+      → ((g t e : ℕ) → g < shape.loggers → t < shape.numbers → e < shape.entries → NamesCell c g t e → cell_of shape new g t e ≡ cell_of shape old g t e) → named_parts shape new c ≡ named_parts shape old c
   named_same_cells old new c fits cells =
       joined_same (λ t. joined (named_at shape new c t) 0 shape.loggers) (λ t. joined (named_at shape old c t) 0 shape.loggers) 0 shape.numbers (λ t le lt'.
       joined_same (named_at shape new c t) (named_at shape old c t) 0 shape.loggers (λ g le' lt. one g t (omega arith) (omega arith)))
@@ -48,7 +48,7 @@ module _ (shape : Shape) where
       one g t lt lt' = ⊎_elim
           (λ has.
           ap (λ (b : Bool). cond b (parts_from shape new g t (c.first g t) (c.count g t)) []) has
-          ∙ parts_same shape old new g t (c.first g t) (c.count g t) (λ k from below. cells g t k lt lt' (omega (arith, fits g t lt lt' has)) has)
+          ∙ parts_same shape old new g t (c.first g t) (c.count g t) (λ k from below. cells g t k lt lt' (omega (arith, fits g t lt lt' has)) (record { row = has; from = from; below = below }))
           ∙ ap (λ (b : Bool). cond b (parts_from shape old g t (c.first g t) (c.count g t)) []) (sym has))
           (λ lacks.
           ap (λ (b : Bool). cond b (parts_from shape new g t (c.first g t) (c.count g t)) []) lacks
@@ -56,7 +56,7 @@ module _ (shape : Shape) where
           (cases_Bool (has_row c.ballot g t))
 
   module _ (old new : List ℕ) (c : Commit) (rest : (g t : ℕ) → g < shape.loggers → t < shape.numbers → has_row c.ballot g t ≡ true → SameRest (row_of shape old g t) (row_of shape new g t))
-      (cells : (g t e : ℕ) → g < shape.loggers → t < shape.numbers → e < shape.entries → has_row c.ballot g t ≡ true → cell_of shape new g t e ≡ cell_of shape old g t e) where
+      (cells : (g t e : ℕ) → g < shape.loggers → t < shape.numbers → e < shape.entries → NamesCell c g t e → cell_of shape new g t e ≡ cell_of shape old g t e) where
     written_same : IsWritten shape old c → IsWritten shape new c
     written_same was = record {
       small_mask = was.small_mask;
@@ -69,7 +69,7 @@ module _ (shape : Shape) where
             first_is = same.first ∙ named.first_is;
             count_is = same.count ∙ named.count_is;
             fits = named.fits;
-            cells = λ e from below. subst (IsGoodCell shape g) (sym (cells g t e lt lt' (omega (arith, named.fits)) has)) (named.cells e from below);
+            cells = λ e from below. subst (IsGoodCell shape g) (sym (cells g t e lt lt' (omega (arith, named.fits)) (record { row = has; from = from; below = below }))) (named.cells e from below);
           };
       parts_are = named_same_cells old new c (λ g t lt lt' has. (was.rows g t lt lt' has).fits) cells ∙ was.parts_are;
     }
@@ -79,7 +79,7 @@ module _ (shape : Shape) where
     long = same.long ∙ was.long;
     rise = was.rise;
     written = each_from (IsWritten shape new) queue (λ c is_in.
-        written_same old new c (λ g t lt lt' has. same.rest g t lt lt' (in_some queue c g t is_in has)) (λ g t e lt lt' lt'' has. same.cells g t e lt lt' lt'' (in_some queue c g t is_in has))
+        written_same old new c (λ g t lt lt' has. same.rest g t lt lt' (in_some queue c g t is_in has)) (each_in (λ (d : Commit). (g t e : ℕ) → g < shape.loggers → t < shape.numbers → e < shape.entries → NamesCell d g t e → cell_of shape new g t e ≡ cell_of shape old g t e) queue c same.cells is_in)
         (each_in (IsWritten shape old) queue c was.written is_in));
     others = λ g t lt lt' none. false_from_ne_true (decided shape new g t) (λ so. false≢true (sym (was.others g t lt lt' none) ∙ same.others g t lt lt' none so));
     holds = refl;

@@ -26,7 +26,7 @@ module _ (shape : Shape) where
     torn_queued = subst (λ b. IsQueued shape queue b new) (torn_data shape (has_row c.ballot) old new same ∙ queued.holds) (queue_same shape queue d old new (record {
       long = same.long;
       rest = λ g t lt lt' has. torn_rest shape (has_row c.ballot) old new same g t lt lt';
-      cells = λ g t e lt lt' lt'' has. torn_cells shape (has_row c.ballot) old new same g t e lt lt' lt'';
+      cells = each_from _ queue (λ d is_in g t e lt lt' lt'' names. torn_cells shape (has_row c.ballot) old new same g t e lt lt' lt'');
       others = λ g t lt lt' none so. decided_still shape.loggers shape.numbers (row_of shape new) (row_of shape old) (λ h u below below'. sym (ballots h u below below')) g t lt lt'
           (λ h u below below' so' is. ⊎_elim
           (λ has.
@@ -50,7 +50,7 @@ module _ (shape : Shape) where
     data_queued = queue_same shape queue d old new (record {
       long = same.long;
       rest = λ g t lt lt' has. rest_of_same (row_of shape old g t) (row_of shape new g t) (data_rows shape ps placed old new same g t lt');
-      cells = λ g t e lt lt' lt'' has. data_cells shape ps placed old new same g t e lt lt' lt'';
+      cells = each_from _ queue (λ d is_in g t e lt lt' lt'' names. data_cells shape ps placed old new same g t e lt lt' lt'');
       others = λ g t lt lt' none so. sym (decides_same shape.loggers shape.numbers (row_of shape old) (row_of shape new) (λ h u below below'. data_rows shape ps placed old new same h u below') g t lt lt') ∙ so;
     }) queued
 

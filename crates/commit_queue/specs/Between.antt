@@ -7,7 +7,7 @@ use Rattle.array_shape.specs.Logged.{applied}
 use Rattle.array_image.specs.Joined.{joined}
 use Rattle.array_image.specs.Image.{row_of}
 use Rattle.array_image.specs.Standing.{AllSettled}
-use Rattle.commit_queue.specs.Queue.{Commit, IsVoted, Each, some_has, IsQueued}
+use Rattle.commit_queue.specs.Queue.{Commit, IsVoted, NamesCell, Each, some_has, IsQueued}
 
 -- the rows of the queue's commits are written and voted, no other row is decided, and the data without their parts is this
 pub record Holds (shape : Shape) (queue : List Commit) (bytes image : List ℕ) : Type 0 where
@@ -32,12 +32,12 @@ pub record Rests (shape : Shape) (queue : List Commit) (bytes image : List ℕ) 
 abbrev pub IsAtRest : Shape → List Commit → List ℕ → Content → Type 0
 IsAtRest shape queue bytes content = (image : List ℕ) → MayLeave content image → Rests shape queue bytes image
 
--- the ranges have no vote, no data, nothing of the cells of the queue's commits, and of rows only those that a test takes
+-- the ranges have no vote, no data, nothing of the cells that the queue's commits name, and of rows only those that a test takes
 pub record AreFree (shape : Shape) (queue : List Commit) (test : ℕ → ℕ → Bool) (ranges : List (ℕ × ℕ)) : Type 0 where
   pub votes : (g t : ℕ) → g < shape.loggers → t < shape.numbers → IsOutside ranges (row_at shape g t)
   pub data_free : (addr : ℕ) → addr < data_len shape → IsOutside ranges (place_of shape addr)
   pub rows : (g t i : ℕ) → g < shape.loggers → t < shape.numbers → test g t ≡ false → row_at shape g t ≤ i → i < row_at shape g t + 16 → IsOutside ranges i
-  pub cells : (g t e i : ℕ) → g < shape.loggers → t < shape.numbers → e < shape.entries → some_has queue g t ≡ true → cell_at shape g t e ≤ i → i < cell_at shape g t e + 528 → IsOutside ranges i
+  pub cells : Each (λ c. (g t e i : ℕ) → g < shape.loggers → t < shape.numbers → e < shape.entries → NamesCell c g t e → cell_at shape g t e ≤ i → i < cell_at shape g t e + 528 → IsOutside ranges i) queue
 
 -- the rows that a test takes, without their votes
 abbrev pub bodies_of : Shape → (ℕ → ℕ → Bool) → List (ℕ × ℕ)

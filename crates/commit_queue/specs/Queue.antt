@@ -42,6 +42,12 @@ pub record IsWritten (shape : Shape) (image : List ℕ) (c : Commit) : Type 0 wh
 abbrev pub IsVoted : Shape → List ℕ → Commit → Type 0
 IsVoted shape image c = (g t : ℕ) → g < shape.loggers → t < shape.numbers → has_row c.ballot g t ≡ true → (row_of shape image g t).voted ≡ true
 
+-- it names cell e of number t at logger g
+pub record NamesCell (c : Commit) (g t e : ℕ) : Type 0 where
+  pub row : has_row c.ballot g t ≡ true
+  pub from : c.first g t ≤ e
+  pub below : e < c.first g t + c.count g t
+
 -- each commit of the queue
 abbrev pub Each : (Commit → Type 0) → List Commit → Type 0
 Each P [] = Unit {0}
@@ -73,3 +79,16 @@ queue_parts (c ∷ cs) = c.parts ++ queue_parts cs
 abbrev pub carried_parts : Shape → List ℕ → List Commit → List Part
 carried_parts shape image [] = []
 carried_parts shape image (c ∷ cs) = (if carried shape.loggers shape.numbers (row_of shape image) c.ballot then c.parts else []) ++ carried_parts shape image cs
+
+-- two commits have one ballot and the same parts, and name the same cells in their rows
+pub record SaysTheSame (shape : Shape) (a b : Commit) : Type 0 where
+  pub ballot_is : b.ballot ≡ a.ballot
+  pub first_is : (g t : ℕ) → g < shape.loggers → t < shape.numbers → has_row a.ballot g t ≡ true → b.first g t ≡ a.first g t
+  pub count_is : (g t : ℕ) → g < shape.loggers → t < shape.numbers → has_row a.ballot g t ≡ true → b.count g t ≡ a.count g t
+  pub parts_are : b.parts ≡ a.parts
+
+-- so do the commits of two queues, one by one
+abbrev pub AreAlike : Shape → List Commit → List Commit → Type 0
+AreAlike shape [] [] = Unit {0}
+AreAlike shape (a ∷ q) (b ∷ r) = SaysTheSame shape a b × AreAlike shape q r
+AreAlike shape _ _ = ⊥

@@ -12,7 +12,7 @@ ghost use Rattle.array_image.specs.Decided.{decided, orders};
 ghost use Rattle.array_image.specs.Votes.{votes_of};
 ghost use Rattle.commit_queue.specs.Between.{AreFree, AreUnvoted, bodies_of, Holds, IsAtRest, IsHeld, IsJoining, IsLeaving, IsQuiet, Rests};
 ghost use Rattle.commit_queue.specs.Deferred.{deferred_orders};
-ghost use Rattle.commit_queue.specs.Queue.{Commit, Each, IsQueued, IsVoted, IsWritten, Rise, carried_parts, named_at, queue_parts, some_has};
+ghost use Rattle.commit_queue.specs.Queue.{AreAlike, Commit, Each, IsQueued, IsVoted, IsWritten, NamesCell, Rise, carried_parts, named_at, queue_parts, some_has};
 
 use array_shape::Shape;
 
@@ -45,13 +45,13 @@ pub fn held_stands(shape: &Shape)
     ensures { (queue : List Commit) (bytes image : List ℕ) → Holds shape.now queue bytes image → StandsFor shape.now image (applied (queue_parts queue) bytes) }
 {}
 
-/// Writes into cells of other numbers, and of rows that are not voted but for their votes, keep the queue at every moment.
+/// Writes into cells that no commit of the queue names, and into rows that are not voted but for their votes, keep the queue at every moment.
 pub fn free_writes_keep_the_queue(shape: &Shape)
     ensures during { (queue : List Commit) (bytes : List ℕ) (test : ℕ → ℕ → Bool) (ranges : List (ℕ × ℕ)) (old : Content) (image : List ℕ) → AreFree shape.now queue test ranges → AllWithin (length old.bytes) ranges
         → IsHeld shape.now queue bytes old → AreUnvoted shape.now test old → MayLeave (partly ranges old) image → Holds shape.now queue bytes image }
     ensures after { (queue : List Commit) (bytes : List ℕ) (test : ℕ → ℕ → Bool) (ranges : List (ℕ × ℕ)) (old new : Content) → AreFree shape.now queue test ranges → AllWithin (length old.bytes) ranges
         → IsHeld shape.now queue bytes old → AreUnvoted shape.now test old → Touched ranges old new → IsHeld shape.now queue bytes new }
-    ensures cells { (queue : List Commit) (g t e from n : ℕ) → g < shape.now.loggers → t < shape.now.numbers → e < shape.now.entries → some_has queue g t ≡ false → from + n ≤ 528
+    ensures cells { (queue : List Commit) (g t e from n : ℕ) → g < shape.now.loggers → t < shape.now.numbers → e < shape.now.entries → Each (λ c. NamesCell c g t e → ⊥) queue → from + n ≤ 528
         → AreFree shape.now queue (λ h u. false) ((cell_at shape.now g t e + from, n) ∷ []) }
     ensures rows { (queue : List Commit) (test : ℕ → ℕ → Bool) → AreFree shape.now queue test (bodies_of shape.now test) }
     ensures joining { (queue : List Commit) (c : Commit) (bytes : List ℕ) (now : Content) → IsHeld shape.now queue bytes now → AllSettled now → IsWritten shape.now now.bytes c
@@ -111,10 +111,16 @@ pub fn nothing_waits_after_recovery(shape: &Shape)
     ensures { (bytes : List ℕ) (now : Content) → IsRecovering shape.now bytes now → ((g t : ℕ) → g < shape.now.loggers → t < shape.now.numbers → (row_of shape.now now.bytes g t).voted ≡ false) → IsAtRest shape.now [] bytes now }
 {}
 
-/// Between two calls: writes into cells of numbers that no commit of the queue has leave all as it was.
+/// Between two calls: writes into cells that no commit of the queue names leave all as it was.
 pub fn cells_change_nothing(shape: &Shape)
     ensures during { (queue : List Commit) (bytes : List ℕ) (ranges : List (ℕ × ℕ)) (old : Content) (image : List ℕ) → AreFree shape.now queue (λ g t. false) ranges → AllWithin (length old.bytes) ranges
         → IsAtRest shape.now queue bytes old → MayLeave (partly ranges old) image → Rests shape.now queue bytes image }
     ensures after { (queue : List Commit) (bytes : List ℕ) (ranges : List (ℕ × ℕ)) (old new : Content) → AreFree shape.now queue (λ g t. false) ranges → AllWithin (length old.bytes) ranges
         → IsAtRest shape.now queue bytes old → Touched ranges old new → IsAtRest shape.now queue bytes new }
+{}
+
+/// What a commit says of rows that it does not have does not matter: queues whose commits say the same wait alike, and have the same parts.
+pub fn alike_commits_wait_alike(shape: &Shape)
+    ensures rest { (queue other : List Commit) (bytes : List ℕ) (now : Content) → AreAlike shape.now queue other → IsAtRest shape.now queue bytes now → IsAtRest shape.now other bytes now }
+    ensures parts { (queue other : List Commit) → AreAlike shape.now queue other → queue_parts other ≡ queue_parts queue }
 {}

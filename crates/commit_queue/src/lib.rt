@@ -9,9 +9,9 @@
 mod laws;
 
 pub use laws::{
-    cells_change_nothing, deferred_are_counted, free_writes_keep_the_queue,
-    group_applies_lists_in_turn, held_stands, newest_counts_all_or_none,
-    nothing_waits_after_recovery, oldest_is_written_back, oldest_parts_change_nothing,
-    oldest_votes_change_nothing, other_rows_stay_unvoted, queue_stands, votes_join_the_queue,
-    votes_leave_the_queue,
+    alike_commits_wait_alike, cells_change_nothing, deferred_are_counted,
+    free_writes_keep_the_queue, group_applies_lists_in_turn, held_stands,
+    newest_counts_all_or_none, nothing_waits_after_recovery, oldest_is_written_back,
+    oldest_parts_change_nothing, oldest_votes_change_nothing, other_rows_stay_unvoted,
+    queue_stands, votes_join_the_queue, votes_leave_the_queue,
 };

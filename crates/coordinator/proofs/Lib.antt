@@ -1,5 +1,6 @@
 pub mod Calls
 pub mod Costing
+pub mod Absent
 pub mod Applying
 pub mod Placing
 pub mod Committing

@@ -53,6 +53,9 @@ fn put_rows_of<M: Media>(
     ensures names { IsTrue M.tells → OnOk result ((g : ℕ) → g < shape.now.loggers → has_row ballot g tid ≡ true
         → Says ballot cells.now g tid (row_of shape.now (M.view media.new).content.bytes g tid)) }
 {
+    if !ballot.has_number(tid) {
+        return Ok(());
+    }
     for number in 0..shape.loggers {
         if !ballot.has_row(number, tid) {
             continue;
@@ -98,6 +101,9 @@ fn set_votes_of<M: Media>(
     ensures votes { IsTrue M.tells → OnOk result ((g : ℕ) → g < shape.now.loggers → has_row ballot g tid ≡ true
         → (row_of shape.now (M.view media.new).content.bytes g tid).voted ≡ voted) }
 {
+    if !ballot.has_number(tid) {
+        return Ok(());
+    }
     for number in 0..shape.loggers {
         if !ballot.has_row(number, tid) {
             continue;
@@ -145,6 +151,9 @@ fn install_of<M: Media>(
     ensures applied { IsTrue M.tells → OnOk result (data_of shape.now (M.view media.new).content.bytes ≡
         applied (number_parts shape.now (M.view media.old).content.bytes ballot cells.now tid) (data_of shape.now (M.view media.old).content.bytes)) }
 {
+    if !ballot.has_number(tid) {
+        return Ok(());
+    }
     for number in 0..shape.loggers {
         if !ballot.has_row(number, tid) {
             continue;

@@ -31,7 +31,7 @@ module _ (shape : Shape) (ranges : List (ℕ × ℕ)) (in_cells : AreInCells sha
     votes = λ g t lt below. in_row g t (row_at shape g t) below (omega arith) (omega arith);
     data_free = in_data;
     rows = λ g t i lt below no from to. in_row g t i below from to;
-    cells = λ g t e i lt below inside has from to. absurd (false≢true has);
+    cells = tt;
   }
 
   pub staged_data : (old new : List ℕ) → SameOutside ranges old new → data_of shape new ≡ data_of shape old

@@ -1,8 +1,8 @@
-use Rattle.std.proofs.Common.{◌≡◌, ℕ, ◌+◌, ◌*◌, true, false, cond, refl, sym, ◌∙◌, ap, subst, length, arith}
+use Rattle.std.proofs.Common.{◌≡◌, ℕ, ◌+◌, ◌*◌, true, false, cond, refl, sym, ◌∙◌, ap, subst, List, length, arith}
 use Rattle.pcm_media.specs.Images.{IsOutside}
 use Rattle.array_shape.specs.declared.shape.Shape.{Shape}
 use Rattle.array_shape.specs.Places.{media_len}
-use Rattle.array_shape.specs.Logged.{applied, places_of}
+use Rattle.array_shape.specs.Logged.{Part, applied, places_of}
 use Rattle.row_bytes.specs.Ballots.{has_row}
 use Rattle.array_image.specs.Image.{data_of, cell_of, parts_from, IsGoodCell}
 use Rattle.array_image.proofs.Calls.{goes_on, hands_on}
@@ -12,6 +12,8 @@ use Rattle.coordinator.specs.Commits.{cells_in}
 use Rattle.coordinator.specs.Costs.{total}
 use Rattle.coordinator.proofs.Applying.{good_same, row_cells, row_skipped, row_within, row_applied}
 use Rattle.coordinator.proofs.Costing.{counted, not_counted, total_le, total_next}
+use Rattle.mars_base.proofs.Costing.{costs_all}
+use Rattle.coordinator.proofs.Absent.{no_counts, no_parts}
 use Rattle.coordinator.proofs.phases.install_of.Goals as goal
 
 pub loop-number-preserved-then-not-has_row : goal.loop-number-preserved-then-not-has_row
@@ -112,3 +114,11 @@ loop-number-preserved g c =
           row_applied shape ballot cells c.requires.there base long (c.requires.good told) c.args.tid c.requires.tid cur (c.loop-number.invariant.does.touched told).bytes n (omega arith) has new (c.loop-number.invariant.applied told)
           ((λ i. data_of (sym logger.shape i) new) ∙ c.in_ok-apply.ensures.data_after told ∙ (λ i. applied (named i) (data_of (logger.shape i) cur)));
     }
+
+pub returns-then-not-has_number-clause-costs : goal.returns-then-not-has_number-clause-costs
+returns-then-not-has_number-clause-costs g c = costs_all g.M.Media.tells _ _ _ _ (omega (arith, no_counts c.args.shape.now c.args.ballot c.args.tid (sym c.has_number.ensures ∙ c.if-not-has_number.true) c.args.cells.now))
+
+pub returns-then-not-has_number-clause-applied : goal.returns-then-not-has_number-clause-applied
+returns-then-not-has_number-clause-applied g c told =
+    let image = (g.M.Media.view c.args.media.now).content.bytes in
+    ap (λ (ps : List Part). applied ps (data_of c.args.shape.now image)) (sym (no_parts c.args.shape.now c.args.ballot c.args.tid (sym c.has_number.ensures ∙ c.if-not-has_number.true) c.args.cells.now image))

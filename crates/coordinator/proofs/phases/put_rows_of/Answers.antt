@@ -10,6 +10,9 @@ use Rattle.coordinator.specs.declared.cells.Cells.{Cells}
 use Rattle.coordinator.specs.Commits.{Says}
 use Rattle.coordinator.proofs.Calls.{body_within, one_skipped, rows_more}
 use Rattle.coordinator.proofs.Costing.{counted, not_counted, total_le, total_next}
+use Rattle.mars_base.proofs.Costing.{costs_all}
+use Rattle.coordinator.proofs.Absent.{no_row, no_rows}
+use Rattle.std.proofs.lemmas.Bool.{false≢true}
 use Rattle.coordinator.proofs.phases.put_rows_of.Goals as goal
 
 pub loop-number-preserved-then-not-has_row : goal.loop-number-preserved-then-not-has_row
@@ -56,3 +59,9 @@ loop-number-preserved g c =
             count_is = ap (λ (r : Row). r.count) row ∙ c.row-row.ensures.count ∙ ap (λ (n : Cells). n.count) c.cells_in-first.ensures;
           });
     }
+
+pub returns-then-not-has_number-clause-costs : goal.returns-then-not-has_number-clause-costs
+returns-then-not-has_number-clause-costs g c = costs_all true _ _ _ _ (omega (arith, no_rows c.args.shape.now c.args.ballot c.args.tid (sym c.has_number.ensures ∙ c.if-not-has_number.true)))
+
+pub returns-then-not-has_number-clause-names : goal.returns-then-not-has_number-clause-names
+returns-then-not-has_number-clause-names g c told h lt has = absurd (false≢true (sym (no_row c.args.shape.now c.args.ballot c.args.tid (sym c.has_number.ensures ∙ c.if-not-has_number.true) h) ∙ has))

@@ -8,6 +8,9 @@ use Rattle.array_image.proofs.Calls.{goes_on, hands_on}
 use Rattle.mars_base.proofs.Costing.{costs_err}
 use Rattle.coordinator.proofs.Calls.{vote_within, one_skipped, rows_more}
 use Rattle.coordinator.proofs.Costing.{counted, not_counted, total_le, total_next}
+use Rattle.mars_base.proofs.Costing.{costs_all}
+use Rattle.coordinator.proofs.Absent.{no_row, no_rows}
+use Rattle.std.proofs.lemmas.Bool.{false≢true}
 use Rattle.coordinator.proofs.phases.set_votes_of.Goals as goal
 
 pub loop-number-preserved-then-not-has_row : goal.loop-number-preserved-then-not-has_row
@@ -49,3 +52,9 @@ loop-number-preserved g c =
           rows_more c.args.shape.now c.args.tid c.requires.tid (λ h. has_row c.args.ballot h c.args.tid) (λ h r. r.voted ≡ c.args.voted) c.loop-number.number
           (row_at c.args.shape.now c.loop-number.number c.args.tid) 1 (λ i from below. (omega arith, omega arith)) _ bytes touched.bytes (c.loop-number.invariant.votes told) voted;
     }
+
+pub returns-then-not-has_number-clause-costs : goal.returns-then-not-has_number-clause-costs
+returns-then-not-has_number-clause-costs g c = costs_all true _ _ _ _ (omega (arith, no_rows c.args.shape.now c.args.ballot c.args.tid (sym c.has_number.ensures ∙ c.if-not-has_number.true)))
+
+pub returns-then-not-has_number-clause-votes : goal.returns-then-not-has_number-clause-votes
+returns-then-not-has_number-clause-votes g c told h lt has = absurd (false≢true (sym (no_row c.args.shape.now c.args.ballot c.args.tid (sym c.has_number.ensures ∙ c.if-not-has_number.true) h) ∙ has))

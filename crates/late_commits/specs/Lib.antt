@@ -1,0 +1,4 @@
+pub mod Waiting
+pub mod Orders
+pub mod Costs
+pub mod Steps
