@@ -13,7 +13,7 @@ use std::test::Fail;
 
 // A fresh array of two loggers and four numbers.
 fn array(alloc: Global) -> Option<MemoryMedia> {
-    fresh_of(alloc, &Shape::new(2, 4, 4, 4).ok()?)
+    fresh_of(alloc, &Shape::new(2, 4, 8, 4).ok()?)
 }
 
 // The array on a medium, where it has data for the writes of these tests.
