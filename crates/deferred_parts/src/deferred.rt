@@ -1,0 +1,83 @@
+// The entries of deferred commits, as the device keeps them in memory.
+ghost use Rattle.deferred_parts.specs.Kept.{IsKept};
+
+use crate::entry::Entry;
+use crate::marks::{clear_marks, set_mark};
+use array_shape::Shape;
+use std::alloc::{AllocError, Global};
+
+/// The entries of one number's deferred commit, in the order in which they are applied.
+#[derive(Drop)]
+pub(crate) struct NumberParts {
+    pub(crate) entries: Vec<Entry>,
+}
+
+/// The parts of all deferred commits. A number has at most one such commit.
+#[derive(Drop)]
+pub struct DeferredParts {
+    shape: Shape,
+    table: Vec<NumberParts>,
+    // For each page of the data the numbers that have a part on it, one bit each.
+    masks: Vec<u64>,
+    ghost kept: { IsKept shape table.items masks.items },
+}
+
+impl DeferredParts {
+    ghost use Rattle.std.specs.Prelude.{◌≡◌, ◌*◌, ◌^◌, ◌≤◌, ◌<◌, ℕ, [], All, IfOk, length};
+    ghost use Rattle.deferred_parts.specs.Entries.{IsEntry};
+    ghost use Rattle.deferred_parts.specs.Shown.{shape_of, entries_of, HasPlaces, memory_of, memory_for, Sets};
+
+    /// With no part, and with memory for all parts that there may be.
+    pub fn new(alloc: Global, shape: &Shape) -> Result<DeferredParts, AllocError>
+        ensures shape { IfOk result (λ parts. shape_of parts ≡ shape.now) }
+        ensures none { IfOk result (λ parts. (t : ℕ) → entries_of parts t ≡ []) }
+        ensures places { IfOk result HasPlaces }
+        ensures memory { IfOk result (λ parts. memory_of parts ≡ memory_for shape.now) }
+        ensures small { memory_for shape.now ≤ 2 ^ 20 }
+    {
+        let pages = usize::from(shape.loggers) * shape.pages as usize;
+        Ok(DeferredParts {
+            shape: *shape,
+            table: places(alloc, shape)?,
+            masks: vec![in alloc; 0; pages]?,
+        })
+    }
+
+    /// For an array that defers no commit: it takes no memory.
+    pub fn empty(alloc: Global, shape: &Shape) -> DeferredParts
+        ensures shape { shape_of result ≡ shape.now }
+        ensures none { (t : ℕ) → entries_of result t ≡ [] }
+        ensures memory { memory_of result ≡ 0 }
+    {
+        DeferredParts {
+            shape: *shape,
+            table: Vec::new(alloc),
+            masks: Vec::new(alloc),
+        }
+    }
+
+    /// The entries of a number's commit come in, which is deferred from now on.
+    pub fn add(&mut self, tid: u8, entries: &[Entry])
+        requires places { HasPlaces self.old }
+        requires tid { tid < (shape_of self.old).numbers }
+        requires none { entries_of self.old tid ≡ [] }
+        requires entries { All (IsEntry (shape_of self.old)) entries.now }
+        requires few { length entries.now ≤ (shape_of self.old).loggers * (shape_of self.old).entries }
+        ensures { Sets self.old self.new tid entries.now }
+    {
+        for entry in entries {
+            self.add_entry(tid, *entry);
+        }
+    }
+
+    /// The entries of a number go, once its commit is written back.
+    pub fn forget(&mut self, tid: u8)
+        requires places { HasPlaces self.old }
+        requires tid { tid < (shape_of self.old).numbers }
+        ensures { Sets self.old self.new tid [] }
+    {
+        let at = usize::from(tid);
+        clear_marks(&mut self.masks, tid, &self.table[at].entries);
+        self.table[at].entries.clear();
+    }
+}
