@@ -30,3 +30,8 @@ pub record IsKept (shape : Shape) (table : List NumberParts) (masks : List ℕ) 
   pub marked : (p t : ℕ) → t < 64 → has (slice_index masks p) t ≡ lies_on p (entries_at table t)
   pub memory : (t : ℕ) → ForSome (slice_get table t) (HasMemory shape)
   pub pages : 0 < length table → length masks ≡ page_count shape
+
+-- a place without entries, with just this memory
+pub record IsFree (shape : Shape) (n : NumberParts) : Type 0 where
+  pub none : n.entries.items ≡ []
+  pub exact : vec_capacity n.entries ≡ shape.loggers * shape.entries

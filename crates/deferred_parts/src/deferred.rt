@@ -1,8 +1,10 @@
 // The entries of deferred commits, as the device keeps them in memory.
-ghost use Rattle.deferred_parts.specs.Kept.{IsKept};
+ghost use Rattle.std.specs.Prelude.{◌≡◌, ℕ, IfOk, length, slice_get, vec_capacity};
+ghost use Rattle.std.specs.Option.{ForSome};
+ghost use Rattle.deferred_parts.specs.Kept.{IsFree, IsKept};
 
 use crate::entry::Entry;
-use crate::marks::{clear_marks, set_mark};
+use crate::marks::{clear_marks, page_of, set_mark};
 use array_shape::Shape;
 use std::alloc::{AllocError, Global};
 
@@ -15,15 +17,15 @@ pub(crate) struct NumberParts {
 /// The parts of all deferred commits. A number has at most one such commit.
 #[derive(Drop)]
 pub struct DeferredParts {
-    shape: Shape,
-    table: Vec<NumberParts>,
+    pub(crate) shape: Shape,
+    pub(crate) table: Vec<NumberParts>,
     // For each page of the data the numbers that have a part on it, one bit each.
-    masks: Vec<u64>,
+    pub(crate) masks: Vec<u64>,
     ghost kept: { IsKept shape table.items masks.items },
 }
 
 impl DeferredParts {
-    ghost use Rattle.std.specs.Prelude.{◌≡◌, ◌*◌, ◌^◌, ◌≤◌, ◌<◌, ℕ, [], All, IfOk, length};
+    ghost use Rattle.std.specs.Prelude.{◌≡◌, ◌*◌, ◌^◌, ◌≤◌, ◌<◌, ℕ, [], ◌∷◌, ◌++◌, All, IfOk, length};
     ghost use Rattle.deferred_parts.specs.Entries.{IsEntry};
     ghost use Rattle.deferred_parts.specs.Shown.{shape_of, entries_of, HasPlaces, memory_of, memory_for, Sets};
 
@@ -70,6 +72,18 @@ impl DeferredParts {
         }
     }
 
+    // One more comes in at the end.
+    fn add_entry(&mut self, tid: u8, entry: Entry)
+        requires places { HasPlaces self.old }
+        requires tid { tid < (shape_of self.old).numbers }
+        requires entry { IsEntry (shape_of self.old) entry }
+        requires few { length (entries_of self.old tid) < (shape_of self.old).loggers * (shape_of self.old).entries }
+        ensures { Sets self.old self.new tid (entries_of self.old tid ++ entry ∷ []) }
+    {
+        set_mark(&mut self.masks, tid, page_of(entry.addr));
+        self.table[usize::from(tid)].entries.push_reserved(entry);
+    }
+
     /// The entries of a number go, once its commit is written back.
     pub fn forget(&mut self, tid: u8)
         requires places { HasPlaces self.old }
@@ -80,4 +94,19 @@ impl DeferredParts {
         clear_marks(&mut self.masks, tid, &self.table[at].entries);
         self.table[at].entries.clear();
     }
+}
+
+// A place for each number, with memory for all entries that it may have.
+fn places(alloc: Global, shape: &Shape) -> Result<Vec<NumberParts>, AllocError>
+    ensures many { IfOk result (λ table. length table.items ≡ shape.now.numbers) }
+    ensures capacity { IfOk result (λ table. vec_capacity table ≡ shape.now.numbers) }
+    ensures free { IfOk result (λ table. (t : ℕ) → ForSome (slice_get table.items t) (IsFree shape.now)) }
+{
+    let most = usize::from(shape.loggers) * usize::from(shape.entries);
+    let mut table = Vec::with_capacity(alloc, usize::from(shape.numbers))?;
+    for _tid in 0..shape.numbers {
+        let entries = Vec::with_capacity(alloc, most)?;
+        table.push_reserved(NumberParts { entries });
+    }
+    Ok(table)
 }
