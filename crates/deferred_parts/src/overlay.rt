@@ -34,42 +34,42 @@ pub(crate) fn lay_entries<M: Media>(
     ensures does { Writes M.tells [] (M.view media.old) (M.view media.new) result }
 {
     for entry in entries {
-        if has_byte_of(entry, addr, buf.len() as u64) {
-            lay_entry(media, shape, tid, entry, addr, buf)?;
-        }
+        lay_entry(media, shape, tid, *entry, addr, buf)?;
     }
     Ok(())
 }
 
 // Whether the part of an entry has one of the `len` bytes from `addr` on.
-fn has_byte_of(entry: &Entry, addr: u64, len: u64) -> bool
-    requires part { entry.now.addr + entry.now.len < 2 ^ 64 }
+fn has_byte_of(entry: Entry, addr: u64, len: u64) -> bool
+    requires part { entry.addr + entry.len < 2 ^ 64 }
     requires range { addr + len < 2 ^ 64 }
-    ensures { result ≡ meets addr len entry.now }
+    ensures { result ≡ meets addr len entry }
 {
     entry.addr.max(addr) < (entry.addr + u64::from(entry.len)).min(addr + len)
 }
 
-// Reads the cell of an entry, and lays its part over the bytes.
+// Reads the cell of an entry, and lays its part over the bytes from `addr` on, if it has one of them.
 fn lay_entry<M: Media>(
     media: &mut M,
     shape: &Shape,
     tid: u8,
-    entry: &Entry,
+    entry: Entry,
     addr: u64,
     buf: &mut [u8],
 ) -> Result<(), Failed>
     requires size { (M.view media.old).size ≡ media_len shape.now }
     requires tid { tid < shape.now.numbers }
     requires range { addr + length buf.old ≤ data_len shape.now }
-    requires entry { IsEntry shape.now entry.now }
-    requires meets { meets addr (length buf.old) entry.now ≡ true }
-    requires held { IsTrue M.tells → ranges_of (parts_in shape.now (M.view media.old).content.bytes tid (entry.now ∷ [])) ≡ ranges_in (entry.now ∷ []) }
+    requires entry { IsEntry shape.now entry }
+    requires held { IsTrue M.tells → ranges_of (parts_in shape.now (M.view media.old).content.bytes tid (entry ∷ [])) ≡ ranges_in (entry ∷ []) }
     ensures bytes { IsTrue M.tells → (whole : List ℕ) → length whole ≡ data_len shape.now → buf.old ≡ range whole addr (length buf.old)
-        → OnOk result (buf.new ≡ range (applied (parts_in shape.now (M.view media.old).content.bytes tid (entry.now ∷ [])) whole) addr (length buf.old)) }
-    ensures costs { Costs true 1 (M.view media.old).moment (M.view media.new).moment result }
+        → OnOk result (buf.new ≡ range (applied (parts_in shape.now (M.view media.old).content.bytes tid (entry ∷ [])) whole) addr (length buf.old)) }
+    ensures costs { Costs true (count_by (meets addr (length buf.old)) (entry ∷ [])) (M.view media.old).moment (M.view media.new).moment result }
     ensures does { Writes M.tells [] (M.view media.old) (M.view media.new) result }
 {
+    if !has_byte_of(entry, addr, buf.len() as u64) {
+        return Ok(());
+    }
     let logger = Logger::new(*shape, shape.place(entry.addr).logger);
     let mut cell = [0; 512];
     logger.read_entry(media, tid, entry.cell, &mut cell)?;
@@ -78,13 +78,13 @@ fn lay_entry<M: Media>(
 }
 
 // Copies what a part has of the bytes from `addr` on. The cell begins with the part.
-fn copy_part(entry: &Entry, cell: &[u8; 512], addr: u64, buf: &mut [u8])
-    requires page { entry.now.len ≤ 512 }
-    requires part { entry.now.addr + entry.now.len < 2 ^ 64 }
+fn copy_part(entry: Entry, cell: &[u8; 512], addr: u64, buf: &mut [u8])
+    requires page { entry.len ≤ 512 }
+    requires part { entry.addr + entry.len < 2 ^ 64 }
     requires range { addr + length buf.old < 2 ^ 64 }
-    requires meets { meets addr (length buf.old) entry.now ≡ true }
-    ensures { (whole : List ℕ) → entry.now.addr + entry.now.len ≤ length whole → addr + length buf.old ≤ length whole → buf.old ≡ range whole addr (length buf.old)
-        → buf.new ≡ range (put whole entry.now.addr (take entry.now.len cell.now)) addr (length buf.old) }
+    requires meets { meets addr (length buf.old) entry ≡ true }
+    ensures { (whole : List ℕ) → entry.addr + entry.len ≤ length whole → addr + length buf.old ≤ length whole → buf.old ≡ range whole addr (length buf.old)
+        → buf.new ≡ range (put whole entry.addr (take entry.len cell.now)) addr (length buf.old) }
 {
     let start = entry.addr.max(addr);
     let end = (entry.addr + u64::from(entry.len)).min(addr + buf.len() as u64);

@@ -8,7 +8,7 @@ use pcm_media::Media;
 use row_bytes::Ballot;
 
 impl DeferredParts {
-    ghost use Rattle.std.specs.Prelude.{◌≡◌, ◌+◌, ◌/◌, ◌≤◌, ◌<◌, ◌&&◌, ℕ, List, [], true, length, count_by, IsTrue, OnOk};
+    ghost use Rattle.std.specs.Prelude.{◌≡◌, ◌+◌, ◌/◌, ◌≤◌, ◌<◌, ◌&&◌, ℕ, List, [], true, length, count_by, if◌then◌else◌, IsTrue, OnOk};
     ghost use Rattle.mars_base.specs.Bytes.{range};
     ghost use Rattle.mars_base.specs.Costs.{Costs};
     ghost use Rattle.pcm_media.specs.View.{Writes};
@@ -18,7 +18,7 @@ impl DeferredParts {
     ghost use Rattle.array_image.specs.Image.{data_of};
     ghost use Rattle.row_bytes.specs.Ballots.{has};
     ghost use Rattle.deferred_parts.specs.Kept.{lies_on};
-    ghost use Rattle.deferred_parts.specs.Entries.{AreHeld};
+    ghost use Rattle.deferred_parts.specs.Entries.{AreHeld, parts_in};
     ghost use Rattle.deferred_parts.specs.Turns.{in_turn, of_group, group_parts, parts_in_turn};
     ghost use Rattle.deferred_parts.specs.Shown.{shape_of, entries_of};
     ghost use Rattle.deferred_parts.specs.Reading.{meets, read_calls};
@@ -94,10 +94,7 @@ impl DeferredParts {
         ensures does { Writes M.tells [] (M.view media.old) (M.view media.new) result }
     {
         for ballot in queue {
-            let numbers = mask & ballot.group;
-            if numbers != 0 {
-                self.lay_group(media, ballot.group, numbers, addr, buf)?;
-            }
+            self.lay_group(media, ballot.group, mask & ballot.group, addr, buf)?;
         }
         Ok(())
     }
@@ -120,12 +117,39 @@ impl DeferredParts {
         ensures costs { Costs true (count_by (meets addr (length buf.old)) (of_group (shape_of self.now) (entries_of self.now) group)) (M.view media.old).moment (M.view media.new).moment result }
         ensures does { Writes M.tells [] (M.view media.old) (M.view media.new) result }
     {
+        if numbers == 0 {
+            return Ok(());
+        }
         for tid in 0..self.shape.numbers {
-            if has(numbers, tid) {
-                let entries = &self.table[usize::from(tid)].entries;
-                lay_entries(media, &self.shape, tid, entries, addr, buf)?;
-            }
+            self.lay_number(media, tid, group, numbers, addr, buf)?;
         }
         Ok(())
+    }
+
+    // Those of number `tid`, if it is of the group.
+    fn lay_number<M: Media>(
+        &self,
+        media: &mut M,
+        tid: u8,
+        group: u64,
+        numbers: u64,
+        addr: u64,
+        buf: &mut [u8],
+    ) -> Result<(), Failed>
+        requires size { (M.view media.old).size ≡ media_len (shape_of self.now) }
+        requires tid { tid < (shape_of self.now).numbers }
+        requires page { IsPlaced (shape_of self.now) addr (length buf.old) }
+        requires numbers { has numbers tid ≡ (lies_on (addr / 512) (entries_of self.now tid) && has group tid) }
+        requires held { IsTrue M.tells → AreHeld (shape_of self.now) (M.view media.old).content.bytes (entries_of self.now) }
+        ensures bytes { IsTrue M.tells → (whole : List ℕ) → length whole ≡ data_len (shape_of self.now) → buf.old ≡ range whole addr (length buf.old)
+            → OnOk result (buf.new ≡ range (applied (if has group tid then parts_in (shape_of self.now) (M.view media.old).content.bytes tid (entries_of self.now tid) else []) whole) addr (length buf.old)) }
+        ensures costs { Costs true (count_by (meets addr (length buf.old)) (if has group tid then entries_of self.now tid else [])) (M.view media.old).moment (M.view media.new).moment result }
+        ensures does { Writes M.tells [] (M.view media.old) (M.view media.new) result }
+    {
+        if !has(numbers, tid) {
+            return Ok(());
+        }
+        let entries = &self.table[usize::from(tid)].entries;
+        lay_entries(media, &self.shape, tid, entries, addr, buf)
     }
 }
