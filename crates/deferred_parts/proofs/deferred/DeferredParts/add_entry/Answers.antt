@@ -1,0 +1,10 @@
+use Rattle.deferred_parts.proofs.deferred.DeferredParts.add_entry.Goals as goal
+
+pub push_reserved-requires : goal.push_reserved-requires
+push_reserved-requires c = ?
+
+pub invariant_of-self : goal.invariant_of-self
+invariant_of-self c = ?
+
+pub returns : goal.returns
+returns c = ?
