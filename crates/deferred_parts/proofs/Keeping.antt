@@ -54,6 +54,10 @@ set_each P (x ∷ xs) zero y each here (suc t) z is = each (suc t) z is
 set_each P (x ∷ xs) (suc i) y each here zero z is = each zero z is
 set_each P (x ∷ xs) (suc i) y each here (suc t) z is = set_each P xs i y (λ u w got. each (suc u) w got) here t z is
 
+-- the entries that are read at a place of the table are those of the number
+pub read_at : (table : List NumberParts) (at t : ℕ) (n : NumberParts) → at ≡ t → t < length table → n ≡ get_or table at n → n.entries.items ≡ entries_at table t
+read_at table at t n same lt is = ap (λ (m : NumberParts). m.entries.items) is ∙ ap (λ (k : ℕ). (get_or table k n).entries.items) same ∙ sym (entries_at-get table t n lt)
+
 pub memory_at : (shape : Shape) (table : List NumberParts) (t : ℕ) (d : NumberParts) → t < length table → ((u : ℕ) → ForSome (slice_get table u) (HasMemory shape)) → HasMemory shape (get_or table t d)
 memory_at shape [] t d lt each = absurd (omega arith)
 memory_at shape (n ∷ ns) zero d lt each = each zero n refl

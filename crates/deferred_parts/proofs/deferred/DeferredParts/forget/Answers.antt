@@ -8,19 +8,14 @@ use Rattle.deferred_parts.specs.declared.entry.Entry.{Entry}
 use Rattle.deferred_parts.specs.declared.deferred.NumberParts.{NumberParts}
 use Rattle.deferred_parts.specs.Entries.{IsEntry}
 use Rattle.deferred_parts.specs.Kept.{IsKept, HasMemory, entries_at, lies_on}
-use Rattle.deferred_parts.proofs.Keeping.{entries_at-get, entries_at-set_same, entries_at-set_other, kept_none, memory_at, page_inside}
+use Rattle.deferred_parts.proofs.Keeping.{entries_at-set_same, entries_at-set_other, kept_none, memory_at, page_inside, read_at}
 use Rattle.deferred_parts.proofs.deferred.DeferredParts.forget.Goals as goal
-
--- the entries that are read at a place of the table are those of the number
-read_at : (table : List NumberParts) (at t : ℕ) (n : NumberParts) (es : List Entry) → at ≡ t → t < length table → n ≡ get_or table at n → es ≡ n.entries.items → es ≡ entries_at table t
-read_at table at t n es same lt is items =
-    items ∙ ap (λ (m : NumberParts). m.entries.items) is ∙ ap (λ (k : ℕ). (get_or table k n).entries.items) same ∙ sym (entries_at-get table t n lt)
 
 pub clear_marks-requires-clause-pages : goal.clear_marks-requires-clause-pages
 clear_marks-requires-clause-pages c k d lt =
     let s = c.args.self.now in
     let below : c.args.tid < length s.table.items = omega (arith, c.requires.places, c.requires.tid) in
-    let es = read_at s.table.items c.from-at.result c.args.tid c.index.result.now c.deref.result.now c.from-at.ensures below c.index.ensures c.deref.ensures.value in
+    let es = c.deref.ensures.value ∙ read_at s.table.items c.from-at.result c.args.tid c.index.result.now c.from-at.ensures below c.index.ensures in
     let all : All (IsEntry s.shape) c.deref.result.now = subst (All (IsEntry s.shape)) (sym es) (s.kept.entries c.args.tid) in
     let pages : length s.masks.items ≡ page_count s.shape = s.kept.pages (omega arith) in
     omega (arith, page_inside s.shape _ (all k d lt), pages, c.deref_mut.ensures.value, ap length c.deref_mut.ensures.value)
@@ -31,7 +26,7 @@ invariant_of-self c =
     let at = c.from-at.ensures in
     let n : NumberParts = record { entries = c.clear.new.self } in
     let below : c.args.tid < length s.table.items = omega (arith, c.requires.places, c.requires.tid) in
-    let es = read_at s.table.items c.from-at.result c.args.tid c.index.result.now c.deref.result.now at below c.index.ensures c.deref.ensures.value in
+    let es = c.deref.ensures.value ∙ read_at s.table.items c.from-at.result c.args.tid c.index.result.now at below c.index.ensures in
     let same_masks = with_items_is s.masks c.clear_marks.new.masks (omega (arith, c.clear_marks.auto.masks, c.deref_mut.ensures.len)) in
     let long : length c.clear_marks.new.masks ≡ length s.masks.items = c.clear_marks.auto.masks ∙ ap length c.deref_mut.ensures.value in
     let memory : HasMemory s.shape n = omega (arith, c.clear.ensures.capacity, ap (λ (m : NumberParts). vec_capacity m.entries) c.index_mut.ensures.value, memory_at s.shape s.table.items c.from-at.result c.index_mut.result.now (omega arith) s.kept.memory) in
