@@ -1,5 +1,5 @@
 -- The parts in the cells of entries, and those of each logger.
-use Rattle.std.proofs.Common.{◌≡◌, ℕ, zero, suc, ◌+◌, ◌<◌, inl, inr, Bool, cond, List, [], ◌∷◌, ◌++◌, length, map, refl, sym, ◌∙◌, ap, subst, arith}
+use Rattle.std.proofs.Common.{◌≡◌, ℕ, zero, suc, ◌+◌, ◌<◌, inl, inr, Bool, cond, List, [], ◌∷◌, ◌++◌, length, get_or, take, map, refl, sym, ◌∙◌, ap, subst, arith}
 use Rattle.std.specs.Prelude.{All}
 use Rattle.std.specs.List.{range_with_len}
 use Rattle.std.proofs.lemmas.Bool.{cases_eq, eq-eqb, ne_eqb}
@@ -28,6 +28,26 @@ module _ (shape : Shape) (image : List ℕ) (t : ℕ) where
   pub parts_in-append : (xs ys : List Entry) → parts_in shape image t (xs ++ ys) ≡ parts_in shape image t xs ++ parts_in shape image t ys
   parts_in-append [] ys = refl
   parts_in-append (e ∷ es) ys = ap (λ (l : List Part). part_in (logger_of shape e.addr) e.cell ∷ l) (parts_in-append es ys)
+
+  -- what the cells say of entries, of the first ones and of one
+  pub held_take : (n : ℕ) (es : List Entry) → ranges_of (parts_in shape image t es) ≡ ranges_in es → ranges_of (parts_in shape image t (take n es)) ≡ ranges_in (take n es)
+  held_take zero es heads = refl
+  held_take (suc n) [] heads = refl
+  held_take (suc n) (e ∷ es) heads =
+      let p = part_in (logger_of shape e.addr) e.cell in
+      (λ i.
+        firsts_same (p.0, length p.1) (e.addr, e.len) (ranges_of (parts_in shape image t es)) (ranges_in es) heads i
+        ∷ held_take n es (rests_same (p.0, length p.1) (e.addr, e.len) (ranges_of (parts_in shape image t es)) (ranges_in es) heads) i)
+
+  pub held_at : (es : List Entry) (n : ℕ) (d : Entry) → n < length es → ranges_of (parts_in shape image t es) ≡ ranges_in es
+      → ranges_of (parts_in shape image t (get_or es n d ∷ [])) ≡ ranges_in (get_or es n d ∷ [])
+  held_at [] n d lt heads = absurd (omega arith)
+  held_at (e ∷ es) zero d lt heads =
+      let p = part_in (logger_of shape e.addr) e.cell in
+      (λ i. firsts_same (p.0, length p.1) (e.addr, e.len) (ranges_of (parts_in shape image t es)) (ranges_in es) heads i ∷ [])
+  held_at (e ∷ es) (suc n) d lt heads =
+      let p = part_in (logger_of shape e.addr) e.cell in
+      held_at es n d (omega arith) (rests_same (p.0, length p.1) (e.addr, e.len) (ranges_of (parts_in shape image t es)) (ranges_in es) heads)
 
   parts_from-numbers : (g e n : ℕ) → parts_from shape image g t e n ≡ map (part_in g) (range_with_len e n)
   parts_from-numbers g e zero = refl

@@ -1,5 +1,5 @@
 // The entries of deferred commits, as the device keeps them in memory.
-ghost use Rattle.std.specs.Prelude.{◌≡◌, ℕ, IfOk, length, slice_get, vec_capacity};
+ghost use Rattle.std.specs.Prelude.{◌≡◌, ℕ, IfOk, length, replicate, slice_get, vec_capacity};
 ghost use Rattle.std.specs.Option.{ForSome};
 ghost use Rattle.deferred_parts.specs.Kept.{IsFree, IsKept};
 
@@ -41,7 +41,7 @@ impl DeferredParts {
         Ok(DeferredParts {
             shape: *shape,
             table: places(alloc, shape)?,
-            masks: vec![in alloc; 0; pages]?,
+            masks: no_marks(alloc, pages)?,
         })
     }
 
@@ -109,4 +109,16 @@ fn places(alloc: Global, shape: &Shape) -> Result<Vec<NumberParts>, AllocError>
         table.push_reserved(NumberParts { entries });
     }
     Ok(table)
+}
+
+// A mask for each page, on which no number has a part.
+fn no_marks(alloc: Global, pages: usize) -> Result<Vec<u64>, AllocError>
+    ensures none { IfOk result (λ masks. masks.items ≡ replicate pages 0) }
+    ensures capacity { IfOk result (λ masks. vec_capacity masks ≡ pages) }
+{
+    let mut masks = Vec::with_capacity(alloc, pages)?;
+    for _page in 0..pages {
+        masks.push_reserved(0);
+    }
+    Ok(masks)
 }
