@@ -4,7 +4,7 @@ use Rattle.std.specs.Prelude.{All, count_by}
 use Rattle.std.proofs.lemmas.Bool.{cases_lt, cases_eq, eq-eqb, ltb-true, ltb-false, le-ltb, or_parts, false_from_ne_true, true≢false}
 use Rattle.std.proofs.lemmas.List.{ext_get_or, get_or_append_left, get_or-append_right, get_or-take, get_or-drop, length-append, length-drop, length-take, take_min, take_more}
 use Rattle.std.proofs.lemmas.List.Elements.{All-head, All-tail}
-use Rattle.std.proofs.lemmas.List.Sums.{sum_by-append, sum_by-cons}
+use Rattle.std.proofs.lemmas.List.Sums.{sum_by-append, sum_by-cons, sum_by-take-le}
 use Rattle.mars_base.specs.Bytes.{put, range}
 use Rattle.mars_base.proofs.Puts.{length-put, get_or-put_before, get_or-put_after, get_or-put_inside}
 use Rattle.pcm_media.proofs.Ranges.{length-range, get_or-range, range_same}
@@ -110,17 +110,6 @@ laid_more whole new ps qs all addr n k k_is is all_is =
 pub count_more : (p : Entry → Bool) (es : List Entry) (i : ℕ) (d : Entry) → i < length es → count_by p (take (i + 1) es) ≡ count_by p (take i es) + count_by p (get_or es i d ∷ [])
 count_more p es i d lt = ap (count_by p) (take_more es i d lt) ∙ sum_by-append (λ e. cond (p e) 1 0) (take i es) (get_or es i d ∷ [])
 
--- bytes of one page, on which no entry has a part
-module _ (shape : Shape) (image : List ℕ) (t addr n : ℕ) (page : addr % 512 + n ≤ 512) where
-  pub none_meets : (es : List Entry) → All (IsEntry shape) es → lies_on (addr / 512) es ≡ false → count_by (meets addr n) es ≡ 0
-  none_meets [] all none = refl
-  none_meets (e ∷ es) all none =
-      let parts = or_parts (nat_eq (e.addr / 512) (addr / 512)) (lies_on (addr / 512) es) none in
-      let here : cond {A = ℕ} (meets addr n e) 1 0 ≡ 0 = ap (λ (b : Bool). cond {A = ℕ} b 1 0) (off_page e (All-head (IsEntry shape) e es all) parts.0) in
-      omega (arith, sum_by-cons (λ f. cond (meets addr n f) 1 0) e es, here, none_meets es (All-tail (IsEntry shape) e es all) parts.1)
-    where
-      off_page : (e : Entry) → IsEntry shape e → nat_eq (e.addr / 512) (addr / 512) ≡ false → meets addr n e ≡ false
-      off_page e is off = elim (cases_eq (e.addr / 512) (addr / 512)) [
-        | inl same ↦ absurd (true≢false (sym (eq-eqb (e.addr / 512) (addr / 512) same) ∙ off))
-        | inr ne ↦ le-ltb (max e.addr addr) (min (e.addr + e.len) (addr + n)) (let one = is.placed.page in omega arith)
-      ]
+pub count_some : (p : Entry → Bool) (es : List Entry) (i : ℕ) (d : Entry) → i < length es → count_by p (take i es) + count_by p (get_or es i d ∷ []) ≤ count_by p es
+count_some p es i d lt = omega (arith, count_more p es i d lt, sum_by-take-le (λ e. cond (p e) 1 0) es (i + 1))
+

@@ -1,13 +1,13 @@
 -- Masks that gain or lose a number.
-use Rattle.std.proofs.Common.{◌≡◌, ℕ, ◌+◌, ◌*◌, ◌/◌, ◌%◌, ◌^◌, ◌<◌, ⊎_elim, Bool, true, false, not, ◌&&◌, ◌||◌, nat_eq, List, length, get_or, take, refl, sym, ◌∙◌, ap, subst, arith, w64}
+use Rattle.std.proofs.Common.{◌≡◌, ℕ, ◌+◌, ◌*◌, ◌/◌, ◌%◌, ◌^◌, ◌<◌, min, inl, inr, ⊎_elim, Bool, true, false, not, ◌&&◌, ◌||◌, nat_eq, List, length, get_or, take, refl, sym, ◌∙◌, ap, subst, arith, w64}
 use Rattle.std.specs.Prelude.{slice_index}
-use Rattle.std.specs.Int.{bit_not}
+use Rattle.std.specs.Int.{bit_at, bit_not}
 use Rattle.std.specs.Int.RustNames.{bit_and, bit_or}
 use Rattle.std.proofs.Math.ListN.{set}
 use Rattle.std.proofs.lemmas.Bool.{cases_eq, eq-eqb, ne_eqb}
 use Rattle.std.proofs.lemmas.List.{get_or-set_same, get_or-set_other}
 use Rattle.std.proofs.lemmas.List.Folds.{list_any_more}
-use Rattle.std.proofs.lemmas.Nat.Bits.{bit_at_set_same, bit_at_set_other, bit_at_clear_same, bit_at_clear_other}
+use Rattle.std.proofs.lemmas.Nat.Bits.{bit_at_set_same, bit_at_set_other, bit_at_clear_same, bit_at_clear_other, bit_at_and, bit_at-lt, bit_at-zero}
 use Rattle.row_bytes.specs.Ballots.{has}
 use Rattle.deferred_parts.specs.declared.entry.Entry.{Entry}
 use Rattle.deferred_parts.specs.Kept.{lies_on}
@@ -70,3 +70,19 @@ loses_more old masks entries i tid page d below page_is inside small so_far p t 
     ∙ one_more (nat_eq t tid) (lies_on p (take i entries)) (nat_eq page p) (has (slice_index old p) t)
     ∙ ap (λ (k : ℕ). not (nat_eq t tid && (lies_on p (take i entries) || nat_eq k p)) && has (slice_index old p) t) page_is
     ∙ sym (ap (λ (b : Bool). not (nat_eq t tid && b) && has (slice_index old p) t) (list_any_more on entries i d below))
+
+-- no number
+pub none_set : (t : ℕ) → has 0 t ≡ false
+none_set t = ne_eqb (bit_at 0 t) 1 (λ one. omega (arith, one, bit_at-zero t))
+
+-- the numbers of two masks
+pub has-bit_and : (a b t : ℕ) → has (bit_and a b) t ≡ (has a t && has b t)
+has-bit_and a b t =
+    ap (λ (k : ℕ). nat_eq k 1) (bit_at_and a b t)
+    ∙ elim (cases_eq (bit_at a t) 1) [
+      | inl one ↦ elim (cases_eq (bit_at b t) 1) [
+        | inl two ↦ eq-eqb (min (bit_at a t) (bit_at b t)) 1 (omega arith) ∙ sym (λ i. eq-eqb (bit_at a t) 1 one i && eq-eqb (bit_at b t) 1 two i)
+        | inr two ↦ ne_eqb (min (bit_at a t) (bit_at b t)) 1 (λ is. two (omega arith)) ∙ sym (λ i. eq-eqb (bit_at a t) 1 one i && ne_eqb (bit_at b t) 1 two i)
+      ]
+      | inr one ↦ ne_eqb (min (bit_at a t) (bit_at b t)) 1 (λ is. one (let few = bit_at-lt a t in omega arith)) ∙ sym (ap (λ (c : Bool). c && has b t) (ne_eqb (bit_at a t) 1 one))
+    ]

@@ -15,7 +15,7 @@ use Rattle.deferred_parts.specs.declared.entry.Entry.{Entry}
 use Rattle.deferred_parts.specs.Entries.{IsEntry, parts_in, ranges_in}
 use Rattle.deferred_parts.specs.Reading.{meets}
 use Rattle.deferred_parts.proofs.EntryParts.{held_at, held_take, parts_in-append, parts_placed}
-use Rattle.deferred_parts.proofs.Laying.{count_more, laid_more}
+use Rattle.deferred_parts.proofs.Laying.{count_more, count_some, laid_more}
 use Rattle.deferred_parts.proofs.overlay.lay_entries.Goals as goal
 
 abbrev none : Entry
@@ -72,10 +72,13 @@ loop-entry-preserved g c =
 pub returns-in_err-lay_entry : goal.returns-in_err-lay_entry
 returns-in_err-lay_entry g c =
     let m = g.M.Media in
+    let n = length c.args.buf.now in
+    let e = get_or c.args.entries.now c.loop-entry.entry-index none in
+    let here : count_by (meets c.args.addr (length c.loop-entry.buf)) (e ∷ []) ≡ count_by (meets c.args.addr (length c.args.buf.now)) (e ∷ []) = ap (λ (k : ℕ). count_by (meets c.args.addr k) (e ∷ [])) c.loop-entry.auto.buf in
     let p = err_from_is_err_and c.from_residual.result c.from_residual.ensures.1 in
     rw p.1 (record {
       bytes = λ told whole long was. tt;
-      costs = costs_err true _ _ _ _ refl ?;
+      costs = costs_err true _ _ _ _ refl (omega (arith, c.in_err-lay_entry.ensures.costs.most, here, c.loop-entry.invariant.costs, count_some (meets c.args.addr n) c.args.entries.now c.loop-entry.entry-index none c.loop-entry-test.true));
       does = hands_on m.tells [] [] _ _ _ (λ told i out. out) c.loop-entry.invariant.does _ refl c.in_err-lay_entry.ensures.does;
     })
 
