@@ -159,7 +159,7 @@ module _ (shape : Shape) (addr len : ℕ) (whole : List ℕ) (tells : Bool) (es 
           let at = starts in
           omega (arith, length-take (part.addr - addr + n - (part.addr - addr)) (drop (part.addr - addr) buf), length-drop (part.addr - addr) buf)
 
-      pub fills_one : (inside : addr + len ≤ length whole) (got behind : List ℕ) (now : ℕ) → now ≡ made + (1 + count_by (meets part.addr part.len) es) → (IsTrue tells → got ≡ range whole part.addr part.len)
+      pub fills_one : (inside : IsTrue tells → addr + len ≤ length whole) (got behind : List ℕ) (now : ℕ) → now ≡ made + (1 + count_by (meets part.addr part.len) es) → (IsTrue tells → got ≡ range whole part.addr part.len)
           → FillsAt shape addr len whole (take (part.addr - addr) buf ++ (got ++ behind)) tells es now all rest
       fills_one inside got behind now now_is got_is =
           let from = starts in
@@ -168,6 +168,7 @@ module _ (shape : Shape) (addr len : ℕ) (whole : List ℕ) (tells : Bool) (es 
           fills_next (take (part.addr - addr) buf ++ (got ++ behind)) now now_is
           (λ told i lt. get_or_append_left (take (part.addr - addr) buf) (got ++ behind) 0 i (omega arith) ∙ get_or-take (part.addr - addr) buf i 0 (omega arith))
           (λ told j lt.
+          let fits = inside told in
           let got_long = ap length (got_is told) ∙ length-range whole part.addr part.len (omega arith) in
           get_or-append_right (take (part.addr - addr) buf) (got ++ behind) (fills.done) (fills.done + j) 0 (omega arith) (omega arith)
           ∙ ap (λ (k : ℕ). get_or (got ++ behind) k 0) (omega arith)

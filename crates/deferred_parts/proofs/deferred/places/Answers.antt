@@ -12,4 +12,14 @@ each_more P (z ∷ xs) x each here zero y is = each zero y is
 each_more P (z ∷ xs) x each here (suc t) y is = each_more P xs x (λ u w got. each (suc u) w got) here t y is
 
 pub loop-tid-preserved : goal.loop-tid-preserved
-loop-tid-preserved c = ?
+loop-tid-preserved c =
+    let n : NumberParts = record { entries = c.in_ok-entries.entries } in
+    let old = c.loop-tid.table.items in
+    let items = c.push_reserved.ensures.items in
+    let most = c.from-2.ensures in
+    let free : IsFree c.args.shape.now n = record { none = c.in_ok-entries.ensures.items; exact = ? } in
+    record {
+      room = c.push_reserved.ensures.capacity ∙ c.loop-tid.invariant.room;
+      many = ap length items ∙ length-append old (n ∷ []) ∙ ap (λ (k : ℕ). k + 1) c.loop-tid.invariant.many;
+      free = λ t x got. each_more (IsFree c.args.shape.now) old n c.loop-tid.invariant.free free t x (ap (λ (l : List NumberParts). slice_get l t) (sym items) ∙ got);
+    }
