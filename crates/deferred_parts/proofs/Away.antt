@@ -1,5 +1,5 @@
 -- Parts without a byte of a page change nothing there.
-use Rattle.std.proofs.Common.{◌≡◌, ℕ, zero, suc, ◌+◌, ◌/◌, ◌%◌, ◌<◌, ◌≤◌, inl, inr, ◌⊎◌, ⊎_elim, ◌&&◌, Bool, true, false, cond, nat_eq, List, [], ◌∷◌, ◌++◌, length, max, min, refl, sym, ◌∙◌, ap, subst, arith}
+use Rattle.std.proofs.Common.{◌≡◌, ℕ, zero, suc, ◌+◌, ◌/◌, ◌%◌, ◌<◌, ◌≤◌, inl, inr, ◌⊎◌, ⊎_elim, ◌&&◌, Bool, true, false, cond, nat_eq, List, [], ◌∷◌, length, max, min, refl, sym, ◌∙◌, ap, subst, arith}
 use Rattle.std.specs.Prelude.{All, count_by}
 use Rattle.std.proofs.lemmas.Bool.{and_cases, cases_eq, eq-eqb, le-ltb, or_parts, true≢false}
 use Rattle.std.proofs.lemmas.List.Elements.{All-head, All-tail}

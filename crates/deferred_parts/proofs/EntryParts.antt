@@ -36,8 +36,8 @@ module _ (shape : Shape) (image : List ℕ) (t : ℕ) where
   held_take (suc n) (e ∷ es) heads =
       let p = part_in (logger_of shape e.addr) e.cell in
       (λ i.
-        firsts_same (p.0, length p.1) (e.addr, e.len) (ranges_of (parts_in shape image t es)) (ranges_in es) heads i
-        ∷ held_take n es (rests_same (p.0, length p.1) (e.addr, e.len) (ranges_of (parts_in shape image t es)) (ranges_in es) heads) i)
+      firsts_same (p.0, length p.1) (e.addr, e.len) (ranges_of (parts_in shape image t es)) (ranges_in es) heads i
+      ∷ held_take n es (rests_same (p.0, length p.1) (e.addr, e.len) (ranges_of (parts_in shape image t es)) (ranges_in es) heads) i)
 
   pub held_at : (es : List Entry) (n : ℕ) (d : Entry) → n < length es → ranges_of (parts_in shape image t es) ≡ ranges_in es
       → ranges_of (parts_in shape image t (get_or es n d ∷ [])) ≡ ranges_in (get_or es n d ∷ [])

@@ -1,19 +1,22 @@
 -- What is kept of deferred parts, once the entries of one number change.
-use Rattle.std.proofs.Common.{◌≡◌, ◌≢◌, ℕ, zero, suc, ◌+◌, ◌*◌, ◌/◌, ◌<◌, ◌≤◌, ⊎_elim, Bool, true, false, not, ◌&&◌, ◌||◌, nat_eq, List, [], ◌∷◌, ◌++◌, length, get_or, Option, Some, refl, sym, ◌∙◌, ap, subst, arith}
-use Rattle.std.specs.Prelude.{All, slice_get, slice_index, vec_capacity}
-use Rattle.std.specs.List.{list_any}
+use Rattle.std.proofs.Common.{◌≡◌, ℕ, zero, suc, ◌*◌, ◌/◌, ◌^◌, ◌<◌, ◌≤◌, inl, inr, ⊎_elim, Bool, true, false, not, ◌&&◌, ◌||◌, nat_eq, List, [], ◌∷◌, ◌++◌, length, get_or, refl, sym, ◌∙◌, ap, subst, arith}
+use Rattle.std.specs.Prelude.{All, replicate, slice_get, slice_index, sum_by, vec_capacity}
 use Rattle.std.specs.Option.{ForSome}
 use Rattle.std.proofs.Math.ListN.{set}
-use Rattle.std.proofs.lemmas.Bool.{cases_eq, cases_lt, cases_Bool, eq-eqb, ne_eqb, false≢true}
-use Rattle.std.proofs.lemmas.List.{length-set}
+use Rattle.std.proofs.lemmas.Bool.{cases_eq, cases_lt, eq-eqb, ne_eqb, false≢true}
+use Rattle.std.proofs.lemmas.List.{get_or-replicate, get_or_past, length-replicate}
 use Rattle.std.proofs.lemmas.List.Elements.{All-push, All-same, All-nil}
+use Rattle.std.proofs.lemmas.List.Sums.{sum_by-cons}
+use Rattle.std.proofs.Math.Nat.{mul-le-mul, mul-suc}
 use Rattle.std.proofs.lemmas.List.Folds.{list_any-append}
 use Rattle.array_shape.specs.declared.shape.Shape.{Shape}
-use Rattle.array_shape.specs.Places.{data_len, page_count}
+use Rattle.array_shape.specs.Places.{IsShape, page_count}
 use Rattle.row_bytes.specs.Ballots.{has}
 use Rattle.deferred_parts.specs.declared.entry.Entry.{Entry}
 use Rattle.deferred_parts.specs.declared.deferred.NumberParts.{NumberParts}
 use Rattle.deferred_parts.specs.Entries.{IsEntry}
+use Rattle.deferred_parts.specs.Shown.{memory_for}
+use Rattle.deferred_parts.proofs.Marking.{none_set}
 use Rattle.deferred_parts.specs.Kept.{HasMemory, IsFree, IsKept, entries_at, lies_on}
 
 -- the entries of a number that has a place
@@ -130,3 +133,38 @@ module _ (shape : Shape) (table : List NumberParts) (masks new_masks : List ℕ)
       gone : (a : Bool) → (not a && a) ≡ false
       gone true = refl
       gone false = refl
+
+-- nothing is kept at first
+pub kept_free : (shape : Shape) (table : List NumberParts) (masks : List ℕ) (n : ℕ) → ((t : ℕ) → ForSome (slice_get table t) (IsFree shape)) → masks ≡ replicate {A = ℕ} n 0 → n ≡ page_count shape → IsKept shape table masks
+kept_free shape table masks n free masks_are n_is = record {
+  entries = λ t. All-same (IsEntry shape) (entries_at table t) [] (entries_at_free shape table free t) (All-nil (IsEntry shape));
+  marked = λ p t lt. ap (λ (l : List ℕ). has (slice_index l p) t) masks_are ∙ ap (λ (k : ℕ). has k t) (zero_at p) ∙ none_set t ∙ sym (ap (lies_on p) (entries_at_free shape table free t));
+  memory = λ t x got. omega (arith, (free t x got).exact);
+  pages = λ some. ap length masks_are ∙ length-replicate {A = ℕ} n 0 ∙ n_is;
+}
+  where
+    zero_at : (p : ℕ) → get_or (replicate {A = ℕ} n 0) p 0 ≡ 0
+    zero_at p = elim (cases_lt p n) [
+      | inl lt ↦ get_or-replicate {A = ℕ} n p 0 0 lt
+      | inr past ↦ get_or_past (replicate {A = ℕ} n 0) p 0 (omega (arith, length-replicate {A = ℕ} n 0))
+    ]
+
+-- the memory of places without entries
+pub capacities : (shape : Shape) (table : List NumberParts) → ((t : ℕ) → ForSome (slice_get table t) (IsFree shape)) → sum_by (λ n. vec_capacity n.entries) table ≡ shape.loggers * shape.entries * length table
+capacities shape [] free = omega arith
+capacities shape (n ∷ ns) free =
+    omega (
+      arith,
+      sum_by-cons (λ m. vec_capacity m.entries) n ns,
+      (free zero n refl).exact,
+      capacities shape ns (λ u x got. free (suc u) x got),
+      mul-suc (shape.loggers * shape.entries) (length ns),
+    )
+
+-- an array of the largest shape needs less than a MiB
+pub memory_small : (shape : Shape) → IsShape shape → memory_for shape ≤ 2 ^ 20
+memory_small shape is =
+    let most : shape.loggers * shape.entries ≤ 8 * 64 = mul-le-mul is.most_loggers is.most_entries in
+    let all : shape.numbers * (shape.loggers * shape.entries) ≤ 64 * (8 * 64) = mul-le-mul is.most_numbers most in
+    let pages : shape.loggers * shape.pages ≤ 8 * 4096 = mul-le-mul is.most_loggers is.most_pages in
+    omega (arith, all, pages, is.most_numbers)

@@ -1,22 +1,18 @@
 -- Parts that are laid over bytes of the data.
-use Rattle.std.proofs.Common.{◌≡◌, ℕ, ◌+◌, ◌-◌, ◌/◌, ◌%◌, ◌<◌, ◌≤◌, inl, inr, ⊎_elim, Bool, true, false, cond, nat_eq, nat_lt, List, [], ◌∷◌, ◌++◌, length, get_or, take, drop, min, max, refl, sym, ◌∙◌, ap, subst, arith}
-use Rattle.std.specs.Prelude.{All, count_by}
-use Rattle.std.proofs.lemmas.Bool.{cases_lt, cases_eq, eq-eqb, ltb-true, ltb-false, le-ltb, or_parts, false_from_ne_true, true≢false}
+use Rattle.std.proofs.Common.{◌≡◌, ℕ, ◌+◌, ◌-◌, ◌<◌, ◌≤◌, inl, inr, Bool, false, cond, List, [], ◌∷◌, ◌++◌, length, get_or, take, drop, min, max, sym, ◌∙◌, ap, arith}
+use Rattle.std.specs.Prelude.{count_by}
+use Rattle.std.proofs.lemmas.Bool.{cases_lt, ltb-false}
 use Rattle.std.proofs.lemmas.List.{ext_get_or, get_or_append_left, get_or-append_right, get_or-take, get_or-drop, length-append, length-drop, length-take, take_min, take_more}
-use Rattle.std.proofs.lemmas.List.Elements.{All-head, All-tail}
-use Rattle.std.proofs.lemmas.List.Sums.{sum_by-append, sum_by-cons, sum_by-take-le}
+use Rattle.std.proofs.lemmas.List.Sums.{sum_by-append, sum_by-take-le}
 use Rattle.mars_base.specs.Bytes.{put, range}
 use Rattle.mars_base.proofs.Puts.{length-put, get_or-put_before, get_or-put_after, get_or-put_inside}
 use Rattle.pcm_media.proofs.Ranges.{length-range, get_or-range, range_same}
-use Rattle.array_shape.specs.declared.shape.Shape.{Shape}
-use Rattle.array_shape.specs.Places.{data_len, logger_of}
 use Rattle.array_shape.specs.Logged.{Part, applied, ranges_of}
 use Rattle.array_image.proofs.Applied.{applied-append}
 use Rattle.deferred_parts.specs.declared.entry.Entry.{Entry}
-use Rattle.deferred_parts.specs.Entries.{IsEntry, ranges_in, parts_in}
-use Rattle.deferred_parts.specs.Kept.{lies_on}
+use Rattle.deferred_parts.specs.Entries.{ranges_in}
 use Rattle.deferred_parts.specs.Reading.{meets}
-use Rattle.deferred_parts.proofs.EntryParts.{firsts_same, rests_same, part_in}
+use Rattle.deferred_parts.proofs.EntryParts.{firsts_same}
 
 -- a part without a byte of the range changes none of it
 put_away : (whole : List ℕ) (q : ℕ) (bytes : List ℕ) (addr n : ℕ) → q + length bytes ≤ length whole → min (q + length bytes) (addr + n) ≤ max q addr → range (put whole q bytes) addr n ≡ range whole addr n
@@ -112,4 +108,3 @@ count_more p es i d lt = ap (count_by p) (take_more es i d lt) ∙ sum_by-append
 
 pub count_some : (p : Entry → Bool) (es : List Entry) (i : ℕ) (d : Entry) → i < length es → count_by p (take i es) + count_by p (get_or es i d ∷ []) ≤ count_by p es
 count_some p es i d lt = omega (arith, count_more p es i d lt, sum_by-take-le (λ e. cond (p e) 1 0) es (i + 1))
-

@@ -19,8 +19,8 @@ changed : (change : Bool → Bool → Bool) → ((h : Bool) → change false h �
 changed change stays masks page tid mask inside here p t lt = ⊎_elim
     (λ is.
     subst (λ (q : ℕ). has (slice_index (set masks page mask) q) t ≡ change (nat_eq page q && nat_eq t tid) (has (slice_index masks q) t)) is (
-      ap (λ (m : ℕ). has m t) (get_or-set_same masks page mask 0 inside) ∙ here t lt
-      ∙ sym (ap (λ (b : Bool). change (b && nat_eq t tid) (has (slice_index masks page) t)) (eq-eqb page page refl))
+    ap (λ (m : ℕ). has m t) (get_or-set_same masks page mask 0 inside) ∙ here t lt
+    ∙ sym (ap (λ (b : Bool). change (b && nat_eq t tid) (has (slice_index masks page) t)) (eq-eqb page page refl))
     ))
     (λ ne.
     ap (λ (m : ℕ). has m t) (get_or-set_other masks page p mask 0 (λ is. ne (sym is)))
@@ -62,7 +62,7 @@ one_more true false false h = refl
 pub loses_more : (old masks : List ℕ) (entries : List Entry) (i tid page : ℕ) (d : Entry) → i < length entries → page ≡ (get_or entries i d).addr / 512 → page < length masks → tid < 64
     → ((p t : ℕ) → t < 64 → has (slice_index masks p) t ≡ (not (nat_eq t tid && lies_on p (take i entries)) && has (slice_index old p) t))
     → (p t : ℕ) → t < 64 → has (slice_index (set masks page (bit_and (get_or masks page 0) (bit_not w64 (1 * 2 ^ tid % 2 ^ 64)))) p) t
-      ≡ (not (nat_eq t tid && lies_on p (take (i + 1) entries)) && has (slice_index old p) t)
+    ≡ (not (nat_eq t tid && lies_on p (take (i + 1) entries)) && has (slice_index old p) t)
 loses_more old masks entries i tid page d below page_is inside small so_far p t lt =
     let on : Entry → Bool = λ e. nat_eq (e.addr / 512) p in
     loses masks page tid inside small p t lt

@@ -1,11 +1,11 @@
 -- The parts that are laid over, and those of the queue of commits.
-use Rattle.std.proofs.Common.{◌≡◌, ℕ, ◌<◌, inl, inr, ◌⊎◌, cond, true, false, List, [], ◌∷◌, ◌++◌, length, map, refl, sym, ◌∙◌, ap, subst}
+use Rattle.std.proofs.Common.{◌≡◌, ℕ, ◌<◌, inl, inr, ◌⊎◌, cond, true, false, List, [], ◌∷◌, length, map, refl, sym, ◌∙◌, ap, subst}
 use Rattle.std.specs.Prelude.{All}
 use Rattle.std.specs.List.{range_with_len}
 use Rattle.std.proofs.lemmas.Bool.{cases_Bool, and_right}
 use Rattle.array_shape.specs.declared.shape.Shape.{Shape}
 use Rattle.array_shape.specs.Places.{data_len, media_len}
-use Rattle.array_shape.specs.Logged.{Part, AllFit, AllPlaced, applied, parts_at}
+use Rattle.array_shape.specs.Logged.{AllFit, AllPlaced, applied, parts_at}
 use Rattle.row_bytes.specs.Ballots.{has, has_row}
 use Rattle.array_image.specs.Image.{parts_from}
 use Rattle.array_image.proofs.Applied.{applied-append, length-applied}
@@ -14,7 +14,7 @@ use Rattle.commit_queue.specs.Queue.{Commit, Each, IsWritten, named_at, queue_pa
 use Rattle.commit_queue.proofs.Groups.{lists_in_turn}
 use Rattle.commit_queue.proofs.Moments.{written_placed}
 use Rattle.deferred_parts.specs.declared.entry.Entry.{Entry}
-use Rattle.deferred_parts.specs.Entries.{AreHeld, IsEntry, cells_on, parts_in}
+use Rattle.deferred_parts.specs.Entries.{AreHeld, IsEntry, parts_in}
 use Rattle.deferred_parts.specs.Turns.{HaveCells, group_parts, parts_in_turn}
 use Rattle.deferred_parts.proofs.EntryParts.{parts_named, parts_none, parts_placed}
 

@@ -1,4 +1,4 @@
-use Rattle.std.proofs.Common.{◌≡◌, ◌∙◌, ℕ, zero, suc, ◌+◌, List, [], ◌∷◌, ◌++◌, length, ap, sym, subst, length-append}
+use Rattle.std.proofs.Common.{◌≡◌, ◌∙◌, ℕ, zero, suc, ◌+◌, ◌*◌, List, [], ◌∷◌, ◌++◌, length, ap, sym, subst, length-append}
 use Rattle.std.specs.Prelude.{Some, slice_get}
 use Rattle.deferred_parts.specs.declared.deferred.NumberParts.{NumberParts}
 use Rattle.deferred_parts.specs.Kept.{IsFree}
@@ -16,8 +16,9 @@ loop-tid-preserved c =
     let n : NumberParts = record { entries = c.in_ok-entries.entries } in
     let old = c.loop-tid.table.items in
     let items = c.push_reserved.ensures.items in
-    let most = c.from-2.ensures in
-    let free : IsFree c.args.shape.now n = record { none = c.in_ok-entries.ensures.items; exact = ? } in
+    let loggers = c.from.ensures in
+    let entries = c.from-2.ensures in
+    let free : IsFree c.args.shape.now n = record { none = c.in_ok-entries.ensures.items; exact = c.in_ok-entries.ensures.exact ∙ (λ i. loggers i * entries i) } in
     record {
       room = c.push_reserved.ensures.capacity ∙ c.loop-tid.invariant.room;
       many = ap length items ∙ length-append old (n ∷ []) ∙ ap (λ (k : ℕ). k + 1) c.loop-tid.invariant.many;

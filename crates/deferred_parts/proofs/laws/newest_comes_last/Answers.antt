@@ -10,4 +10,4 @@ returns c image old new queue newest same =
     let shape = c.args.shape.now in
     in_turn-push shape (λ t. parts_in shape image t (new t)) queue newest
     ∙ ap (λ (l : List Part). l ++ group_parts shape image new newest.group)
-        (in_turn_same shape (λ t. parts_in shape image t (new t)) (λ t. parts_in shape image t (old t)) queue (λ t lt has. ap (parts_in shape image t) (same t lt has)))
+    (in_turn_same shape (λ t. parts_in shape image t (new t)) (λ t. parts_in shape image t (old t)) queue (λ t lt has. ap (parts_in shape image t) (same t lt has)))

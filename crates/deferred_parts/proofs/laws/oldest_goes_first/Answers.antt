@@ -9,4 +9,4 @@ pub returns : goal.returns
 returns c image old new oldest queue same =
     let shape = c.args.shape.now in
     ap (λ (l : List Part). group_parts shape image old oldest.group ++ l)
-        (in_turn_same shape (λ t. parts_in shape image t (old t)) (λ t. parts_in shape image t (new t)) queue (λ t lt has. ap (parts_in shape image t) (sym (same t lt has))))
+    (in_turn_same shape (λ t. parts_in shape image t (old t)) (λ t. parts_in shape image t (new t)) queue (λ t lt has. ap (parts_in shape image t) (sym (same t lt has))))

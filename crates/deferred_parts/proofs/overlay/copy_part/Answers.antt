@@ -1,4 +1,4 @@
-use Rattle.std.proofs.Common.{◌≡◌, ◌<◌, ◌≤◌, ◌+◌, ◌-◌, length, min, max, refl, arith}
+use Rattle.std.proofs.Common.{◌≡◌, ◌<◌, ◌+◌, length, min, max, refl, arith}
 use Rattle.std.proofs.lemmas.Bool.{ltb-true}
 use Rattle.deferred_parts.proofs.Laying.{copied}
 use Rattle.deferred_parts.proofs.overlay.copy_part.Goals as goal

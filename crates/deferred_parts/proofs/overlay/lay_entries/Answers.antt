@@ -1,12 +1,11 @@
-use Rattle.std.proofs.Common.{◌≡◌, ◌+◌, ◌<◌, ◌≤◌, ℕ, true, List, [], ◌∷◌, ◌++◌, length, get_or, take, refl, sym, ◌∙◌, ap, subst, arith}
-use Rattle.std.specs.Prelude.{All, count_by}
+use Rattle.std.proofs.Common.{◌≡◌, ◌+◌, ℕ, true, List, [], ◌∷◌, length, get_or, take, refl, sym, ◌∙◌, ap, subst, arith}
+use Rattle.std.specs.Prelude.{count_by}
 use Rattle.std.proofs.lemmas.List.{take_all, take_more}
 use Rattle.std.proofs.lemmas.List.Elements.{All-take}
 use Rattle.std.proofs.lemmas.Result.{err_from_is_err_and}
 use Rattle.mars_base.proofs.Costing.{costs_err, costs_all}
 use Rattle.mars_base.specs.Bytes.{range}
 use Rattle.pcm_media.proofs.Left.{same_bytes}
-use Rattle.array_shape.specs.Places.{data_len}
 use Rattle.array_shape.specs.Logged.{AllFit, applied, ranges_of}
 use Rattle.array_image.proofs.Applied.{length-applied}
 use Rattle.array_image.proofs.Calls.{none_yet, goes_on, hands_on}
@@ -39,8 +38,8 @@ lay_entry-requires-clause-held g c told =
     let shape = c.args.shape.now in
     let e = get_or c.args.entries.now c.loop-entry.entry-index none in
     subst (λ (image : List ℕ). ranges_of (parts_in shape image c.args.tid (e ∷ [])) ≡ ranges_in (e ∷ []))
-        (sym (same_bytes (m.view c.args.media.now).content (m.view c.loop-entry.media).content (c.loop-entry.invariant.does.touched told)))
-        (held_at shape (m.view c.args.media.now).content.bytes c.args.tid c.args.entries.now c.loop-entry.entry-index none c.loop-entry-test.true (c.requires.held told))
+    (sym (same_bytes (m.view c.args.media.now).content (m.view c.loop-entry.media).content (c.loop-entry.invariant.does.touched told)))
+    (held_at shape (m.view c.args.media.now).content.bytes c.args.tid c.args.entries.now c.loop-entry.entry-index none c.loop-entry-test.true (c.requires.held told))
 
 pub loop-entry-preserved : goal.loop-entry-preserved
 loop-entry-preserved g c =

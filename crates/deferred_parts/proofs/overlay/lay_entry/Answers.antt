@@ -1,4 +1,4 @@
-use Rattle.std.proofs.Common.{◌≡◌, ◌+◌, ◌<◌, ◌≤◌, ℕ, false, List, length, take, drop, refl, sym, ◌∙◌, ap, arith}
+use Rattle.std.proofs.Common.{◌≡◌, ℕ, List, length, take, drop, refl, sym, ◌∙◌, ap, arith}
 use Rattle.mars_base.specs.Bytes.{put, range}
 use Rattle.array_shape.specs.Places.{logger_of}
 use Rattle.array_image.specs.Image.{cell_head, cell_of, cell_part}

@@ -1,10 +1,9 @@
-use Rattle.std.proofs.Common.{◌≡◌, ◌<◌, ◌+◌, ◌*◌, ◌≤◌, ◌/◌, ℕ, ◌&&◌, not, nat_eq, List, length, get_or, refl, sym, ◌∙◌, ap, subst, arith}
+use Rattle.std.proofs.Common.{◌≡◌, ◌<◌, ℕ, ◌&&◌, not, nat_eq, List, length, refl, sym, ◌∙◌, ap, subst, arith}
 use Rattle.std.specs.Prelude.{slice_index, vec_capacity, All}
 use Rattle.std.proofs.Math.ListN.{set}
 use Rattle.std.proofs.lemmas.List.{with_items_is, length-set}
 use Rattle.row_bytes.specs.Ballots.{has}
 use Rattle.array_shape.specs.Places.{page_count}
-use Rattle.deferred_parts.specs.declared.entry.Entry.{Entry}
 use Rattle.deferred_parts.specs.declared.deferred.NumberParts.{NumberParts}
 use Rattle.deferred_parts.specs.Entries.{IsEntry}
 use Rattle.deferred_parts.specs.Kept.{IsKept, HasMemory, entries_at, lies_on}
@@ -18,7 +17,7 @@ clear_marks-requires-clause-pages c k d lt =
     let es = c.deref.ensures.value ∙ read_at s.table.items c.from-at.result c.args.tid c.index.result.now c.from-at.ensures below c.index.ensures in
     let all : All (IsEntry s.shape) c.deref.result.now = subst (All (IsEntry s.shape)) (sym es) (s.kept.entries c.args.tid) in
     let pages : length s.masks.items ≡ page_count s.shape = s.kept.pages (omega arith) in
-    omega (arith, page_inside s.shape _ (all k d lt), pages, c.deref_mut.ensures.value, ap length c.deref_mut.ensures.value)
+    omega (arith, page_inside s.shape _ (all k d lt), pages, ap length c.deref_mut.ensures.value)
 
 pub invariant_of-self : goal.invariant_of-self
 invariant_of-self c =

@@ -1,4 +1,4 @@
-use Rattle.std.proofs.Common.{◌≡◌, ◌+◌, ◌<◌, ◌≤◌, ℕ, true, cond, List, [], ◌++◌, length, refl, sym, ◌∙◌, ap, subst, arith}
+use Rattle.std.proofs.Common.{◌≡◌, ◌+◌, ℕ, true, cond, List, [], length, refl, sym, ◌∙◌, ap, subst, arith}
 use Rattle.std.specs.Prelude.{count_by}
 use Rattle.std.proofs.lemmas.List.Sums.{sum_by-append}
 use Rattle.mars_base.specs.Bytes.{range}
@@ -30,7 +30,7 @@ returns-then-numbers-eq0-clause-costs g c =
     costs_all true _ _ _ _ (omega (
       arith,
       group_count s.shape (entries_of s) s.kept.entries c.args.addr (length c.args.buf.now) c.requires.page.page c.args.group
-      (λ t lt. none_off (entries_of s) c.args.addr c.args.group c.args.numbers c.if-numbers-eq0.true c.requires.numbers t (omega (arith, lt, s.shape.in_range.most_numbers))),
+          (λ t lt. none_off (entries_of s) c.args.addr c.args.group c.args.numbers c.if-numbers-eq0.true c.requires.numbers t (omega (arith, lt, s.shape.in_range.most_numbers))),
     ))
 
 pub lay_number-requires-clause-held : goal.lay_number-requires-clause-held
@@ -38,8 +38,8 @@ lay_number-requires-clause-held g c told t lt =
     let m = g.M.Media in
     let s = c.args.self.now in
     subst (λ (image : List ℕ). ranges_of (parts_in s.shape image t (entries_of s t)) ≡ ranges_in (entries_of s t))
-        (sym (same_bytes (m.view c.args.media.now).content (m.view c.loop-tid.media).content (c.loop-tid.invariant.does.touched told)))
-        (c.requires.held told t lt)
+    (sym (same_bytes (m.view c.args.media.now).content (m.view c.loop-tid.media).content (c.loop-tid.invariant.does.touched told)))
+    (c.requires.held told t lt)
 
 pub returns-in_err-lay_number-clause-costs : goal.returns-in_err-lay_number-clause-costs
 returns-in_err-lay_number-clause-costs g c =

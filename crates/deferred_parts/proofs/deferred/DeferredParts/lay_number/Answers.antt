@@ -1,4 +1,4 @@
-use Rattle.std.proofs.Common.{◌≡◌, ◌+◌, ◌/◌, ◌<◌, ◌&&◌, ℕ, Bool, true, false, inl, inr, cond, List, [], length, refl, sym, ◌∙◌, ap, subst, arith}
+use Rattle.std.proofs.Common.{◌≡◌, ◌/◌, Bool, true, cond, List, [], length, sym, ◌∙◌, subst, arith}
 use Rattle.std.specs.Prelude.{All, OnOk, count_by}
 use Rattle.std.proofs.lemmas.Bool.{and_cases, and_parts}
 use Rattle.mars_base.specs.Bytes.{range}
@@ -8,7 +8,7 @@ use Rattle.row_bytes.specs.Ballots.{has}
 use Rattle.deferred_parts.specs.declared.entry.Entry.{Entry}
 use Rattle.deferred_parts.specs.Entries.{IsEntry, parts_in, ranges_in}
 use Rattle.deferred_parts.specs.Kept.{lies_on}
-use Rattle.deferred_parts.specs.Shown.{entries_of, shape_of}
+use Rattle.deferred_parts.specs.Shown.{entries_of}
 use Rattle.deferred_parts.specs.Reading.{meets}
 use Rattle.mars_base.proofs.Costing.{costs_all}
 use Rattle.deferred_parts.proofs.Away.{number_away, number_count}
@@ -57,7 +57,7 @@ returns-clause-bytes g c told whole long was =
     let both = and_parts (lies_on (c.args.addr / 512) (entries_of s c.args.tid)) (has c.args.group c.args.tid) (sym c.requires.numbers ∙ sym c.has.ensures ∙ c.if-not-has.false) in
     let es = c.deref.ensures.value ∙ read_at s.table.items c.from.result c.args.tid c.index.result.now c.from.ensures (has_place s.table.items c.args.tid (c.args.addr / 512) both.0) c.index.ensures in
     subst (λ (b : Bool). OnOk c.lay_entries.result (c.lay_entries.new.buf ≡ range (applied (cond b (parts_in s.shape image c.args.tid (entries_of s c.args.tid)) []) whole) c.args.addr (length c.args.buf.now))) (sym both.1)
-        (subst (λ (l : List Entry). OnOk c.lay_entries.result (c.lay_entries.new.buf ≡ range (applied (parts_in s.shape image c.args.tid l) whole) c.args.addr (length c.args.buf.now))) es (c.lay_entries.ensures.bytes told whole long was))
+    (subst (λ (l : List Entry). OnOk c.lay_entries.result (c.lay_entries.new.buf ≡ range (applied (parts_in s.shape image c.args.tid l) whole) c.args.addr (length c.args.buf.now))) es (c.lay_entries.ensures.bytes told whole long was))
 
 pub returns-clause-costs : goal.returns-clause-costs
 returns-clause-costs g c =
@@ -66,4 +66,4 @@ returns-clause-costs g c =
     let both = and_parts (lies_on (c.args.addr / 512) (entries_of s c.args.tid)) (has c.args.group c.args.tid) (sym c.requires.numbers ∙ sym c.has.ensures ∙ c.if-not-has.false) in
     let es = c.deref.ensures.value ∙ read_at s.table.items c.from.result c.args.tid c.index.result.now c.from.ensures (has_place s.table.items c.args.tid (c.args.addr / 512) both.0) c.index.ensures in
     subst (λ (b : Bool). Costs true (count_by (meets c.args.addr (length c.args.buf.now)) (cond b (entries_of s c.args.tid) [])) (m.view c.args.media.now).moment (m.view c.lay_entries.new.media).moment c.lay_entries.result) (sym both.1)
-        (subst (λ (l : List Entry). Costs true (count_by (meets c.args.addr (length c.args.buf.now)) l) (m.view c.args.media.now).moment (m.view c.lay_entries.new.media).moment c.lay_entries.result) es c.lay_entries.ensures.costs)
+    (subst (λ (l : List Entry). Costs true (count_by (meets c.args.addr (length c.args.buf.now)) l) (m.view c.args.media.now).moment (m.view c.lay_entries.new.media).moment c.lay_entries.result) es c.lay_entries.ensures.costs)

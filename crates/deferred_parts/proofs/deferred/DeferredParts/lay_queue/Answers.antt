@@ -1,15 +1,14 @@
-use Rattle.std.proofs.Common.{◌≡◌, ◌+◌, ◌/◌, ◌<◌, ◌≤◌, ◌&&◌, ℕ, Bool, true, cond, List, [], ◌∷◌, ◌++◌, length, get_or, take, refl, sym, ◌∙◌, ap, subst, arith}
+use Rattle.std.proofs.Common.{◌≡◌, ◌+◌, ◌&&◌, ℕ, Bool, true, cond, List, [], ◌∷◌, ◌++◌, length, get_or, take, refl, sym, ◌∙◌, ap, subst, arith}
 use Rattle.std.specs.Prelude.{count_by}
 use Rattle.std.proofs.lemmas.List.{take_all, take_more}
 use Rattle.std.proofs.lemmas.List.Sums.{sum_by-append}
 use Rattle.mars_base.specs.Bytes.{range}
 use Rattle.mars_base.proofs.Costing.{costs_all, costs_err}
 use Rattle.pcm_media.proofs.Left.{same_bytes}
-use Rattle.array_shape.specs.Logged.{Part, applied, ranges_of}
+use Rattle.array_shape.specs.Logged.{applied, ranges_of}
 use Rattle.row_bytes.specs.declared.ballot.Ballot.{Ballot}
 use Rattle.row_bytes.specs.Ballots.{has}
 use Rattle.array_image.proofs.Calls.{goes_on}
-use Rattle.deferred_parts.specs.declared.entry.Entry.{Entry}
 use Rattle.deferred_parts.specs.Entries.{parts_in, ranges_in}
 use Rattle.deferred_parts.specs.Shown.{entries_of}
 use Rattle.deferred_parts.specs.Reading.{meets}
@@ -33,8 +32,8 @@ lay_group-requires-clause-held g c told t lt =
     let m = g.M.Media in
     let s = c.args.self.now in
     subst (λ (image : List ℕ). ranges_of (parts_in s.shape image t (entries_of s t)) ≡ ranges_in (entries_of s t))
-        (sym (same_bytes (m.view c.args.media.now).content (m.view c.loop-ballot.media).content (c.loop-ballot.invariant.does.touched told)))
-        (c.requires.held told t lt)
+    (sym (same_bytes (m.view c.args.media.now).content (m.view c.loop-ballot.media).content (c.loop-ballot.invariant.does.touched told)))
+    (c.requires.held told t lt)
 
 pub returns-in_err-lay_group-clause-costs : goal.returns-in_err-lay_group-clause-costs
 returns-in_err-lay_group-clause-costs g c =

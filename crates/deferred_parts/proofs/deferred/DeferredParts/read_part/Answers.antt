@@ -1,11 +1,11 @@
-use Rattle.std.proofs.Common.{◌≡◌, ◌+◌, ◌/◌, ◌<◌, ◌≤◌, ℕ, true, false, List, [], length, refl, sym, ◌∙◌, ap, subst, arith}
+use Rattle.std.proofs.Common.{◌≡◌, ◌/◌, ◌<◌, ℕ, true, false, List, [], length, refl, sym, ◌∙◌, ap, subst, arith}
 use Rattle.std.specs.Prelude.{OnOk, count_by, slice_index}
 use Rattle.std.proofs.lemmas.Result.{err_from_is_err_and}
 use Rattle.mars_base.specs.Bytes.{range}
 use Rattle.mars_base.specs.Costs.{Costs}
 use Rattle.mars_base.proofs.Costing.{costs_all, costs_err, costs_then, once}
 use Rattle.pcm_media.proofs.Left.{same_bytes}
-use Rattle.array_shape.specs.Places.{IsPlaced, data_len, media_len, place_of}
+use Rattle.array_shape.specs.Places.{IsPlaced}
 use Rattle.array_shape.specs.Logged.{applied, ranges_of}
 use Rattle.row_bytes.specs.Ballots.{has}
 use Rattle.array_image.specs.Image.{data_of}
