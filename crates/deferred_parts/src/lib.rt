@@ -16,3 +16,7 @@ mod reading;
 
 pub use deferred::DeferredParts;
 pub use entry::Entry;
+pub use laws::{
+    entries_are_of_the_array, newest_comes_last, oldest_goes_first, one_number_changes,
+    others_do_not_matter, parts_are_the_queue, same_cells_same_parts,
+};
