@@ -1,12 +1,12 @@
 -- What may be left of a queue's history after a push or a take.
-use Rattle.std.proofs.Common.{◌≡◌, ℕ, ◌⊎◌, inl, inr, ⊎_elim, List, [], ◌∷◌, ◌++◌, refl, sym, ◌∙◌, ap, subst}
+use Rattle.std.proofs.Common.{◌≡◌, ℕ, inl, inr, ⊎_elim, List, [], ◌∷◌, ◌++◌, refl, sym, ◌∙◌, ap, subst}
 use Rattle.std.proofs.lemmas.List.{append-nil}
 use Rattle.history.specs.Writes.{Table}
 use Rattle.history.specs.Table.{Granted, left_by}
 use Rattle.history.specs.declared.transaction.Done.{Done}
 use Rattle.caller_steps.specs.Core.{CoreView}
 use Rattle.caller_steps.specs.State.{records_of, done_by}
-use Rattle.transactions.specs.Makes.{Adds, MayAdd}
+use Rattle.transactions.specs.Makes.{MayAdd}
 use Rattle.job_queue.specs.Queue.{Pushes, Takes}
 use Rattle.job_queue.specs.Along.{Deed, pushed, taken, IsAlong, GoesAlong, StaysAlong, IsTaking}
 use Rattle.job_queue.proofs.Ring.{ShowsHere, LeavesOthers, push_queues, take_queues}

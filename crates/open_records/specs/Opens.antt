@@ -1,5 +1,5 @@
 -- How records are opened, and why not.
-use Rattle.std.specs.Prelude.{ℕ, ◌≡◌, Bool, IsTrue, List}
+use Rattle.std.specs.Prelude.{ℕ, ◌≡◌, ◌<◌, Bool, IsTrue, List}
 use Rattle.pcm_media.specs.View.{View}
 use Rattle.array_shape.specs.declared.shape.Shape.{Shape}
 use Rattle.eaw_device.specs.Opens.{Opens, AttachCause}
@@ -11,7 +11,7 @@ use Rattle.mars_core.specs.Over.{limits_of, index_of}
 use Rattle.mars_core.specs.declared.fault.CoreFault.{CoreFault}
 use Rattle.mars_core.specs.declared.fault.CoreFault.TheVariants.{Damaged}
 use Rattle.open_records.specs.declared.opening.OpenFault.{OpenFault}
-use Rattle.open_records.specs.declared.opening.OpenFault.TheVariants.{Array, Records, NoMemory}
+use Rattle.open_records.specs.declared.opening.OpenFault.TheVariants.{Array, Records, Callers, NoMemory}
 
 -- the core begins with the records of the data that the image opens with, and has the limits of its array
 pub record Begins (index : Index) (shape : Shape) (bytes : List ℕ) (core : CoreView) : Type 0 where
@@ -28,8 +28,13 @@ abbrev pub IsUnsound : Index → CoreFault → Shape → List ℕ → Type 0
 IsUnsound index (Damaged page) shape bytes = index.fails bytes page
 IsUnsound index fault shape bytes = Unit {0}
 
+-- the array has this many numbers, fewer than are asked for
+abbrev pub HasFewer : ℕ → ℕ → Shape → List ℕ → Type 0
+HasFewer callers numbers shape bytes = (shape.numbers ≡ numbers) × (numbers < callers)
+
 -- why nothing was opened
-abbrev pub IsUnopened : Bool → Index → View → ℕ → OpenFault → Type 0
-IsUnopened tells index media faults (Array fault) = AttachCause tells media faults fault
-IsUnopened tells index media faults (Records fault) = OfData tells media (IsUnsound index fault)
-IsUnopened tells index media faults NoMemory = Unit {0}
+abbrev pub IsUnopened : Bool → Index → ℕ → View → ℕ → OpenFault → Type 0
+IsUnopened tells index callers media faults (Array fault) = AttachCause tells media faults fault
+IsUnopened tells index callers media faults (Records fault) = OfData tells media (IsUnsound index fault)
+IsUnopened tells index callers media faults (Callers numbers) = OfData tells media (HasFewer callers numbers)
+IsUnopened tells index callers media faults NoMemory = Unit {0}
