@@ -4,4 +4,6 @@ mod counting;
 mod histories;
 mod lists;
 mod opening;
+mod queues;
 mod reply_texts;
+mod samples;
