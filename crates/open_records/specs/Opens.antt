@@ -4,7 +4,7 @@ use Rattle.pcm_media.specs.View.{View}
 use Rattle.array_shape.specs.declared.shape.Shape.{Shape}
 use Rattle.eaw_device.specs.Opens.{Opens, AttachCause}
 use Rattle.page_store.specs.Index.{Index}
-use Rattle.record_table.specs.Shown.{table_of, keys_of}
+use Rattle.record_table.specs.Shown.{table_of}
 use Rattle.caller_steps.specs.Core.{CoreView}
 use Rattle.caller_steps.specs.State.{opened}
 use Rattle.mars_core.specs.Over.{limits_of, index_of}
@@ -16,7 +16,7 @@ use Rattle.open_records.specs.declared.opening.OpenFault.TheVariants.{Array, Rec
 -- the core begins with the records of the data that the image opens with, and has the limits of its array
 pub record Begins (index : Index) (shape : Shape) (bytes : List ℕ) (core : CoreView) : Type 0 where
   pub limits : core.limits ≡ limits_of shape
-  pub state : core.state ≡ opened (table_of index bytes) (index_of (keys_of index bytes))
+  pub state : core.state ≡ opened (table_of index bytes) (index_of index bytes)
   pub sound : index.sound bytes
 
 -- if the medium tells its bytes, it is so for whatever data the image opens with
