@@ -1,5 +1,5 @@
 -- The sum of a table after a transfer.
-use Rattle.std.proofs.Common.{T, ◌≡◌, ◌≢◌, ℕ, ◌+◌, ◌-◌, ◌<◌, ◌≤◌, Bool, true, false, cond, ⊎_elim, List, [], ◌∷◌, ◌++◌, length, take, Some, None, refl, sym, ◌∙◌, ap, arith}
+use Rattle.std.proofs.Common.{T, ◌≡◌, ◌≢◌, ℕ, ◌+◌, ◌-◌, ◌<◌, ◌≤◌, Bool, true, false, cond, ⊎_elim, List, [], ◌∷◌, ◌++◌, length, take, Option, Some, None, refl, sym, ◌∙◌, ap, arith}
 use Rattle.std.specs.Prelude.{IsTrue, ◌&&◌, decimal}
 use Rattle.std.specs.declared.cmp.Ordering.{Ordering}
 use Rattle.std.specs.declared.cmp.Ordering.TheVariants.{Less, Equal, Greater}
@@ -12,11 +12,10 @@ use Rattle.std.proofs.lemmas.Bool.{false≢true, cases_lt}
 use Rattle.std.proofs.lemmas.List.{take-append-le, take_all, length-append}
 use Rattle.std.proofs.lemmas.Fmt.{decimal_is_IsNumeral}
 use Rattle.std.proofs.lemmas.List.Sums.{fold-append, sum_by-cons}
-use Rattle.history.specs.Writes.{Table}
+use Rattle.history.specs.Writes.{Table, set_or_remove}
 use Rattle.history.specs.Table.{left_by}
 use Rattle.history.specs.Legal.{records}
 use Rattle.history.specs.declared.transaction.Done.{Done}
-use Rattle.history.proofs.Tables.{get-set_there}
 use Rattle.bank.specs.Accounts.{worth, sum_of, Transfers, KeepsSum}
 
 first_of_both : (a b : Bool) → IsTrue (a && b) → IsTrue a
@@ -72,13 +71,17 @@ sum_insert table k v was there =
     ap (λ (es : List (ℕ × List ℕ)). sum_in es + worth was) (entries-insert nat_cmp_total table k v)
     ∙ sum_put k v was (entries table) (true_of (is_sorted nat_cmp (entries table)) (entries_sorted table)) (sym (get-entries table k) ∙ there)
 
+-- a write changes nothing under other keys
+abbrev pub LeavesOthers : Type 0
+LeavesOthers = (table : Table) (key other : ℕ) (value : Option (List ℕ)) → other ≢ key → get (set_or_remove table key value) other ≡ get table other
+
 -- a transfer keeps the sum
-pub sum_transfers : (from to amount : ℕ) (old new : Table) → from ≢ to → Transfers from to amount old new → sum_of new ≡ sum_of old
-sum_transfers from to amount old new apart moved =
+pub sum_transfers : LeavesOthers → (from to amount : ℕ) (old new : Table) → from ≢ to → Transfers from to amount old new → sum_of new ≡ sum_of old
+sum_transfers there_stays from to amount old new apart moved =
     let less = decimal (moved.payer - amount) in
     let more = decimal (moved.payee + amount) in
     let mid = insert old from less in
-    let there : get mid to ≡ Some (decimal moved.payee) = get-set_there old from (Some less) to (λ is. apart (sym is)) ∙ moved.has_payee in
+    let there : get mid to ≡ Some (decimal moved.payee) = there_stays old from to (Some less) (λ is. apart (sym is)) ∙ moved.has_payee in
     let small = moved.small in
     let enough = moved.enough in
     let fits = moved.fits in

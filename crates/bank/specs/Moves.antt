@@ -19,12 +19,12 @@ IsRefused from to amount (NoAccount account) table = (account ≡ from) ⊎ (acc
 IsRefused from to amount (Insufficient balance) table = (get table from ≡ Some (decimal balance)) × (balance < amount)
 IsRefused from to amount (TooMuch balance) table = (get table to ≡ Some (decimal balance)) × (2 ^ 64 ≤ balance + amount)
 
--- the core refused a call
-abbrev pub IsOfCore : Stop Refusal → Type 0
-IsOfCore (Refused refusal) = Unit {0}
-IsOfCore _ = ⊥
+-- there is no reason but that the core refused a call
+abbrev pub HasNoReason : Stop Refusal → Type 0
+HasNoReason (Refused refusal) = Unit {0}
+HasNoReason _ = ⊥
 
 -- a read also stops if there is no such account
 abbrev pub IsOfRead : ℕ → Stop Refusal → Type 0
 IsOfRead account (GivenUp (NoAccount named)) = named ≡ account
-IsOfRead account stop = IsOfCore stop
+IsOfRead account stop = HasNoReason stop

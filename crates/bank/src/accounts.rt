@@ -4,7 +4,8 @@ ghost use Rattle.history.specs.declared.call.Call.TheVariants.{Get, Put};
 ghost use Rattle.history.specs.declared.call.Reply.TheVariants.{Fine, Found};
 ghost use Rattle.caller_steps.specs.Sound.{IsSound};
 ghost use Rattle.transactions.specs.Adds.{Stays, Adds};
-ghost use Rattle.bank.specs.Moves.{IsOfRead, IsOfCore};
+ghost use Rattle.transactions.specs.Went.{IsOfCore};
+ghost use Rattle.bank.specs.Moves.{IsOfRead, HasNoReason};
 
 use caller_steps::Core;
 use transactions::{Stop, get, number_in, put, value_of};
@@ -27,6 +28,7 @@ pub(crate) fn read<C: Core>(core: &mut C, caller: u8, account: u64) -> Result<u6
     ensures limits { (C.view core.new).limits ≡ (C.view core.old).limits }
     ensures stays { IsTrue C.tells → Stays caller (C.view core.old) (C.view core.new) }
     ensures cause { IfErr result (IsOfRead account) }
+    ensures of_core { IsTrue C.tells → IfErr result (IsOfCore caller (C.view core.old) (C.view core.new)) }
     ensures found { IsTrue C.tells → IfOk result (λ n. Adds caller (Get account) (Found (decimal n)) (C.view core.old) (C.view core.new)) }
 {
     let Some(value) = get(core, caller, account)? else {
@@ -49,7 +51,8 @@ pub(crate) fn write<C: Core>(
     requires sound { IsTrue C.tells → IsSound (C.view core.old).state }
     ensures limits { (C.view core.new).limits ≡ (C.view core.old).limits }
     ensures stays { IsTrue C.tells → Stays caller (C.view core.old) (C.view core.new) }
-    ensures cause { IfErr result IsOfCore }
+    ensures cause { IfErr result HasNoReason }
+    ensures of_core { IsTrue C.tells → IfErr result (IsOfCore caller (C.view core.old) (C.view core.new)) }
     ensures written { IsTrue C.tells → IfOk result (λ done. Adds caller (Put account (decimal number)) Fine (C.view core.old) (C.view core.new)) }
 {
     put(core, caller, account, value_of(number))?;

@@ -6,13 +6,15 @@ ghost use Rattle.caller_steps.specs.Core.{Continues};
 ghost use Rattle.caller_steps.specs.Sound.{IsSound};
 ghost use Rattle.caller_steps.specs.State.{records_of};
 ghost use Rattle.transactions.specs.Adds.{Stays};
+ghost use Rattle.transactions.specs.Went.{IsOfCore};
 ghost use Rattle.transactions.specs.Makes.{Holds, IsEnded, IsGivenUp, IsInDoubt, IsMade};
 ghost use Rattle.bank.specs.Accounts.{Transfers};
-ghost use Rattle.bank.specs.Moves.{IsBalanced, IsRefused};
+ghost use Rattle.bank.specs.Moves.{IsBalanced, IsOfRead, IsRefused};
 
 use crate::accounts::{Refusal, read, write};
 use caller_steps::Core;
-use transactions::{Stop, Work, abort, begin, transaction};
+use history::what_a_write_shows;
+use transactions::{Stop, Work, abort, begin, calls_join, transaction};
 
 // An amount that goes from one account to another.
 #[derive(Drop)]
@@ -36,7 +38,9 @@ impl Work<(), Refusal> for Payment {
         ensures stays { IsTrue C.tells → Stays caller (C.view core.old) (C.view core.new) }
         ensures done { IsTrue C.tells → IfOk result (λ done. Holds (λ calls. Transfers self.now.from self.now.to self.now.amount (records_of (C.view core.old).state) (left_by (records_of (C.view core.old).state) calls)) caller (C.view core.new)) }
         ensures stopped { IsTrue C.tells → IfErr result (IsGivenUp (IsRefused self.now.from self.now.to self.now.amount) (records_of (C.view core.old).state)) }
+        ensures of_core { IsTrue C.tells → IfErr result (IsOfCore caller (C.view core.old) (C.view core.new)) }
     {
+        calls_join::<C, Refusal>();
         let paying = read(core, caller, self.from)?;
         let paid = read(core, caller, self.to)?;
         let Some(less) = paying.checked_sub(self.amount) else {
@@ -66,6 +70,7 @@ pub fn transfer<C: Core>(
     // If it is refused, the history is as it was.
     ensures refused { IsTrue C.tells → OnErr result ((C.view core.new).state.history ≡ (C.view core.old).state.history) }
     ensures cause { IsTrue C.tells → IfErr result (IsGivenUp (IsRefused from to amount) (records_of (C.view core.old).state)) }
+    ensures of_core { IsTrue C.tells → IfErr result (IsOfCore caller (C.view core.old) (C.view core.new)) }
     // Afterwards the caller has no live transaction, unless it had one before, or the medium has failed. No other caller's changes.
     ensures ended { IsTrue C.tells → IsEnded caller (C.view core.old) (C.view core.new) }
     ensures others { IsTrue C.tells → (other : ℕ) → other ≢ caller → (C.view core.new).state.live other ≡ (C.view core.old).state.live other }
@@ -78,6 +83,7 @@ pub fn transfer<C: Core>(
     ensures goes_on { IsTrue C.tells → Continues (C.view core.old) (C.view core.new) }
     ensures limits { (C.view core.new).limits ≡ (C.view core.old).limits }
 {
+    what_a_write_shows();
     transaction(core, caller, &Payment { from, to, amount })
 }
 
@@ -88,8 +94,11 @@ pub fn balance<C: Core>(core: &mut C, caller: u8, account: u64) -> Result<u64, S
     ensures stays { IsTrue C.tells → Stays caller (C.view core.old) (C.view core.new) }
     ensures ended { IsTrue C.tells → IsEnded caller (C.view core.old) (C.view core.new) }
     ensures says { IsTrue C.tells → IfOk result (λ n. map.get (records_of (C.view core.old).state) account ≡ Some (decimal n)) }
+    ensures cause { IfErr result (IsOfRead account) }
+    ensures of_core { IsTrue C.tells → IfErr result (IsOfCore caller (C.view core.old) (C.view core.new)) }
     ensures limits { (C.view core.new).limits ≡ (C.view core.old).limits }
 {
+    calls_join::<C, Refusal>();
     begin(core, caller)?;
     let told = read(core, caller, account);
     let _ = abort(core, caller);

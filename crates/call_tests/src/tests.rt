@@ -5,4 +5,6 @@ mod groups;
 mod histories;
 mod lists;
 mod opening;
+mod queues;
 mod reply_texts;
+mod samples;

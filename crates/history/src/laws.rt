@@ -1,6 +1,8 @@
 // Laws of calls and locks, each of which follows from the definitions alone.
-ghost use Rattle.std.specs.Prelude.{◌≡◌};
-ghost use Rattle.history.specs.Writes.{Table, all_written};
+ghost use Rattle.std.specs.Prelude.{◌≡◌, ◌≢◌, List, ℕ, Option};
+ghost use Rattle.std.specs.FinMap.{get};
+ghost use Rattle.history.specs.Key.{Key};
+ghost use Rattle.history.specs.Writes.{Table, set_or_remove, all_written};
 ghost use Rattle.history.specs.Table.{Granted, IsRight, left_by};
 ghost use Rattle.history.specs.Locks.{has_touched, AreApart, Agree, AgreeOff};
 ghost use Rattle.history.specs.Log.{log_of};
@@ -24,4 +26,10 @@ pub fn others_stay_right()
 /// The log of right calls, written into the table on which they are right, gives the table that they leave.
 pub fn logs_show_what_is_seen()
     ensures { (table : Table) (calls : Granted) → IsRight table calls → left_by table calls ≡ all_written table (log_of calls).writes }
+{}
+
+/// What is found after a write: under its key what it set there, or nothing after a removal, and under each other key what was there.
+pub fn what_a_write_shows()
+    ensures here { (table : Table) (key : Key) (value : Option (List ℕ)) → get (set_or_remove table key value) key ≡ value }
+    ensures there { (table : Table) (key other : Key) (value : Option (List ℕ)) → other ≢ key → get (set_or_remove table key value) other ≡ get table other }
 {}

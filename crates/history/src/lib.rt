@@ -12,7 +12,7 @@ mod rows;
 mod transaction;
 
 pub use call::{Call, Reply};
-pub use laws::{logs_show_what_is_seen, others_stay_right, strict_locking};
+pub use laws::{logs_show_what_is_seen, others_stay_right, strict_locking, what_a_write_shows};
 pub use replay::{is_legal, play};
 pub use rows::Rows;
 pub use transaction::{Calls, CallsWithRoom, Done, History};

@@ -1,12 +1,12 @@
 -- Histories of a queue.
-use Rattle.std.proofs.Common.{◌≡◌, ℕ, zero, suc, ◌≤◌, ◌⊎◌, inl, inr, List, [], ◌∷◌, ◌++◌, take, refl, sym, ◌∙◌, ap}
+use Rattle.std.proofs.Common.{ℕ, zero, suc, List, [], ◌∷◌, ◌++◌, take, sym, ◌∙◌, ap}
 use Rattle.std.proofs.lemmas.List.{append-nil, append_assoc}
 use Rattle.history.specs.Writes.{Table}
 use Rattle.history.specs.Table.{left_by}
 use Rattle.history.specs.Legal.{records}
 use Rattle.history.specs.declared.transaction.Done.{Done}
 use Rattle.job_queue.specs.Queue.{IsQueue}
-use Rattle.job_queue.specs.Along.{Deed, pushed, taken, Does, all_pushed, all_taken, IsAlong, IsKept}
+use Rattle.job_queue.specs.Along.{Deed, pushed, taken, Does, all_pushed, IsAlong, IsKept}
 
 -- what a transaction does to any queue in a table
 abbrev pub Goes : ℕ → Table → Done → Deed → Type 0

@@ -1,12 +1,11 @@
 -- A push and a take on the ring.
-use Rattle.std.proofs.Common.{◌≡◌, ◌≢◌, ℕ, suc, ◌+◌, ◌-◌, ◌<◌, ◌≤◌, ◌⊎◌, inl, inr, ⊎_elim, List, [], ◌∷◌, ◌++◌, length, Option, Some, None, refl, sym, ◌∙◌, ap, subst, arith, ltb}
-use Rattle.std.specs.Prelude.{decimal, ◌^◌, nat_lt, if◌then◌else◌}
+use Rattle.std.proofs.Common.{◌≡◌, ◌≢◌, ℕ, suc, ◌+◌, ◌-◌, ◌<◌, ◌≤◌, ◌⊎◌, inl, inr, ⊎_elim, List, [], ◌∷◌, ◌++◌, length, Option, Some, None, refl, sym, ◌∙◌, ap, subst, arith}
+use Rattle.std.specs.Prelude.{decimal, ◌^◌}
 use Rattle.std.specs.FinMap.{get, insert}
 use Rattle.std.proofs.lemmas.Bool.{cases_lt, cond_below, cond_above}
 use Rattle.std.proofs.lemmas.Fmt.{decimal_injective}
 use Rattle.std.proofs.lemmas.List.{length-append}
-use Rattle.history.specs.Writes.{Table}
-use Rattle.history.proofs.Tables.{get-set_here, get-set_there}
+use Rattle.history.specs.Writes.{Table, set_or_remove}
 use Rattle.job_queue.specs.Queue.{IsNumber, place, Lie, IsQueue, Pushes, Takes}
 
 -- a place is before the end of the ring or behind its beginning
@@ -73,100 +72,109 @@ next_within size first within = by (place_is size first 1)
     by (inl a) = omega (arith, a.0, a.1)
     by (inr a) = omega (arith, a.0, a.1, within)
 
--- after a push
-pub push_queues : (size : ℕ) (job : List ℕ) (old new : Table) (jobs : List (List ℕ)) → size ≤ 2 ^ 32 → IsQueue size old jobs → Pushes size job old new → IsQueue size new (jobs ++ job ∷ [])
-push_queues size job old new jobs most q p = subst (λ (t : Table). IsQueue size t (jobs ++ job ∷ [])) (sym p.becomes) queue
-  where
-    put : Table
-    put = insert old (place size p.first p.count + 2) job
+-- a write shows under its key,
+abbrev pub ShowsHere : Type 0
+ShowsHere = (table : Table) (key : ℕ) (value : Option (List ℕ)) → get (set_or_remove table key value) key ≡ value
 
-    made : Table
-    made = insert put 1 (decimal (p.count + 1))
+-- and changes nothing under other keys
+abbrev pub LeavesOthers : Type 0
+LeavesOthers = (table : Table) (key other : ℕ) (value : Option (List ℕ)) → other ≢ key → get (set_or_remove table key value) other ≡ get table other
 
-    count_is : p.count ≡ length jobs
-    count_is = let room = p.room in let fits = q.fits in same_number p.count (length jobs) (get old 1) (omega (arith, most, room)) (omega (arith, most, fits)) p.says_count q.says_count
+module _ (set_here : ShowsHere) (set_there : LeavesOthers) where
+  -- after a push
+  pub push_queues : (size : ℕ) (job : List ℕ) (old new : Table) (jobs : List (List ℕ)) → size ≤ 2 ^ 32 → IsQueue size old jobs → Pushes size job old new → IsQueue size new (jobs ++ job ∷ [])
+  push_queues size job old new jobs most q p = subst (λ (t : Table). IsQueue size t (jobs ++ job ∷ [])) (sym p.becomes) queue
+    where
+      put : Table
+      put = insert old (place size p.first p.count + 2) job
 
-    first_is : p.first ≡ q.first
-    first_is = let one = p.within in let other = q.within in same_number p.first q.first (get old 0) (omega (arith, most, one)) (omega (arith, most, other)) p.says_first q.says_first
+      made : Table
+      made = insert put 1 (decimal (p.count + 1))
 
-    more : length (jobs ++ job ∷ []) ≡ p.count + 1
-    more = length-append jobs (job ∷ []) ∙ ap (λ (n : ℕ). n + 1) (sym count_is)
+      count_is : p.count ≡ length jobs
+      count_is = let room = p.room in let fits = q.fits in same_number p.count (length jobs) (get old 1) (omega (arith, most, room)) (omega (arith, most, fits)) p.says_count q.says_count
 
-    other : (key : ℕ) → key ≢ 1 → key ≢ place size p.first p.count + 2 → get made key ≡ get old key
-    other key one two = get-set_there put 1 (Some (decimal (p.count + 1))) key one ∙ get-set_there old (place size p.first p.count + 2) (Some job) key two
+      first_is : p.first ≡ q.first
+      first_is = let one = p.within in let other = q.within in same_number p.first q.first (get old 0) (omega (arith, most, one)) (omega (arith, most, other)) p.says_first q.says_first
 
-    here : get made (place size p.first p.count + 2) ≡ Some job
-    here = get-set_there put 1 (Some (decimal (p.count + 1))) (place size p.first p.count + 2) (λ is. omega (arith, is)) ∙ get-set_here old (place size p.first p.count + 2) (Some job)
+      more : length (jobs ++ job ∷ []) ≡ p.count + 1
+      more = length-append jobs (job ∷ []) ∙ ap (λ (n : ℕ). n + 1) (sym count_is)
 
-    kept : (m : ℕ) → 0 ≤ m → m < 0 + length jobs → get made (place size p.first m + 2) ≡ get old (place size p.first m + 2)
-    kept m le lt = let room = p.room in other (place size p.first m + 2) (λ is. omega (arith, is))
-        (λ is. apart size p.first m p.count p.within (omega (arith, lt, count_is)) room (omega (arith, is)))
+      other : (key : ℕ) → key ≢ 1 → key ≢ place size p.first p.count + 2 → get made key ≡ get old key
+      other key one two = set_there put 1 key (Some (decimal (p.count + 1))) one ∙ set_there old (place size p.first p.count + 2) key (Some job) two
 
-    lies : Lie size made p.first 0 (jobs ++ job ∷ [])
-    lies = lie_more size p.first 0 made jobs job (lie_on size p.first 0 old made jobs kept (subst (λ (f : ℕ). Lie size old f 0 jobs) (sym first_is) q.lie))
-        (ap (λ (n : ℕ). get made (place size p.first n + 2)) (omega (arith, count_is)) ∙ here)
+      here : get made (place size p.first p.count + 2) ≡ Some job
+      here = set_there put 1 (place size p.first p.count + 2) (Some (decimal (p.count + 1))) (λ is. omega (arith, is)) ∙ set_here old (place size p.first p.count + 2) (Some job)
 
-    queue : IsQueue size made (jobs ++ job ∷ [])
-    queue = record {
-      first = p.first;
-      within = p.within;
-      says_first = subst (λ (o : Option (List ℕ)). IsNumber p.first o) (sym (other 0 (λ is. omega (arith, is)) (λ is. omega (arith, is)))) p.says_first;
-      says_count = subst (λ (o : Option (List ℕ)). IsNumber (length (jobs ++ job ∷ [])) o) (sym (get-set_here put 1 (Some (decimal (p.count + 1))))) (ap decimal (sym more));
-      fits = let room = p.room in omega (arith, room, more);
-      lie = lies;
-    }
+      kept : (m : ℕ) → 0 ≤ m → m < 0 + length jobs → get made (place size p.first m + 2) ≡ get old (place size p.first m + 2)
+      kept m le lt = let room = p.room in other (place size p.first m + 2) (λ is. omega (arith, is))
+          (λ is. apart size p.first m p.count p.within (omega (arith, lt, count_is)) room (omega (arith, is)))
 
--- after a take
-pub take_queues : (size : ℕ) (job : List ℕ) (old new : Table) (jobs : List (List ℕ)) → size ≤ 2 ^ 32 → IsQueue size old jobs → Takes size job old new → (rest : List (List ℕ)) × (jobs ≡ job ∷ rest) × IsQueue size new rest
-take_queues size job old new [] most q p =
-    let some = p.some in let fits = p.fits in
-    absurd (let e = same_number p.count 0 (get old 1) (omega (arith, most, fits)) (omega arith) p.says_count q.says_count in omega (arith, e, some))
-take_queues size job old new (one ∷ rest) most q p = (rest, ap (λ (j : List ℕ). j ∷ rest) job_is, subst (λ (t : Table). IsQueue size t rest) (sym p.becomes) queue)
-  where
-    put : Table
-    put = insert old 0 (decimal (place size p.first 1))
+      lies : Lie size made p.first 0 (jobs ++ job ∷ [])
+      lies = lie_more size p.first 0 made jobs job (lie_on size p.first 0 old made jobs kept (subst (λ (f : ℕ). Lie size old f 0 jobs) (sym first_is) q.lie))
+          (ap (λ (n : ℕ). get made (place size p.first n + 2)) (omega (arith, count_is)) ∙ here)
 
-    made : Table
-    made = insert put 1 (decimal (p.count - 1))
+      queue : IsQueue size made (jobs ++ job ∷ [])
+      queue = record {
+        first = p.first;
+        within = p.within;
+        says_first = subst (λ (o : Option (List ℕ)). IsNumber p.first o) (sym (other 0 (λ is. omega (arith, is)) (λ is. omega (arith, is)))) p.says_first;
+        says_count = subst (λ (o : Option (List ℕ)). IsNumber (length (jobs ++ job ∷ [])) o) (sym (set_here put 1 (Some (decimal (p.count + 1))))) (ap decimal (sym more));
+        fits = let room = p.room in omega (arith, room, more);
+        lie = lies;
+      }
 
-    count_is : p.count ≡ suc (length rest)
-    count_is = let fits = p.fits in let fits' = q.fits in same_number p.count (suc (length rest)) (get old 1) (omega (arith, most, fits)) (omega (arith, most, fits')) p.says_count q.says_count
+  -- after a take
+  pub take_queues : (size : ℕ) (job : List ℕ) (old new : Table) (jobs : List (List ℕ)) → size ≤ 2 ^ 32 → IsQueue size old jobs → Takes size job old new → (rest : List (List ℕ)) × (jobs ≡ job ∷ rest) × IsQueue size new rest
+  take_queues size job old new [] most q p =
+      let some = p.some in let fits = p.fits in
+      absurd (let e = same_number p.count 0 (get old 1) (omega (arith, most, fits)) (omega arith) p.says_count q.says_count in omega (arith, e, some))
+  take_queues size job old new (one ∷ rest) most q p = (rest, ap (λ (j : List ℕ). j ∷ rest) job_is, subst (λ (t : Table). IsQueue size t rest) (sym p.becomes) queue)
+    where
+      put : Table
+      put = insert old 0 (decimal (place size p.first 1))
 
-    first_is : p.first ≡ q.first
-    first_is = let a = p.within in let b = q.within in same_number p.first q.first (get old 0) (omega (arith, most, a)) (omega (arith, most, b)) p.says_first q.says_first
+      made : Table
+      made = insert put 1 (decimal (p.count - 1))
 
-    place_here : place size p.first 0 ≡ p.first
-    place_here = let within = p.within in by (place_is size p.first 0)
-      where
-        by : ((p.first + 0 < size) × (place size p.first 0 ≡ p.first + 0)) ⊎ ((size ≤ p.first + 0) × (place size p.first 0 ≡ p.first + 0 - size)) → place size p.first 0 ≡ p.first
-        by (inl a) = omega (arith, a.1)
-        by (inr a) = let within = p.within in omega (arith, a.0, within)
+      count_is : p.count ≡ suc (length rest)
+      count_is = let fits = p.fits in let fits' = q.fits in same_number p.count (suc (length rest)) (get old 1) (omega (arith, most, fits)) (omega (arith, most, fits')) p.says_count q.says_count
 
-    lie_old : Lie size old p.first 0 (one ∷ rest)
-    lie_old = subst (λ (f : ℕ). Lie size old f 0 (one ∷ rest)) (sym first_is) q.lie
+      first_is : p.first ≡ q.first
+      first_is = let a = p.within in let b = q.within in same_number p.first q.first (get old 0) (omega (arith, most, a)) (omega (arith, most, b)) p.says_first q.says_first
 
-    job_is : one ≡ job
-    job_is = let e : Some one ≡ Some job = sym lie_old.0 ∙ ap (λ (n : ℕ). get old (n + 2)) place_here ∙ p.has in cc
+      place_here : place size p.first 0 ≡ p.first
+      place_here = let within = p.within in by (place_is size p.first 0)
+        where
+          by : ((p.first + 0 < size) × (place size p.first 0 ≡ p.first + 0)) ⊎ ((size ≤ p.first + 0) × (place size p.first 0 ≡ p.first + 0 - size)) → place size p.first 0 ≡ p.first
+          by (inl a) = omega (arith, a.1)
+          by (inr a) = let within = p.within in omega (arith, a.0, within)
 
-    other : (key : ℕ) → key ≢ 1 → key ≢ 0 → get made key ≡ get old key
-    other key one two = get-set_there put 1 (Some (decimal (p.count - 1))) key one ∙ get-set_there old 0 (Some (decimal (place size p.first 1))) key two
+      lie_old : Lie size old p.first 0 (one ∷ rest)
+      lie_old = subst (λ (f : ℕ). Lie size old f 0 (one ∷ rest)) (sym first_is) q.lie
 
-    says : get made 0 ≡ Some (decimal (place size p.first 1))
-    says = get-set_there put 1 (Some (decimal (p.count - 1))) 0 (λ is. omega (arith, is)) ∙ get-set_here old 0 (Some (decimal (place size p.first 1)))
+      job_is : one ≡ job
+      job_is = let e : Some one ≡ Some job = sym lie_old.0 ∙ ap (λ (n : ℕ). get old (n + 2)) place_here ∙ p.has in cc
 
-    few : length rest < size
-    few = let fits = q.fits in omega (arith, fits)
+      other : (key : ℕ) → key ≢ 1 → key ≢ 0 → get made key ≡ get old key
+      other key one two = set_there put 1 key (Some (decimal (p.count - 1))) one ∙ set_there old 0 key (Some (decimal (place size p.first 1))) two
 
-    lies : Lie size made (place size p.first 1) 0 rest
-    lies = lie_on size (place size p.first 1) 0 old made rest (λ m le lt. other (place size (place size p.first 1) m + 2) (λ is. omega (arith, is)) (λ is. omega (arith, is)))
-        (lie_next size p.first 0 old rest p.within (omega (arith, few)) lie_old.1)
+      says : get made 0 ≡ Some (decimal (place size p.first 1))
+      says = set_there put 1 0 (Some (decimal (p.count - 1))) (λ is. omega (arith, is)) ∙ set_here old 0 (Some (decimal (place size p.first 1)))
 
-    queue : IsQueue size made rest
-    queue = record {
-      first = place size p.first 1;
-      within = next_within size p.first p.within;
-      says_first = subst (λ (o : Option (List ℕ)). IsNumber (place size p.first 1) o) (sym says) refl;
-      says_count = subst (λ (o : Option (List ℕ)). IsNumber (length rest) o) (sym (get-set_here put 1 (Some (decimal (p.count - 1))))) (ap decimal (omega (arith, count_is)));
-      fits = omega (arith, few);
-      lie = lies;
-    }
+      few : length rest < size
+      few = let fits = q.fits in omega (arith, fits)
+
+      lies : Lie size made (place size p.first 1) 0 rest
+      lies = lie_on size (place size p.first 1) 0 old made rest (λ m le lt. other (place size (place size p.first 1) m + 2) (λ is. omega (arith, is)) (λ is. omega (arith, is)))
+          (lie_next size p.first 0 old rest p.within (omega (arith, few)) lie_old.1)
+
+      queue : IsQueue size made rest
+      queue = record {
+        first = place size p.first 1;
+        within = next_within size p.first p.within;
+        says_first = subst (λ (o : Option (List ℕ)). IsNumber (place size p.first 1) o) (sym says) refl;
+        says_count = subst (λ (o : Option (List ℕ)). IsNumber (length rest) o) (sym (set_here put 1 (Some (decimal (p.count - 1))))) (ap decimal (omega (arith, count_is)));
+        fits = omega (arith, few);
+        lie = lies;
+      }

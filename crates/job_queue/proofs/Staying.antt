@@ -1,15 +1,15 @@
 -- What may be left of a queue's history after a push or a take.
-use Rattle.std.proofs.Common.{◌≡◌, ℕ, ◌⊎◌, inl, inr, ⊎_elim, List, [], ◌∷◌, ◌++◌, refl, sym, ◌∙◌, ap, subst}
+use Rattle.std.proofs.Common.{◌≡◌, ℕ, inl, inr, ⊎_elim, List, [], ◌∷◌, ◌++◌, refl, sym, ◌∙◌, ap, subst}
 use Rattle.std.proofs.lemmas.List.{append-nil}
 use Rattle.history.specs.Writes.{Table}
 use Rattle.history.specs.Table.{Granted, left_by}
 use Rattle.history.specs.declared.transaction.Done.{Done}
 use Rattle.caller_steps.specs.Core.{CoreView}
 use Rattle.caller_steps.specs.State.{records_of, done_by}
-use Rattle.transactions.specs.Makes.{Adds, MayAdd}
+use Rattle.transactions.specs.Makes.{MayAdd}
 use Rattle.job_queue.specs.Queue.{Pushes, Takes}
 use Rattle.job_queue.specs.Along.{Deed, pushed, taken, IsAlong, GoesAlong, StaysAlong, IsTaking}
-use Rattle.job_queue.proofs.Ring.{push_queues, take_queues}
+use Rattle.job_queue.proofs.Ring.{ShowsHere, LeavesOthers, push_queues, take_queues}
 use Rattle.job_queue.proofs.Going.{Goes, along_more}
 
 abbrev pub Pushing : ℕ → List ℕ → Unit {0} → Table → Granted → Type 0
@@ -34,24 +34,24 @@ module _ (size caller : ℕ) (old new : CoreView) (base : new.state.base ≡ old
   same is = moved (old.state.history ++ old.state.doubt) deeds is along
 
 -- after a push
-pub push_stays : (size : ℕ) (job : List ℕ) (caller : ℕ) (old new : CoreView) → new.state.base ≡ old.state.base → MayAdd (Pushing size job) caller old new
+pub push_stays : ShowsHere → LeavesOthers → (size : ℕ) (job : List ℕ) (caller : ℕ) (old new : CoreView) → new.state.base ≡ old.state.base → MayAdd (Pushing size job) caller old new
     → StaysAlong size (λ deed. deed ≡ pushed job) old.state new.state
-push_stays size job caller old new base grows first deeds along =
+push_stays here there size job caller old new base grows first deeds along =
     ⊎_elim (λ is. inl (same size caller old new base first deeds along is))
     (λ adds. inr (
       pushed job,
       refl,
       added size caller old new base first deeds along (pushed job) adds.calls adds.before adds.left
-          (λ jobs queue. (jobs ++ job ∷ [], refl, push_queues size job _ _ jobs adds.does.most queue adds.does)),
+          (λ jobs queue. (jobs ++ job ∷ [], refl, push_queues here there size job _ _ jobs adds.does.most queue adds.does)),
     )) grows
 
 -- after a take
-pub take_stays : (size : ℕ) (caller : ℕ) (old new : CoreView) → new.state.base ≡ old.state.base → MayAdd (Taking size) caller old new → StaysAlong size IsTaking old.state new.state
-take_stays size caller old new base grows first deeds along =
+pub take_stays : ShowsHere → LeavesOthers → (size : ℕ) (caller : ℕ) (old new : CoreView) → new.state.base ≡ old.state.base → MayAdd (Taking size) caller old new → StaysAlong size IsTaking old.state new.state
+take_stays here there size caller old new base grows first deeds along =
     ⊎_elim (λ is. inl (same size caller old new base first deeds along is))
     (λ adds. inr (
       taken adds.answer,
       (adds.answer, refl),
       added size caller old new base first deeds along (taken adds.answer) adds.calls adds.before adds.left
-          (λ jobs queue. take_queues size adds.answer _ _ jobs adds.does.most queue adds.does),
+          (λ jobs queue. take_queues here there size adds.answer _ _ jobs adds.does.most queue adds.does),
     )) grows

@@ -6,14 +6,16 @@ ghost use Rattle.caller_steps.specs.Core.{Continues};
 ghost use Rattle.caller_steps.specs.Sound.{IsSound};
 ghost use Rattle.caller_steps.specs.State.{records_of};
 ghost use Rattle.transactions.specs.Adds.{Stays, Adds};
+ghost use Rattle.transactions.specs.Went.{IsOfCore};
 ghost use Rattle.transactions.specs.Makes.{Holds, IsEnded, IsGivenUp, IsMade};
 ghost use Rattle.job_queue.specs.Queue.{IsNumber, IsUnmet, Pushes, Takes, place, Reads};
 ghost use Rattle.job_queue.specs.Along.{Deed, pushed, IsTaking, StaysAlong};
 ghost use Rattle.job_queue.specs.declared.queue.Unmet.TheVariants.{NoQueue};
 
 use caller_steps::Core;
+use history::what_a_write_shows;
 use record_slots::Value;
-use transactions::{Stop, Work, get, number_in, put, transaction, value_of};
+use transactions::{Stop, Work, calls_join, get, number_in, put, transaction, value_of};
 
 /// The most places of a queue.
 const MOST: u64 = 1 << 32;
@@ -51,12 +53,14 @@ pub fn push<C: Core>(core: &mut C, caller: u8, size: u64, job: Value) -> Result<
     ensures done { IsTrue C.tells → IfOk result (λ done. IsMade (λ table calls. Pushes size job table (left_by table calls)) caller (C.view core.old) (C.view core.new)) }
     ensures refused { IsTrue C.tells → OnErr result ((C.view core.new).state.history ≡ (C.view core.old).state.history) }
     ensures cause { IsTrue C.tells → IfErr result (IsGivenUp (IsUnmet size) (records_of (C.view core.old).state)) }
+    ensures of_core { IsTrue C.tells → IfErr result (IsOfCore caller (C.view core.old) (C.view core.new)) }
     ensures ended { IsTrue C.tells → IsEnded caller (C.view core.old) (C.view core.new) }
     // What may be left is the queue's history as before, or with this push after it.
     ensures along { IsTrue C.tells → StaysAlong size (λ deed. deed ≡ pushed job) (C.view core.old).state (C.view core.new).state }
     ensures goes_on { IsTrue C.tells → Continues (C.view core.old) (C.view core.new) }
     ensures limits { (C.view core.new).limits ≡ (C.view core.old).limits }
 {
+    what_a_write_shows();
     transaction(core, caller, &Pushing { size, job })
 }
 
@@ -68,12 +72,14 @@ pub fn take<C: Core>(core: &mut C, caller: u8, size: u64) -> Result<Value, Stop<
     ensures done { IsTrue C.tells → IfOk result (λ job. IsMade (λ table calls. Takes size job table (left_by table calls)) caller (C.view core.old) (C.view core.new)) }
     ensures refused { IsTrue C.tells → OnErr result ((C.view core.new).state.history ≡ (C.view core.old).state.history) }
     ensures cause { IsTrue C.tells → IfErr result (IsGivenUp (IsUnmet size) (records_of (C.view core.old).state)) }
+    ensures of_core { IsTrue C.tells → IfErr result (IsOfCore caller (C.view core.old) (C.view core.new)) }
     ensures ended { IsTrue C.tells → IsEnded caller (C.view core.old) (C.view core.new) }
     // What may be left is the queue's history as before, or with the taking of a job after it.
     ensures along { IsTrue C.tells → StaysAlong size IsTaking (C.view core.old).state (C.view core.new).state }
     ensures goes_on { IsTrue C.tells → Continues (C.view core.old) (C.view core.new) }
     ensures limits { (C.view core.new).limits ≡ (C.view core.old).limits }
 {
+    what_a_write_shows();
     transaction(core, caller, &Taking { size })
 }
 
@@ -91,7 +97,9 @@ impl Work<(), Unmet> for Pushing {
         ensures stays { IsTrue C.tells → Stays caller (C.view core.old) (C.view core.new) }
         ensures done { IsTrue C.tells → IfOk result (λ done. Holds (λ calls. Pushes self.now.size self.now.job (records_of (C.view core.old).state) (left_by (records_of (C.view core.old).state) calls)) caller (C.view core.new)) }
         ensures stopped { IsTrue C.tells → IfErr result (IsGivenUp (IsUnmet self.now.size) (records_of (C.view core.old).state)) }
+        ensures of_core { IsTrue C.tells → IfErr result (IsOfCore caller (C.view core.old) (C.view core.new)) }
     {
+        calls_join::<C, Unmet>();
         let (first, count) = bounds(core, caller, self.size)?;
         if count == self.size {
             return Err(Stop::GivenUp(Unmet::Full));
@@ -117,7 +125,9 @@ impl Work<Value, Unmet> for Taking {
         ensures stays { IsTrue C.tells → Stays caller (C.view core.old) (C.view core.new) }
         ensures done { IsTrue C.tells → IfOk result (λ job. Holds (λ calls. Takes self.now.size job (records_of (C.view core.old).state) (left_by (records_of (C.view core.old).state) calls)) caller (C.view core.new)) }
         ensures stopped { IsTrue C.tells → IfErr result (IsGivenUp (IsUnmet self.now.size) (records_of (C.view core.old).state)) }
+        ensures of_core { IsTrue C.tells → IfErr result (IsOfCore caller (C.view core.old) (C.view core.new)) }
     {
+        calls_join::<C, Unmet>();
         let (first, count) = bounds(core, caller, self.size)?;
         if count == 0 {
             return Err(Stop::GivenUp(Unmet::Empty));
@@ -157,8 +167,10 @@ fn bounds<C: Core>(core: &mut C, caller: u8, size: u64) -> Result<(u64, u64), St
     ensures within { IfOk result (λ bounds. bounds.0 < size) }
     ensures few { IfOk result (λ bounds. bounds.1 ≤ size) }
     ensures cause { IfErr result (IsGivenUp (λ unmet table. unmet ≡ NoQueue) (records_of (C.view core.old).state)) }
+    ensures of_core { IsTrue C.tells → IfErr result (IsOfCore caller (C.view core.old) (C.view core.new)) }
     ensures found { IsTrue C.tells → IfOk result (λ bounds. Reads bounds.0 bounds.1 caller (C.view core.old) (C.view core.new)) }
 {
+    calls_join::<C, Unmet>();
     let first = read_number(core, caller, 0)?;
     let count = read_number(core, caller, 1)?;
     if size > MOST || first >= size || count > size {
@@ -174,6 +186,7 @@ fn read_number<C: Core>(core: &mut C, caller: u8, key: u64) -> Result<u64, Stop<
     ensures limits { (C.view core.new).limits ≡ (C.view core.old).limits }
     ensures stays { IsTrue C.tells → Stays caller (C.view core.old) (C.view core.new) }
     ensures cause { IfErr result (IsGivenUp (λ unmet table. unmet ≡ NoQueue) (records_of (C.view core.old).state)) }
+    ensures of_core { IsTrue C.tells → IfErr result (IsOfCore caller (C.view core.old) (C.view core.new)) }
     ensures found { IsTrue C.tells → IfOk result (λ n. (told : Option (List ℕ)) × IsNumber n told × Adds caller (Get key) (found told) (C.view core.old) (C.view core.new)) }
 {
     let Some(value) = get(core, caller, key)? else {

@@ -4,5 +4,6 @@ mod flags;
 mod held_media;
 mod holds;
 mod places;
+mod samples;
 mod sharing;
 mod sleeping;

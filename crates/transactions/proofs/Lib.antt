@@ -1,2 +1,4 @@
+pub mod Again
 pub mod Doubting
+pub mod Going
 pub mod Texts

@@ -1,15 +1,17 @@
 -- What a call leaves of its caller's transaction.
-use Rattle.std.specs.Prelude.{ℕ, ◌≡◌, ◌≢◌, ◌⊎◌, false, List, [], ◌∷◌, ◌++◌, Some, None}
+use Rattle.std.specs.Prelude.{ℕ, ◌≡◌, ◌≢◌, ◌⊎◌, [], ◌∷◌, ◌++◌, Some, None}
 use Rattle.history.specs.declared.call.Call.{Call}
 use Rattle.history.specs.declared.call.Reply.{Reply}
 use Rattle.caller_steps.specs.Core.{CoreView, Continues}
 use Rattle.caller_steps.specs.State.{calls_of, done_by}
+use Rattle.transactions.specs.Went.{Went}
 use Rattle.transactions.specs.declared.refusal.Refusal.{Refusal}
 use Rattle.transactions.specs.declared.refusal.Refusal.TheVariants.{Media}
 
--- nothing was committed, nothing came to be in doubt, and no other caller's transaction changed
+-- nothing but calls of the caller: nothing was committed, nothing came to be in doubt, and no other caller's transaction changed
 pub record Stays (caller : ℕ) (old new : CoreView) : Type 0 where
   pub goes_on : Continues old new
+  pub went : Went caller old new
   pub history : new.state.history ≡ old.state.history
   pub doubt : new.state.doubt ≡ old.state.doubt
   pub others : (other : ℕ) → other ≢ caller → new.state.live other ≡ old.state.live other

@@ -1,5 +1,5 @@
 -- What a transaction of some work makes of a core.
-use Rattle.std.specs.Prelude.{ℕ, ◌≡◌, ◌⊎◌, false, List, [], ◌∷◌, ◌++◌, Some, None}
+use Rattle.std.specs.Prelude.{ℕ, ◌≡◌, ◌⊎◌, false, [], ◌∷◌, ◌++◌, Some, None}
 use Rattle.history.specs.Writes.{Table}
 use Rattle.history.specs.Table.{Granted}
 use Rattle.caller_steps.specs.Core.{CoreView}

@@ -5,9 +5,11 @@ ghost use Rattle.history.specs.declared.call.Reply.TheVariants.{Fine, Found, Abs
 ghost use Rattle.caller_steps.specs.Core.{Steps, Continues};
 ghost use Rattle.caller_steps.specs.Sound.{IsSound};
 ghost use Rattle.transactions.specs.Told.{reply_of, told_done, told_get, told_del, told_scan, told_save, told_commit};
+ghost use Rattle.transactions.specs.Went.{Refuses};
 ghost use Rattle.transactions.specs.Adds.{Stays, Adds, Keeps, Commits, MayDoubt, MayEnd, MayGrow};
 
 use crate::Refusal;
+use crate::laws::what_a_call_is;
 use caller_steps::{Core, prefix_law};
 use history::{Call, Reply, Rows};
 use record_slots::Value;
@@ -21,8 +23,10 @@ pub fn begin<C: Core>(core: &mut C, caller: u8) -> Result<(), Refusal>
     ensures begun { IsTrue C.tells → OnOk result ((C.view core.old).state.live caller ≡ None) }
     ensures ok { IsTrue C.tells → OnOk result ((C.view core.new).state.live caller ≡ Some []) }
     ensures err { IsTrue C.tells → OnErr result (Keeps caller (C.view core.old) (C.view core.new)) }
+    ensures refused { IsTrue C.tells → IfErr result (Refuses caller (C.view core.old) (C.view core.new)) }
 {
     prefix_law::<C>();
+    what_a_call_is::<C>();
     match core.step(caller, &Call::Begin) {
         Reply::Fine => Ok(()),
         reply => Err(Refusal::from(reply)),
@@ -37,8 +41,10 @@ pub fn get<C: Core>(core: &mut C, caller: u8, key: u64) -> Result<Option<Value>,
     ensures stays { IsTrue C.tells → Stays caller (C.view core.old) (C.view core.new) }
     ensures ok { IsTrue C.tells → OnOk result (Adds caller (Get key) (told_get result) (C.view core.old) (C.view core.new)) }
     ensures err { IsTrue C.tells → OnErr result (Keeps caller (C.view core.old) (C.view core.new)) }
+    ensures refused { IsTrue C.tells → IfErr result (Refuses caller (C.view core.old) (C.view core.new)) }
 {
     prefix_law::<C>();
+    what_a_call_is::<C>();
     match core.step(caller, &Call::Get { key }) {
         Reply::Found(value) => Ok(Some(value)),
         Reply::Absent => Ok(None),
@@ -54,8 +60,10 @@ pub fn put<C: Core>(core: &mut C, caller: u8, key: u64, value: Value) -> Result<
     ensures stays { IsTrue C.tells → Stays caller (C.view core.old) (C.view core.new) }
     ensures ok { IsTrue C.tells → OnOk result (Adds caller (Put key value) Fine (C.view core.old) (C.view core.new)) }
     ensures err { IsTrue C.tells → OnErr result (Keeps caller (C.view core.old) (C.view core.new)) }
+    ensures refused { IsTrue C.tells → IfErr result (Refuses caller (C.view core.old) (C.view core.new)) }
 {
     prefix_law::<C>();
+    what_a_call_is::<C>();
     match core.step(caller, &Call::Put { key, value }) {
         Reply::Fine => Ok(()),
         reply => Err(Refusal::from(reply)),
@@ -70,8 +78,10 @@ pub fn del<C: Core>(core: &mut C, caller: u8, key: u64) -> Result<bool, Refusal>
     ensures stays { IsTrue C.tells → Stays caller (C.view core.old) (C.view core.new) }
     ensures ok { IsTrue C.tells → OnOk result (Adds caller (Del key) (told_del result) (C.view core.old) (C.view core.new)) }
     ensures err { IsTrue C.tells → OnErr result (Keeps caller (C.view core.old) (C.view core.new)) }
+    ensures refused { IsTrue C.tells → IfErr result (Refuses caller (C.view core.old) (C.view core.new)) }
 {
     prefix_law::<C>();
+    what_a_call_is::<C>();
     match core.step(caller, &Call::Del { key }) {
         Reply::Fine => Ok(true),
         Reply::Absent => Ok(false),
@@ -87,8 +97,10 @@ pub fn scan<C: Core>(core: &mut C, caller: u8, low: u64, high: u64) -> Result<Ro
     ensures stays { IsTrue C.tells → Stays caller (C.view core.old) (C.view core.new) }
     ensures ok { IsTrue C.tells → IfOk result (λ rows. Adds caller (Scan low high) (Listed rows) (C.view core.old) (C.view core.new)) }
     ensures err { IsTrue C.tells → OnErr result (Keeps caller (C.view core.old) (C.view core.new)) }
+    ensures refused { IsTrue C.tells → IfErr result (Refuses caller (C.view core.old) (C.view core.new)) }
 {
     prefix_law::<C>();
+    what_a_call_is::<C>();
     match core.step(caller, &Call::Scan { low, high }) {
         Reply::Listed(rows) => Ok(rows),
         reply => Err(Refusal::from(reply)),
@@ -103,8 +115,10 @@ pub fn save<C: Core>(core: &mut C, caller: u8) -> Result<u32, Refusal>
     ensures stays { IsTrue C.tells → Stays caller (C.view core.old) (C.view core.new) }
     ensures ok { IsTrue C.tells → IfOk result (λ saves. Adds caller Save (Saved saves) (C.view core.old) (C.view core.new)) }
     ensures err { IsTrue C.tells → OnErr result (Keeps caller (C.view core.old) (C.view core.new)) }
+    ensures refused { IsTrue C.tells → IfErr result (Refuses caller (C.view core.old) (C.view core.new)) }
 {
     prefix_law::<C>();
+    what_a_call_is::<C>();
     match core.step(caller, &Call::Save) {
         Reply::Saved(saves) => Ok(saves),
         reply => Err(Refusal::from(reply)),
@@ -119,8 +133,10 @@ pub fn back<C: Core>(core: &mut C, caller: u8, save: u32) -> Result<(), Refusal>
     ensures stays { IsTrue C.tells → Stays caller (C.view core.old) (C.view core.new) }
     ensures ok { IsTrue C.tells → OnOk result (Adds caller (Back save) Fine (C.view core.old) (C.view core.new)) }
     ensures err { IsTrue C.tells → OnErr result (Keeps caller (C.view core.old) (C.view core.new)) }
+    ensures refused { IsTrue C.tells → IfErr result (Refuses caller (C.view core.old) (C.view core.new)) }
 {
     prefix_law::<C>();
+    what_a_call_is::<C>();
     match core.step(caller, &Call::Back { save }) {
         Reply::Fine => Ok(()),
         reply => Err(Refusal::from(reply)),
@@ -136,11 +152,13 @@ pub fn commit<C: Core>(core: &mut C, caller: u8) -> Result<u64, Refusal>
     ensures goes_on { IsTrue C.tells → Continues (C.view core.old) (C.view core.new) }
     ensures ok { IsTrue C.tells → OnOk result (Commits caller (C.view core.old) (C.view core.new)) }
     ensures err { IsTrue C.tells → OnErr result ((C.view core.new).state.history ≡ (C.view core.old).state.history) }
+    ensures refused { IsTrue C.tells → IfErr result (Refuses caller (C.view core.old) (C.view core.new)) }
     ensures doubt { IsTrue C.tells → IfErr result (MayDoubt caller (C.view core.old) (C.view core.new)) }
     ensures live { IsTrue C.tells → IfErr result (MayEnd caller (C.view core.old) (C.view core.new)) }
     ensures grows { IsTrue C.tells → MayGrow caller (C.view core.old) (C.view core.new) }
 {
     prefix_law::<C>();
+    what_a_call_is::<C>();
     match core.step(caller, &Call::Commit) {
         Reply::Committed(at) => Ok(at),
         reply => Err(Refusal::from(reply)),
@@ -155,8 +173,10 @@ pub fn abort<C: Core>(core: &mut C, caller: u8) -> Result<(), Refusal>
     ensures stays { IsTrue C.tells → Stays caller (C.view core.old) (C.view core.new) }
     ensures ok { IsTrue C.tells → OnOk result ((C.view core.new).state.live caller ≡ None) }
     ensures err { IsTrue C.tells → OnErr result (Keeps caller (C.view core.old) (C.view core.new)) }
+    ensures refused { IsTrue C.tells → IfErr result (Refuses caller (C.view core.old) (C.view core.new)) }
 {
     prefix_law::<C>();
+    what_a_call_is::<C>();
     match core.step(caller, &Call::Abort) {
         Reply::Fine => Ok(()),
         reply => Err(Refusal::from(reply)),

@@ -1,10 +1,13 @@
-// A whole transaction.
-ghost use Rattle.std.specs.Prelude.{◌≡◌, ◌≢◌, ◌<◌, ℕ, None, IsTrue, IfOk, IfErr, OnOk, OnErr};
+// Whole transactions.
+ghost use Rattle.std.specs.Prelude.{◌≡◌, ◌≢◌, ◌+◌, ◌<◌, ℕ, None, IsTrue, IfOk, IfErr, OnOk, OnErr};
 ghost use Rattle.caller_steps.specs.Core.{Continues};
 ghost use Rattle.caller_steps.specs.Sound.{IsSound};
 ghost use Rattle.caller_steps.specs.State.{records_of};
+ghost use Rattle.transactions.specs.Went.{Went, IsOfCore};
+ghost use Rattle.transactions.specs.Tries.{IsOften, was_busy};
 ghost use Rattle.transactions.specs.Makes.{IsGivenUp, IsMade, IsEnded, IsInDoubt, MayAdd};
 
+use crate::Refusal;
 use crate::calls::{abort, begin, commit};
 use crate::work::{Stop, Work};
 use caller_steps::{Core, prefix_law};
@@ -21,10 +24,12 @@ pub fn transaction<C: Core, T: Drop, E: Drop, W: Work<T, E>>(
     ensures goes_on { IsTrue C.tells → Continues (C.view core.old) (C.view core.new) }
     // If it is made, the history has one more transaction, which does the work.
     ensures made { IsTrue C.tells → IfOk result (λ answer. IsMade (W.does work.now answer) caller (C.view core.old) (C.view core.new)) }
-    // If not, the history is as it was, and that is so because the core refused a call, or as the work says.
+    // If not, the history is as it was, and that is so because the core refused a call of it, or as the work says.
     ensures refused { IsTrue C.tells → OnErr result ((C.view core.new).state.history ≡ (C.view core.old).state.history) }
     ensures cause { IsTrue C.tells → IfErr result (IsGivenUp (W.gives_up work.now) (records_of (C.view core.old).state)) }
+    ensures of_core { IsTrue C.tells → IfErr result (IsOfCore caller (C.view core.old) (C.view core.new)) }
     // Afterwards the caller has no live transaction, unless it had one before, or the medium has failed. No other caller's changes.
+    ensures went { IsTrue C.tells → Went caller (C.view core.old) (C.view core.new) }
     ensures ended { IsTrue C.tells → IsEnded caller (C.view core.old) (C.view core.new) }
     ensures others { IsTrue C.tells → (other : ℕ) → other ≢ caller → (C.view core.new).state.live other ≡ (C.view core.old).state.live other }
     // Only one that is answered `Media` may be in doubt, and it does the work too.
@@ -48,4 +53,46 @@ pub fn transaction<C: Core, T: Drop, E: Drop, W: Work<T, E>>(
             Err(stop)
         }
     }
+}
+
+/// Does the work as `transaction` does, and again while it is refused because another caller holds a key: at most so many times more. Each
+/// refused try is aborted, so it leaves nothing.
+pub fn transaction_retried<C: Core, T: Drop, E: Drop, W: Work<T, E>>(
+    core: &mut C,
+    caller: u8,
+    work: &W,
+    retries: u32,
+) -> Result<T, Stop<E>>
+    requires inside { caller < (C.view core.old).limits.callers }
+    requires sound { IsTrue C.tells → IsSound (C.view core.old).state }
+    ensures limits { (C.view core.new).limits ≡ (C.view core.old).limits }
+    ensures goes_on { IsTrue C.tells → Continues (C.view core.old) (C.view core.new) }
+    ensures made { IsTrue C.tells → IfOk result (λ answer. IsMade (W.does work.now answer) caller (C.view core.old) (C.view core.new)) }
+    ensures refused { IsTrue C.tells → OnErr result ((C.view core.new).state.history ≡ (C.view core.old).state.history) }
+    ensures cause { IsTrue C.tells → IfErr result (IsGivenUp (W.gives_up work.now) (records_of (C.view core.old).state)) }
+    ensures of_core { IsTrue C.tells → IfErr result (IsOfCore caller (C.view core.old) (C.view core.new)) }
+    // It is refused as busy only if the core refused a call so in each of the tries.
+    ensures often { IsTrue C.tells → IfErr result (IsOften (retries + 1) caller (C.view core.old) (C.view core.new)) }
+    ensures went { IsTrue C.tells → Went caller (C.view core.old) (C.view core.new) }
+    ensures ended { IsTrue C.tells → IsEnded caller (C.view core.old) (C.view core.new) }
+    ensures others { IsTrue C.tells → (other : ℕ) → other ≢ caller → (C.view core.new).state.live other ≡ (C.view core.old).state.live other }
+    ensures certain { IsTrue C.tells → OnOk result ((C.view core.new).state.doubt ≡ (C.view core.old).state.doubt) }
+    ensures doubt { IsTrue C.tells → IfErr result (IsInDoubt (λ answer. W.does work.now answer) caller (C.view core.old) (C.view core.new)) }
+    ensures grows { IsTrue C.tells → MayAdd (λ answer. W.does work.now answer) caller (C.view core.old) (C.view core.new) }
+{
+    prefix_law::<C>();
+    let mut outcome = transaction(core, caller, work);
+    for _retry in 0..retries {
+        if !is_busy(&outcome) {
+            return outcome;
+        }
+        outcome = transaction(core, caller, work);
+    }
+    outcome
+}
+
+fn is_busy<T, E>(outcome: &Result<T, Stop<E>>) -> bool
+    ensures { result ≡ was_busy outcome.now }
+{
+    matches!(outcome, Err(Stop::Refused(Refusal::Busy { .. })))
 }

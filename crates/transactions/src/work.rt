@@ -5,6 +5,7 @@ ghost use Rattle.history.specs.Table.{Granted};
 ghost use Rattle.caller_steps.specs.Sound.{IsSound};
 ghost use Rattle.caller_steps.specs.State.{records_of};
 ghost use Rattle.transactions.specs.Adds.{Stays};
+ghost use Rattle.transactions.specs.Went.{IsOfCore};
 ghost use Rattle.transactions.specs.Makes.{Holds, IsGivenUp};
 
 use crate::Refusal;
@@ -47,5 +48,6 @@ pub trait Work<T, E> {
         ensures limits { (C.view core.new).limits ≡ (C.view core.old).limits }
         ensures stays { IsTrue C.tells → Stays caller (C.view core.old) (C.view core.new) }
         ensures done { IsTrue C.tells → IfOk result (λ answer. Holds (does self.now answer (records_of (C.view core.old).state)) caller (C.view core.new)) }
-        ensures stopped { IsTrue C.tells → IfErr result (IsGivenUp (gives_up self.now) (records_of (C.view core.old).state)) };
+        ensures stopped { IsTrue C.tells → IfErr result (IsGivenUp (gives_up self.now) (records_of (C.view core.old).state)) }
+        ensures of_core { IsTrue C.tells → IfErr result (IsOfCore caller (C.view core.old) (C.view core.new)) };
 }

@@ -1,4 +1,4 @@
-use Rattle.std.proofs.Common.{List, [], ◌∷◌, ◌++◌, Option, Some, unwrap_or, ◌∙◌, ap}
+use Rattle.std.proofs.Common.{[], ◌∷◌, ◌++◌, Option, Some, unwrap_or, ◌∙◌, ap}
 use Rattle.std.proofs.lemmas.List.{append_assoc}
 use Rattle.history.specs.Table.{Granted, found}
 use Rattle.history.specs.declared.call.Call.TheVariants.{Get}

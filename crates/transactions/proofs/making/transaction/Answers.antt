@@ -1,6 +1,9 @@
 use Rattle.std.proofs.Common.{◌∙◌, ⊎_elim, inl, inr, ap}
+use Rattle.history.specs.declared.call.Call.TheVariants.{Commit}
+use Rattle.transactions.specs.Told.{told_commit}
 use Rattle.transactions.specs.declared.work.Stop.TheVariants.{Refused}
 use Rattle.transactions.proofs.Doubting.{doubts}
+use Rattle.transactions.proofs.Going.{went_one, went_on, refuses_later, refuses_before, core_later, core_before}
 use Rattle.transactions.proofs.making.transaction.Goals as goal
 
 pub returns-in-Err-commit-clause-doubt : goal.returns-in-Err-commit-clause-doubt
@@ -16,3 +19,75 @@ returns-in-Err-commit-clause-doubt g c told =
           first.goes_on.base first.history second.history (c.in-Ok.ensures.done told) (last.doubt ∙ doubted.1),
     ))
     (c.in-Err-commit.ensures.doubt told)
+
+pub returns-in-Ok-commit-clause-went : goal.returns-in-Ok-commit-clause-went
+returns-in-Ok-commit-clause-went g c told =
+    let core = g.C.Core in
+    let first = c.begin.ensures.stays told in
+    let second = c.make.ensures.stays told in
+    let begun = core.view c.begin.new.core in
+    let mid = core.view c.make.new.core in
+    let new = core.view c.commit.new.core in
+    went_on c.args.caller (core.view c.args.core.now) mid new (second.goes_on.limits ∙ first.goes_on.limits)
+    (went_on c.args.caller (core.view c.args.core.now) begun mid first.goes_on.limits first.went second.went)
+    (went_one c.args.caller mid new Commit (told_commit c.commit.result) (c.commit.ensures.steps.step told))
+
+pub returns-in-Err-commit-clause-went : goal.returns-in-Err-commit-clause-went
+returns-in-Err-commit-clause-went g c told =
+    let core = g.C.Core in
+    let first = c.begin.ensures.stays told in
+    let second = c.make.ensures.stays told in
+    let last = c.abort.ensures.stays told in
+    let old = core.view c.args.core.now in
+    let begun = core.view c.begin.new.core in
+    let mid = core.view c.make.new.core in
+    let refused = core.view c.commit.new.core in
+    let new = core.view c.abort.new.core in
+    went_on c.args.caller old refused new ((c.commit.ensures.goes_on told).limits ∙ second.goes_on.limits ∙ first.goes_on.limits)
+    (went_on c.args.caller old mid refused (second.goes_on.limits ∙ first.goes_on.limits)
+    (went_on c.args.caller old begun mid first.goes_on.limits first.went second.went)
+    (went_one c.args.caller mid refused Commit (told_commit c.commit.result) (c.commit.ensures.steps.step told)))
+    last.went
+
+pub returns-in-Err-commit-clause-of_core : goal.returns-in-Err-commit-clause-of_core
+returns-in-Err-commit-clause-of_core g c told =
+    let core = g.C.Core in
+    let first = c.begin.ensures.stays told in
+    let second = c.make.ensures.stays told in
+    let last = c.abort.ensures.stays told in
+    let old = core.view c.args.core.now in
+    let begun = core.view c.begin.new.core in
+    let mid = core.view c.make.new.core in
+    let refused = core.view c.commit.new.core in
+    let new = core.view c.abort.new.core in
+    refuses_before c.args.caller old refused new c.in-Err-commit.refusal ((c.commit.ensures.goes_on told).limits ∙ second.goes_on.limits ∙ first.goes_on.limits)
+    (refuses_later c.args.caller old mid refused c.in-Err-commit.refusal (second.goes_on.limits ∙ first.goes_on.limits)
+    (went_on c.args.caller old begun mid first.goes_on.limits first.went second.went)
+    (c.in-Err-commit.ensures.refused told))
+    last.went
+
+pub returns-in-Err-clause-went : goal.returns-in-Err-clause-went
+returns-in-Err-clause-went g c told =
+    let core = g.C.Core in
+    let first = c.begin.ensures.stays told in
+    let second = c.make.ensures.stays told in
+    let last = c.abort-in-Err.ensures.stays told in
+    let old = core.view c.args.core.now in
+    let begun = core.view c.begin.new.core in
+    let mid = core.view c.make.new.core in
+    let new = core.view c.abort-in-Err.new.core in
+    went_on c.args.caller old mid new (second.goes_on.limits ∙ first.goes_on.limits) (went_on c.args.caller old begun mid first.goes_on.limits first.went second.went) last.went
+
+pub returns-in-Err-clause-of_core : goal.returns-in-Err-clause-of_core
+returns-in-Err-clause-of_core g c told =
+    let core = g.C.Core in
+    let first = c.begin.ensures.stays told in
+    let second = c.make.ensures.stays told in
+    let last = c.abort-in-Err.ensures.stays told in
+    let old = core.view c.args.core.now in
+    let begun = core.view c.begin.new.core in
+    let mid = core.view c.make.new.core in
+    let new = core.view c.abort-in-Err.new.core in
+    core_before c.args.caller old mid new c.in-Err.stop (second.goes_on.limits ∙ first.goes_on.limits)
+    (core_later c.args.caller old begun mid c.in-Err.stop first.goes_on.limits first.went (c.in-Err.ensures.of_core told))
+    last.went

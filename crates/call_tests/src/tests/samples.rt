@@ -1,0 +1,92 @@
+// The samples of the documents, over arrays in memory.
+ghost use Rattle.std.specs.Prelude.{◌<◌, IsTrue};
+ghost use Rattle.caller_steps.specs.Sound.{IsSound};
+
+use super::arrays::{CHOICES, fresh, media_of};
+use super::opening::open_bank;
+use caller_steps::Core as Steps;
+use eaw_device::Eaw;
+use eaw_face::EawStore;
+use pcm_media::{FusedMedia, MemoryMedia};
+use sample_array::write_both;
+use sample_records::raise;
+use std::alloc::Global;
+use std::test::Fail;
+use transactions::Refusal;
+
+// Whether both ranges that the first sample writes are new in an image, and whether both are as they were.
+fn both_ranges(alloc: Global, media: MemoryMedia) -> Option<(bool, bool)> {
+    let Ok(mut store) = Eaw::attach(alloc, media) else {
+        return None;
+    };
+    let mut one = [0; 8];
+    let mut other = [0; 8];
+    store.read(1024, &mut one).ok()?;
+    store.read(1536, &mut other).ok()?;
+    let are_new = one == [1; 8] && other == [2; 8];
+    let are_old = one == [0; 8] && other == [0; 8];
+    Some((are_new, are_old))
+}
+
+// The medium after a write of both ranges behind a fuse, and whether it was answered Ok.
+fn write_behind(alloc: Global, image: &[u8], passes: u64) -> Option<(bool, MemoryMedia)> {
+    let media = FusedMedia::wrap(media_of(alloc, image)?, passes);
+    let Ok(mut store) = Eaw::attach(alloc, media) else {
+        return None;
+    };
+    let is_done = write_both(&mut store, &[1; 8], &[2; 8]).is_ok();
+    Some((is_done, store.into_media().into_inner()))
+}
+
+// Whether both ranges are new, or neither and the write was not answered Ok.
+fn changes_at_once(alloc: Global, is_done: bool, media: &MemoryMedia) -> bool {
+    for choice in CHOICES {
+        let Ok(left) = media.leave(choice) else {
+            return false;
+        };
+        let Some((are_new, are_old)) = both_ranges(alloc, left) else {
+            return false;
+        };
+        if !are_new && (is_done || !are_old) {
+            return false;
+        }
+    }
+    true
+}
+
+#[test]
+fn two_ranges_change_at_once(rt: HostRuntime) -> Result<(), Fail> {
+    let media = fresh(rt.alloc()).ok_or("array")?;
+    let mut was_done = false;
+    for passes in 0..32 {
+        if let Some((is_done, left)) = write_behind(rt.alloc(), media.bytes(), passes) {
+            was_done = is_done;
+            assert!(rt; changes_at_once(rt.alloc(), is_done, &left));
+        }
+    }
+    assert!(rt; was_done);
+    Ok(())
+}
+
+// The answers to three raises of one number.
+fn raised<C: Steps>(core: &mut C) -> [Result<u64, Refusal>; 3]
+    requires inside { 0 < (C.view core.old).limits.callers }
+    requires sound { IsTrue C.tells → IsSound (C.view core.old).state }
+{
+    let one = raise(core, 0, 5);
+    let two = raise(core, 0, 5);
+    let other = raise(core, 0, 6);
+    [one, two, other]
+}
+
+fn raised_on_array(alloc: Global) -> Option<[Result<u64, Refusal>; 3]> {
+    let mut core = open_bank(alloc, fresh(alloc)?)?;
+    Some(raised(&mut core))
+}
+
+#[test]
+fn a_number_is_raised(rt: HostRuntime) -> Result<(), Fail> {
+    let answers = raised_on_array(rt.alloc()).ok_or("records")?;
+    assert!(rt; answers == [Ok(1), Ok(2), Ok(1)]);
+    Ok(())
+}

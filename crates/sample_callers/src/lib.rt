@@ -1,0 +1,30 @@
+//! A caller on a thread, beside others over the same records.
+#![tactic(auto)]
+ghost use Rattle.std.specs.Prelude.{◌≡◌};
+
+use caller_steps::Core;
+use history::{Call, Reply};
+use mars_manager::{Mars, Pass};
+use record_slots::Value;
+use std::sync::Wait;
+
+/// Puts a value as one transaction of the pass, and answers the last reply: `Committed`, or why not, as `Busy`.
+pub fn put_one<R: Wait, C: Core + Drop>(
+    rt: &R,
+    mars: &Mars<C>,
+    pass: &mut Pass<C>,
+    key: u64,
+    value: Value,
+) -> Reply
+    requires { pass.old.table ≡ mars.now.table }
+    ensures { pass.new.table ≡ pass.old.table }
+{
+    let _ = mars.call_wait(rt, pass, &Call::Begin);
+    match mars.call_wait(rt, pass, &Call::Put { key, value }) {
+        Reply::Fine => mars.call_wait(rt, pass, &Call::Commit),
+        refused => {
+            let _ = mars.call_wait(rt, pass, &Call::Abort);
+            refused
+        }
+    }
+}
