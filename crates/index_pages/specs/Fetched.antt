@@ -28,8 +28,3 @@ pub record IsFront (shape : Shape) (front : Super) : Type 0 where
   pub slots : front.next_slot ≤ slots_of shape
   pub some : 2 ≤ front.next_page
   pub pages : front.next_page ≤ index_pages_of shape
-
--- what is taken, by its number, is one of the data's that is due, and the super page says that it is in use
-pub record TakesSlot (bytes : List ℕ) (front : Super) (slot : ℕ) (after : Super) : Type 0 where
-  pub due : slot ≡ slot_due bytes
-  pub after_is : after ≡ with_slot_taken (free_slot_of bytes slot) front
