@@ -40,8 +40,8 @@ slot_said bytes =
 
 -- state, length, key, value, zeros
 unfoldable pub slot_bytes : Slot → List ℕ
-slot_bytes (Absent table key) = 2 * table ∷ 0 ∷ (little_bytes 8 key ++ replicate 54 0)
-slot_bytes (Present table key value) = 2 * table + 1 ∷ length value ∷ (little_bytes 8 key ++ (value ++ replicate (54 - length value) 0))
+slot_bytes (Absent table key) = (2 * table) ∷ 0 ∷ (little_bytes 8 key ++ replicate 54 0)
+slot_bytes (Present table key value) = (2 * table + 1) ∷ length value ∷ (little_bytes 8 key ++ (value ++ replicate (54 - length value) 0))
 
 -- one of eight tables, a key of 64 bits, and a value
 abbrev pub IsSlot : Slot → Type 0

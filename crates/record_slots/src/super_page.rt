@@ -22,6 +22,9 @@ pub const PART_LEN: usize = 280;
 
 const MARK: [u8; 4] = *b"MREC";
 
+/// The version that is written.
+pub const VERSION: u8 = 2;
+
 const VERSION_AT: usize = 4;
 
 const FORM_AT: usize = 5;
@@ -69,8 +72,14 @@ pub fn read_super(bytes: &[u8; 512]) -> Option<Super>
     ensures says { IfSome result (SaysSuper bytes.now) }
     ensures unmarked { IfNone result (¬ HasSuperMark bytes.now) }
 {
+    if !bytes.starts_with(&MARK) {
+        return None;
+    }
     let version = bytes[VERSION_AT];
-    if !bytes.starts_with(&MARK) || version == 0 || version > 2 {
+    if version == 0 {
+        return None;
+    }
+    if version > VERSION {
         return None;
     }
     let mut entries = [0; ENTRIES_LEN];
