@@ -12,17 +12,17 @@ pub Rise-prop : (low high : ℕ) (ps : List Pair) → IsProp (Rise low high ps)
 Rise-prop low high [] = le_prop
 Rise-prop low high (p ∷ ps) = ×_prop le_prop (Rise-prop (suc p.0) high ps)
 
-pub IsOfKey-prop : (key : ℕ) (said : Option Slot) → IsProp (IsOfKey key said)
-IsOfKey-prop key None = Prim.hlevel props
-IsOfKey-prop key (Some (Absent k)) = Prim.hlevel props
-IsOfKey-prop key (Some (Present k value)) = Prim.hlevel props
+pub IsOfKey-prop : (table key : ℕ) (said : Option Slot) → IsProp (IsOfKey table key said)
+IsOfKey-prop table key None = Prim.hlevel props
+IsOfKey-prop table key (Some (Absent j k)) = Prim.hlevel props
+IsOfKey-prop table key (Some (Present j k value)) = Prim.hlevel props
 
-pub Carries-prop : (bytes : List ℕ) (p : Pair) → IsProp (Carries bytes p)
+pub Carries-prop : (bytes : List ℕ) (table : ℕ) (p : Pair) → IsProp (Carries bytes table p)
 unfolding Carries
-Carries-prop bytes p = IsOfKey-prop p.0 _
+Carries-prop bytes table p = IsOfKey-prop table p.0 _
 
-pub slot-prop : (bytes : List ℕ) (page : ℕ) (p : Pair) → IsProp (slot_check bytes page p None)
-slot-prop bytes page p = ×_prop le_prop (Carries-prop bytes p)
+pub slot-prop : (bytes : List ℕ) (table page : ℕ) (p : Pair) → IsProp (slot_check bytes table page p None)
+slot-prop bytes table page p = ×_prop le_prop (Carries-prop bytes table p)
 
 pub IsSuper-prop : (form : ℕ) (bytes : List ℕ) → IsProp (IsSuper form bytes)
 IsSuper-prop form bytes = Prim.hlevel props
