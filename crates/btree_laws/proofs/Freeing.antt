@@ -17,41 +17,41 @@ use Rattle.btree_laws.specs.Removals.{KeepsBut}
 use Rattle.page_store.specs.Index.{HasCounts}
 
 -- a slot carries one key
-pub one_key : (slot : Option Slot) (a b : ℕ) → IsOfKey a slot → IsOfKey b slot → a ≡ b
-one_key None a b x y = absurd x
-one_key (Some (Absent k)) a b x y = sym x ∙ y
-one_key (Some (Present k value)) a b x y = sym x ∙ y
+pub one_key : (slot : Option Slot) (table a b : ℕ) → IsOfKey table a slot → IsOfKey table b slot → a ≡ b
+one_key None table a b x y = absurd x
+one_key (Some (Absent j k)) table a b x y = sym x.1 ∙ y.1
+one_key (Some (Present j k value)) table a b x y = sym x.1 ∙ y.1
 
-pub carries_one : (bytes : List ℕ) (a b slot : ℕ) → Carries bytes (a, slot) → Carries bytes (b, slot) → a ≡ b
+pub carries_one : (bytes : List ℕ) (table a b slot : ℕ) → Carries bytes table (a, slot) → Carries bytes table (b, slot) → a ≡ b
 unfolding Carries
-carries_one bytes a b slot x y = one_key (slot_said (slot_of bytes slot)) a b x y
+carries_one bytes table a b slot x y = one_key (slot_said (slot_of bytes slot)) table a b x y
 
-pub found_given : (bytes : List ℕ) (key slot : ℕ) (ps : List Pair) → found ps key ≡ Some slot → AreGiven bytes ps → (slot < next_slot bytes) × Carries bytes (key, slot)
-found_given bytes key slot [] is g = absurd (cc)
-found_given bytes key slot (p ∷ ps) is g =
+pub found_given : (bytes : List ℕ) (table key slot : ℕ) (ps : List Pair) → found ps key ≡ Some slot → AreGiven bytes table ps → (slot < next_slot bytes) × Carries bytes table (key, slot)
+found_given bytes table key slot [] is g = absurd (cc)
+found_given bytes table key slot (p ∷ ps) is g =
     elim (eqb_tells p.0 key) [
       | inl h ↦
           let e : nat_eq p.0 key ≡ true = h.0 in
           let is' = rw e at is in
           let to : p.1 ≡ slot = cc in
-          let here : Carries bytes (p.0, p.1) = g.1 in
-          (subst (λ (s : ℕ). s < next_slot bytes) to g.0, subst (λ (s : ℕ). Carries bytes (key, s)) to (subst (λ (k : ℕ). Carries bytes (k, p.1)) h.1 here))
-      | inr h ↦ let e : nat_eq p.0 key ≡ false = h.0 in let is' = rw e at is in found_given bytes key slot ps is' g.2
+          let here : Carries bytes table (p.0, p.1) = g.1 in
+          (subst (λ (s : ℕ). s < next_slot bytes) to g.0, subst (λ (s : ℕ). Carries bytes table (key, s)) to (subst (λ (k : ℕ). Carries bytes table (k, p.1)) h.1 here))
+      | inr h ↦ let e : nat_eq p.0 key ≡ false = h.0 in let is' = rw e at is in found_given bytes table key slot ps is' g.2
     ]
 
 module _ (slot : ℕ) (old new : List ℕ) (keeps : KeepsBut slot old new) where
   -- the slots of pairs of other keys
-  pub given_others : (key : ℕ) (ps : List Pair) → Carries old (key, slot) → found ps key ≡ None → AreGiven old ps → AreGiven new ps
-  given_others key [] carries none g = tt
-  given_others key (p ∷ ps) carries none g =
+  pub given_others : (table key : ℕ) (ps : List Pair) → Carries old table (key, slot) → found ps key ≡ None → AreGiven old table ps → AreGiven new table ps
+  given_others table key [] carries none g = tt
+  given_others table key (p ∷ ps) carries none g =
       elim (eqb_tells p.0 key) [
         | inl h ↦ let e : nat_eq p.0 key ≡ true = h.0 in let bad = rw e at none in absurd (cc)
         | inr h ↦
             let e : nat_eq p.0 key ≡ false = h.0 in
             let none' = rw e at none in
-            let here : Carries old (p.0, p.1) = g.1 in
-            let other : p.1 ≢ slot = λ same. h.1 (carries_one old p.0 key slot (subst (λ (s : ℕ). Carries old (p.0, s)) same here) carries) in
-            (omega (arith, g.0, keeps.slots), keeps.carried p other g.0 g.1, given_others key ps carries none' g.2)
+            let here : Carries old table (p.0, p.1) = g.1 in
+            let other : p.1 ≢ slot = λ same. h.1 (carries_one old table p.0 key slot (subst (λ (s : ℕ). Carries old table (p.0, s)) same here) carries) in
+            (omega (arith, g.0, keeps.slots), keeps.carried table p other g.0 g.1, given_others table key ps carries none' g.2)
       ]
 
   module _ (front : HasCounts old) (less : slot < next_slot old) where
@@ -106,16 +106,10 @@ module _ (slot : ℕ) (old new : List ℕ) (keeps : KeepsBut slot old new) where
     with_keeps = record {
       pages = omega (arith, with_next, keeps.pages);
       slots = (let e : next_slot with_slot ≡ next_slot new = ap next_slot_said zero_page in omega (arith, e, keeps.slots));
-      carried = λ p given carries. elim (eqb_tells p.1 slot) [
+      carried = λ table p given carries. elim (eqb_tells p.1 slot) [
         | inl h ↦
             let same : slot_of with_slot p.1 ≡ slot_of old p.1 = ap (slot_of with_slot) h.1 ∙ with_here ∙ ap (slot_of old) (sym h.1) in
-            subst (λ (b : List ℕ). IsOfKey p.0 (slot_said b)) (sym same) carries
-        | inr h ↦ subst (λ (b : List ℕ). IsOfKey p.0 (slot_said b)) (sym (with_other p.1 h.1)) (keeps.carried p h.1 given carries)
+            subst (λ (b : List ℕ). IsOfKey table p.0 (slot_said b)) (sym same) carries
+        | inr h ↦ subst (λ (b : List ℕ). IsOfKey table p.0 (slot_said b)) (sym (with_other p.1 h.1)) (keeps.carried table p h.1 given carries)
       ];
     }
-
-    pub with_counts : HasCounts new → HasCounts with_slot
-    with_counts after =
-        let e : page_count with_slot ≡ page_count new = ap (λ (n : ℕ). n / 512) with_size in
-        let e' : next_slot with_slot ≡ next_slot new = ap next_slot_said zero_page in
-        record { slots = omega (arith, after.slots, e, e'); some = omega (arith, after.some, with_next); pages = omega (arith, after.pages, e, with_next) }

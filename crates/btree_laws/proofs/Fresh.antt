@@ -23,7 +23,7 @@ fresh_tree root bytes own kind level link none =
         some = λ other. absurd (other refl);
         rises = subst (λ (ps : List Pair). Rise 0 key_end ps) (sym none_there) (omega arith);
       },
-      subst (λ (ps : List Pair). AreGiven bytes ps) (sym none_there) tt,
+      subst (λ (ps : List Pair). AreGiven bytes root.table ps) (sym none_there) tt,
     ) in (
       (own, omega arith, subst (λ (n : ℕ). IsTree root n bytes root.page 0 key_end) (sym level) leaf),
       ap (λ (n : ℕ). pairs_under n bytes root.page) level ∙ none_there,

@@ -42,7 +42,7 @@ taken_leaf root old new keeps c r low mid high is other le t =
       some = λ away. omega arith;
       rises = subst (λ (ps : List Pair). Rise low high ps) (sym is.pairs_are) (rise_from_less mid low high (page_pairs old r) le t.0.rises);
     },
-    subst (λ (ps : List Pair). AreGiven new ps) (sym is.pairs_are) (given_kept old new keeps (page_pairs old r) t.1))
+    subst (λ (ps : List Pair). AreGiven new root.table ps) (sym is.pairs_are) (given_kept old new keeps root.table (page_pairs old r) t.1))
 
 -- a leaf whose range grows to the right
 wide_leaf : (root : Root) (bytes : List ℕ) (q low mid high : ℕ) → mid ≤ high → IsTree root 0 bytes q low mid → IsTree root 0 bytes q low high

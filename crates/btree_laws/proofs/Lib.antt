@@ -3,6 +3,7 @@ pub mod Ways
 pub mod Taking
 pub mod Splitting
 pub mod Fresh
+pub mod Differing
 pub mod Belonging
 pub mod Removing
 pub mod Entries

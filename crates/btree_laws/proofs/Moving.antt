@@ -9,16 +9,16 @@ use Rattle.index_pages.specs.Pieces.{joined}
 use Rattle.page_store.specs.Pairs.{Pair, Rise}
 use Rattle.record_slots.specs.Places.{page_bytes, next_page, AreGiven, IsSuper}
 
-pub given_left : (bytes : List ℕ) (xs ys : List Pair) → AreGiven bytes (xs ++ ys) → AreGiven bytes xs × AreGiven bytes ys
-given_left bytes [] ys g = (tt, g)
-given_left bytes (x ∷ xs) ys g = let h = given_left bytes xs ys g.2 in ((g.0, g.1, h.0), h.1)
+pub given_left : (bytes : List ℕ) (table : ℕ) (xs ys : List Pair) → AreGiven bytes table (xs ++ ys) → AreGiven bytes table xs × AreGiven bytes table ys
+given_left bytes table [] ys g = (tt, g)
+given_left bytes table (x ∷ xs) ys g = let h = given_left bytes table xs ys g.2 in ((g.0, g.1, h.0), h.1)
 
 module _ (root : Root) (old new : List ℕ) (pages : next_page old ≤ next_page new) where
   children_moved : (es : List Pair) → AreBelow root.page (next_page old) es → AreBelow root.page (next_page new) es
   children_moved [] are = tt
   children_moved (e ∷ es) are = (are.0, omega (arith, are.1, pages), children_moved es are.2)
 
-  leaf_moved : (page low high : ℕ) → page_bytes new page ≡ page_bytes old page → AreGiven new (page_pairs old page) → IsTree root 0 old page low high → IsTree root 0 new page low high
+  leaf_moved : (page low high : ℕ) → page_bytes new page ≡ page_bytes old page → AreGiven new root.table (page_pairs old page) → IsTree root 0 old page low high → IsTree root 0 new page low high
   leaf_moved page low high e given t = (record {
     kind = ap kind_said e ∙ t.0.kind;
     level = ap level_said e ∙ t.0.level;
@@ -26,7 +26,7 @@ module _ (root : Root) (old new : List ℕ) (pages : next_page old ≤ next_page
     most = subst (λ (b : List ℕ). count_said b ≤ 30) (sym e) t.0.most;
     some = λ other. subst (λ (b : List ℕ). 1 ≤ count_said b) (sym e) (t.0.some other);
     rises = subst (λ (b : List ℕ). Rise low high (pairs_said b)) (sym e) t.0.rises;
-  }, subst (λ (b : List ℕ). AreGiven new (pairs_said b)) (sym e) given)
+  }, subst (λ (b : List ℕ). AreGiven new root.table (pairs_said b)) (sym e) given)
 
   inner_moved : (level page low : ℕ) → page_bytes new page ≡ page_bytes old page → IsUpper root.page old level page low → IsUpper root.page new level page low
   inner_moved level page low e t = record {
@@ -40,21 +40,21 @@ module _ (root : Root) (old new : List ℕ) (pages : next_page old ≤ next_page
     children = subst (λ (b : List ℕ). AreBelow root.page (next_page new) (pairs_said b)) (sym e) (children_moved (page_pairs old page) t.children);
   }
 
-  below_moved : (l : ℕ) → ((page low high : ℕ) → IsTree root l old page low high → ((q : ℕ) → IsUnder l old q page → page_bytes new q ≡ page_bytes old q) → AreGiven new (pairs_under l old page)
+  below_moved : (l : ℕ) → ((page low high : ℕ) → IsTree root l old page low high → ((q : ℕ) → IsUnder l old q page → page_bytes new q ≡ page_bytes old q) → AreGiven new root.table (pairs_under l old page)
       → IsTree root l new page low high × (pairs_under l new page ≡ pairs_under l old page))
       → (es : List Pair) (high : ℕ) → AreSound (IsTree root l old) es high → ((q : ℕ) → IsUnderSome (IsUnder l old q) es → page_bytes new q ≡ page_bytes old q)
-      → AreGiven new (joined (pieces_with (pairs_under l old) es))
+      → AreGiven new root.table (joined (pieces_with (pairs_under l old) es))
       → AreSound (IsTree root l new) es high × (joined (pieces_with (pairs_under l new) es) ≡ joined (pieces_with (pairs_under l old) es))
   below_moved l ih [] high sound same given = (tt, refl)
   below_moved l ih (e ∷ es) high sound same given =
-      let g = given_left new (pairs_under l old e.1) (joined (pieces_with (pairs_under l old) es)) given in
+      let g = given_left new root.table (pairs_under l old e.1) (joined (pieces_with (pairs_under l old) es)) given in
       let h = ih e.1 e.0 (next_low es high) sound.0 (λ q u. same q (inl u)) g.0 in
       let rest = below_moved l ih es high sound.1 (λ q u. same q (inr u)) g.1 in
       let one = h.1 in
       let two = rest.1 in
       ((h.0, rest.0), cc)
 
-  pub tree_moved : (l page low high : ℕ) → IsTree root l old page low high → ((q : ℕ) → IsUnder l old q page → page_bytes new q ≡ page_bytes old q) → AreGiven new (pairs_under l old page)
+  pub tree_moved : (l page low high : ℕ) → IsTree root l old page low high → ((q : ℕ) → IsUnder l old q page → page_bytes new q ≡ page_bytes old q) → AreGiven new root.table (pairs_under l old page)
       → IsTree root l new page low high × (pairs_under l new page ≡ pairs_under l old page)
   tree_moved zero page low high t same given = (leaf_moved page low high (same page refl) given t, ap pairs_said (same page refl))
   tree_moved (suc l) page low high t same given =
@@ -65,7 +65,7 @@ module _ (root : Root) (old new : List ℕ) (pages : next_page old ≤ next_page
       )
 
 pub sound_tree_moved : (root : Root) (old new : List ℕ) → IsSoundTree root old → next_page old ≤ next_page new
-    → ((x : ℕ) → IsPageOfTree old root.page x → page_bytes new x ≡ page_bytes old x) → AreGiven new (pairs_of_tree old root.page)
+    → ((x : ℕ) → IsPageOfTree old root.page x → page_bytes new x ≡ page_bytes old x) → AreGiven new root.table (pairs_of_tree old root.page)
     → IsSoundTree root new × (pairs_of_tree new root.page ≡ pairs_of_tree old root.page) × (level_of new root.page ≡ level_of old root.page)
 unfolding pairs_of_tree
 sound_tree_moved root old new sound pages same given =

@@ -47,12 +47,12 @@ removed-rises low high key (p ∷ ps) r =
     ]
 
 -- and its slots are given
-pub given_removed : (bytes : List ℕ) (key : ℕ) (ps : List Pair) → AreGiven bytes ps → AreGiven bytes (removed ps key)
-given_removed bytes key [] g = g
-given_removed bytes key (p ∷ ps) g =
+pub given_removed : (bytes : List ℕ) (table key : ℕ) (ps : List Pair) → AreGiven bytes table ps → AreGiven bytes table (removed ps key)
+given_removed bytes table key [] g = g
+given_removed bytes table key (p ∷ ps) g =
     elim (eqb_tells p.0 key) [
       | inl h ↦ let e : nat_eq p.0 key ≡ true = h.0 in rw e g.2
-      | inr h ↦ let e : nat_eq p.0 key ≡ false = h.0 in rw e (g.0, g.1, given_removed bytes key ps g.2)
+      | inr h ↦ let e : nat_eq p.0 key ≡ false = h.0 in rw e (g.0, g.1, given_removed bytes table key ps g.2)
     ]
 
 -- at most one pair is taken out

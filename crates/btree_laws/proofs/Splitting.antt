@@ -62,7 +62,7 @@ pub record AreHalves (root : Root) (new : List ℕ) (l left right low mid high :
   pub below : mid < high
 
 pub leaf_half : (root : Root) (old new : List ℕ) (whole half : ℕ) (ps : List Pair) → IsHalf old new whole half ps → (low high low' high' : ℕ) → IsTree root 0 old whole low' high'
-    → length ps ≡ 15 → Rise low high ps → AreGiven new ps → IsTree root 0 new half low high
+    → length ps ≡ 15 → Rise low high ps → AreGiven new root.table ps → IsTree root 0 new half low high
 leaf_half root old new whole half ps is low high low' high' t long r g =
     let count : count_of new half ≡ 15 = sym (length-page_pairs new half) ∙ ap (λ (l : List Pair). length l) is.pairs_are ∙ long in (
       record {
@@ -73,7 +73,7 @@ leaf_half root old new whole half ps is low high low' high' t long r g =
         some = λ other. omega arith;
         rises = subst (λ (l : List Pair). Rise low high l) (sym is.pairs_are) r;
       },
-      (subst (λ (l : List Pair). AreGiven new l) (sym is.pairs_are) g),
+      (subst (λ (l : List Pair). AreGiven new root.table l) (sym is.pairs_are) g),
     )
 
 pub inner_half : (root : Root) (old new : List ℕ) (whole half : ℕ) (ps : List Pair) → IsHalf old new whole half ps → (level low low' : ℕ) → IsUpper root.page old level whole low'
@@ -99,7 +99,7 @@ halves root old new keeps zero whole left right low high t cut kept =
     let full = cut.full in
     let ps : List Pair = page_pairs old whole in
     let b = key_at-bounds 15 low high (page_pairs old whole) (omega arith) t.0.rises in
-    let g = given_take new 15 (page_pairs old whole) (given_kept old new keeps (page_pairs old whole) (t.1)) in
+    let g = given_take new root.table 15 (page_pairs old whole) (given_kept old new keeps root.table (page_pairs old whole) (t.1)) in
     record {
       left_tree = leaf_half root old new whole left (take 15 (page_pairs old whole)) cut.left_is low (middle old whole) low high t (length-take-le 15 (page_pairs old whole) (omega arith))
           (take_rises 15 low high (page_pairs old whole) (omega arith) t.0.rises) g.0;

@@ -21,7 +21,7 @@ leaf_takes : (root : Root) (old new : List ℕ) → Keeps old new → (leaf key 
 leaf_takes root old new keeps leaf key to low high takes t le lt none =
     let count : count_of new leaf ≡ suc (count_of old leaf) =
     sym (length-page_pairs new leaf) ∙ ap (λ (ps : List Pair). length ps) takes.pairs ∙ length-inserted key to (page_pairs old leaf) ∙ ap suc (length-page_pairs old leaf) in
-    let given = given_kept old new keeps (page_pairs old leaf) (t.1) in (
+    let given = given_kept old new keeps root.table (page_pairs old leaf) (t.1) in (
       record {
         kind = takes.kind;
         level = takes.level;
@@ -30,7 +30,7 @@ leaf_takes root old new keeps leaf key to low high takes t le lt none =
         some = λ other. omega arith;
         rises = subst (λ (ps : List Pair). Rise low high ps) (sym takes.pairs) (inserted-rises low high key to (page_pairs old leaf) t.0.rises le lt none);
       },
-      (subst (λ (ps : List Pair). AreGiven new ps) (sym takes.pairs) (given_inserted new key to (page_pairs old leaf) takes.given takes.carries given)),
+      (subst (λ (ps : List Pair). AreGiven new root.table ps) (sym takes.pairs) (given_inserted new root.table key to (page_pairs old leaf) takes.given takes.carries given)),
     )
 
 -- a pair added to the leaf of its key is inserted in the whole tree

@@ -41,8 +41,8 @@ lacks : (root : Root) (old new : List ℕ) (key : ℕ) → IsSoundTree root new 
 lacks root old new key r = record { sound = r.0; pairs = r.1; levels = r.2 }
 
 module _ (root : Root) (old new : List ℕ) (key slot : ℕ) (sound : IsSoundTree root old) (keeps : KeepsBut slot old new) (front : HasCounts old) (after : HasCounts new) (is : found (pairs_of_tree old root.page) key ≡ Some slot) where
-  slot_given : (slot < next_slot old) × Carries old (key, slot)
-  slot_given = found_given old key slot (pairs_of_tree old root.page) is (sound_tree_given root old sound)
+  slot_given : (slot < next_slot old) × Carries old root.table (key, slot)
+  slot_given = found_given old root.table key slot (pairs_of_tree old root.page) is (sound_tree_given root old sound)
 
   mid : List ℕ
   mid = with_slot slot old new keeps front slot_given.0
@@ -63,9 +63,9 @@ module _ (root : Root) (old new : List ℕ) (key slot : ℕ) (sound : IsSoundTre
       let moved = sound_tree_moved root mid new r.sound (omega (arith, next))
       (λ x u. let o = under_own root (level_of mid root.page) mid x root.page 0 key_end own r.sound.2 u in
       sym (with_page slot old new keeps front slot_given.0 x (omega (arith, o.1, after.pages, next, keeps.size))))
-      (subst (λ (ps : List Pair). AreGiven new ps) (sym r.pairs)
-      (given_others slot old new keeps key (removed (pairs_of_tree old root.page) key) slot_given.1 (gone_then root key old sound)
-      (given_removed old key (pairs_of_tree old root.page) (sound_tree_given root old sound)))) in
+      (subst (λ (ps : List Pair). AreGiven new root.table ps) (sym r.pairs)
+      (given_others slot old new keeps root.table key (removed (pairs_of_tree old root.page) key) slot_given.1 (gone_then root key old sound)
+      (given_removed old root.table key (pairs_of_tree old root.page) (sound_tree_given root old sound)))) in
       record { sound = moved.0; pairs = moved.1 ∙ r.pairs; levels = moved.2 ∙ r.levels }
 
   module _ (lt : key < key_end) where

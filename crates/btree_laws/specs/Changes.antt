@@ -15,7 +15,7 @@ pub record TakesPair (root : Root) (old new : List ℕ) (leaf key to : ℕ) : Ty
   pub link : link_of new leaf ≡ 0
   pub pairs : page_pairs new leaf ≡ inserted (page_pairs old leaf) key to
   pub given : to < next_slot new
-  pub carries : Carries new (key, to)
+  pub carries : Carries new root.table (key, to)
 
 -- a page has the kind and level of another, and these of its pairs
 pub record IsHalf (old new : List ℕ) (whole half : ℕ) (pairs : List Pair) : Type 0 where

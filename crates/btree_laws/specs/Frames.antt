@@ -17,7 +17,7 @@ module _ (root : Root) (old new : List ℕ) (keeps : Keeps old new) where
 
   pub leaf_kept : (page low high : ℕ) → page_bytes new page ≡ page_bytes old page → IsTree root 0 old page low high → IsTree root 0 new page low high
   leaf_kept page low high e t =
-      let given = given_kept old new keeps (page_pairs old page) (t.1) in (
+      let given = given_kept old new keeps root.table (page_pairs old page) (t.1) in (
         record {
           kind = ap kind_said e ∙ t.0.kind;
           level = ap level_said e ∙ t.0.level;
@@ -26,7 +26,7 @@ module _ (root : Root) (old new : List ℕ) (keeps : Keeps old new) where
           some = λ other. subst (λ (b : List ℕ). 1 ≤ count_said b) (sym e) (t.0.some other);
           rises = subst (λ (b : List ℕ). Rise low high (pairs_said b)) (sym e) t.0.rises;
         },
-        (subst (λ (b : List ℕ). AreGiven new (pairs_said b)) (sym e) given),
+        (subst (λ (b : List ℕ). AreGiven new root.table (pairs_said b)) (sym e) given),
       )
 
   pub inner_kept : (level page low : ℕ) → page_bytes new page ≡ page_bytes old page → IsUpper root.page old level page low → IsUpper root.page new level page low

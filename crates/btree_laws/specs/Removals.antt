@@ -14,7 +14,7 @@ pub record KeepsBut (slot : ℕ) (old new : List ℕ) : Type 0 where
   pub size : length new ≡ length old
   pub pages : next_page old ≤ next_page new
   pub slots : next_slot old ≤ next_slot new
-  pub carried : (p : Pair) → p.1 ≢ slot → p.1 < next_slot old → Carries old p → Carries new p
+  pub carried : (table : ℕ) (p : Pair) → p.1 ≢ slot → p.1 < next_slot old → Carries old table p → Carries new table p
 
 -- the page of the entry after that of the key's child, 0 if that child is the last
 abbrev pub right_of : List Pair → ℕ → ℕ

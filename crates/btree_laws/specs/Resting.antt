@@ -24,16 +24,16 @@ sound_tree_rests root old new sound keeps same =
       e,
     )
 
-children_given : (f : ℕ → List Pair) (Is : ℕ → ℕ → ℕ → Type 0) (bytes : List ℕ) → ((page low high : ℕ) → Is page low high → AreGiven bytes (f page))
-    → (es : List Pair) (high : ℕ) → AreSound Is es high → AreGiven bytes (joined (pieces_with f es))
-children_given f Is bytes fact [] high sound = tt
-children_given f Is bytes fact (e ∷ es) high sound =
-    given_append bytes (f e.1) (joined (pieces_with f es)) (fact e.1 e.0 (next_low es high) sound.0) (children_given f Is bytes fact es high sound.1)
+children_given : (f : ℕ → List Pair) (Is : ℕ → ℕ → ℕ → Type 0) (bytes : List ℕ) (table : ℕ) → ((page low high : ℕ) → Is page low high → AreGiven bytes table (f page))
+    → (es : List Pair) (high : ℕ) → AreSound Is es high → AreGiven bytes table (joined (pieces_with f es))
+children_given f Is bytes table fact [] high sound = tt
+children_given f Is bytes table fact (e ∷ es) high sound =
+    given_append bytes table (f e.1) (joined (pieces_with f es)) (fact e.1 e.0 (next_low es high) sound.0) (children_given f Is bytes table fact es high sound.1)
 
-tree_given : (root : Root) (l : ℕ) (bytes : List ℕ) (page low high : ℕ) → IsTree root l bytes page low high → AreGiven bytes (pairs_under l bytes page)
+tree_given : (root : Root) (l : ℕ) (bytes : List ℕ) (page low high : ℕ) → IsTree root l bytes page low high → AreGiven bytes root.table (pairs_under l bytes page)
 tree_given root zero bytes page low high t = t.1
-tree_given root (suc l) bytes page low high t = children_given (pairs_under l bytes) (IsTree root l bytes) bytes (tree_given root l bytes) (page_pairs bytes page) high t.1
+tree_given root (suc l) bytes page low high t = children_given (pairs_under l bytes) (IsTree root l bytes) bytes root.table (tree_given root l bytes) (page_pairs bytes page) high t.1
 
-pub sound_tree_given : (root : Root) (bytes : List ℕ) → IsSoundTree root bytes → AreGiven bytes (pairs_of_tree bytes root.page)
+pub sound_tree_given : (root : Root) (bytes : List ℕ) → IsSoundTree root bytes → AreGiven bytes root.table (pairs_of_tree bytes root.page)
 unfolding pairs_of_tree
 sound_tree_given root bytes sound = tree_given root (level_of bytes root.page) bytes root.page 0 key_end sound.2

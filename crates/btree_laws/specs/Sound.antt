@@ -34,7 +34,7 @@ AreSound Is (e ∷ es) high = Is e.1 e.0 (next_low es high) × AreSound Is es hi
 
 -- a tree of this level under a page, with the keys between these bounds: no page below another is the root, and the slots carry their keys
 abbrev pub IsTree : Root → ℕ → List ℕ → ℕ → ℕ → ℕ → Type 0
-IsTree root zero bytes page low high = IsLeafPage root.page bytes page low high × AreGiven bytes (page_pairs bytes page)
+IsTree root zero bytes page low high = IsLeafPage root.page bytes page low high × AreGiven bytes root.table (page_pairs bytes page)
 IsTree root (suc l) bytes page low high = IsUpper root.page bytes (suc l) page low × AreSound (IsTree root l bytes) (page_pairs bytes page) high
 
 -- the whole tree, whose root is a given page
@@ -42,12 +42,12 @@ abbrev pub IsSoundTree : Root → List ℕ → Type 0
 IsSoundTree root bytes = IsOwn bytes root.page × (level_of bytes root.page ≤ 7) × IsTree root (level_of bytes root.page) bytes root.page 0 key_end
 
 -- the slots of these pairs are given, and carry their keys
-module _ (bytes : List ℕ) (page : ℕ) where
-  slots_seen : (ps : List Pair) → each (slot_check bytes page) ps None → AreGiven bytes ps
+module _ (bytes : List ℕ) (table page : ℕ) where
+  slots_seen : (ps : List Pair) → each (slot_check bytes table page) ps None → AreGiven bytes table ps
   slots_seen [] c = tt
   slots_seen (p ∷ ps) c = (c.0.0, c.0.1, slots_seen ps c.1)
 
-  slots_pass : (ps : List Pair) → AreGiven bytes ps → each (slot_check bytes page) ps None
+  slots_pass : (ps : List Pair) → AreGiven bytes table ps → each (slot_check bytes table page) ps None
   slots_pass [] g = tt
   slots_pass (p ∷ ps) g = ((g.0, g.1), slots_pass ps g.2)
 
@@ -71,7 +71,7 @@ seen_children root l bytes seen [] high c = tt
 seen_children root l bytes seen (e ∷ es) high c = (seen e.1 e.0 (next_low es high) c.0, seen_children root l bytes seen es high c.1)
 
 pub tree_seen : (root : Root) (l : ℕ) (bytes : List ℕ) → l ≤ level_of bytes root.page → (page low high : ℕ) → tree_from root l bytes page low high None → IsTree root l bytes page low high
-tree_seen root zero bytes most page low high t = (t.0, slots_seen bytes page (page_pairs bytes page) t.1)
+tree_seen root zero bytes most page low high t = (t.0, slots_seen bytes root.table page (page_pairs bytes page) t.1)
 tree_seen root (suc l) bytes most page low high t = (
   record {
     kind = t.0.kind;
@@ -96,7 +96,7 @@ pass_children root l bytes passes [] high s = tt
 pass_children root l bytes passes (e ∷ es) high s = (passes e.1 e.0 (next_low es high) s.0, pass_children root l bytes passes es high s.1)
 
 pub tree_passes : (root : Root) (l : ℕ) (bytes : List ℕ) (page low high : ℕ) → IsTree root l bytes page low high → tree_from root l bytes page low high None
-tree_passes root zero bytes page low high t = (t.0, slots_pass bytes page (page_pairs bytes page) t.1)
+tree_passes root zero bytes page low high t = (t.0, slots_pass bytes root.table page (page_pairs bytes page) t.1)
 tree_passes root (suc l) bytes page low high t = (
   record {
     kind = t.0.kind;
@@ -127,8 +127,8 @@ module _ (check : ℕ → ℕ → ℕ → Check ℕ) where
 
 from_single : (root : Root) (l : ℕ) (bytes : List ℕ) (page low high : ℕ) → IsSingle (tree_from root l bytes page low high)
 from_single root zero bytes page low high =
-    both_single (test (IsLeafPage root.page bytes page low high) page) (each (slot_check bytes page) (page_pairs bytes page)) (test_single (IsLeafPage root.page bytes page low high) page)
-    (each_single (slot_check bytes page) (page_pairs bytes page) (slot_single bytes page))
+    both_single (test (IsLeafPage root.page bytes page low high) page) (each (slot_check bytes root.table page) (page_pairs bytes page)) (test_single (IsLeafPage root.page bytes page low high) page)
+    (each_single (slot_check bytes root.table page) (page_pairs bytes page) (slot_single bytes root.table page))
 from_single root (suc l) bytes page low high =
     both_single (test (IsInner bytes (suc l) page low) page) (children_check (tree_from root l bytes) (page_pairs bytes page) high) (test_single (IsInner bytes (suc l) page low) page)
     (children_single (tree_from root l bytes) (from_single root l bytes) (page_pairs bytes page) high)

@@ -50,7 +50,7 @@ children_check check (e ∷ es) high = both (check e.1 e.0 (next_low es high)) (
 
 -- a tree of this level under a page, with the keys between these bounds: the page itself, and then its slots or its children
 abbrev pub tree_from : Root → ℕ → List ℕ → ℕ → ℕ → ℕ → Check ℕ
-tree_from root zero bytes page low high = both (test (IsLeafPage root.page bytes page low high) page) (each (slot_check bytes page) (page_pairs bytes page))
+tree_from root zero bytes page low high = both (test (IsLeafPage root.page bytes page low high) page) (each (slot_check bytes root.table page) (page_pairs bytes page))
 tree_from root (suc l) bytes page low high = both (test (IsInner bytes (suc l) page low) page) (children_check (tree_from root l bytes) (page_pairs bytes page) high)
 
 -- the whole tree, from its root down

@@ -23,7 +23,7 @@ pub fn checks_have_one_verdict()
 pub fn tree_rises()
     ensures tiles { (root : Root) (l : ℕ) (bytes : List ℕ) (page low high : ℕ) → IsTree root (suc l) bytes page low high → Tile low high (pieces_under l bytes page) }
     ensures rises { (root : Root) (bytes : List ℕ) → IsSoundTree root bytes → Rise 0 key_end (pairs_of_tree bytes root.page) }
-    ensures given { (root : Root) (bytes : List ℕ) → IsSoundTree root bytes → AreGiven bytes (pairs_of_tree bytes root.page) }
+    ensures given { (root : Root) (bytes : List ℕ) → IsSoundTree root bytes → AreGiven bytes root.table (pairs_of_tree bytes root.page) }
 {}
 
 /// A look-up goes down from the root to the leaf of the key.
@@ -57,10 +57,16 @@ pub fn the_rest_leaves_the_tree()
         ((x : ℕ) → IsPageOfTree old root.page x → page_bytes new x ≡ page_bytes old x) →
         IsSoundTree root new × (pairs_of_tree new root.page ≡ pairs_of_tree old root.page) × (level_of new root.page ≡ level_of old root.page) }
     ensures moved { (root : Root) (old new : List ℕ) → IsSoundTree root old → next_page old ≤ next_page new →
-        ((x : ℕ) → IsPageOfTree old root.page x → page_bytes new x ≡ page_bytes old x) → AreGiven new (pairs_of_tree old root.page) →
+        ((x : ℕ) → IsPageOfTree old root.page x → page_bytes new x ≡ page_bytes old x) → AreGiven new root.table (pairs_of_tree old root.page) →
         IsSoundTree root new × (pairs_of_tree new root.page ≡ pairs_of_tree old root.page) × (level_of new root.page ≡ level_of old root.page) }
     ensures apart { (root : Root) (bytes : List ℕ) (x : ℕ) → IsSoundTree root bytes → (kind_of bytes x ≡ 1 → ⊥) → (kind_of bytes x ≡ 2 → ⊥) →
         IsPageOfTree bytes root.page x → ⊥ }
+{}
+
+/// Trees of different roots, of different tables, share no page.
+pub fn trees_are_apart()
+    ensures { (bytes : List ℕ) (a b : Root) → a.table ≢ b.table → (x : ℕ) → a.page ≢ b.page → IsSoundTree a bytes → IsSoundTree b bytes →
+        IsPageOfTree bytes a.page x → IsPageOfTree bytes b.page x → ⊥ }
 {}
 
 /// If its root is a given page, a leaf without pairs and without a link is a sound tree of no pairs.

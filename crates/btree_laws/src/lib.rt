@@ -9,7 +9,7 @@ mod removals;
 
 pub use laws::{
     checks_have_one_verdict, descent_finds, fresh_is_sound, the_rest_leaves_the_tree,
-    tree_changes_keep, tree_rises,
+    tree_changes_keep, tree_rises, trees_are_apart,
 };
 pub use removals::{
     leaves_are_joined_here, removal_takes_one, removals_add_no_page, removals_are_chosen,
