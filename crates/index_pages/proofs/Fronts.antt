@@ -1,11 +1,11 @@
 -- The super page after a write of the part that changes, and after writes into slots.
-use Rattle.std.proofs.Common.{◌≡◌, ℕ, ◌+◌, ◌*◌, ◌^◌, ◌<◌, ◌≤◌, List, [], ◌∷◌, ◌++◌, length, get_or, take, drop, refl, sym, ◌∙◌, ap, subst, arith}
-use Rattle.std.proofs.lemmas.List.{get_or-take, length-append, drop_at, take_at, take-take, drop-drop, append-nil}
+use Rattle.std.proofs.Common.{◌≡◌, ℕ, ◌+◌, ◌*◌, ◌^◌, ◌<◌, ◌≤◌, inl, inr, List, [], ◌∷◌, ◌++◌, length, get_or, take, drop, refl, sym, ◌∙◌, ap, subst, arith}
+use Rattle.std.proofs.lemmas.List.{get_or-take, length-append, drop_at, take_at, take-take, drop-drop, drop-take, append-nil}
+use Rattle.std.proofs.lemmas.Bool.{cases_eq, eq_eqb, ne_eqb}
 use Rattle.byteorder.specs.Endian.{little_from, little_bytes}
 use Rattle.byteorder.specs.Numbers.{little_from-take, little_number-reads_back, length-bytes_low_first}
 use Rattle.mars_base.specs.Bytes.{range}
-use Rattle.mars_base.proofs.Bytes.{range-take}
-use Rattle.record_slots.specs.Super.{HasSuperMark, HasTables, SaysSuper, AreInside, AreTables, free_in, version_said, form_said, next_slot_said, next_page_said, entries_said, tables_said, tables_in, free_slot_in, free_page_in, free_slots_in, free_pages_in, part_bytes, used_entries}
+use Rattle.record_slots.specs.Super.{HasSuperMark, HasTables, SaysSuper, AreTables, free_in, version_said, form_said, next_slot_said, next_page_said, entries_said, tables_said, tables_in, free_slot_in, free_page_in, free_slots_in, free_pages_in, part_bytes, used_entries}
 use Rattle.record_slots.specs.declared.super_page.Super.{Super}
 use Rattle.record_slots.specs.declared.super_page.TableEntry.{TableEntry}
 use Rattle.record_slots.specs.Places.{page_bytes, next_slot, next_page, page_count, tables_of, IsSuper}
@@ -139,21 +139,23 @@ super_written old new front after same written says version form fits =
       free_pages = free_is (version_said (page_bytes new 0)) after.free_pages _ (number_in new P 276 (omega arith) written ∙ number_behind 276 after.free_pages P [] (behind6 after fits.entries ∙ sym (append-nil (little_bytes 4 after.free_pages))) fits.free_pages) (λ one. (none one).3);
     }
   where
+    range_in : (xs : List ℕ) (a c m : ℕ) → c ≤ m → take c (drop a (take (a + m) xs)) ≡ take c (drop a xs)
+    range_in xs a c m le = ap (take c) (drop-take a m xs) ∙ take-take c m (drop a xs) le
+
     entries_written : (bytes : List ℕ) (after : Super) → length after.entries ≡ 256 → range bytes 8 280 ≡ part_bytes after → entries_said (page_bytes bytes 0) ≡ after.entries
     unfolding entries_said page_bytes
     entries_written bytes after long written =
-        range-take bytes 16 256 512 (omega arith) ∙ ap (λ (l : List ℕ). take 256 l) (sym (drop-drop 8 8 bytes))
-        ∙ sym (range-take (drop 8 bytes) 8 256 280 (omega arith)) ∙ ap (λ (l : List ℕ). range l 8 256) written
+        range_in bytes 16 256 496 (omega arith) ∙ ap (λ (l : List ℕ). take 256 l) (sym (drop-drop 8 8 bytes))
+        ∙ sym (range_in (drop 8 bytes) 8 256 272 (omega arith)) ∙ ap (λ (l : List ℕ). range l 8 256) written
         ∙ ap (take 256) (behind2 after) ∙ take_at after.entries (P3 after) 256 long
 
 -- roots below so many pages are below more
-pub inside_more : (pages more : ℕ) (tables : List TableEntry) → pages ≤ more → AreInside pages tables → AreInside more tables
-inside_more pages more [] le are = tt
-inside_more pages more (t ∷ ts) le are = (are.0, omega (arith, are.1, le), inside_more pages more ts le are.2)
-
 tables_more : (pages more : ℕ) (tables : List TableEntry) → pages ≤ more → AreTables pages tables → AreTables more tables
-tables_more pages more [] le are = are
-tables_more pages more (t ∷ ts) le are = (are.0, inside_more pages more ts le are.1, are.2)
+tables_more pages more tables le are = record {
+  main = are.main;
+  inside = λ j t some is. let h = are.inside j t some is in (h.0, omega (arith, h.1, le));
+  other = are.other;
+}
 
 pub has_tables_more : (version pages more : ℕ) (entries : List ℕ) → pages ≤ more → HasTables version pages entries → HasTables version more entries
 has_tables_more version pages more entries le has = λ two. ((has two).0, tables_more pages more (used_entries 8 entries) le (has two).1)
