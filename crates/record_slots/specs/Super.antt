@@ -1,5 +1,5 @@
 -- What the 512 bytes of the super page say, and the bytes that are written.
-use Rattle.std.specs.Prelude.{ℕ, zero, suc, ◌≡◌, ◌≢◌, ◌-◌, ◌<◌, ◌≤◌, Bool, true, IsTrue, nat_eq, nat_le, ◌&&◌, if◌then◌else◌, List, [], ◌∷◌, ◌++◌, length, take, drop, codes, replicate, slice_index}
+use Rattle.std.specs.Prelude.{ℕ, zero, suc, ◌≡◌, ◌≢◌, ◌-◌, ◌<◌, ◌≤◌, Bool, true, IsTrue, nat_eq, nat_le, ◌&&◌, if◌then◌else◌, List, [], ◌∷◌, ◌++◌, length, take, drop, codes, replicate, slice_index, slice_get, Option, Some, None}
 use Rattle.std.specs.List.{list_all}
 use Rattle.byteorder.specs.Endian.{little_from, little_bytes}
 use Rattle.mars_base.specs.Bytes.{range}
@@ -73,24 +73,17 @@ are_entries zero entries = true
 are_entries (suc n) entries =
     if nat_eq (slice_index entries 0) 0 then are_free n (drop 32 entries) else is_name (name_said entries) && are_entries n (drop 32 entries)
 
--- no other table has this name or this root
-abbrev pub IsOther : TableEntry → List TableEntry → Type 0
-IsOther table [] = Unit {0}
-IsOther table (other ∷ others) = (table.name ≢ other.name) × (table.root ≢ other.root) × IsOther table others
+-- the table `main`, whose root is page 1
+abbrev pub IsMain : Option TableEntry → Type 0
+IsMain None = ⊥
+IsMain (Some table) = (table.name ≡ codes "main") × (table.root ≡ 1)
 
-abbrev pub AreOther : List TableEntry → Type 0
-AreOther [] = Unit {0}
-AreOther (table ∷ tables) = IsOther table tables × AreOther tables
-
--- each root is one of so many pages, and neither the super page nor page 1
-abbrev pub AreInside : ℕ → List TableEntry → Type 0
-AreInside pages [] = Unit {0}
-AreInside pages (table ∷ tables) = (2 ≤ table.root) × (table.root < pages) × AreInside pages tables
-
--- the first is `main` with root 1, and no two have one name or one root
-abbrev pub AreTables : ℕ → List TableEntry → Type 0
-AreTables pages [] = ⊥
-AreTables pages (table ∷ tables) = (table ≡ main_table) × AreInside pages tables × AreOther (table ∷ tables)
+-- The first is `main` with root 1. Each other root is one of so many pages, and neither the super page nor page 1. No two have one name, and
+-- no two have one root.
+pub record AreTables (pages : ℕ) (tables : List TableEntry) : Type 0 where
+  pub main : IsMain (slice_get tables 0)
+  pub inside : (j : ℕ) (table : TableEntry) → 1 ≤ j → slice_get tables j ≡ Some table → (2 ≤ table.root) × (table.root < pages)
+  pub other : (i j : ℕ) (one two : TableEntry) → i < j → slice_get tables i ≡ Some one → slice_get tables j ≡ Some two → (one.name ≢ two.name) × (one.root ≢ two.root)
 
 -- The entries of version 2 are those of tables; version 1 has none.
 abbrev pub HasTables : ℕ → ℕ → List ℕ → Type 0
