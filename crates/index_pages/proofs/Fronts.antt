@@ -1,11 +1,11 @@
 -- The super page after a write of the part that changes, and after writes into slots.
 use Rattle.std.proofs.Common.{◌≡◌, ℕ, ◌+◌, ◌*◌, ◌^◌, ◌<◌, ◌≤◌, inl, inr, List, [], ◌∷◌, ◌++◌, length, get_or, take, drop, refl, sym, ◌∙◌, ap, subst, arith}
 use Rattle.std.proofs.lemmas.List.{get_or-take, length-append, drop_at, take_at, take-take, drop-drop, drop-take, append-nil}
-use Rattle.std.proofs.lemmas.Bool.{cases_eq, eq_eqb, ne_eqb}
+use Rattle.std.proofs.lemmas.Bool.{cases_eq, eq-eqb, ne_eqb}
 use Rattle.byteorder.specs.Endian.{little_from, little_bytes}
 use Rattle.byteorder.specs.Numbers.{little_from-take, little_number-reads_back, length-bytes_low_first}
 use Rattle.mars_base.specs.Bytes.{range}
-use Rattle.record_slots.specs.Super.{HasSuperMark, HasTables, SaysSuper, AreTables, free_in, version_said, form_said, next_slot_said, next_page_said, entries_said, tables_said, tables_in, free_slot_in, free_page_in, free_slots_in, free_pages_in, part_bytes, used_entries}
+use Rattle.record_slots.specs.Super.{HasSuperMark, HasTables, SaysSuper, AreTables, free_in, version_said, form_said, next_slot_said, next_page_said, entries_said, tables_said, tables_in, free_slot_in, free_page_in, free_slots_in, free_pages_in, part_bytes, tables_used}
 use Rattle.record_slots.specs.declared.super_page.Super.{Super}
 use Rattle.record_slots.specs.declared.super_page.TableEntry.{TableEntry}
 use Rattle.record_slots.specs.Places.{page_bytes, next_slot, next_page, page_count, tables_of, IsSuper}
@@ -114,7 +114,7 @@ module _ (old new : List ℕ) (same : range new 0 8 ≡ range old 0 8) where
 -- what is free in a version
 free_is : (version n m : ℕ) → m ≡ n → (version ≡ 1 → n ≡ 0) → n ≡ free_in version m
 free_is version n m is none = elim (cases_eq version 1) [
-  | inl one ↦ none one ∙ sym (rw (eq_eqb version 1 one) refl)
+  | inl one ↦ none one ∙ sym (rw (eq-eqb version 1 one) refl)
   | inr other ↦ sym is ∙ sym (rw (ne_eqb version 1 other) refl)
 ]
 
@@ -158,7 +158,7 @@ tables_more pages more tables le are = record {
 }
 
 pub has_tables_more : (version pages more : ℕ) (entries : List ℕ) → pages ≤ more → HasTables version pages entries → HasTables version more entries
-has_tables_more version pages more entries le has = λ two. ((has two).0, tables_more pages more (used_entries 8 entries) le (has two).1)
+has_tables_more version pages more entries le has = λ two. ((has two).0, tables_more pages more (tables_used entries) le (has two).1)
 
 -- The super page of data in which its part was written with more slots and pages given out, and the same entries.
 pub super_kept : (form : ℕ) (old new : List ℕ) (front after : Super) (half : ℕ) → page_count new ≡ half + half → SaysSuper (page_bytes old 0) front → SaysSuper (page_bytes new 0) after

@@ -1,7 +1,7 @@
 -- The slot and the pages that an insertion takes, and the parts of the action that adds a pair.
 use Rattle.std.specs.Prelude.{ℕ, ◌≡◌, ◌+◌, ◌-◌, ◌*◌, ◌/◌, ◌%◌, nat_eq, if◌then◌else◌, List, [], ◌∷◌, Option, Some, None}
 use Rattle.array_shape.specs.Logged.{Part}
-use Rattle.record_slots.specs.Places.{free_slot, free_page, free_slots, free_pages, free_slot_of, free_page_of, slot_due, page_due}
+use Rattle.record_slots.specs.Places.{free_slot_of, free_page_of}
 use Rattle.record_slots.specs.Slots.{slot_bytes}
 use Rattle.record_slots.specs.Super.{part_bytes}
 use Rattle.record_slots.specs.declared.free.Free.{Free}
@@ -11,12 +11,19 @@ use Rattle.page_store.specs.Pairs.{Pair, inserted}
 use Rattle.page_store.specs.Shown.{address}
 use Rattle.index_pages.specs.Written.{written_page}
 
--- what the first free slot, and the first free page, say of their lists, if one is free
-abbrev pub first_slot : List ℕ → Option Free
-first_slot bytes = if nat_eq (free_slots bytes) 0 then None else free_slot_of bytes (free_slot bytes - 1)
+-- The slot, or page, that is taken by this super page: the first free one, or the next if none is free. And what it says of its list, if it
+-- is a free one.
+abbrev pub slot_for : Super → ℕ
+slot_for front = if nat_eq front.free_slots 0 then front.next_slot else front.free_slot - 1
 
-abbrev pub first_page : List ℕ → Option Free
-first_page bytes = if nat_eq (free_pages bytes) 0 then None else free_page_of bytes (free_page bytes - 1)
+abbrev pub page_for : Super → ℕ
+page_for front = if nat_eq front.free_pages 0 then front.next_page else front.free_page - 1
+
+abbrev pub first_slot : List ℕ → Super → Option Free
+first_slot bytes front = if nat_eq front.free_slots 0 then None else free_slot_of bytes (front.free_slot - 1)
+
+abbrev pub first_page : List ℕ → Super → Option Free
+first_page bytes front = if nat_eq front.free_pages 0 then None else free_page_of bytes (front.free_page - 1)
 
 -- the super page once a slot is taken: the first free one, which says this of its list, or the next one if none is free
 abbrev pub with_slot_taken : Option Free → Super → Super
@@ -38,11 +45,11 @@ adding_parts half after slot page link pairs table key =
     ∷ (address page 0, written_page 0 link (inserted pairs key slot))
     ∷ (address 0 8, part_bytes after) ∷ []
 
--- a slot is taken of the data whose super page is this: the one that is due, and what the super page says then
+-- a slot, or a page, is taken by this super page, over this data: which one, and what the super page says then
 pub record TakesSlot (bytes : List ℕ) (front : Super) (slot : ℕ) (after : Super) : Type 0 where
-  pub due : slot ≡ slot_due bytes
-  pub after_is : after ≡ with_slot_taken (first_slot bytes) front
+  pub due : slot ≡ slot_for front
+  pub after_is : after ≡ with_slot_taken (first_slot bytes front) front
 
 pub record TakesPage (bytes : List ℕ) (front : Super) (page : ℕ) (after : Super) : Type 0 where
-  pub due : page ≡ page_due bytes 0
-  pub after_is : after ≡ with_page_taken (first_page bytes) front
+  pub due : page ≡ page_for front
+  pub after_is : after ≡ with_page_taken (first_page bytes front) front

@@ -47,13 +47,17 @@ abbrev pub used_entries : ℕ → List ℕ → List TableEntry
 used_entries zero entries = []
 used_entries (suc n) entries = if nat_eq (slice_index entries 0) 0 then [] else entry_said entries ∷ used_entries n (drop 32 entries)
 
+-- those of all eight
+unfoldable pub tables_used : List ℕ → List TableEntry
+tables_used entries = used_entries 8 entries
+
 -- the table of version 1
 abbrev pub main_table : TableEntry
 main_table = record { name = codes "main"; root = 1 }
 
 -- the tables: of version 1 just `main` with root 1, of version 2 those of the used entries
 abbrev pub tables_in : ℕ → List ℕ → List TableEntry
-tables_in version entries = if nat_eq version 1 then main_table ∷ [] else used_entries 8 entries
+tables_in version entries = if nat_eq version 1 then main_table ∷ [] else tables_used entries
 
 unfoldable pub tables_said : List ℕ → List TableEntry
 tables_said bytes = tables_in (version_said bytes) (entries_said bytes)
@@ -78,16 +82,25 @@ abbrev pub IsMain : Option TableEntry → Type 0
 IsMain None = ⊥
 IsMain (Some table) = (table.name ≡ codes "main") × (table.root ≡ 1)
 
+-- all eight are such
+unfoldable pub are_named : List ℕ → Bool
+are_named entries = are_entries 8 entries
+
+-- no table before table j has its name or its root
+abbrev pub IsApart : List TableEntry → ℕ → Type 0
+IsApart tables j =
+    (i : ℕ) (one two : TableEntry) → i < j → slice_get tables i ≡ Some one → slice_get tables j ≡ Some two → (one.name ≢ two.name) × (one.root ≢ two.root)
+
 -- The first is `main` with root 1. Each other root is one of so many pages, and neither the super page nor page 1. No two have one name, and
 -- no two have one root.
 pub record AreTables (pages : ℕ) (tables : List TableEntry) : Type 0 where
   pub main : IsMain (slice_get tables 0)
   pub inside : (j : ℕ) (table : TableEntry) → 1 ≤ j → slice_get tables j ≡ Some table → (2 ≤ table.root) × (table.root < pages)
-  pub other : (i j : ℕ) (one two : TableEntry) → i < j → slice_get tables i ≡ Some one → slice_get tables j ≡ Some two → (one.name ≢ two.name) × (one.root ≢ two.root)
+  pub other : (j : ℕ) → IsApart tables j
 
 -- The entries of version 2 are those of tables; version 1 has none.
 abbrev pub HasTables : ℕ → ℕ → List ℕ → Type 0
-HasTables version pages entries = version ≡ 2 → IsTrue (are_entries 8 entries) × AreTables pages (used_entries 8 entries)
+HasTables version pages entries = version ≡ 2 → IsTrue (are_named entries) × AreTables pages (tables_used entries)
 
 -- The first free slot and the first free page by their numbers plus 1, and how many there are of each: bytes 272 to 287. Version 1 has none.
 abbrev pub free_in : ℕ → ℕ → ℕ

@@ -5,6 +5,7 @@
 //! data without records. The law in `laws.rt`: what is written into a slot is read back.
 #![tactic(auto)]
 
+mod entries;
 mod free;
 mod fresh;
 mod index_head;
@@ -14,6 +15,7 @@ mod slot;
 mod super_page;
 mod value;
 
+pub use entries::{has_tables, table_root};
 pub use free::{Free, read_free_page, read_free_slot};
 pub use fresh::fresh_page;
 pub use index_head::{INDEX_HEAD_LEN, IndexHead, index_head_bytes, read_index_head};
