@@ -5,7 +5,7 @@ use Rattle.std.proofs.lemmas.Bool.Decides.{eqb_tells, leb_tells}
 use Rattle.record_slots.specs.Places.{next_slot, AreGiven}
 use Rattle.page_store.specs.Pairs.{Pair, found, next}
 
-pub given_next : (bytes : List ℕ) (from : ℕ) (p : Pair) (ps : List Pair) → AreGiven bytes ps → next ps from ≡ Some p → p.1 < next_slot bytes
+pub given_next : (bytes : List ℕ) (from : ℕ) (p : Pair) (ps : List Pair) → AreGiven bytes root.table ps → next ps from ≡ Some p → p.1 < next_slot bytes
 given_next bytes from p [] given some = absurd (cc)
 given_next bytes from p (q ∷ qs) given some =
     elim (leb_tells from q.0) [
@@ -13,7 +13,7 @@ given_next bytes from p (q ∷ qs) given some =
       | inr lt ↦ let b : nat_le from q.0 ≡ false = lt.0 in given_next bytes from p qs given.2 (let some' : (if nat_le from q.0 then Some q else next qs from) ≡ Some p = some in rw b at some')
     ]
 
-pub given_found : (bytes : List ℕ) (key slot : ℕ) (ps : List Pair) → AreGiven bytes ps → found ps key ≡ Some slot → slot < next_slot bytes
+pub given_found : (bytes : List ℕ) (key slot : ℕ) (ps : List Pair) → AreGiven bytes root.table ps → found ps key ≡ Some slot → slot < next_slot bytes
 given_found bytes key slot [] given some = absurd (cc)
 given_found bytes key slot (q ∷ qs) given some =
     elim (eqb_tells q.0 key) [
