@@ -175,7 +175,7 @@ super_kept form old new front after half count says now version form_same entrie
         slots = omega (arith, now.next_slot, count, slots);
         some_pages = omega (arith, is.some_pages, grown);
         pages = omega (arith, now.next_page, count, pages);
-        tables = subst (λ (x : ℕ × List ℕ). HasTables x.0 (next_page new) x.1) (λ i. (version_is (~ i), entries_is (~ i))) (has_tables_more _ _ _ _ grown is.tables);
+        tables = subst (λ (x : ℕ × List ℕ). HasTables x.0 (next_page new) x.1) (λ i. (sym version_is i, sym entries_is i)) (has_tables_more _ _ _ _ grown is.tables);
       },
       (λ i. tables_in (version_is i) (entries_is i)),
     )
