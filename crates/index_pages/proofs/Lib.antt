@@ -19,4 +19,7 @@ pub mod Carrying
 pub mod Slotted
 pub mod Parting
 pub mod Puts
+pub mod Stacks
+pub mod Tabled
+pub mod Taken
 pub mod Added
