@@ -4,7 +4,7 @@ use Rattle.std.specs.Prelude.{slice_get, nat_eq, true, false}
 use Rattle.std.specs.Option.{option_map}
 use Rattle.std.proofs.lemmas.Bool.{cases_eq, cases_lt, eq-eqb, ne_eqb}
 use Rattle.mars_base.specs.Check.{Check, test, both}
-use Rattle.record_slots.specs.Super.{AreTables, IsMain, main_table, tables_in, used_entries, version_said, entries_said, tables_said}
+use Rattle.record_slots.specs.Super.{AreTables, IsMain, main_table, tables_in, tables_used, version_said, entries_said, tables_said}
 use Rattle.record_slots.specs.Places.{page_bytes, next_page, next_slot, tables_of, version_of, free_slots, free_pages, free_slot, free_page, free_slot_of, free_page_of, slot_page, IsSuper}
 use Rattle.record_slots.specs.declared.super_page.TableEntry.{TableEntry}
 use Rattle.page_store.specs.Index.{IsTable}
@@ -69,7 +69,7 @@ entry_there tables j root is = here (slice_get tables j) is
 tables_one : (version : ℕ) (entries : List ℕ) → version ≡ 1 → tables_in version entries ≡ main_table ∷ []
 tables_one version entries one = (let b : nat_eq version 1 ≡ true = eq-eqb version 1 one in rw b refl)
 
-tables_two : (version : ℕ) (entries : List ℕ) → version ≢ 1 → tables_in version entries ≡ used_entries 8 entries
+tables_two : (version : ℕ) (entries : List ℕ) → version ≢ 1 → tables_in version entries ≡ tables_used entries
 tables_two version entries other = (let b : nat_eq version 1 ≡ false = ne_eqb version 1 other in rw b refl)
 
 root_main : (j root : ℕ) → root_in (main_table ∷ []) j ≡ Some root → (j ≡ 0) × (root ≡ 1)
@@ -100,7 +100,7 @@ table_own form bytes table root front is = elim (cases_eq (version_of bytes) 1) 
       let r = root_main table root (subst (λ (ts : List TableEntry). root_in ts table ≡ Some root) (tables_one (version_of bytes) (entries_said (page_bytes bytes 0)) one) is) in
       (omega (arith, r.1), omega (arith, r.1, front.some_pages))
   | inr other ↦
-      root_own (next_page bytes) (used_entries 8 (entries_said (page_bytes bytes 0))) table root front.some_pages
+      root_own (next_page bytes) (tables_used (entries_said (page_bytes bytes 0))) table root front.some_pages
       (front.tables (omega (arith, other, front.has_mark.some, front.has_mark.known))).1
       (subst (λ (ts : List TableEntry). root_in ts table ≡ Some root) (tables_two (version_of bytes) (entries_said (page_bytes bytes 0)) other) is)
 ]
@@ -119,12 +119,12 @@ roots_apart form bytes one two root front is is' = elim (cases_eq (version_of by
       let are = (front.tables (omega (arith, other, front.has_mark.some, front.has_mark.known))).1 in
       let a = subst (λ (ts : List TableEntry). root_in ts one ≡ Some root) e is in
       let b = subst (λ (ts : List TableEntry). root_in ts two ≡ Some root) e is' in
-      let tables : List TableEntry = used_entries 8 (entries_said (page_bytes bytes 0)) in
+      let tables : List TableEntry = tables_used (entries_said (page_bytes bytes 0)) in
       elim (cases_eq one two) [
         | inl same ↦ same
         | inr differ ↦ elim (cases_lt one two) [
-          | inl less ↦ absurd (roots_differ (next_page bytes) (used_entries 8 (entries_said (page_bytes bytes 0))) one two root are less a b)
-          | inr more ↦ absurd (roots_differ (next_page bytes) (used_entries 8 (entries_said (page_bytes bytes 0))) two one root are (omega (arith, more, differ)) b a)
+          | inl less ↦ absurd (roots_differ (next_page bytes) (tables_used (entries_said (page_bytes bytes 0))) one two root are less a b)
+          | inr more ↦ absurd (roots_differ (next_page bytes) (tables_used (entries_said (page_bytes bytes 0))) two one root are (omega (arith, more, differ)) b a)
         ]
       ]
 ]

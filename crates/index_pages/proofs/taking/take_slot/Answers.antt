@@ -1,22 +1,26 @@
-use Rattle.std.proofs.Common.{rules, ◌≡◌, ◌<◌, ◌≤◌, None, Some, IfOk, IfSome, IfNone, IsErrOf, IsTrue, ℕ, ◌+◌, ◌-◌, ◌*◌, length, ◌/◌, ◌%◌, Bool, true, false, nat_eq, nat_lt, List, [], ◌∷◌, ◌++◌, slice_index_or, slice_set, bit_and, bit_or, Fits, w8, w32, w64, Bor, MutBor}
-use Rattle.eaw_face.specs.Causes.{IsAlive}
-use Rattle.record_slots.specs.Places.{slot_page, free_slot_of, free_page_of}
-use Rattle.page_store.specs.Index.{slots_of, index_pages_of}
-use Rattle.page_store.specs.Looks.{Looks, LookCause, is_failed}
-use Rattle.page_store.specs.Shown.{pages_of}
-use Rattle.index_pages.specs.Adding.{TakesSlot, TakesPage, with_slot_taken, with_page_taken}
-use Rattle.index_pages.specs.Fetched.{IsFront}
-use Rattle.index_pages.specs.Slots.{HasRank, list_check}
+use Rattle.std.proofs.Common.{◌≡◌, ◌-◌, ℕ, IsTrue, Option, None, sym, ◌∙◌, subst, arith}
+use Rattle.record_slots.specs.Places.{slot_page, free_slot_of}
+use Rattle.record_slots.specs.declared.free.Free.{Free}
+use Rattle.index_pages.specs.Slots.{Names, HasRank}
+use Rattle.index_pages.proofs.Members.{first_member}
 use Rattle.index_pages.proofs.taking.take_slot.Goals as goal
 
--- src/taking.rt:45:9
 pub returns-then-front-eq0-2-clause-cause : goal.returns-then-front-eq0-2-clause-cause
-returns-then-front-eq0-2-clause-cause g c = ?
+returns-then-front-eq0-2-clause-cause g c =
+    let b = (g.S.EawStore.view c.args.pages.now.store).state.bytes in
+    let front = c.args.front.now in
+    (c.requires.alive, λ told. let h = first_member (free_slot_of b) (slot_page b) 0 front.next_slot front.free_slots front.free_slot 0 c.if-front-eq0.false (c.requires.sound told) in omega (arith, h.0.0, c.if-front-eq0-2.true))
 
--- src/taking.rt:48:9
 pub returns-then-front-clause-cause : goal.returns-then-front-clause-cause
-returns-then-front-clause-cause g c = ?
+returns-then-front-clause-cause g c =
+    let b = (g.S.EawStore.view c.args.pages.now.store).state.bytes in
+    let front = c.args.front.now in
+    (c.requires.alive, λ told. let h = first_member (free_slot_of b) (slot_page b) 0 front.next_slot front.free_slots front.free_slot 0 c.if-front-eq0.false (c.requires.sound told) in omega (arith, h.0.1, c.if-front.true))
 
--- src/taking.rt:57:9
 pub returns-in_default-clause-cause : goal.returns-in_default-clause-cause
-returns-in_default-clause-cause g c = ?
+returns-in_default-clause-cause g c =
+    let b = (g.S.EawStore.view c.args.pages.now.store).state.bytes in
+    let front = c.args.front.now in
+    (c.requires.alive, λ told.
+    let h = first_member (free_slot_of b) (slot_page b) 0 front.next_slot front.free_slots front.free_slot 0 c.if-front-eq0.false (c.requires.sound told) in
+    c.in_default.ensures.none (subst (λ (o : Option Free). HasRank front.free_slots o) (sym (c.in-Ok.ensures.said told)) h.1))
