@@ -19,7 +19,7 @@ use Rattle.index_pages.proofs.Ranges.{Apart}
 use Rattle.index_pages.proofs.Rising.{length-inserted}
 use Rattle.index_pages.proofs.Writing.{length-written_page}
 
--- The slot is absent under the key of the table, the page has the pair, the super page has its part, and no other page and slot was written.
+-- The slot is absent under the key of the table, the page has the pair, the super page has the part, and no other page and slot was written.
 pub record IsAdded (old new : List ℕ) (half : ℕ) (after : Super) (slot page link : ℕ) (pairs : List Pair) (table key : ℕ) : Type 0 where
   pub size : length new ≡ length old
   pub slot_is : slot_of new slot ≡ slot_bytes (Absent table key)
@@ -29,8 +29,8 @@ pub record IsAdded (old new : List ℕ) (half : ℕ) (after : Super) (slot page 
   pub pages : (x : ℕ) → 1 ≤ x → x < half → x ≢ page → page_bytes new x ≡ page_bytes old x
   pub slots : (j : ℕ) → j ≢ slot → slot_of new j ≡ slot_of old j
 
-module _ (old : List ℕ) (half : ℕ) (size : length old ≡ 512 * (half + half)) (after : Super) (slot page link : ℕ) (pairs : List Pair) (table key : ℕ) (entries : length after.entries ≡ 256)
-    (table_few : table < 8) (fits : key < 2 ^ 64) (below_slots : slot < 8 * half) (some : 1 ≤ page) (below : page < half) (link_fits : link < 2 ^ 32) (room : length pairs < 30) where
+module _ (old : List ℕ) (half : ℕ) (size : length old ≡ 512 * (half + half)) (after : Super) (entries : length after.entries ≡ 256) (slot page link : ℕ) (pairs : List Pair) (table key : ℕ)
+    (small : table < 8) (fits : key < 2 ^ 64) (there : slot < 8 * half) (some : 1 ≤ page) (below : page < half) (link_fits : link < 2 ^ 32) (room : length pairs < 30) where
   added : List ℕ
   added = applied (adding_parts half after slot page link pairs table key) old
 
@@ -38,7 +38,7 @@ module _ (old : List ℕ) (half : ℕ) (size : length old ≡ 512 * (half + half
   place_is = omega arith
 
   len1 : length (slot_bytes (Absent table key)) ≡ 64
-  len1 = length-slot_bytes (Absent table key) (table_few, fits)
+  len1 = length-slot_bytes (Absent table key) (small, fits)
 
   len2 : length (written_page 0 link (inserted pairs key slot)) ≡ 512
   len2 = length-written_page 0 link (inserted pairs key slot) (omega (arith, length-inserted key slot pairs)) link_fits
@@ -95,7 +95,7 @@ module _ (old : List ℕ) (half : ℕ) (size : length old ≡ 512 * (half + half
       let at' : slot_at old j ≡ 512 * half + 64 * j = omega (arith, size) in
       let beside : Apart (512 * half + 64 * j) 64 (address (half + slot / 8) (slot % 8 * 64)) (length (slot_bytes (Absent table key))) = elim (cases_lt j slot) [
         | inl before ↦ inl (omega (arith, place_is))
-        | inr after ↦ (let ne : j ≡ slot → ⊥ = other in inr (omega (arith, len1, place_is)))
+        | inr behind ↦ (let ne : j ≡ slot → ⊥ = other in inr (omega (arith, place_is, len1)))
       ] in
       ap (λ (x : ℕ). range added x 64) at
       ∙ away (512 * half + 64 * j) 64 beside (inr (omega (arith, len2))) (inr (omega (arith, len3)))

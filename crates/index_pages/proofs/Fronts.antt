@@ -118,6 +118,16 @@ free_is version n m is none = elim (cases_eq version 1) [
   | inr other ↦ sym is ∙ sym (rw (ne_eqb version 1 other) refl)
 ]
 
+range_in : (xs : List ℕ) (a c m : ℕ) → c ≤ m → take c (drop a (take (a + m) xs)) ≡ take c (drop a xs)
+range_in xs a c m le = ap (take c) (drop-take a m xs) ∙ take-take c m (drop a xs) le
+
+entries_written : (bytes : List ℕ) (after : Super) → length after.entries ≡ 256 → range bytes 8 280 ≡ part_bytes after → entries_said (page_bytes bytes 0) ≡ after.entries
+unfolding entries_said page_bytes
+entries_written bytes after long written =
+    range_in bytes 16 256 496 (omega arith) ∙ ap (λ (l : List ℕ). take 256 l) (sym (drop-drop 8 8 bytes))
+    ∙ sym (range_in (drop 8 bytes) 8 256 272 (omega arith)) ∙ ap (λ (l : List ℕ). range l 8 256) written
+    ∙ ap (take 256) (behind2 after) ∙ take_at after.entries (P3 after) 256 long
+
 -- the super page says what was written
 pub super_written : (old new : List ℕ) (front after : Super) → range new 0 8 ≡ range old 0 8 → range new 8 280 ≡ part_bytes after → SaysSuper (page_bytes old 0) front
     → after.version ≡ front.version → after.form ≡ front.form → IsWritable after → SaysSuper (page_bytes new 0) after
@@ -138,16 +148,6 @@ super_written old new front after same written says version form fits =
       free_slots = free_is (version_said (page_bytes new 0)) after.free_slots _ (number_in new P 272 (omega arith) written ∙ number_behind 272 after.free_slots P (P6 after) (behind5 after fits.entries) fits.free_slots) (λ one. (none one).2);
       free_pages = free_is (version_said (page_bytes new 0)) after.free_pages _ (number_in new P 276 (omega arith) written ∙ number_behind 276 after.free_pages P [] (behind6 after fits.entries ∙ sym (append-nil (little_bytes 4 after.free_pages))) fits.free_pages) (λ one. (none one).3);
     }
-  where
-    range_in : (xs : List ℕ) (a c m : ℕ) → c ≤ m → take c (drop a (take (a + m) xs)) ≡ take c (drop a xs)
-    range_in xs a c m le = ap (take c) (drop-take a m xs) ∙ take-take c m (drop a xs) le
-
-    entries_written : (bytes : List ℕ) (after : Super) → length after.entries ≡ 256 → range bytes 8 280 ≡ part_bytes after → entries_said (page_bytes bytes 0) ≡ after.entries
-    unfolding entries_said page_bytes
-    entries_written bytes after long written =
-        range_in bytes 16 256 496 (omega arith) ∙ ap (λ (l : List ℕ). take 256 l) (sym (drop-drop 8 8 bytes))
-        ∙ sym (range_in (drop 8 bytes) 8 256 272 (omega arith)) ∙ ap (λ (l : List ℕ). range l 8 256) written
-        ∙ ap (take 256) (behind2 after) ∙ take_at after.entries (P3 after) 256 long
 
 -- roots below so many pages are below more
 tables_more : (pages more : ℕ) (tables : List TableEntry) → pages ≤ more → AreTables pages tables → AreTables more tables
@@ -175,7 +175,7 @@ super_kept form old new front after half count says now version form_same entrie
         slots = omega (arith, now.next_slot, count, slots);
         some_pages = omega (arith, is.some_pages, grown);
         pages = omega (arith, now.next_page, count, pages);
-        tables = subst (λ (x : ℕ × List ℕ). HasTables x.0 (next_page new) x.1) (λ i. (version_is (~ i), entries_is (~ i))) (has_tables_more _ _ _ _ grown is.tables);
+        tables = subst (λ (x : ℕ × List ℕ). HasTables x.0 (next_page new) x.1) (λ i. (sym version_is i, sym entries_is i)) (has_tables_more _ _ _ _ grown is.tables);
       },
       (λ i. tables_in (version_is i) (entries_is i)),
     )

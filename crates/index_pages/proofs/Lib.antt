@@ -23,3 +23,4 @@ pub mod Stacks
 pub mod Tabled
 pub mod Taken
 pub mod Added
+pub mod Members

@@ -1,5 +1,5 @@
 -- What soundness is made of is a proposition: a struct can keep it.
-use Rattle.std.specs.Prelude.{ℕ, zero, suc, ◌≡◌, ◌-◌, List, [], ◌∷◌, Option, Some, None, slice_get}
+use Rattle.std.specs.Prelude.{ℕ, zero, suc, ◌≡◌, ◌≢◌, ◌-◌, List, [], ◌∷◌, Option, Some, None, slice_get}
 use Rattle.std.specs.Coded.{×_prop, le_prop}
 use Rattle.std.proofs.Props.{props}
 use Rattle.record_slots.specs.declared.slot.Slot.{Slot}
@@ -33,11 +33,14 @@ IsMain-prop : (table : Option TableEntry) → IsProp (IsMain table)
 IsMain-prop None = Prim.hlevel props
 IsMain-prop (Some t) = Prim.hlevel props
 
+apart-prop : (one two : TableEntry) → IsProp ((one.name ≢ two.name) × (one.root ≢ two.root))
+apart-prop one two = Prim.hlevel props
+
 AreTables-prop : (pages : ℕ) (tables : List TableEntry) → IsProp (AreTables pages tables)
 AreTables-prop pages tables a b = λ i. record {
   main = IsMain-prop (slice_get tables 0) a.main b.main i;
   inside = λ j t some is. ×_prop le_prop le_prop (a.inside j t some is) (b.inside j t some is) i;
-  other = λ j k one two lt is is'. (λ e. absurd ((a.other j k one two lt is is').0 e), λ e. absurd ((a.other j k one two lt is is').1 e));
+  other = λ j k one two lt is is'. apart-prop one two (a.other j k one two lt is is') (b.other j k one two lt is is') i;
 }
 
 HasTables-prop : (version pages : ℕ) (entries : List ℕ) → IsProp (HasTables version pages entries)

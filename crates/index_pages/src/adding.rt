@@ -11,7 +11,7 @@ use crate::action::{PagePart, act_all};
 use crate::fetch::{SLOTS_IN_PAGE, index_page_count};
 use crate::page::{PAGE_LEN, Pairs, write_page};
 use crate::place::place_of;
-use crate::taking::Taken;
+use crate::taking::Claim;
 use eaw_face::EawStore;
 use page_store::{PageFault, Pages};
 use record_slots::{PART_AT, PART_LEN, SLOT_LEN, Slot, write_slot, write_super_part};
@@ -31,7 +31,7 @@ pub fn add_pair<S: EawStore>(
     tid: u8,
     table: u8,
     key: u64,
-    taken: &Taken,
+    taken: &Claim,
     leaf: LeafPage,
 ) -> Result<(), PageFault>
     requires tid { tid < (S.view pages.old.store).shape.numbers }

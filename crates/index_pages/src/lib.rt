@@ -27,4 +27,4 @@ pub use page::{
     write_page,
 };
 pub use place::place_of;
-pub use taking::{Taken, take_page, take_slot};
+pub use taking::{Claim, take_page, take_slot};

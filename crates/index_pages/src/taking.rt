@@ -14,15 +14,15 @@ use eaw_face::EawStore;
 use page_store::{PageFault, Pages};
 use record_slots::{Free, Super};
 
-/// A slot or a page that is taken, and what the super page is to say then.
+/// A slot or a page that is claimed, and what the super page is to say then.
 #[derive(Clone, Copy, Debug)]
-pub struct Taken {
+pub struct Claim {
     pub number: u32,
     pub front: Super,
 }
 
 /// Takes the slot that is due: the first free one, or the next if none is free. Nothing is written yet.
-pub fn take_slot<S: EawStore>(pages: &mut Pages<S>, front: &Super) -> Result<Taken, PageFault>
+pub fn take_slot<S: EawStore>(pages: &mut Pages<S>, front: &Super) -> Result<Claim, PageFault>
     requires alive { IsAlive (S.view pages.old.store) }
     requires front { IsFront (S.view pages.old.store).shape front.now }
     requires left { front.now.free_slots ≡ 0 → front.now.next_slot < slots_of (S.view pages.old.store).shape }
@@ -36,7 +36,7 @@ pub fn take_slot<S: EawStore>(pages: &mut Pages<S>, front: &Super) -> Result<Tak
     ensures dead { IsErrOf result PageFault.Dead → ⊥ }
 {
     if front.free_slots == 0 {
-        return Ok(Taken {
+        return Ok(Claim {
             number: front.next_slot,
             front: with_next_slot(front),
         });
@@ -56,14 +56,14 @@ pub fn take_slot<S: EawStore>(pages: &mut Pages<S>, front: &Super) -> Result<Tak
     let Some(free) = ranked(&said, front.free_slots) else {
         return Err(PageFault::Damaged { page });
     };
-    Ok(Taken {
+    Ok(Claim {
         number: slot,
         front: with_free_slot(front, &free),
     })
 }
 
 /// Takes the page that is due: the first free one, or the next if none is free. Nothing is written yet.
-pub fn take_page<S: EawStore>(pages: &mut Pages<S>, front: &Super) -> Result<Taken, PageFault>
+pub fn take_page<S: EawStore>(pages: &mut Pages<S>, front: &Super) -> Result<Claim, PageFault>
     requires alive { IsAlive (S.view pages.old.store) }
     requires front { IsFront (S.view pages.old.store).shape front.now }
     requires left { front.now.free_pages ≡ 0 → front.now.next_page < index_pages_of (S.view pages.old.store).shape }
@@ -78,7 +78,7 @@ pub fn take_page<S: EawStore>(pages: &mut Pages<S>, front: &Super) -> Result<Tak
     ensures dead { IsErrOf result PageFault.Dead → ⊥ }
 {
     if front.free_pages == 0 {
-        return Ok(Taken {
+        return Ok(Claim {
             number: front.next_page,
             front: with_next_page(front),
         });
@@ -97,7 +97,7 @@ pub fn take_page<S: EawStore>(pages: &mut Pages<S>, front: &Super) -> Result<Tak
     let Some(free) = ranked(&said, front.free_pages) else {
         return Err(PageFault::Damaged { page });
     };
-    Ok(Taken {
+    Ok(Claim {
         number: page,
         front: with_free_page(front, &free),
     })

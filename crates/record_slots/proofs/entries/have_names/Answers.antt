@@ -1,25 +1,24 @@
-use Rattle.std.proofs.Common.{rules, ◌≡◌, ◌<◌, ◌≤◌, ◌*◌, ◌↔◌, IsTrue, drop, length, slice_index, slice_get, ℕ, ◌+◌, ◌-◌, ◌/◌, ◌%◌, Bool, true, false, nat_eq, nat_lt, List, [], ◌∷◌, ◌++◌, slice_index_or, slice_set, bit_and, bit_or, Fits, w8, w32, w64, Bor, MutBor}
-use Rattle.std.specs.Option.{option_map}
-use Rattle.byteorder.specs.Endian.{little_from}
-use Rattle.record_slots.specs.Super.{HasTables, AreTables, IsApart, are_entries, is_name, name_said, tables_in, used_entries}
+use Rattle.std.proofs.Common.{refl, sym, ◌∙◌, arith, ◌≡◌, ◌-◌}
+use Rattle.record_slots.proofs.Used.{named_first, left_on_free, left_on_gap, left_on_unnamed, left_on_named, left_at_end, from}
+use Rattle.record_slots.specs.Super.{are_named}
 use Rattle.record_slots.proofs.entries.have_names.Goals as goal
 
--- src/entries.rt:53:5
+pub loop-j-init : goal.loop-j-init
+loop-j-init c = named_first c.args.entries.now 8 refl
+
 pub loop-j-preserved-then-entries-j-eq0 : goal.loop-j-preserved-then-entries-j-eq0
-loop-j-preserved-then-entries-j-eq0 c = ?
+loop-j-preserved-then-entries-j-eq0 c = left_on_free c.loop-j.used c.args.entries.now c.loop-j.j (are_named c.args.entries.now) c.loop-j-test.true c.if-entries-j-eq0.true c.loop-j.invariant
 
--- src/entries.rt:59:13
 pub returns-then-not-used : goal.returns-then-not-used
-returns-then-not-used c = ?
+returns-then-not-used c = sym (left_on_gap c.loop-j.used c.args.entries.now c.loop-j.j (are_named c.args.entries.now) c.if-not-used.true c.loop-j-test.true c.if-entries-j-eq0.false c.loop-j.invariant)
 
--- src/entries.rt:62:13
 pub returns-then-not-has_name : goal.returns-then-not-has_name
-returns-then-not-has_name c = ?
+returns-then-not-has_name c =
+    sym (left_on_unnamed c.loop-j.used c.args.entries.now c.loop-j.j (are_named c.args.entries.now) c.if-not-used.false c.loop-j-test.true c.if-entries-j-eq0.false (sym c.has_name.ensures ∙ c.if-not-has_name.true) c.loop-j.invariant)
 
--- src/entries.rt:53:5
 pub loop-j-preserved : goal.loop-j-preserved
-loop-j-preserved c = ?
+loop-j-preserved c =
+    left_on_named c.loop-j.used c.args.entries.now c.loop-j.j (are_named c.args.entries.now) c.if-not-used.false c.loop-j-test.true c.if-entries-j-eq0.false (sym c.has_name.ensures ∙ c.if-not-has_name.false) c.loop-j.invariant
 
--- src/entries.rt:49:1
 pub returns : goal.returns
-returns c = ?
+returns c = left_at_end c.loop-j.used (from c.args.entries.now c.loop-j.j) (8 - c.loop-j.j) (are_named c.args.entries.now) (omega (arith, c.loop-j-test.false)) c.loop-j.invariant

@@ -1,29 +1,44 @@
-use Rattle.std.proofs.Common.{rules, ◌≡◌, ◌<◌, ◌≤◌, ◌*◌, ◌↔◌, IsTrue, drop, length, slice_index, slice_get, ℕ, ◌+◌, ◌-◌, ◌/◌, ◌%◌, Bool, true, false, nat_eq, nat_lt, List, [], ◌∷◌, ◌++◌, slice_index_or, slice_set, bit_and, bit_or, Fits, w8, w32, w64, Bor, MutBor}
-use Rattle.std.specs.Option.{option_map}
+use Rattle.std.proofs.Common.{ℕ, ◌≡◌, ◌≢◌, ◌<◌, inl, inr, sym, ◌∙◌, ap, subst, arith}
+use Rattle.std.specs.Cmp.Lexicographic.{same_text, other_text}
+use Rattle.std.proofs.lemmas.Bool.{cases_eq, false≢true}
+use Rattle.std.specs.Prelude.{slice_get}
+use Rattle.record_slots.specs.Super.{tables_used, name_said}
 use Rattle.byteorder.specs.Endian.{little_from}
-use Rattle.record_slots.specs.Super.{HasTables, AreTables, IsApart, are_entries, is_name, name_said, tables_in, used_entries}
+use Rattle.record_slots.proofs.Used.{tables_used_at, named_used_at, clash_root, clash_name, differ, from}
 use Rattle.record_slots.proofs.entries.is_apart.Goals as goal
 
--- src/entries.rt:105:13
-pub returns-then-root_at : goal.returns-then-root_at
-returns-then-root_at c = ?
+pub root_at-requires : goal.root_at-requires
+root_at-requires c = let h = (tables_used_at c.args.j c.args.entries.now c.requires.used).1 in omega (arith, h, c.loop-i-test.true)
 
--- src/entries.rt:107:12
+pub root_at-requires-in-loop-i : goal.root_at-requires-in-loop-i
+root_at-requires-in-loop-i c = (tables_used_at c.args.j c.args.entries.now c.requires.used).1
+
 pub name_at-requires-clause-short : goal.name_at-requires-clause-short
-name_at-requires-clause-short c = ?
+name_at-requires-clause-short c = named_used_at c.loop-i.i c.args.entries.now c.told-entries c.requires.named (omega (arith, c.loop-i-test.true, c.requires.used))
 
--- src/entries.rt:107:35
+pub name_at-requires-in-loop-i-clause-entry : goal.name_at-requires-in-loop-i-clause-entry
+name_at-requires-in-loop-i-clause-entry c = (tables_used_at c.args.j c.args.entries.now c.requires.used).1
+
 pub name_at-requires-in-loop-i-clause-short : goal.name_at-requires-in-loop-i-clause-short
-name_at-requires-in-loop-i-clause-short c = ?
+name_at-requires-in-loop-i-clause-short c = named_used_at c.args.j c.args.entries.now c.told-entries c.requires.named c.requires.used
 
--- src/entries.rt:108:13
+pub returns-then-root_at : goal.returns-then-root_at
+returns-then-root_at c = (
+  λ e. absurd (false≢true e),
+  λ apart. absurd (clash_root c.args.entries.now c.loop-i.i c.args.j c.loop-i-test.true c.requires.used (sym c.root_at.ensures ∙ c.if-root_at.true ∙ c.root_at-in-loop-i.ensures) apart),
+)
+
 pub returns-then-eq : goal.returns-then-eq
-returns-then-eq c = ?
+returns-then-eq c = (
+  λ e. absurd (false≢true e),
+  λ apart. absurd (clash_name c.args.entries.now c.loop-i.i c.args.j c.loop-i-test.true c.requires.used (sym c.name_at.ensures ∙ same_text _ _ c.if-eq.ensures ∙ c.name_at-in-loop-i.ensures) apart),
+)
 
--- src/entries.rt:103:5
 pub loop-i-preserved : goal.loop-i-preserved
-loop-i-preserved c = ?
-
--- src/entries.rt:98:1
-pub returns : goal.returns
-returns c = ?
+loop-i-preserved c = λ k one two lt is is'.
+    let roots : little_from 20 4 (from c.args.entries.now c.loop-i.i) ≢ little_from 20 4 (from c.args.entries.now c.args.j) = λ e. c.if-root_at.false (c.root_at.ensures ∙ e ∙ sym c.root_at-in-loop-i.ensures) in
+    let names : name_said (from c.args.entries.now c.loop-i.i) ≢ name_said (from c.args.entries.now c.args.j) = λ e. other_text _ _ c.if-eq.ensures (c.name_at.ensures ∙ e ∙ sym c.name_at-in-loop-i.ensures) in
+    elim (cases_eq k c.loop-i.i) [
+      | inl here ↦ differ c.args.entries.now c.loop-i.i c.args.j c.loop-i-test.true c.requires.used roots names one two (ap (λ (n : ℕ). slice_get (tables_used c.args.entries.now) n) (sym here) ∙ is) is'
+      | inr other ↦ c.loop-i.invariant k one two (omega (arith, lt, other)) is is'
+    ]

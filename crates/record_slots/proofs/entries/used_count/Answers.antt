@@ -1,13 +1,15 @@
-use Rattle.std.proofs.Common.{rules, ◌≡◌, ◌<◌, ◌≤◌, ◌*◌, ◌↔◌, IsTrue, drop, length, slice_index, slice_get, ℕ, ◌+◌, ◌-◌, ◌/◌, ◌%◌, Bool, true, false, nat_eq, nat_lt, List, [], ◌∷◌, ◌++◌, slice_index_or, slice_set, bit_and, bit_or, Fits, w8, w32, w64, Bor, MutBor}
-use Rattle.std.specs.Option.{option_map}
-use Rattle.byteorder.specs.Endian.{little_from}
-use Rattle.record_slots.specs.Super.{HasTables, AreTables, IsApart, are_entries, is_name, name_said, tables_in, used_entries}
+use Rattle.record_slots.proofs.Used.{used_first, used_up_to, used_so_far, used_all}
+use Rattle.std.proofs.Common.{refl, arith}
 use Rattle.record_slots.proofs.entries.used_count.Goals as goal
 
--- src/entries.rt:121:13
-pub returns-then-entries-j-eq0-clause-count : goal.returns-then-entries-j-eq0-clause-count
-returns-then-entries-j-eq0-clause-count c = ?
+pub loop-j-init : goal.loop-j-init
+loop-j-init c = used_first c.args.entries.now 8 refl
 
--- src/entries.rt:119:5
+pub returns-then-entries-j-eq0-clause-count : goal.returns-then-entries-j-eq0-clause-count
+returns-then-entries-j-eq0-clause-count c = used_up_to c.args.entries.now c.loop-j.j c.if-entries-j-eq0.true c.loop-j.invariant
+
 pub loop-j-preserved : goal.loop-j-preserved
-loop-j-preserved c = ?
+loop-j-preserved c = used_so_far c.args.entries.now c.loop-j.j c.loop-j-test.true c.if-entries-j-eq0.false c.loop-j.invariant
+
+pub returns-clause-count : goal.returns-clause-count
+returns-clause-count c = used_all c.args.entries.now c.loop-j.j (omega (arith, c.loop-j-test.false, c.loop-j.auto.j-end)) c.loop-j.invariant
