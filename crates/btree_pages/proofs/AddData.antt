@@ -106,7 +106,7 @@ module _ (shape : Shape) (old : List ℕ) (half : ℕ) (long : length old ≡ da
 
   is : IsAdded old added half after slot leaf 0 pairs root.table key
   unfolding added
-  is = added_is old half size after slot leaf 0 pairs root.table key writable.0.entries table_few fits eight own_leaf.0 (omega (arith, own_leaf, given_most)) (omega arith) room
+  is = added_is old half size after writable.0.entries slot leaf 0 pairs root.table key table_few fits eight own_leaf.0 (omega (arith, own_leaf, given_most)) (omega arith) room
 
   says_now : SaysSuper (page_bytes added 0) after
   says_now = super_written old added front after is.mark is.part says writable.1 writable.2 writable.0

@@ -303,6 +303,7 @@ module _ (shape : Shape) (old : List ℕ) (half : ℕ) (long : length old ≡ da
       (omega (arith, took.slot_next, slots_few)) (omega (arith, says.next_page, after_next)) after_most whole.front
 
   lists_now : IsAfter old cut 1
+  unfolding cut
   lists_now = is_after old cut 1 after whole.slots whole.pages took says_now
       (λ i from less.
       let f = due_free old whole.pages i less in

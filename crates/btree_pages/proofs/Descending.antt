@@ -71,16 +71,16 @@ child_step root l bytes (e ∷ []) high key some are sound le lt = record {
 }
 child_step root l bytes (e ∷ f ∷ es) high key some are sound le lt =
     let here = child_facts root l bytes e.1 e.0 f.0 are.0.1 sound.0 in
-    let there = child_facts root l bytes f.1 f.0 (next_low es high) are.2.0 sound.1 in
+    let there = child_facts root l bytes f.1 f.0 (next_low es high) are.2.0.1 sound.1.0 in
     let tile = entries_tile root l bytes (f ∷ es) high are.2 sound.1 in
     let rest = joined_rises f.0 high (pieces_with (pairs_under l bytes) (f ∷ es)) tile in
-    let tail = tile_bounds (next_low es high) high (pieces_with (pairs_under l bytes) es) (entries_tile root l bytes es high are.2.2 sound.2) in
+    let tail = tile_bounds (next_low es high) high (pieces_with (pairs_under l bytes) es) (entries_tile root l bytes es high are.2.2 sound.1.1) in
     let a : List Pair = pairs_under l bytes e.1 in
     let j : List Pair = joined (pieces_with (pairs_under l bytes) (f ∷ es)) in
     elim (leb_tells (suc key) f.0) [
       | inl h ↦
           let b : nat_lt key f.0 ≡ true = h.0 in
-          let first = head_some (pairs_under l bytes f.1) (tree_some root l bytes f.1 f.0 (next_low es high) sound.1 are.2.0.1) in
+          let first = head_some (pairs_under l bytes f.1) (tree_some root l bytes f.1 f.0 (next_low es high) sound.1.0 are.2.0.1) in
           let p : Pair = first.0 in
           let is : head (joined (pieces_with (pairs_under l bytes) (f ∷ es))) ≡ Some first.0 = head_append first.0 (pairs_under l bytes f.1) (joined (pieces_with (pairs_under l bytes) es)) first.1 in
           let b' : nat_lt f.0 f.0 ≡ false = grind (arith, nat_tests) in
@@ -90,7 +90,7 @@ child_step root l bytes (e ∷ f ∷ es) high key some are sound le lt =
             refl,
             omega (arith, there.1, tail),
             subst (λ (x : ℕ). x ≢ root.page) (sym c) are.2.0.1,
-            (next_low es high, subst (λ (x : ℕ). IsTree root l bytes x f.0 (next_low es high)) (sym c) sound.1),
+            (next_low es high, subst (λ (x : ℕ). IsTree root l bytes x f.0 (next_low es high)) (sym c) sound.1.0),
             (
               first.0,
               next-right e.0 f.0 f.0 (pairs_under l bytes e.1) (joined (pieces_with (pairs_under l bytes) (f ∷ es))) here.0 (omega arith)
@@ -193,7 +193,7 @@ or_or : (o : Option Pair) (p : Pair) (rest : Option Pair) → or_else (or_else o
 or_or None p rest = refl
 or_or (Some q) p rest = refl
 
-pub down_first : (root : Root) (bytes : List ℕ) (key : ℕ) → IsSoundTree root bytes → key < key_end → Down root bytes key 0 1 None
+pub down_first : (root : Root) (bytes : List ℕ) (key : ℕ) → IsSoundTree root bytes → key < key_end → Down root bytes key 0 root.page None
 unfolding pairs_of_tree
 down_first root bytes key sound lt = record {
   m = level_of bytes root.page;

@@ -2,8 +2,8 @@
 ghost use Rattle.std.specs.Prelude.{◌≡◌, ◌≢◌, ◌<◌, ◌≤◌, ◌-◌, ◌^◌, ◌↔◌, suc, IsErrOf, IsTrue};
 ghost use Rattle.mars_base.specs.Check.{each};
 ghost use Rattle.eaw_face.specs.Causes.{IsAlive};
-ghost use Rattle.record_slots.specs.Places.{next_slot, page_bytes, tables_of};
-ghost use Rattle.record_slots.specs.Super.{HasTables, SaysSuper};
+ghost use Rattle.record_slots.specs.Places.{next_slot, page_bytes, tables_of, IsSuper};
+ghost use Rattle.record_slots.specs.Super.{SaysSuper};
 ghost use Rattle.page_store.specs.Index.{slots_of, index_pages_of};
 ghost use Rattle.page_store.specs.Looks.{Looks, CheckCause, is_check_failed};
 ghost use Rattle.page_store.specs.Shown.{pages_of};
@@ -61,7 +61,7 @@ pub fn check<S: EawStore>(pages: &mut Pages<S>) -> Result<(), CheckFault>
 fn check_tables<S: EawStore>(pages: &mut Pages<S>, front: &Super) -> Result<(), CheckFault>
     requires alive { IsAlive (S.view pages.old.store) }
     requires front { IsFront (S.view pages.old.store).shape front.now }
-    requires tables { HasTables front.now.version front.now.next_page front.now.entries }
+    requires super { IsTrue S.tells → IsSuper 1 (S.view pages.old.store).state.bytes }
     ensures looks { Looks S.tells (S.opens (S.view pages.old.store).shape) (is_check_failed result)
         (pages_of (S.view pages.old.store) pages.old) (pages_of (S.view pages.new.store) pages.new) }
     ensures cause { IsTrue S.tells → SaysSuper (page_bytes (S.view pages.old.store).state.bytes 0) front.now
@@ -72,6 +72,9 @@ fn check_tables<S: EawStore>(pages: &mut Pages<S>, front: &Super) -> Result<(), 
         let Some(page) = table_root(front, table) else {
             return Ok(());
         };
+        if page >= front.next_page {
+            return Err(CheckFault::Damaged { page: 0 });
+        }
         match check_tree(pages, front, Root { page, table }) {
             Ok(()) => {}
             Err(fault) => return Err(fault),

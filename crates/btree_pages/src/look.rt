@@ -3,15 +3,15 @@ ghost use Rattle.std.specs.Prelude.{◌≡◌, ◌<◌, ◌≤◌, IfOk, IfSome,
 ghost use Rattle.array_shape.specs.Places.{page_count};
 ghost use Rattle.eaw_face.specs.Causes.{IsAlive};
 ghost use Rattle.record_slots.specs.Places.{page_bytes};
-ghost use Rattle.page_store.specs.Index.{slots_of};
+ghost use Rattle.page_store.specs.Index.{IsTable, slots_of};
 ghost use Rattle.page_store.specs.Looks.{Looks, LookCause, is_failed};
 ghost use Rattle.page_store.specs.Pairs.{found, next};
 ghost use Rattle.page_store.specs.Shown.{pages_of};
 ghost use Rattle.index_pages.specs.Fetched.{TestCause};
 ghost use Rattle.index_pages.specs.Page.{count_said};
+ghost use Rattle.btree_pages.specs.Index.{AreSoundTrees};
 ghost use Rattle.btree_pages.specs.Leaf.{AtLeaf, Reaches};
 ghost use Rattle.btree_pages.specs.Node.{IsNode, SaysNode};
-ghost use Rattle.btree_laws.specs.Sound.{IsSoundTree};
 ghost use Rattle.btree_laws.specs.Tree.{pairs_of_tree};
 
 use crate::page::{child_in, read_node_head, slot_in};
@@ -63,7 +63,8 @@ fn descend<S: EawStore>(
     bytes: &mut [u8; PAGE_LEN],
 ) -> Result<Leaf, PageFault>
     requires root { root.page < page_count (S.view pages.old.store).shape }
-    requires sound { IsTrue S.tells → IsAlive (S.view pages.old.store) → IsSoundTree root (S.view pages.old.store).state.bytes }
+    requires sound { IsTrue S.tells → IsAlive (S.view pages.old.store) → AreSoundTrees (S.view pages.old.store).state.bytes }
+    requires named { IsTrue S.tells → IsAlive (S.view pages.old.store) → IsTable (S.view pages.old.store).state.bytes root.table root.page }
     ensures looks { Looks S.tells (S.opens (S.view pages.old.store).shape) (is_failed result)
         (pages_of (S.view pages.old.store) pages.old) (pages_of (S.view pages.new.store) pages.new) }
     ensures cause { LookCause S.tells (S.view pages.old.store) result }
@@ -104,7 +105,8 @@ pub fn find<S: EawStore>(
     key: u64,
 ) -> Result<Option<u32>, PageFault>
     requires root { root.page < page_count (S.view pages.old.store).shape }
-    requires sound { IsTrue S.tells → IsAlive (S.view pages.old.store) → IsSoundTree root (S.view pages.old.store).state.bytes }
+    requires sound { IsTrue S.tells → IsAlive (S.view pages.old.store) → AreSoundTrees (S.view pages.old.store).state.bytes }
+    requires named { IsTrue S.tells → IsAlive (S.view pages.old.store) → IsTable (S.view pages.old.store).state.bytes root.table root.page }
     ensures looks { Looks S.tells (S.opens (S.view pages.old.store).shape) (is_failed result)
         (pages_of (S.view pages.old.store) pages.old) (pages_of (S.view pages.new.store) pages.new) }
     ensures cause { LookCause S.tells (S.view pages.old.store) result }
@@ -142,7 +144,8 @@ fn reach<S: EawStore>(
     from: u64,
 ) -> Result<Reached, PageFault>
     requires root { root.page < page_count (S.view pages.old.store).shape }
-    requires sound { IsTrue S.tells → IsAlive (S.view pages.old.store) → IsSoundTree root (S.view pages.old.store).state.bytes }
+    requires sound { IsTrue S.tells → IsAlive (S.view pages.old.store) → AreSoundTrees (S.view pages.old.store).state.bytes }
+    requires named { IsTrue S.tells → IsAlive (S.view pages.old.store) → IsTable (S.view pages.old.store).state.bytes root.table root.page }
     ensures looks { Looks S.tells (S.opens (S.view pages.old.store).shape) (is_failed result)
         (pages_of (S.view pages.old.store) pages.old) (pages_of (S.view pages.new.store) pages.new) }
     ensures cause { LookCause S.tells (S.view pages.old.store) result }
@@ -181,7 +184,8 @@ pub fn next<S: EawStore>(
     from: u64,
 ) -> Result<Option<(u64, u32)>, PageFault>
     requires root { root.page < page_count (S.view pages.old.store).shape }
-    requires sound { IsTrue S.tells → IsAlive (S.view pages.old.store) → IsSoundTree root (S.view pages.old.store).state.bytes }
+    requires sound { IsTrue S.tells → IsAlive (S.view pages.old.store) → AreSoundTrees (S.view pages.old.store).state.bytes }
+    requires named { IsTrue S.tells → IsAlive (S.view pages.old.store) → IsTable (S.view pages.old.store).state.bytes root.table root.page }
     ensures looks { Looks S.tells (S.opens (S.view pages.old.store).shape) (is_failed result)
         (pages_of (S.view pages.old.store) pages.old) (pages_of (S.view pages.new.store) pages.new) }
     ensures cause { LookCause S.tells (S.view pages.old.store) result }

@@ -15,7 +15,7 @@ pub returns-then-is_some : goal.returns-then-is_some
 returns-then-is_some g c = record { looks = c.in-Ok.ensures.looks; cause = c.in-Ok.ensures.cause; next = λ told. sym ((c.in-Ok.ensures.least told).next_is ∙ first_some c.in-Ok.at.least _ c.if-is_some.ensures); inside = c.in-Ok.ensures.inside; dead = λ told. no_error _ _ told }
 
 pub returns-in_default : goal.returns-in_default
-returns-in_default g c = record { looks = c.in-Ok.ensures.looks; cause = c.in-Ok.ensures.cause; next = λ told. sym ((c.in-Ok.ensures.least told).next_is ∙ first_none c.in-Ok.at.least _ c.if-is_some.ensures ∙ ap (from_bound (g.S.EawStore.view c.args.pages.now.store).state.bytes) c.in_default.is); inside = tt; dead = λ told. no_error _ _ told }
+returns-in_default g c = record { looks = c.in-Ok.ensures.looks; cause = c.in-Ok.ensures.cause; next = λ told. sym ((c.in-Ok.ensures.least told).next_is ∙ first_none c.in-Ok.at.least _ c.if-is_some.ensures ∙ ap (from_bound c.args.root (g.S.EawStore.view c.args.pages.now.store).state.bytes) c.in_default.is); inside = tt; dead = λ told. no_error _ _ told }
 
 pub returns-in-Err-reach : goal.returns-in-Err-reach
 returns-in-Err-reach g c = record {
