@@ -465,6 +465,10 @@ module _ (shape : Shape) (old : List ℕ) (half : ℕ) (long : length old ≡ da
   unfolding cut
   cut_size = cut_long
 
+  -- the page that is taken is the one that is due
+  pub cut_due : taken ≡ page_due old 0
+  cut_due = due
+
   -- one page less is left
   pub cut_used : used_pages (applied (cutting_parts after page level pairs taken parent entries) old) ≡ used_pages old + 1
   unfolding cut

@@ -397,6 +397,14 @@ module _ (shape : Shape) (old : List ℕ) (half : ℕ) (long : length old ≡ da
   unfolding grown
   grown_says = says_now
 
+  -- the pages that are taken are those that are due
+  pub grown_dues : (left ≡ page_due old 0) × (right ≡ page_due old 1)
+  grown_dues = (left_due, right_due)
+
+  pub grown_slots : (next_slot (applied (growing_parts after left right root.page level pairs) old) ≡ next_slot old) × (next_page (applied (growing_parts after left right root.page level pairs) old) ≤ next_page old + 2)
+  unfolding grown
+  grown_slots = (lists_now.slots_next, omega (arith, lists_now.pages_next))
+
   -- two pages less are left
   pub grown_used : used_pages (applied (growing_parts after left right root.page level pairs) old) ≡ used_pages old + 2
   unfolding grown

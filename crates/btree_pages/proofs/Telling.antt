@@ -1,5 +1,5 @@
 -- Faults of reads, as a check tells them.
-use Rattle.std.proofs.Common.{◌≡◌, ℕ, Bool, List, Result, Ok, Err, refl, sym, ◌∙◌, subst}
+use Rattle.std.proofs.Common.{◌≡◌, ℕ, Bool, List, Option, None, Result, Ok, Err, inl, inr, IsTrue, refl, sym, ◌∙◌, subst}
 use Rattle.std.proofs.lemmas.Bool.{false≢true}
 use Rattle.eaw_face.specs.StoreView.{StoreView}
 use Rattle.eaw_face.specs.Causes.{IsAlive}
@@ -11,8 +11,12 @@ use Rattle.page_store.specs.declared.index_fault.CheckFault.{CheckFault}
 use Rattle.page_store.specs.declared.index_fault.CheckFault.TheVariants as check
 use Rattle.index_pages.specs.Faults.{as_check}
 use Rattle.index_pages.specs.Fetched.{ReadCause, TestCause}
-use Rattle.index_pages.specs.Slots.{IsVerdict}
-use Rattle.mars_base.specs.Check.{Check}
+use Rattle.index_pages.specs.Slots.{IsVerdict, slots_check, pages_check, tables_check}
+use Rattle.record_slots.specs.Places.{tables_of, IsSuper}
+use Rattle.record_slots.specs.declared.super_page.Super.{Super}
+use Rattle.page_store.specs.Looks.{CheckCause}
+use Rattle.btree_pages.specs.Index.{tree, tree_of, IsFirstDamagedOfTrees}
+use Rattle.mars_base.specs.Check.{Check, both}
 
 -- the medium failed in what is told exactly if it did in the read
 pub failed_same : (T : Type 0) (fault : PageFault) → (let r : Result T PageFault = Err fault in let s : Result (Unit {0}) CheckFault = Err (as_check fault) in is_failed r ≡ is_check_failed s)
@@ -66,3 +70,29 @@ module _ (tells : Bool) (Opens : List ℕ → List ℕ → Type 0) (old new : Pa
 
   pub told_dead : {P : Type 0} (told : CheckFault) → told ≡ as_check fault → (let r : Result (Unit {0}) CheckFault = Err told in r ≡ Err check.Dead) → P
   told_dead told is e = (let media = told_media told is in absurd (cc))
+
+-- What a check of the whole index tells, from what its parts tell: first the super page.
+pub super_fails : (tells : Bool) (old : StoreView) (fault : PageFault) (told : CheckFault) → told ≡ as_check fault
+    → (let r : Result Super PageFault = Err fault in TestCause tells (IsSuper 1 old.state.bytes) 0 old r) → (let s : Result (Unit {0}) CheckFault = Err told in CheckCause tells tree old s)
+super_fails tells old page.Dead told is cause = subst (λ (f : CheckFault). (let s : Result (Unit {0}) CheckFault = Err f in CheckCause tells tree old s)) (sym is) cause
+super_fails tells old page.Media told is cause = subst (λ (f : CheckFault). (let s : Result (Unit {0}) CheckFault = Err f in CheckCause tells tree old s)) (sym is) cause
+super_fails tells old (page.Damaged bad) told is cause = subst (λ (f : CheckFault). (let s : Result (Unit {0}) CheckFault = Err f in CheckCause tells tree old s)) (sym is)
+    (cause.0, λ t. subst (λ (n : ℕ). IsFirstDamagedOfTrees old.state.bytes n) (sym cause.1) (inl (cause.2 t, refl)))
+super_fails tells old (page.LogFull g h n) told is cause = absurd cause
+super_fails tells old page.SavesFull told is cause = absurd cause
+
+module _ (tells : Bool) (old : StoreView) (alive : IsAlive old) (super : IsTrue tells → IsSuper 1 old.state.bytes) where
+  -- then the lists
+  pub lists_fail : (fault : CheckFault) → (let r : Result (Unit {0}) CheckFault = Err fault in IsTrue tells → IsVerdict (both (slots_check old.state.bytes) (pages_check old.state.bytes)) r)
+      → (let r : Result (Unit {0}) CheckFault = Err fault in r ≡ Err check.Dead → ⊥) → (let r : Result (Unit {0}) CheckFault = Err fault in CheckCause tells tree old r)
+  lists_fail (check.Damaged bad) cause dead = (alive, λ t. inr (super t, inl (cause t)))
+  lists_fail check.Media cause dead = alive
+  lists_fail check.Dead cause dead = absurd (dead refl)
+
+  -- then the trees
+  pub tables_tell : (IsTrue tells → both (slots_check old.state.bytes) (pages_check old.state.bytes) None) → (r : Result (Unit {0}) CheckFault)
+      → (IsTrue tells → IsVerdict (tables_check (tree_of old.state.bytes) 0 (tables_of old.state.bytes)) r) → (r ≡ Err check.Dead → ⊥) → CheckCause tells tree old r
+  tables_tell lists (Ok tt) cause dead = (alive, λ t. (super t, lists t, cause t))
+  tables_tell lists (Err (check.Damaged bad)) cause dead = (alive, λ t. inr (super t, inr (lists t, cause t)))
+  tables_tell lists (Err check.Media) cause dead = alive
+  tables_tell lists (Err check.Dead) cause dead = absurd (dead refl)

@@ -61,7 +61,7 @@ pub fn check<S: EawStore>(pages: &mut Pages<S>) -> Result<(), CheckFault>
 fn check_tables<S: EawStore>(pages: &mut Pages<S>, front: &Super) -> Result<(), CheckFault>
     requires alive { IsAlive (S.view pages.old.store) }
     requires front { IsFront (S.view pages.old.store).shape front.now }
-    requires super { IsTrue S.tells → IsSuper 1 (S.view pages.old.store).state.bytes }
+    requires sound { IsTrue S.tells → IsSuper 1 (S.view pages.old.store).state.bytes }
     ensures looks { Looks S.tells (S.opens (S.view pages.old.store).shape) (is_check_failed result)
         (pages_of (S.view pages.old.store) pages.old) (pages_of (S.view pages.new.store) pages.new) }
     ensures cause { IsTrue S.tells → SaysSuper (page_bytes (S.view pages.old.store).state.bytes 0) front.now

@@ -1,5 +1,6 @@
 // Insertions into the tree of a table: each full page on the way down is split, and then the pair goes to its leaf.
-ghost use Rattle.std.specs.Prelude.{◌≡◌, ◌≢◌, ◌+◌, ◌<◌, ◌≤◌, None, IsErrOf, IsTrue, length};
+ghost use Rattle.std.specs.Prelude.{◌≡◌, ◌≢◌, ◌↔◌, ◌+◌, ◌-◌, ◌*◌, ◌<◌, ◌≤◌, None, IsErrOf, IsTrue, length};
+ghost use Rattle.array_shape.specs.Places.{page_count};
 ghost use Rattle.eaw_face.specs.Causes.{IsAlive};
 ghost use Rattle.record_slots.specs.Places.{page_bytes};
 ghost use Rattle.record_slots.specs.Super.{SaysSuper};
@@ -8,6 +9,7 @@ ghost use Rattle.page_store.specs.Inserts.{Inserts};
 ghost use Rattle.page_store.specs.Pairs.{found};
 ghost use Rattle.page_store.specs.Shown.{pages_of, top_in};
 ghost use Rattle.index_pages.specs.Fetched.{IsFront};
+ghost use Rattle.index_pages.specs.Page.{level_of, page_pairs};
 ghost use Rattle.btree_laws.specs.Tree.{pairs_of_tree};
 ghost use Rattle.btree_pages.specs.Index.{tree, tree_below, AreSoundTrees};
 ghost use Rattle.btree_pages.specs.OnWay.{IsReached};
@@ -88,7 +90,8 @@ fn insert_above<S: EawStore>(
     requires page { top.page ≡ root.page }
     requires read { IsRead (S.view pages.old.store).shape top.page top.level top.pairs.items }
     requires full { length top.pairs.items ≡ 30 }
-    requires reached { IsTrue S.tells → IsReached root (S.view pages.old.store).state.bytes key top.page top.level top.pairs.items }
+    requires level { IsTrue S.tells → top.level ≡ level_of (S.view pages.old.store).state.bytes root.page }
+    requires pairs { IsTrue S.tells → top.pairs.items ≡ page_pairs (S.view pages.old.store).state.bytes root.page }
     ensures inserts { Inserts S.tells (S.opens (S.view pages.old.store).shape) tree tid root.page root.table key
         (pages_of (S.view pages.old.store) pages.old) (pages_of (S.view pages.new.store) pages.new) result }
     ensures dead { IsErrOf result IndexFault.Dead → ⊥ }

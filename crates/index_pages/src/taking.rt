@@ -75,6 +75,7 @@ pub fn take_page<S: EawStore>(pages: &mut Pages<S>, front: &Super) -> Result<Cla
     ensures takes { IsTrue S.tells → IfOk result (λ taken. TakesPage (S.view pages.old.store).state.bytes front.now taken.number taken.front) }
     ensures inside { IfOk result (λ taken. (2 ≤ taken.number) × (taken.number < index_pages_of (S.view pages.old.store).shape)) }
     ensures front { IfOk result (λ taken. IsFront (S.view pages.old.store).shape taken.front) }
+    ensures slots { IfOk result (λ taken. (taken.front.next_slot ≡ front.now.next_slot) × (taken.front.free_slots ≡ front.now.free_slots)) }
     ensures dead { IsErrOf result PageFault.Dead → ⊥ }
 {
     if front.free_pages == 0 {

@@ -30,7 +30,7 @@ returns-in_default-clause-cause g c = λ told says.
 
 pub returns-then-page-front-clause-cause : goal.returns-then-page-front-clause-cause
 returns-then-page-front-clause-cause g c = λ told says.
-    let own = table_own 1 (g.S.EawStore.view c.args.pages.now.store).state.bytes c.loop-table.table c.in-Some.page (c.requires.super told) (root_says (g.S.EawStore.view c.args.pages.now.store).state.bytes c.args.front.now c.loop-table.table says ∙ sym c.table_root.ensures ∙ c.in-Some.is) in
+    let own = table_own 1 (g.S.EawStore.view c.args.pages.now.store).state.bytes c.loop-table.table c.in-Some.page (c.requires.sound told) (root_says (g.S.EawStore.view c.args.pages.now.store).state.bytes c.args.front.now c.loop-table.table says ∙ sym c.table_root.ensures ∙ c.in-Some.is) in
     absurd (omega (arith, own.1, says.next_page, c.if-page-front.true))
 
 pub check_tree-requires : goal.check_tree-requires
