@@ -34,7 +34,7 @@ use Rattle.index_pages.proofs.Looking.{looks_none}
 use Rattle.index_pages.proofs.PageFacts.{length-page_pairs}
 use Rattle.index_pages.proofs.Sizes.{slot_page_is}
 use Rattle.index_pages.proofs.Stacks.{list_passes}
-use Rattle.index_pages.proofs.Taken.{FreeSlots, FreePages, taken_none, list_left, slot_is_due}
+use Rattle.index_pages.proofs.Taken.{HasTaken, taken_none, taken_one, list_left}
 use Rattle.index_pages.proofs.Writing.{small_take}
 use Rattle.btree_laws.specs.Descent.{child_for}
 use Rattle.btree_laws.specs.Tree.{pairs_of_tree}
@@ -108,6 +108,14 @@ pub free_pages_pass : (bytes : List ℕ) (front : Super) → AreSoundTrees bytes
 free_pages_pass bytes front sound says =
     let list = (whole_of bytes sound).pages in
     list_passes (free_page_of bytes) (λ page. page) 2 front.next_page front.free_pages front.free_page 0 (list_left bytes 0 front list (taken_none bytes front says list))
+
+-- the same once a page is taken
+pub next_pass : (bytes : List ℕ) (front : Super) (page : ℕ) (after : Super) → AreSoundTrees bytes → SaysSuper (page_bytes bytes 0) front → TakesPage bytes front page after
+    → list_check (free_page_of bytes) (λ page. page) 2 after.next_page after.free_pages after.free_page 0 None
+next_pass bytes front page after sound says takes =
+    let list = (whole_of bytes sound).pages in
+    list_passes (free_page_of bytes) (λ page. page) 2 after.next_page after.free_pages after.free_page 0
+    (list_left bytes 1 after list (subst (λ (f : Super). HasTaken bytes 1 f) (sym takes.after_is) (taken_one bytes 0 front list (taken_none bytes front says list))))
 
 pub free_slots_pass : (bytes : List ℕ) (front : Super) → AreSoundTrees bytes → SaysSuper (page_bytes bytes 0) front
     → list_check (free_slot_of bytes) (slot_page bytes) 0 front.next_slot front.free_slots front.free_slot 0 None
@@ -245,8 +253,8 @@ module _ (tells : Bool) (E : Shape → List ℕ → List ℕ → Type 0) (t : �
             due told = walk_due v0.store root t (index_pages_of v0.store.shape) key (index_pages_of v0.store.shape - used_pages v0.store.state.bytes) (actions_below level0 v0.store.state.bytes page0 page0 0 key) most v'.store.state.bytes page m pairs (walks1 told) child child_is (many told)
 
             -- no page is left
-            pub pages_full : front.free_pages ≡ 0 → front.next_page ≡ half → (let r : Result ℕ IndexFault = Err (index.PagesFull (half - 1)) in Inserts tells (E v0.store.shape) (tree_below page0 level0 most) t root.page root.table key v0 v' r)
-            pages_full no_free none = inserts_refused (tree_below page0 level0 most) tells (E v0.store.shape) t root.page root.table key v0 v' going1 (index.PagesFull (half - 1)) (
+            pub pages_full : (1 ≤ front.free_pages + (half - front.next_page) → ⊥) → (let r : Result ℕ IndexFault = Err (index.PagesFull (half - 1)) in Inserts tells (E v0.store.shape) (tree_below page0 level0 most) t root.page root.table key v0 v' r)
+            pages_full out = inserts_refused (tree_below page0 level0 most) tells (E v0.store.shape) t root.page root.table key v0 v' going1 (index.PagesFull (half - 1)) (
               refl,
               (
                 alive,
@@ -254,14 +262,17 @@ module _ (tells : Bool) (E : Shape → List ℕ → List ℕ → Type 0) (t : �
                 λ told. (
                   slot_left told,
                   pages_lack v0.store t (index_pages_of v0.store.shape - used_pages v0.store.state.bytes) (actions_below level0 v0.store.state.bytes page0 page0 0 key) (index_pages_of v0.store.shape - used_pages v'.store.state.bytes) (cutting child (page_due v'.store.state.bytes 0) page) (actions_below m v'.store.state.bytes child (half_for (page_pairs v'.store.state.bytes child) child (page_due v'.store.state.bytes 0) key) 1 key)
-                      (due told) (omega (arith, none, no_free, half_is, (says1 told).next_page, (says1 told).free_pages)),
+                      (due told) ((let gone : 1 ≤ front.free_pages + (half - front.next_page) → ⊥ = out in omega (arith, gone, half_is, s.front_is.pages, (says1 told).next_page, (says1 told).free_pages))),
                 ),
               ),
             )
-                (λ n e told running. let e' : half - 1 ≡ n = cc in inl (omega (arith, none, no_free, (says1 told).next_page, (says1 told).free_pages, e')))
+                (λ n e told running. let e' : half - 1 ≡ n = cc in let gone : 1 ≤ front.free_pages + (half - front.next_page) → ⊥ = out in inl (omega (arith, gone, half_is, s.front_is.pages, (says1 told).next_page, (says1 told).free_pages, e')))
 
-            module _ (left : front.free_pages ≡ 0 → front.next_page < index_pages_of v0.store.shape) (taken : ℕ) (after : Super) (takes : IsTrue tells → TakesPage v'.store.state.bytes front taken after)
+            module _ (left' : 1 ≤ front.free_pages + (half - front.next_page)) (taken : ℕ) (after : Super) (takes : IsTrue tells → TakesPage v'.store.state.bytes front taken after)
                 (taken_some : 1 ≤ taken) (taken_in : taken < index_pages_of v0.store.shape) (after_is : IsFront v0.store.shape after) (after_slot : after.next_slot ≡ front.next_slot) (after_free : after.free_slots ≡ front.free_slots) where
+              left : front.free_pages ≡ 0 → front.next_page < index_pages_of v0.store.shape
+              left none = omega (arith, left', none, half_is)
+
               parent_read : IsRead v0.store.shape page (m + 1) pairs
               parent_read = subst (λ (n : ℕ). IsRead v0.store.shape page n pairs) (sym one_more) s.read
 

@@ -1,16 +1,11 @@
-pub mod Apart
-pub mod Ways
-pub mod Taking
-pub mod Splitting
-pub mod Fresh
 pub mod Nodes
 pub mod Descending
 pub mod Given
 pub mod Checks
 pub mod Cutting
 pub mod Actions
-pub mod Belonging
 pub mod Entries
+pub mod Others
 pub mod CutData
 pub mod AddData
 pub mod GrowData

@@ -23,6 +23,7 @@ use Rattle.index_pages.specs.Acts.{ActCause}
 use Rattle.index_pages.specs.Faults.{as_index, IsOfIndex}
 use Rattle.index_pages.specs.Fetched.{TestCause, IsFront}
 use Rattle.index_pages.specs.Page.{page_pairs, level_of}
+use Rattle.index_pages.specs.declared.taking.Claim.{Claim}
 use Rattle.index_pages.proofs.Looking.{looks_none}
 use Rattle.btree_pages.specs.Index.{tree, AreSoundTrees}
 use Rattle.btree_pages.specs.Trees.{whole_of}
@@ -114,6 +115,15 @@ half_room half many = omega arith
 
 pub read_half : (shape : Shape) (level was page level2 : ℕ) (pairs half : List Pair) → IsRead shape was level pairs → IsHalfRead shape page half → level2 ≡ level → IsRead shape page level2 half
 read_half shape level was page level2 pairs half read is same = record { some = is.some; inside = is.inside; level_most = subst (λ (n : ℕ). n ≤ 7) (sym same) read.level_most; most = omega (arith, is.many); small = is.small }
+
+-- a page that is to be taken cannot be read
+pub take_err : (tells : Bool) (E : Shape → List ℕ → List ℕ → Type 0) (t : ℕ) (root : Root) (key : ℕ) (v0 : PagesView) → (IsTrue tells → AreSoundTrees v0.store.state.bytes) → (v1 : PagesView) → Looks tells (E v0.store.shape) false v0 v1
+    → (v2 : PagesView) (fault : PageFault) → (let r : Result Claim PageFault = Err fault in Looks tells (E v1.store.shape) (is_failed r) v1 v2 × LookCause tells v1.store r)
+    → (let r : Result ℕ IndexFault = Err (as_index fault) in Inserts tells (E v0.store.shape) tree t root.page root.table key v0 v2 r)
+take_err tells E t root key v0 sound v1 looks v2 fault looks' =
+    let r : Result Claim PageFault = Err fault in
+    inserts_look_err tree tells (E v0.store.shape) t root.page root.table key Claim v0 v1 v2 (going_looks tree tells (E v0.store.shape) t root.page root.table key v0 v1 (λ told alive. sound told) looks) fault
+    (subst (λ (sh : Shape). Looks tells (E sh) (is_failed r) v1 v2) looks.shape looks'.0, looks'.1)
 
 module _ (tells : Bool) (E : Shape → List ℕ → List ℕ → Type 0) (t : ℕ) (root : Root) (key : ℕ) (v0 : PagesView) (sound : IsTrue tells → IsAlive v0.store → AreSoundTrees v0.store.state.bytes)
     (named : IsTrue tells → IsAlive v0.store → IsTable v0.store.state.bytes root.table root.page) where

@@ -127,12 +127,12 @@ module _ (tells : Bool) (E : Shape → List ℕ → List ℕ → Type 0) (t : �
     takes b same told = subst (λ (x : List ℕ). (growing x root.page).takes ≡ 2) (sym (same told)) (growing_takes v0.store t (index_pages_of v0.store.shape) root.page key v0.store.state.bytes (many told) (omega (arith, less, level_is told)))
 
     -- fewer than two pages are left
-    pub root_full : half - (front.next_page - front.free_pages) < 2 → (let r : Result ℕ IndexFault = Err (index.PagesFull (half - 1)) in Inserts tells (E v0.store.shape) tree t root.page root.table key v0 v0 r)
-    root_full none = refused
-        (λ told. growing_lacks v0.store t (index_pages_of v0.store.shape) root.page key v0.store.state.bytes (many told) (omega (arith, takes v0.store.state.bytes (λ t'. refl) told, none, half_is, (says told).next_page, (says told).free_pages)))
-        (λ told. inl (omega (arith, none, (says told).next_page, (says told).free_pages)))
+    pub root_full : (2 ≤ front.free_pages + (half - front.next_page) → ⊥) → (let r : Result ℕ IndexFault = Err (index.PagesFull (half - 1)) in Inserts tells (E v0.store.shape) tree t root.page root.table key v0 v0 r)
+    root_full out = (let gone : 2 ≤ front.free_pages + (half - front.next_page) → ⊥ = out in refused
+        (λ told. growing_lacks v0.store t (index_pages_of v0.store.shape) root.page key v0.store.state.bytes (many told) (omega (arith, takes v0.store.state.bytes (λ t'. refl) told, gone, half_is, front_is.pages, (says told).next_page, (says told).free_pages)))
+        (λ told. inl (omega (arith, gone, half_is, front_is.pages, (says told).next_page, (says told).free_pages))))
 
-    module _ (left_two : 2 ≤ half - (front.next_page - front.free_pages)) (v2 : PagesView) (looks : Looks tells (E v0.store.shape) false v0 v2) (left right : ℕ) (mid after : Super)
+    module _ (left_two : 2 ≤ front.free_pages + (half - front.next_page)) (v2 : PagesView) (looks : Looks tells (E v0.store.shape) false v0 v2) (left right : ℕ) (mid after : Super)
         (one : IsTrue tells → TakesPage v2.store.state.bytes front left mid) (other : IsTrue tells → TakesPage v2.store.state.bytes mid right after) where
       going2 : Going tree tells (E v0.store.shape) t root.page root.table key v0 v2
       going2 = going_looks tree tells (E v0.store.shape) t root.page root.table key v0 v2 (λ told running. sound told) looks
@@ -165,7 +165,7 @@ module _ (tells : Bool) (E : Shape → List ℕ → List ℕ → Type 0) (t : �
       many2 = to2 (λ (b : List ℕ). 30 ≤ count_of b root.page) many
 
       enough2 : IsTrue tells → used_pages v2.store.state.bytes + 1 < index_pages_of v0.store.shape
-      enough2 told = omega (arith, left_two, half_is, (says2 told).next_page, (says2 told).free_pages)
+      enough2 told = omega (arith, left_two, half_is, front_is.pages, (trees_count v2.store.state.bytes (sound2 told)).free_pages_few, (says2 told).next_page, (says2 told).free_pages)
 
       living2 : IsAlive v2.store
       living2 = alive_now tree tells (E v0.store.shape) t root.page root.table key v0 v2 going2 alive

@@ -1,6 +1,5 @@
 // Insertions into the tree of a table: each full page on the way down is split, and then the pair goes to its leaf.
 ghost use Rattle.std.specs.Prelude.{◌≡◌, ◌≢◌, ◌↔◌, ◌+◌, ◌-◌, ◌*◌, ◌<◌, ◌≤◌, None, IsErrOf, IsTrue, length};
-ghost use Rattle.array_shape.specs.Places.{page_count};
 ghost use Rattle.eaw_face.specs.Causes.{IsAlive};
 ghost use Rattle.record_slots.specs.Places.{page_bytes};
 ghost use Rattle.record_slots.specs.Super.{SaysSuper};
@@ -36,7 +35,6 @@ pub fn insert<S: EawStore>(
 ) -> Result<u32, IndexFault>
     requires tid { tid < (S.view pages.old.store).shape.numbers }
     requires table { root.table < 8 }
-    requires root { root.page < page_count (S.view pages.old.store).shape }
     requires closed { IsAlive (S.view pages.old.store) → top_in pages.old.marks tid ≡ None }
     requires sound { IsTrue S.tells → IsAlive (S.view pages.old.store) → AreSoundTrees (S.view pages.old.store).state.bytes }
     requires named { IsTrue S.tells → IsAlive (S.view pages.old.store) → IsTable (S.view pages.old.store).state.bytes root.table root.page }
@@ -55,7 +53,7 @@ pub fn insert<S: EawStore>(
             slots: front.next_slot,
         });
     }
-    if root.page == 0 || root.page >= count {
+    if !is_index_page(root.page, count) {
         return Err(IndexFault::Damaged { page: 0 });
     }
     let top = match fetch_node(pages, root.page) {
@@ -100,7 +98,7 @@ fn insert_above<S: EawStore>(
     if top.level == LEVEL_MAX {
         return Err(IndexFault::PagesFull { pages: count - 1 });
     }
-    if pages_left(&front, count) < 2 {
+    if !are_pages_left(&front, count, 2) {
         return Err(IndexFault::PagesFull { pages: count - 1 });
     }
     let left = match take_page(pages, &front) {
@@ -119,6 +117,13 @@ fn insert_above<S: EawStore>(
     insert_below(pages, tid, root, key, right.front, half)
 }
 
+// Whether a page is one of so many, and not the super page.
+fn is_index_page(page: u32, count: u32) -> bool
+    ensures { IsTrue result ↔ (1 ≤ page) × (page < count) }
+{
+    page != 0 && page < count
+}
+
 // Whether a slot is free, or one is left to give out.
 fn is_slot_left(front: &Super, count: u32) -> bool
     requires { count ≤ 16384 }
@@ -127,13 +132,12 @@ fn is_slot_left(front: &Super, count: u32) -> bool
     front.free_slots != 0 || front.next_slot != SLOTS_IN_PAGE * count
 }
 
-// How many pages are left of so many: the free ones, and those to give out.
-fn pages_left(front: &Super, count: u32) -> u32
-    requires few { front.now.free_pages ≤ front.now.next_page }
-    requires inside { front.now.next_page ≤ count }
-    ensures { result ≡ count - (front.now.next_page - front.now.free_pages) }
+// Whether so many pages are left of `count`: free ones, and those to give out.
+fn are_pages_left(front: &Super, count: u32, pages: u64) -> bool
+    requires { front.now.next_page ≤ count }
+    ensures { IsTrue result ↔ (pages ≤ front.now.free_pages + (count - front.now.next_page)) }
 {
-    count - (front.next_page - front.free_pages)
+    u64::from(front.free_pages) + u64::from(count - front.next_page) >= pages
 }
 
 // Inserts a key, going on from a page on its way that has room.
@@ -175,7 +179,7 @@ fn insert_below<S: EawStore>(
             node = child;
             continue;
         }
-        if front.free_pages == 0 && front.next_page == count {
+        if !are_pages_left(&front, count, 1) {
             return Err(IndexFault::PagesFull { pages: count - 1 });
         }
         let taken = match take_page(pages, &front) {

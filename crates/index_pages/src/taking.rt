@@ -76,6 +76,7 @@ pub fn take_page<S: EawStore>(pages: &mut Pages<S>, front: &Super) -> Result<Cla
     ensures inside { IfOk result (λ taken. (2 ≤ taken.number) × (taken.number < index_pages_of (S.view pages.old.store).shape)) }
     ensures front { IfOk result (λ taken. IsFront (S.view pages.old.store).shape taken.front) }
     ensures slots { IfOk result (λ taken. (taken.front.next_slot ≡ front.now.next_slot) × (taken.front.free_slots ≡ front.now.free_slots)) }
+    ensures pages { IfOk result (λ taken. taken.front.free_pages + 1 + front.now.next_page ≡ front.now.free_pages + taken.front.next_page) }
     ensures dead { IsErrOf result PageFault.Dead → ⊥ }
 {
     if front.free_pages == 0 {
