@@ -1,5 +1,5 @@
 // The slot and the pages that an insertion takes: free ones first.
-ghost use Rattle.std.specs.Prelude.{◌≡◌, ◌<◌, ◌≤◌, None, Some, IfOk, IfSome, IfNone, IsErrOf, IsTrue};
+ghost use Rattle.std.specs.Prelude.{◌≡◌, ◌+◌, ◌<◌, ◌≤◌, None, Some, IfOk, IfSome, IfNone, IsErrOf, IsTrue};
 ghost use Rattle.eaw_face.specs.Causes.{IsAlive};
 ghost use Rattle.record_slots.specs.Places.{slot_page, free_slot_of, free_page_of};
 ghost use Rattle.page_store.specs.Index.{slots_of, index_pages_of};

@@ -140,8 +140,8 @@ take_page-requires-2 g c =
           (next_pass v0.store.state.bytes c.args.front c.in-Ok.left.number c.in-Ok.left.front (c.requires.sound told) (c.requires.says told) (c.in-Ok.ensures.takes told));
     }
 
-pub returns-in-Err-take_page-2-clause-inserts : goal.returns-in-Err-take_page-2-clause-inserts
-returns-in-Err-take_page-2-clause-inserts g c =
+pub returns-in-Err-take_page-clause-inserts : goal.returns-in-Err-take_page-clause-inserts
+returns-in-Err-take_page-clause-inserts g c =
     let T = g.S.EawStore.tells in
     let V = g.S.EawStore.view in
     let E = g.S.EawStore.opens in
@@ -158,12 +158,12 @@ returns-in-Err-take_page-2-clause-inserts g c =
     let v1 = pages_of (V c.take_page.new.pages.store) c.take_page.new.pages in
     let left = c.in-Ok.left in
     let v2 = pages_of (V c.take_page-2.new.pages.store) c.take_page-2.new.pages in
-    subst (λ (f : IndexFault). (let r : Result ℕ IndexFault = Err f in Inserts T (E v0.store.shape) tree t root.page root.table key v0 v2 r)) (sym c.index_fault-in-Err-take_page-2.ensures)
-    (take_err T E t root key v0 c.requires.sound v1 c.in-Ok.ensures.looks v2 c.in-Err-take_page-2.fault (c.in-Err-take_page-2.ensures.looks, c.in-Err-take_page-2.ensures.cause))
+    subst (λ (f : IndexFault). (let r : Result ℕ IndexFault = Err f in Inserts T (E v0.store.shape) tree t root.page root.table key v0 v2 r)) (sym c.index_fault-in-Err-take_page.ensures)
+    (take_err T E t root key v0 c.requires.sound v1 c.in-Ok.ensures.looks v2 c.in-Err-take_page.fault (c.in-Err-take_page.ensures.looks, c.in-Err-take_page.ensures.cause))
 
-pub returns-in-Err-take_page-2-clause-dead : goal.returns-in-Err-take_page-2-clause-dead
-returns-in-Err-take_page-2-clause-dead g c =
-    λ told. c.in-Err-take_page-2.ensures.dead (ap Err (dead_fault c.in-Err-take_page-2.fault c.index_fault-in-Err-take_page-2.result (look_of_index Claim g.S.EawStore.tells (g.S.EawStore.view c.take_page.new.pages.store) c.in-Err-take_page-2.fault c.in-Err-take_page-2.ensures.cause) c.index_fault-in-Err-take_page-2.ensures told))
+pub returns-in-Err-take_page-clause-dead : goal.returns-in-Err-take_page-clause-dead
+returns-in-Err-take_page-clause-dead g c =
+    λ told. c.in-Err-take_page.ensures.dead (ap Err (dead_fault c.in-Err-take_page.fault c.index_fault-in-Err-take_page.result (look_of_index Claim g.S.EawStore.tells (g.S.EawStore.view c.take_page.new.pages.store) c.in-Err-take_page.fault c.in-Err-take_page.ensures.cause) c.index_fault-in-Err-take_page.ensures told))
 
 pub grow_root-requires : goal.grow_root-requires
 grow_root-requires g c =
@@ -183,18 +183,18 @@ grow_root-requires g c =
     let v1 = pages_of (V c.take_page.new.pages.store) c.take_page.new.pages in
     let left = c.in-Ok.left in
     let v2 = pages_of (V c.take_page-2.new.pages.store) c.take_page-2.new.pages in
-    let right = c.in-Ok-take_page-2.right in
-    let looks = looks_next T E false v0 v1 v2 c.in-Ok.ensures.looks c.in-Ok-take_page-2.ensures.looks in
-    let one = λ (told : IsTrue g.S.EawStore.tells). subst (λ (st : State). TakesPage st.bytes c.args.front c.in-Ok.left.number c.in-Ok.left.front) (sym ((c.in-Ok.ensures.looks.still refl).state told) ∙ sym ((c.in-Ok-take_page-2.ensures.looks.still refl).state told)) (c.in-Ok.ensures.takes told) in
-    let other = λ (told : IsTrue g.S.EawStore.tells). subst (λ (st : State). TakesPage st.bytes c.in-Ok.left.front c.in-Ok-take_page-2.right.number c.in-Ok-take_page-2.right.front) (sym ((c.in-Ok-take_page-2.ensures.looks.still refl).state told)) (c.in-Ok-take_page-2.ensures.takes told) in
+    let right = c.in-Ok-take_page.right in
+    let looks = looks_next T E false v0 v1 v2 c.in-Ok.ensures.looks c.in-Ok-take_page.ensures.looks in
+    let one = λ (told : IsTrue g.S.EawStore.tells). subst (λ (st : State). TakesPage st.bytes c.args.front c.in-Ok.left.number c.in-Ok.left.front) (sym ((c.in-Ok.ensures.looks.still refl).state told) ∙ sym ((c.in-Ok-take_page.ensures.looks.still refl).state told)) (c.in-Ok.ensures.takes told) in
+    let other = λ (told : IsTrue g.S.EawStore.tells). subst (λ (st : State). TakesPage st.bytes c.in-Ok.left.front c.in-Ok-take_page.right.number c.in-Ok-take_page.right.front) (sym ((c.in-Ok-take_page.ensures.looks.still refl).state told)) (c.in-Ok-take_page.ensures.takes told) in
     record {
       tid = subst (λ (sh : Shape). c.args.tid < sh.numbers) (sym looks.shape) c.requires.tid;
-      closed = λ running. ap (λ (f : ℕ → Option ℕ). f c.args.tid) (c.in-Ok-take_page-2.ensures.looks.tops ∙ c.in-Ok.ensures.looks.tops) ∙ c.requires.closed;
+      closed = λ running. ap (λ (f : ℕ → Option ℕ). f c.args.tid) (c.in-Ok-take_page.ensures.looks.tops ∙ c.in-Ok.ensures.looks.tops) ∙ c.requires.closed;
       root = subst (λ (sh : Shape). IsRead sh c.args.top.page c.args.top.level c.args.top.pairs.items) (sym looks.shape) c.requires.read;
       level = below_most c.args.top.level c.if-top-eq-LEVEL_MAX.false c.requires.read.level_most;
       full = c.requires.full;
       left = subst (λ (sh : Shape). c.in-Ok.left.number < index_pages_of sh) (sym looks.shape) c.in-Ok.ensures.inside.1;
-      right = subst (λ (sh : Shape). c.in-Ok-take_page-2.right.number < index_pages_of sh) (sym c.in-Ok-take_page-2.ensures.looks.shape) c.in-Ok-take_page-2.ensures.inside.1;
+      right = subst (λ (sh : Shape). c.in-Ok-take_page.right.number < index_pages_of sh) (sym c.in-Ok-take_page.ensures.looks.shape) c.in-Ok-take_page.ensures.inside.1;
     }
 
 pub returns-in-Err-grow_root-clause-inserts : goal.returns-in-Err-grow_root-clause-inserts
@@ -215,14 +215,14 @@ returns-in-Err-grow_root-clause-inserts g c =
     let v1 = pages_of (V c.take_page.new.pages.store) c.take_page.new.pages in
     let left = c.in-Ok.left in
     let v2 = pages_of (V c.take_page-2.new.pages.store) c.take_page-2.new.pages in
-    let right = c.in-Ok-take_page-2.right in
-    let looks = looks_next T E false v0 v1 v2 c.in-Ok.ensures.looks c.in-Ok-take_page-2.ensures.looks in
-    let one = λ (told : IsTrue g.S.EawStore.tells). subst (λ (st : State). TakesPage st.bytes c.args.front c.in-Ok.left.number c.in-Ok.left.front) (sym ((c.in-Ok.ensures.looks.still refl).state told) ∙ sym ((c.in-Ok-take_page-2.ensures.looks.still refl).state told)) (c.in-Ok.ensures.takes told) in
-    let other = λ (told : IsTrue g.S.EawStore.tells). subst (λ (st : State). TakesPage st.bytes c.in-Ok.left.front c.in-Ok-take_page-2.right.number c.in-Ok-take_page-2.right.front) (sym ((c.in-Ok-take_page-2.ensures.looks.still refl).state told)) (c.in-Ok-take_page-2.ensures.takes told) in
+    let right = c.in-Ok-take_page.right in
+    let looks = looks_next T E false v0 v1 v2 c.in-Ok.ensures.looks c.in-Ok-take_page.ensures.looks in
+    let one = λ (told : IsTrue g.S.EawStore.tells). subst (λ (st : State). TakesPage st.bytes c.args.front c.in-Ok.left.number c.in-Ok.left.front) (sym ((c.in-Ok.ensures.looks.still refl).state told) ∙ sym ((c.in-Ok-take_page.ensures.looks.still refl).state told)) (c.in-Ok.ensures.takes told) in
+    let other = λ (told : IsTrue g.S.EawStore.tells). subst (λ (st : State). TakesPage st.bytes c.in-Ok.left.front c.in-Ok-take_page.right.number c.in-Ok-take_page.right.front) (sym ((c.in-Ok-take_page.ensures.looks.still refl).state told)) (c.in-Ok-take_page.ensures.takes told) in
     let v3 = pages_of (V c.grow_root.new.pages.store) c.grow_root.new.pages in
-    let acts = λ (r : Result (Unit {0}) PageFault) (a : Acts g.S.EawStore.tells (g.S.EawStore.opens (g.S.EawStore.view c.take_page-2.new.pages.store).shape) c.args.tid (growing_pages c.in-Ok.left.number c.in-Ok-take_page-2.right.number c.args.top.page) (growing_parts c.in-Ok-take_page-2.right.front c.in-Ok.left.number c.in-Ok-take_page-2.right.number c.args.top.page c.args.top.level c.args.top.pairs.items)
+    let acts = λ (r : Result (Unit {0}) PageFault) (a : Acts g.S.EawStore.tells (g.S.EawStore.opens (g.S.EawStore.view c.take_page-2.new.pages.store).shape) c.args.tid (growing_pages c.in-Ok.left.number c.in-Ok-take_page.right.number c.args.top.page) (growing_parts c.in-Ok-take_page.right.front c.in-Ok.left.number c.in-Ok-take_page.right.number c.args.top.page c.args.top.level c.args.top.pairs.items)
     (pages_of (g.S.EawStore.view c.take_page-2.new.pages.store) c.take_page-2.new.pages) (pages_of (g.S.EawStore.view c.grow_root.new.pages.store) c.grow_root.new.pages) r).
-    subst (λ (p : ℕ). Acts g.S.EawStore.tells (g.S.EawStore.opens (g.S.EawStore.view c.take_page-2.new.pages.store).shape) c.args.tid (growing_pages c.in-Ok.left.number c.in-Ok-take_page-2.right.number p) (growing_parts c.in-Ok-take_page-2.right.front c.in-Ok.left.number c.in-Ok-take_page-2.right.number p c.args.top.level c.args.top.pairs.items)
+    subst (λ (p : ℕ). Acts g.S.EawStore.tells (g.S.EawStore.opens (g.S.EawStore.view c.take_page-2.new.pages.store).shape) c.args.tid (growing_pages c.in-Ok.left.number c.in-Ok-take_page.right.number p) (growing_parts c.in-Ok-take_page.right.front c.in-Ok.left.number c.in-Ok-take_page.right.number p c.args.top.level c.args.top.pairs.items)
     (pages_of (g.S.EawStore.view c.take_page-2.new.pages.store) c.take_page-2.new.pages) (pages_of (g.S.EawStore.view c.grow_root.new.pages.store) c.grow_root.new.pages) r) c.requires.page a in
     subst (λ (f : IndexFault). (let r : Result ℕ IndexFault = Err f in Inserts T (E v0.store.shape) tree t root.page root.table key v0 v3 r)) (sym c.index_fault-in-Err-grow_root.ensures)
     (grow_err T E t root key v0 c.index_page_count-count.result n.count n.all n.most n.some small c.requires.sound c.requires.named c.requires.absent long c.requires.alive front c.requires.front c.requires.slot c.requires.says top.level top.pairs.items read c.requires.level c.requires.pairs c.requires.full c.if-top-eq-LEVEL_MAX.false (c.if-not-are_pages_left.ensures.0 refl) v2 looks left.number right.number left.front right.front one other v3 c.in-Err-grow_root.fault (acts (Err c.in-Err-grow_root.fault) c.in-Err-grow_root.ensures.acts))
@@ -245,11 +245,11 @@ returns-in-Err-grow_root-clause-dead g c =
     let v1 = pages_of (V c.take_page.new.pages.store) c.take_page.new.pages in
     let left = c.in-Ok.left in
     let v2 = pages_of (V c.take_page-2.new.pages.store) c.take_page-2.new.pages in
-    let right = c.in-Ok-take_page-2.right in
-    let looks = looks_next T E false v0 v1 v2 c.in-Ok.ensures.looks c.in-Ok-take_page-2.ensures.looks in
-    let one = λ (told : IsTrue g.S.EawStore.tells). subst (λ (st : State). TakesPage st.bytes c.args.front c.in-Ok.left.number c.in-Ok.left.front) (sym ((c.in-Ok.ensures.looks.still refl).state told) ∙ sym ((c.in-Ok-take_page-2.ensures.looks.still refl).state told)) (c.in-Ok.ensures.takes told) in
-    let other = λ (told : IsTrue g.S.EawStore.tells). subst (λ (st : State). TakesPage st.bytes c.in-Ok.left.front c.in-Ok-take_page-2.right.number c.in-Ok-take_page-2.right.front) (sym ((c.in-Ok-take_page-2.ensures.looks.still refl).state told)) (c.in-Ok-take_page-2.ensures.takes told) in
-    let ps = growing_pages c.in-Ok.left.number c.in-Ok-take_page-2.right.number c.args.top.page in
+    let right = c.in-Ok-take_page.right in
+    let looks = looks_next T E false v0 v1 v2 c.in-Ok.ensures.looks c.in-Ok-take_page.ensures.looks in
+    let one = λ (told : IsTrue g.S.EawStore.tells). subst (λ (st : State). TakesPage st.bytes c.args.front c.in-Ok.left.number c.in-Ok.left.front) (sym ((c.in-Ok.ensures.looks.still refl).state told) ∙ sym ((c.in-Ok-take_page.ensures.looks.still refl).state told)) (c.in-Ok.ensures.takes told) in
+    let other = λ (told : IsTrue g.S.EawStore.tells). subst (λ (st : State). TakesPage st.bytes c.in-Ok.left.front c.in-Ok-take_page.right.number c.in-Ok-take_page.right.front) (sym ((c.in-Ok-take_page.ensures.looks.still refl).state told)) (c.in-Ok-take_page.ensures.takes told) in
+    let ps = growing_pages c.in-Ok.left.number c.in-Ok-take_page.right.number c.args.top.page in
     λ told. dead_act v2.store t ps c.in-Err-grow_root.fault ((looks.still refl).dead ∙ c.requires.alive)
     (dead_fault c.in-Err-grow_root.fault c.index_fault-in-Err-grow_root.result (act_of_index v2.store t ps c.in-Err-grow_root.fault c.in-Err-grow_root.ensures.acts.cause) c.index_fault-in-Err-grow_root.ensures told) c.in-Err-grow_root.ensures.acts.cause
 
@@ -275,22 +275,22 @@ insert_below-requires g c =
     let v1 = pages_of (V c.take_page.new.pages.store) c.take_page.new.pages in
     let left = c.in-Ok.left in
     let v2 = pages_of (V c.take_page-2.new.pages.store) c.take_page-2.new.pages in
-    let right = c.in-Ok-take_page-2.right in
-    let looks = looks_next T E false v0 v1 v2 c.in-Ok.ensures.looks c.in-Ok-take_page-2.ensures.looks in
-    let one = λ (told : IsTrue g.S.EawStore.tells). subst (λ (st : State). TakesPage st.bytes c.args.front c.in-Ok.left.number c.in-Ok.left.front) (sym ((c.in-Ok.ensures.looks.still refl).state told) ∙ sym ((c.in-Ok-take_page-2.ensures.looks.still refl).state told)) (c.in-Ok.ensures.takes told) in
-    let other = λ (told : IsTrue g.S.EawStore.tells). subst (λ (st : State). TakesPage st.bytes c.in-Ok.left.front c.in-Ok-take_page-2.right.number c.in-Ok-take_page-2.right.front) (sym ((c.in-Ok-take_page-2.ensures.looks.still refl).state told)) (c.in-Ok-take_page-2.ensures.takes told) in
+    let right = c.in-Ok-take_page.right in
+    let looks = looks_next T E false v0 v1 v2 c.in-Ok.ensures.looks c.in-Ok-take_page.ensures.looks in
+    let one = λ (told : IsTrue g.S.EawStore.tells). subst (λ (st : State). TakesPage st.bytes c.args.front c.in-Ok.left.number c.in-Ok.left.front) (sym ((c.in-Ok.ensures.looks.still refl).state told) ∙ sym ((c.in-Ok-take_page.ensures.looks.still refl).state told)) (c.in-Ok.ensures.takes told) in
+    let other = λ (told : IsTrue g.S.EawStore.tells). subst (λ (st : State). TakesPage st.bytes c.in-Ok.left.front c.in-Ok-take_page.right.number c.in-Ok-take_page.right.front) (sym ((c.in-Ok-take_page.ensures.looks.still refl).state told)) (c.in-Ok-take_page.ensures.takes told) in
     let v3 = pages_of (V c.grow_root.new.pages.store) c.grow_root.new.pages in
-    let acts = λ (r : Result (Unit {0}) PageFault) (a : Acts g.S.EawStore.tells (g.S.EawStore.opens (g.S.EawStore.view c.take_page-2.new.pages.store).shape) c.args.tid (growing_pages c.in-Ok.left.number c.in-Ok-take_page-2.right.number c.args.top.page) (growing_parts c.in-Ok-take_page-2.right.front c.in-Ok.left.number c.in-Ok-take_page-2.right.number c.args.top.page c.args.top.level c.args.top.pairs.items)
+    let acts = λ (r : Result (Unit {0}) PageFault) (a : Acts g.S.EawStore.tells (g.S.EawStore.opens (g.S.EawStore.view c.take_page-2.new.pages.store).shape) c.args.tid (growing_pages c.in-Ok.left.number c.in-Ok-take_page.right.number c.args.top.page) (growing_parts c.in-Ok-take_page.right.front c.in-Ok.left.number c.in-Ok-take_page.right.number c.args.top.page c.args.top.level c.args.top.pairs.items)
     (pages_of (g.S.EawStore.view c.take_page-2.new.pages.store) c.take_page-2.new.pages) (pages_of (g.S.EawStore.view c.grow_root.new.pages.store) c.grow_root.new.pages) r).
-    subst (λ (p : ℕ). Acts g.S.EawStore.tells (g.S.EawStore.opens (g.S.EawStore.view c.take_page-2.new.pages.store).shape) c.args.tid (growing_pages c.in-Ok.left.number c.in-Ok-take_page-2.right.number p) (growing_parts c.in-Ok-take_page-2.right.front c.in-Ok.left.number c.in-Ok-take_page-2.right.number p c.args.top.level c.args.top.pairs.items)
+    subst (λ (p : ℕ). Acts g.S.EawStore.tells (g.S.EawStore.opens (g.S.EawStore.view c.take_page-2.new.pages.store).shape) c.args.tid (growing_pages c.in-Ok.left.number c.in-Ok-take_page.right.number p) (growing_parts c.in-Ok-take_page.right.front c.in-Ok.left.number c.in-Ok-take_page.right.number p c.args.top.level c.args.top.pairs.items)
     (pages_of (g.S.EawStore.view c.take_page-2.new.pages.store) c.take_page-2.new.pages) (pages_of (g.S.EawStore.view c.grow_root.new.pages.store) c.grow_root.new.pages) r) c.requires.page a in
     let half = c.half_of-half in
     let shape3 = c.in-Ok-grow_root.ensures.acts.shape ∙ looks.shape in
     let left_in = c.in-Ok.ensures.inside in
-    let right_in = subst (λ (sh : Shape). c.in-Ok-take_page-2.right.number < index_pages_of sh) c.in-Ok.ensures.looks.shape c.in-Ok-take_page-2.ensures.inside.1 in
-    let half_is = half_read v0.store.shape top.pairs.items left.number right.number key half.result.page half.result.pairs.items c.requires.full read.small (two_some left.number left_in.0) left_in.1 (two_some right.number c.in-Ok-take_page-2.ensures.inside.0) right_in half.ensures.page half.ensures.pairs in
+    let right_in = subst (λ (sh : Shape). c.in-Ok-take_page.right.number < index_pages_of sh) c.in-Ok.ensures.looks.shape c.in-Ok-take_page.ensures.inside.1 in
+    let half_is = half_read v0.store.shape top.pairs.items left.number right.number key half.result.page half.result.pairs.items c.requires.full read.small (two_some left.number left_in.0) left_in.1 (two_some right.number c.in-Ok-take_page.ensures.inside.0) right_in half.ensures.page half.ensures.pairs in
     let slots = c.in-Ok.ensures.slots in
-    let slots2 = c.in-Ok-take_page-2.ensures.slots in
+    let slots2 = c.in-Ok-take_page.ensures.slots in
     record {
       tid = subst (λ (sh : Shape). c.args.tid < sh.numbers) (sym shape3) c.requires.tid;
       table = c.requires.table;
@@ -299,8 +299,8 @@ insert_below-requires g c =
       sound = sound3 T E t root key v0 c.index_page_count-count.result n.count n.all n.most n.some small c.requires.sound c.requires.named c.requires.absent long c.requires.alive front c.requires.front c.requires.slot c.requires.says top.level top.pairs.items read c.requires.level c.requires.pairs c.requires.full c.if-top-eq-LEVEL_MAX.false (c.if-not-are_pages_left.ensures.0 refl) v2 looks left.number right.number left.front right.front one other v3 (acts (Ok tt) c.in-Ok-grow_root.ensures.acts);
       named = named3 T E t root key v0 c.index_page_count-count.result n.count n.all n.most n.some small c.requires.sound c.requires.named c.requires.absent long c.requires.alive front c.requires.front c.requires.slot c.requires.says top.level top.pairs.items read c.requires.level c.requires.pairs c.requires.full c.if-top-eq-LEVEL_MAX.false (c.if-not-are_pages_left.ensures.0 refl) v2 looks left.number right.number left.front right.front one other v3 (acts (Ok tt) c.in-Ok-grow_root.ensures.acts);
       absent = absent3 T E t root key v0 c.index_page_count-count.result n.count n.all n.most n.some small c.requires.sound c.requires.named c.requires.absent long c.requires.alive front c.requires.front c.requires.slot c.requires.says top.level top.pairs.items read c.requires.level c.requires.pairs c.requires.full c.if-top-eq-LEVEL_MAX.false (c.if-not-are_pages_left.ensures.0 refl) v2 looks left.number right.number left.front right.front one other v3 (acts (Ok tt) c.in-Ok-grow_root.ensures.acts);
-      front = subst (λ (sh : Shape). IsFront sh c.in-Ok-take_page-2.right.front) (sym (c.in-Ok-grow_root.ensures.acts.shape)) c.in-Ok-take_page-2.ensures.front;
-      slot = λ none. subst (λ (sh : Shape). c.in-Ok-take_page-2.right.front.next_slot < slots_of sh) (sym shape3)
+      front = subst (λ (sh : Shape). IsFront sh c.in-Ok-take_page.right.front) (sym (c.in-Ok-grow_root.ensures.acts.shape)) c.in-Ok-take_page.ensures.front;
+      slot = λ none. subst (λ (sh : Shape). c.in-Ok-take_page.right.front.next_slot < slots_of sh) (sym shape3)
           (subst (λ (k : ℕ). k < slots_of (g.S.EawStore.view c.args.pages.now.store).shape) (sym (slots2.0 ∙ slots.0)) (c.requires.slot (sym (slots2.1 ∙ slots.1) ∙ none)));
       says = says3 T E t root key v0 c.index_page_count-count.result n.count n.all n.most n.some small c.requires.sound c.requires.named c.requires.absent long c.requires.alive front c.requires.front c.requires.slot c.requires.says top.level top.pairs.items read c.requires.level c.requires.pairs c.requires.full c.if-top-eq-LEVEL_MAX.false (c.if-not-are_pages_left.ensures.0 refl) v2 looks left.number right.number left.front right.front one other v3 (acts (Ok tt) c.in-Ok-grow_root.ensures.acts);
       read = subst (λ (sh : Shape). IsRead sh half.result.page half.result.level half.result.pairs.items) (sym shape3) (read_half v0.store.shape top.level root.page half.result.page half.result.level top.pairs.items half.result.pairs.items read half_is half.ensures.level);
@@ -327,14 +327,14 @@ returns-clause-inserts g c =
     let v1 = pages_of (V c.take_page.new.pages.store) c.take_page.new.pages in
     let left = c.in-Ok.left in
     let v2 = pages_of (V c.take_page-2.new.pages.store) c.take_page-2.new.pages in
-    let right = c.in-Ok-take_page-2.right in
-    let looks = looks_next T E false v0 v1 v2 c.in-Ok.ensures.looks c.in-Ok-take_page-2.ensures.looks in
-    let one = λ (told : IsTrue g.S.EawStore.tells). subst (λ (st : State). TakesPage st.bytes c.args.front c.in-Ok.left.number c.in-Ok.left.front) (sym ((c.in-Ok.ensures.looks.still refl).state told) ∙ sym ((c.in-Ok-take_page-2.ensures.looks.still refl).state told)) (c.in-Ok.ensures.takes told) in
-    let other = λ (told : IsTrue g.S.EawStore.tells). subst (λ (st : State). TakesPage st.bytes c.in-Ok.left.front c.in-Ok-take_page-2.right.number c.in-Ok-take_page-2.right.front) (sym ((c.in-Ok-take_page-2.ensures.looks.still refl).state told)) (c.in-Ok-take_page-2.ensures.takes told) in
+    let right = c.in-Ok-take_page.right in
+    let looks = looks_next T E false v0 v1 v2 c.in-Ok.ensures.looks c.in-Ok-take_page.ensures.looks in
+    let one = λ (told : IsTrue g.S.EawStore.tells). subst (λ (st : State). TakesPage st.bytes c.args.front c.in-Ok.left.number c.in-Ok.left.front) (sym ((c.in-Ok.ensures.looks.still refl).state told) ∙ sym ((c.in-Ok-take_page.ensures.looks.still refl).state told)) (c.in-Ok.ensures.takes told) in
+    let other = λ (told : IsTrue g.S.EawStore.tells). subst (λ (st : State). TakesPage st.bytes c.in-Ok.left.front c.in-Ok-take_page.right.number c.in-Ok-take_page.right.front) (sym ((c.in-Ok-take_page.ensures.looks.still refl).state told)) (c.in-Ok-take_page.ensures.takes told) in
     let v3 = pages_of (V c.grow_root.new.pages.store) c.grow_root.new.pages in
-    let acts = λ (r : Result (Unit {0}) PageFault) (a : Acts g.S.EawStore.tells (g.S.EawStore.opens (g.S.EawStore.view c.take_page-2.new.pages.store).shape) c.args.tid (growing_pages c.in-Ok.left.number c.in-Ok-take_page-2.right.number c.args.top.page) (growing_parts c.in-Ok-take_page-2.right.front c.in-Ok.left.number c.in-Ok-take_page-2.right.number c.args.top.page c.args.top.level c.args.top.pairs.items)
+    let acts = λ (r : Result (Unit {0}) PageFault) (a : Acts g.S.EawStore.tells (g.S.EawStore.opens (g.S.EawStore.view c.take_page-2.new.pages.store).shape) c.args.tid (growing_pages c.in-Ok.left.number c.in-Ok-take_page.right.number c.args.top.page) (growing_parts c.in-Ok-take_page.right.front c.in-Ok.left.number c.in-Ok-take_page.right.number c.args.top.page c.args.top.level c.args.top.pairs.items)
     (pages_of (g.S.EawStore.view c.take_page-2.new.pages.store) c.take_page-2.new.pages) (pages_of (g.S.EawStore.view c.grow_root.new.pages.store) c.grow_root.new.pages) r).
-    subst (λ (p : ℕ). Acts g.S.EawStore.tells (g.S.EawStore.opens (g.S.EawStore.view c.take_page-2.new.pages.store).shape) c.args.tid (growing_pages c.in-Ok.left.number c.in-Ok-take_page-2.right.number p) (growing_parts c.in-Ok-take_page-2.right.front c.in-Ok.left.number c.in-Ok-take_page-2.right.number p c.args.top.level c.args.top.pairs.items)
+    subst (λ (p : ℕ). Acts g.S.EawStore.tells (g.S.EawStore.opens (g.S.EawStore.view c.take_page-2.new.pages.store).shape) c.args.tid (growing_pages c.in-Ok.left.number c.in-Ok-take_page.right.number p) (growing_parts c.in-Ok-take_page.right.front c.in-Ok.left.number c.in-Ok-take_page.right.number p c.args.top.level c.args.top.pairs.items)
     (pages_of (g.S.EawStore.view c.take_page-2.new.pages.store) c.take_page-2.new.pages) (pages_of (g.S.EawStore.view c.grow_root.new.pages.store) c.grow_root.new.pages) r) c.requires.page a in
     let half = c.half_of-half in
     let v4 = pages_of (V c.insert_below.new.pages.store) c.insert_below.new.pages in
