@@ -10,7 +10,8 @@ use Rattle.index_pages.proofs.Given.{above_zero}
 use Rattle.index_pages.proofs.PageFacts.{length-page_pairs}
 use Rattle.btree_laws.specs.Changes.{middle, with_entry, SplitsChild, SplitsRoot}
 use Rattle.btree_laws.specs.Descent.{child_for, page_for, leaf_for}
-use Rattle.btree_laws.specs.Tree.{Root, next_low, IsUnder, IsUnderSome, IsPageOfTree}
+use Rattle.btree_laws.specs.declared.root.Root.{Root}
+use Rattle.btree_laws.specs.Tree.{next_low, IsUnder, IsUnderSome, IsPageOfTree}
 use Rattle.btree_laws.specs.Sound.{AreSound, IsTree, IsSoundTree}
 use Rattle.btree_laws.proofs.Apart.{sub_of, sub_below, start_of}
 use Rattle.btree_laws.proofs.Splitting.{sound_tree_splits, under_self}

@@ -7,7 +7,8 @@ use Rattle.btree_laws.proofs.Ways.{sound_tree_finds}
 use Rattle.btree_laws.specs.Descent.{leaf_for, page_for}
 use Rattle.btree_laws.specs.Removals.{IsAlone, MayLose, Neighbours, right_of}
 use Rattle.btree_laws.specs.Sound.{IsSoundTree}
-use Rattle.btree_laws.specs.Tree.{Root, pairs_of_tree}
+use Rattle.btree_laws.specs.declared.root.Root.{Root}
+use Rattle.btree_laws.specs.Tree.{pairs_of_tree}
 use Rattle.index_pages.proofs.PageFacts.{length-page_pairs}
 use Rattle.index_pages.specs.Keys.{key_end}
 use Rattle.index_pages.specs.Page.{page_pairs, level_of, count_of}

@@ -9,7 +9,8 @@ use Rattle.page_store.specs.Pairs.{Pair}
 use Rattle.index_pages.specs.Keys.{key_end}
 use Rattle.index_pages.specs.Page.{page_pairs, level_of}
 use Rattle.index_pages.proofs.PageFacts.{length-page_pairs}
-use Rattle.btree_laws.specs.Tree.{Root, next_low, IsPageOfTree}
+use Rattle.btree_laws.specs.declared.root.Root.{Root}
+use Rattle.btree_laws.specs.Tree.{next_low, IsPageOfTree}
 use Rattle.btree_laws.specs.Sound.{AreBelow, AreSound, IsTree, IsSoundTree}
 use Rattle.btree_laws.specs.TreeFacts.{tree_level}
 use Rattle.btree_laws.proofs.Apart.{sub_of}

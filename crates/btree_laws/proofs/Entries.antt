@@ -4,7 +4,8 @@ use Rattle.std.proofs.lemmas.Bool.Decides.{leb_tells}
 use Rattle.btree_laws.proofs.Splitting.{under_self}
 use Rattle.btree_laws.specs.Removals.{right_of, without_last, without_right}
 use Rattle.btree_laws.specs.Sound.{AreBelow}
-use Rattle.btree_laws.specs.Tree.{IsUnder, IsUnderSome, Root, next_low}
+use Rattle.btree_laws.specs.declared.root.Root.{Root}
+use Rattle.btree_laws.specs.Tree.{IsUnder, IsUnderSome, next_low}
 use Rattle.page_store.specs.Pairs.{Pair}
 use Rattle.record_slots.specs.Places.{next_page}
 

@@ -1,7 +1,8 @@
 -- An index without pairs.
 use Rattle.std.proofs.Common.{◌≡◌, ℕ, List, [], refl, sym, ◌∙◌, ap, subst, arith}
 use Rattle.btree_laws.specs.Sound.{IsSoundTree, IsTree}
-use Rattle.btree_laws.specs.Tree.{Root, pairs_of_tree, pairs_under}
+use Rattle.btree_laws.specs.declared.root.Root.{Root}
+use Rattle.btree_laws.specs.Tree.{pairs_of_tree, pairs_under}
 use Rattle.index_pages.specs.Keys.{key_end}
 use Rattle.index_pages.specs.Page.{kind_of, level_of, link_of, count_of, page_pairs}
 use Rattle.page_store.specs.Pairs.{Pair, Rise}

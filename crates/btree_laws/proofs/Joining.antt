@@ -12,7 +12,8 @@ use Rattle.btree_laws.specs.Frames.{below_kept, tree_kept}
 use Rattle.btree_laws.specs.Removals.{IsLeafWith, right_of, without_last, without_right}
 use Rattle.btree_laws.specs.Removed.{removed}
 use Rattle.btree_laws.specs.Sound.{AreBelow, AreSound, IsTree}
-use Rattle.btree_laws.specs.Tree.{IsUnder, IsUnderSome, Root, next_low, pairs_under, pieces_with}
+use Rattle.btree_laws.specs.declared.root.Root.{Root}
+use Rattle.btree_laws.specs.Tree.{IsUnder, IsUnderSome, next_low, pairs_under, pieces_with}
 use Rattle.index_pages.proofs.Kept.{given_kept}
 use Rattle.index_pages.proofs.PageFacts.{length-page_pairs}
 use Rattle.index_pages.proofs.Rising.{rise_from_less, rise_to_more}

@@ -6,7 +6,8 @@ use Rattle.btree_laws.specs.Descent.{page_for}
 use Rattle.btree_laws.specs.Removals.{LosesPair}
 use Rattle.btree_laws.specs.Removed.{removed}
 use Rattle.btree_laws.specs.Sound.{IsSoundTree, IsTree}
-use Rattle.btree_laws.specs.Tree.{IsPageOfTree, IsUnder, Root, pairs_of_tree, pairs_under}
+use Rattle.btree_laws.specs.declared.root.Root.{Root}
+use Rattle.btree_laws.specs.Tree.{IsPageOfTree, IsUnder, pairs_of_tree, pairs_under}
 use Rattle.btree_laws.specs.TreeFacts.{tree_level}
 use Rattle.index_pages.proofs.Given.{above_zero}
 use Rattle.index_pages.proofs.Kept.{given_kept}

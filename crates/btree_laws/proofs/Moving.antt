@@ -1,7 +1,8 @@
 -- A tree on data of which all but its own pages, and the slots of its own pairs, may have changed.
 use Rattle.std.proofs.Common.{◌≡◌, ℕ, zero, suc, ◌≤◌, inl, inr, List, [], ◌∷◌, ◌++◌, refl, sym, ◌∙◌, ap, subst, arith}
 use Rattle.btree_laws.specs.Sound.{AreBelow, AreSound, IsSoundTree, IsTree, IsUpper}
-use Rattle.btree_laws.specs.Tree.{IsPageOfTree, IsUnder, IsUnderSome, Root, next_low, pairs_of_tree, pairs_under, pieces_with}
+use Rattle.btree_laws.specs.declared.root.Root.{Root}
+use Rattle.btree_laws.specs.Tree.{IsPageOfTree, IsUnder, IsUnderSome, next_low, pairs_of_tree, pairs_under, pieces_with}
 use Rattle.btree_laws.specs.TreeFacts.{tree_level}
 use Rattle.index_pages.specs.Keys.{key_end}
 use Rattle.index_pages.specs.Page.{page_pairs, pairs_said, kind_said, level_said, link_said, count_said, level_of}

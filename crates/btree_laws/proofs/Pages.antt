@@ -5,7 +5,8 @@ use Rattle.btree_laws.proofs.Places.{join_place}
 use Rattle.btree_laws.specs.Descent.{child_for, page_for}
 use Rattle.btree_laws.specs.Removals.{JoinsLeft, JoinsRight, right_of, without_last, without_right}
 use Rattle.btree_laws.specs.Sound.{AreBelow, AreSound, IsSoundTree, IsTree}
-use Rattle.btree_laws.specs.Tree.{IsUnder, IsUnderSome, Root, next_low}
+use Rattle.btree_laws.specs.declared.root.Root.{Root}
+use Rattle.btree_laws.specs.Tree.{IsUnder, IsUnderSome, next_low}
 use Rattle.index_pages.specs.Keys.{key_end}
 use Rattle.index_pages.specs.Page.{page_pairs, pairs_said, level_of}
 use Rattle.index_pages.specs.Ways.{above, IsOwn}

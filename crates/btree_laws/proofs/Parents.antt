@@ -11,7 +11,8 @@ use Rattle.btree_laws.specs.Frames.{children_kept}
 use Rattle.btree_laws.specs.Removals.{IsParentWith, JoinsLeft, JoinsRight, right_of, without_last, without_right}
 use Rattle.btree_laws.specs.Removed.{removed}
 use Rattle.btree_laws.specs.Sound.{AreBelow, AreSound, IsSoundTree, IsTree}
-use Rattle.btree_laws.specs.Tree.{IsPageOfTree, IsUnder, IsUnderSome, Root, next_low, pairs_of_tree, pairs_under, pieces_with}
+use Rattle.btree_laws.specs.declared.root.Root.{Root}
+use Rattle.btree_laws.specs.Tree.{IsPageOfTree, IsUnder, IsUnderSome, next_low, pairs_of_tree, pairs_under, pieces_with}
 use Rattle.btree_laws.specs.TreeFacts.{tree_level}
 use Rattle.index_pages.proofs.PageFacts.{length-page_pairs}
 use Rattle.index_pages.specs.Keys.{key_end}

@@ -8,7 +8,8 @@ use Rattle.btree_laws.proofs.Ways.{child_given, page_for_last, way_of, way_own}
 use Rattle.btree_laws.specs.Descent.{child_for, leaf_for, page_for}
 use Rattle.btree_laws.specs.Removals.{IsJoinPlace, right_of}
 use Rattle.btree_laws.specs.Sound.{AreBelow, AreSound, IsSoundTree, IsTree}
-use Rattle.btree_laws.specs.Tree.{IsUnder, IsUnderSome, Root, next_low}
+use Rattle.btree_laws.specs.declared.root.Root.{Root}
+use Rattle.btree_laws.specs.Tree.{IsUnder, IsUnderSome, next_low}
 use Rattle.btree_laws.specs.TreeFacts.{tree_level}
 use Rattle.index_pages.proofs.PageFacts.{length-page_pairs}
 use Rattle.index_pages.specs.Keys.{key_end}

@@ -8,7 +8,8 @@ use Rattle.btree_laws.specs.Changes.{IsCut, IsHalf, SplitsChild, SplitsRoot, mid
 use Rattle.btree_laws.specs.Descent.{child_for, page_for}
 use Rattle.btree_laws.specs.Frames.{below_kept, children_kept, tree_kept}
 use Rattle.btree_laws.specs.Sound.{AreBelow, AreSound, IsSoundTree, IsTree, IsUpper}
-use Rattle.btree_laws.specs.Tree.{IsPageOfTree, IsUnder, IsUnderSome, Root, next_low, pairs_of_tree, pairs_under, pieces_with}
+use Rattle.btree_laws.specs.declared.root.Root.{Root}
+use Rattle.btree_laws.specs.Tree.{IsPageOfTree, IsUnder, IsUnderSome, next_low, pairs_of_tree, pairs_under, pieces_with}
 use Rattle.btree_laws.specs.TreeFacts.{length-pieces, tile_wide, tree_level}
 use Rattle.index_pages.proofs.Given.{same_local}
 use Rattle.index_pages.proofs.Kept.{given_kept}

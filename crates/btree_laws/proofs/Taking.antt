@@ -4,7 +4,8 @@ use Rattle.btree_laws.proofs.Ways.{found_on_way, graft}
 use Rattle.btree_laws.specs.Changes.{TakesPair}
 use Rattle.btree_laws.specs.Descent.{page_for}
 use Rattle.btree_laws.specs.Sound.{IsSoundTree, IsTree}
-use Rattle.btree_laws.specs.Tree.{IsPageOfTree, IsUnder, Root, pairs_of_tree, pairs_under}
+use Rattle.btree_laws.specs.declared.root.Root.{Root}
+use Rattle.btree_laws.specs.Tree.{IsPageOfTree, IsUnder, pairs_of_tree, pairs_under}
 use Rattle.btree_laws.specs.TreeFacts.{tree_level}
 use Rattle.index_pages.proofs.Kept.{given_kept}
 use Rattle.index_pages.proofs.PageFacts.{length-page_pairs}

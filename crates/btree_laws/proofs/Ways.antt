@@ -6,7 +6,8 @@ use Rattle.btree_laws.proofs.Apart.{child_facts, entries_tile, start_of, sub_bel
 use Rattle.btree_laws.specs.Descent.{child_for, leaf_for, page_for}
 use Rattle.btree_laws.specs.Frames.{below_kept, inner_kept, tree_kept}
 use Rattle.btree_laws.specs.Sound.{AreBelow, AreSound, IsSoundTree, IsTree}
-use Rattle.btree_laws.specs.Tree.{IsUnder, IsUnderSome, Root, next_low, pairs_of_tree, pairs_under, pieces_with}
+use Rattle.btree_laws.specs.declared.root.Root.{Root}
+use Rattle.btree_laws.specs.Tree.{IsUnder, IsUnderSome, next_low, pairs_of_tree, pairs_under, pieces_with}
 use Rattle.btree_laws.specs.TreeFacts.{tree_level}
 use Rattle.index_pages.proofs.Given.{above_zero}
 use Rattle.index_pages.proofs.PageFacts.{length-page_pairs}

@@ -12,7 +12,8 @@ use Rattle.btree_laws.specs.Removals.{IsLeafWith, IsParentWith, JoinsLeft, Joins
 use Rattle.btree_laws.specs.Removed.{removed}
 use Rattle.btree_laws.specs.Resting.{sound_tree_given}
 use Rattle.btree_laws.specs.Sound.{IsSoundTree, IsTree}
-use Rattle.btree_laws.specs.Tree.{IsPageOfTree, Root, pairs_of_tree}
+use Rattle.btree_laws.specs.declared.root.Root.{Root}
+use Rattle.btree_laws.specs.Tree.{IsPageOfTree, pairs_of_tree}
 use Rattle.btree_laws.specs.TreeFacts.{sound_tree_rises, under_own}
 use Rattle.index_pages.proofs.Given.{above_zero}
 use Rattle.index_pages.proofs.PageFacts.{length-page_pairs}

@@ -1,7 +1,7 @@
 -- What one action writes to a tree.
 use Rattle.std.specs.Prelude.{ℕ, suc, ◌≡◌, ◌≢◌, ◌<◌, ◌≤◌, nat_lt, if◌then◌else◌, List, [], ◌∷◌, take, drop, length}
 use Rattle.btree_laws.specs.Descent.{child_for}
-use Rattle.btree_laws.specs.Tree.{Root}
+use Rattle.btree_laws.specs.declared.root.Root.{Root}
 use Rattle.index_pages.specs.Keys.{key_at}
 use Rattle.index_pages.specs.Page.{page_pairs, kind_of, level_of, link_of, count_of}
 use Rattle.page_store.specs.Pairs.{Pair, inserted}

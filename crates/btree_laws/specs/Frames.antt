@@ -1,7 +1,8 @@
 -- Trees on data of which some pages have changed.
 use Rattle.std.proofs.Common.{◌≡◌, ℕ, zero, suc, ◌≤◌, inl, inr, List, [], ◌∷◌, refl, sym, ◌∙◌, ap, subst, arith}
 use Rattle.btree_laws.specs.Sound.{AreBelow, AreSound, IsTree, IsUpper}
-use Rattle.btree_laws.specs.Tree.{IsUnder, IsUnderSome, Root, next_low, pairs_under, pieces_with}
+use Rattle.btree_laws.specs.declared.root.Root.{Root}
+use Rattle.btree_laws.specs.Tree.{IsUnder, IsUnderSome, next_low, pairs_under, pieces_with}
 use Rattle.index_pages.specs.Keys.{key_end}
 use Rattle.index_pages.specs.Page.{page_pairs, pairs_said, kind_said, level_said, link_said, count_said}
 use Rattle.index_pages.specs.Pieces.{joined}

@@ -3,7 +3,8 @@ use Rattle.std.specs.Prelude.{ℕ, ◌≡◌, ◌≢◌, ◌<◌, ◌≤◌, ◌
 use Rattle.btree_laws.specs.Descent.{child_for, leaf_for}
 use Rattle.btree_laws.specs.Removed.{removed}
 use Rattle.btree_laws.specs.Sound.{IsSoundTree}
-use Rattle.btree_laws.specs.Tree.{Root, pairs_of_tree}
+use Rattle.btree_laws.specs.declared.root.Root.{Root}
+use Rattle.btree_laws.specs.Tree.{pairs_of_tree}
 use Rattle.index_pages.specs.Page.{page_pairs, kind_of, level_of, link_of, count_of}
 use Rattle.index_pages.specs.Ways.{IsOwn, above}
 use Rattle.page_store.specs.Pairs.{Pair}

@@ -9,7 +9,8 @@ use Rattle.index_pages.specs.Ways.{Keeps}
 use Rattle.index_pages.proofs.Halves.{given_append}
 use Rattle.btree_laws.specs.Frames.{tree_kept}
 use Rattle.btree_laws.specs.Sound.{AreSound, IsSoundTree, IsTree}
-use Rattle.btree_laws.specs.Tree.{IsPageOfTree, Root, next_low, pairs_of_tree, pairs_under, pieces_with}
+use Rattle.btree_laws.specs.declared.root.Root.{Root}
+use Rattle.btree_laws.specs.Tree.{IsPageOfTree, next_low, pairs_of_tree, pairs_under, pieces_with}
 use Rattle.btree_laws.specs.TreeFacts.{tree_level}
 
 -- a tree whose pages are as they were, with the slots that they were

@@ -9,7 +9,8 @@ use Rattle.index_pages.specs.Page.{kind_of, level_of, link_of, count_of, page_pa
 use Rattle.index_pages.specs.Slots.{slot_check}
 use Rattle.index_pages.specs.Ways.{IsOwn}
 use Rattle.index_pages.proofs.Slotted.{slot_single}
-use Rattle.btree_laws.specs.Tree.{Root, IsLeafPage, IsInner, AreChildren, next_low, children_check, tree_from, tree_check}
+use Rattle.btree_laws.specs.declared.root.Root.{Root}
+use Rattle.btree_laws.specs.Tree.{IsLeafPage, IsInner, AreChildren, next_low, children_check, tree_from, tree_check}
 
 -- the children of these entries are given pages, and none of them is the root
 abbrev pub AreBelow : ℕ → ℕ → List Pair → Type 0

@@ -7,11 +7,7 @@ use Rattle.index_pages.specs.Pieces.{Piece, joined}
 use Rattle.index_pages.specs.Slots.{slot_check}
 use Rattle.page_store.specs.Pairs.{Pair, Rise}
 use Rattle.record_slots.specs.Places.{next_page}
-
--- where the tree of a table hangs: its root page, and the number of the table
-pub record Root : Type 0 where
-  pub page : ℕ
-  pub table : ℕ
+use Rattle.btree_laws.specs.declared.root.Root.{Root}
 
 -- a leaf with keys from the lower bound on and below the upper bound; only the root may be empty
 pub record IsLeafPage (root : ℕ) (bytes : List ℕ) (page low high : ℕ) : Type 0 where

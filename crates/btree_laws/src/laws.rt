@@ -10,7 +10,8 @@ ghost use Rattle.index_pages.specs.Ways.{above, Keeps, IsOwn};
 ghost use Rattle.btree_laws.specs.Changes.{TakesPair, SplitsChild, SplitsRoot};
 ghost use Rattle.btree_laws.specs.Descent.{child_for, page_for, leaf_for};
 ghost use Rattle.btree_laws.specs.Sound.{IsTree, IsSoundTree};
-ghost use Rattle.btree_laws.specs.Tree.{Root, tree_check, pairs_under, pieces_under, pairs_of_tree, IsPageOfTree};
+ghost use Rattle.btree_laws.specs.declared.root.Root.{Root};
+ghost use Rattle.btree_laws.specs.Tree.{tree_check, pairs_under, pieces_under, pairs_of_tree, IsPageOfTree};
 
 /// A tree whose root is a given page is sound exactly where its check passes. A check has at most one verdict: at most one page is the
 /// first that fails, and if the tree is sound there is none.

@@ -6,6 +6,7 @@
 
 mod laws;
 mod removals;
+mod root;
 
 pub use laws::{
     checks_have_one_verdict, descent_finds, fresh_is_sound, the_rest_leaves_the_tree,
@@ -15,3 +16,4 @@ pub use removals::{
     leaves_are_joined_here, removal_takes_one, removals_add_no_page, removals_are_chosen,
     tree_removals_keep, what_is_left_is_small,
 };
+pub use root::Root;

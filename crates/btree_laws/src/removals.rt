@@ -11,7 +11,8 @@ ghost use Rattle.btree_laws.specs.Descent.{child_for, page_for, leaf_for};
 ghost use Rattle.btree_laws.specs.Removals.{MayLose, IsAlone, Neighbours, KeepsBut, Lacks, IsJoinPlace, LosesPair, JoinsRight, JoinsLeft, right_of, without_right, without_last};
 ghost use Rattle.btree_laws.specs.Removed.{removed};
 ghost use Rattle.btree_laws.specs.Sound.{IsSoundTree};
-ghost use Rattle.btree_laws.specs.Tree.{Root, pairs_of_tree, IsPageOfTree};
+ghost use Rattle.btree_laws.specs.declared.root.Root.{Root};
+ghost use Rattle.btree_laws.specs.Tree.{pairs_of_tree, IsPageOfTree};
 
 /// After the removal of a key nothing is found there, and all else as before. The keys still rise, and there is one pair less.
 pub fn removal_takes_one()

@@ -30,10 +30,10 @@ use Rattle.index_pages.proofs.PageFacts.{length-page_pairs}
 use Rattle.index_pages.proofs.Sizes.{slot_page_is}
 use Rattle.index_pages.proofs.Writing.{small_take}
 use Rattle.btree_pages.specs.Checked.{IsFrontOf}
-use Rattle.btree_pages.specs.Descent.{child_for}
+use Rattle.btree_laws.specs.Descent.{child_for}
 use Rattle.btree_pages.specs.Index.{tree, tree_below, adding, cutting, half_for, half_pairs, actions_below}
 use Rattle.btree_pages.specs.OnWay.{IsOnWay, IsReached}
-use Rattle.btree_pages.specs.Tree.{IsSoundTree, pairs_of_tree}
+use Rattle.btree_laws.specs.Tree.{IsSoundTree, pairs_of_tree}
 use Rattle.btree_pages.specs.Writes.{IsRead, cutting_pages, cutting_parts}
 use Rattle.index_pages.specs.Adding.{adding_pages, adding_parts}
 use Rattle.btree_pages.specs.declared.node.Node.{Node}

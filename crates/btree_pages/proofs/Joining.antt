@@ -6,7 +6,7 @@ use Rattle.page_store.specs.Index.{Grows, Rests, Gains}
 use Rattle.page_store.specs.Inserts.{MayBecome}
 use Rattle.page_store.specs.Pairs.{Pair, inserted}
 use Rattle.btree_pages.specs.Index.{tree, tree_below}
-use Rattle.btree_pages.specs.Tree.{pairs_of_tree}
+use Rattle.btree_laws.specs.Tree.{pairs_of_tree}
 
 module _ (page level most : ℕ) (a b c : List ℕ) (limit : most ≤ next_page a + 9) where
   -- an action after others

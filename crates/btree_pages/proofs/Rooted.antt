@@ -25,7 +25,7 @@ use Rattle.index_pages.specs.Page.{page_pairs, level_of}
 use Rattle.index_pages.proofs.Looking.{looks_none}
 use Rattle.btree_pages.specs.Index.{tree}
 use Rattle.btree_pages.specs.OnWay.{IsReached}
-use Rattle.btree_pages.specs.Tree.{IsSoundTree, pairs_of_tree}
+use Rattle.btree_laws.specs.Tree.{IsSoundTree, pairs_of_tree}
 use Rattle.btree_pages.specs.Writes.{IsRead}
 use Rattle.btree_pages.proofs.Below.{IsHalfRead}
 use Rattle.index_pages.proofs.Causing.{look_cause, still_same}

@@ -12,7 +12,8 @@ use Rattle.page_store.specs.declared.index_fault.CheckFault.TheVariants as check
 use Rattle.index_pages.specs.Faults.{as_check}
 use Rattle.index_pages.specs.Fetched.{ReadCause, TestCause}
 use Rattle.index_pages.specs.Slots.{IsVerdict}
-use Rattle.btree_pages.specs.Tree.{tree_from}
+use Rattle.btree_laws.specs.Tree.{tree_from}
+use Rattle.btree_laws.specs.declared.root.Root.{Root}
 
 -- the medium failed in what is told exactly if it did in the read
 pub failed_same : (T : Type 0) (fault : PageFault) → (let r : Result T PageFault = Err fault in let s : Result (Unit {0}) CheckFault = Err (as_check fault) in is_failed r ≡ is_check_failed s)
@@ -42,7 +43,7 @@ not_damaged n e = absurd (cc)
 pub not_passed : {P : Type 0} → (let r : Result (Unit {0}) CheckFault = Ok tt in r ≡ Err check.Dead) → P
 not_passed e = absurd (cc)
 
-module _ (tells : Bool) (Opens : List ℕ → List ℕ → Type 0) (old new : PagesView) (alive : IsAlive old.store) (fault : PageFault) (cause : (let r : Result (Unit {0}) PageFault = Err fault in ReadCause old.store r)) where
+module _ (root : Root) (tells : Bool) (Opens : List ℕ → List ℕ → Type 0) (old new : PagesView) (alive : IsAlive old.store) (fault : PageFault) (cause : (let r : Result (Unit {0}) PageFault = Err fault in ReadCause old.store r)) where
   -- the store is alive, so the medium failed
   only_media : fault ≡ page.Media
   only_media = here fault cause
@@ -61,8 +62,8 @@ module _ (tells : Bool) (Opens : List ℕ → List ℕ → Type 0) (old new : Pa
   told_looks told is looks = subst (λ (f : CheckFault). (let r : Result (Unit {0}) CheckFault = Err f in Looks tells Opens (is_check_failed r) old new)) (sym (told_media told is))
       (subst (λ (f : PageFault). (let r : Result (Unit {0}) PageFault = Err f in Looks tells Opens (is_failed r) old new)) only_media looks)
 
-  pub told_cause : (told : CheckFault) → told ≡ as_check fault → (l : ℕ) (bytes : List ℕ) (at low high : ℕ) → (let r : Result (Unit {0}) CheckFault = Err told in IsVerdict (tree_from l bytes at low high) r)
-  told_cause told is l bytes at low high = subst (λ (f : CheckFault). (let r : Result (Unit {0}) CheckFault = Err f in IsVerdict (tree_from l bytes at low high) r)) (sym (told_media told is)) tt
+  pub told_cause : (told : CheckFault) → told ≡ as_check fault → (l : ℕ) (bytes : List ℕ) (at low high : ℕ) → (let r : Result (Unit {0}) CheckFault = Err told in IsVerdict (tree_from root l bytes at low high) r)
+  told_cause told is l bytes at low high = subst (λ (f : CheckFault). (let r : Result (Unit {0}) CheckFault = Err f in IsVerdict (tree_from root l bytes at low high) r)) (sym (told_media told is)) tt
 
   pub told_dead : {P : Type 0} (told : CheckFault) → told ≡ as_check fault → (let r : Result (Unit {0}) CheckFault = Err told in r ≡ Err check.Dead) → P
   told_dead told is e = (let media = told_media told is in absurd (cc))

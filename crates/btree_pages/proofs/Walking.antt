@@ -10,7 +10,7 @@ use Rattle.page_store.specs.Pairs.{Pair}
 use Rattle.index_pages.specs.Page.{page_pairs, level_of, count_of}
 use Rattle.index_pages.specs.Ways.{above}
 use Rattle.index_pages.proofs.PageFacts.{length-page_pairs}
-use Rattle.btree_pages.specs.Descent.{child_for}
+use Rattle.btree_laws.specs.Descent.{child_for}
 use Rattle.btree_pages.specs.Index.{adding, cutting, growing, half_for, actions_below, tree_actions}
 use Rattle.btree_pages.specs.OnWay.{IsOnWay, IsReached}
 use Rattle.btree_pages.proofs.Entries.{page_for_last}

@@ -28,7 +28,7 @@ use Rattle.btree_pages.specs.Checked.{IsFrontOf}
 use Rattle.btree_pages.specs.Index.{tree, tree_below, growing, half_for, half_pairs, tree_actions, actions_below}
 use Rattle.btree_pages.specs.Node.{IsNode}
 use Rattle.btree_pages.specs.OnWay.{IsOnWay, IsReached}
-use Rattle.btree_pages.specs.Tree.{IsSoundTree, pairs_of_tree}
+use Rattle.btree_laws.specs.Tree.{IsSoundTree, pairs_of_tree}
 use Rattle.btree_pages.specs.Writes.{IsRead, growing_pages, growing_parts}
 use Rattle.btree_pages.specs.declared.node.Node.{Node}
 use Rattle.index_pages.proofs.Causing.{look_cause, still_same}

@@ -9,7 +9,7 @@ ghost use Rattle.index_pages.specs.Fetched.{IsFront};
 ghost use Rattle.btree_pages.specs.Checked.{IsFrontOf};
 ghost use Rattle.btree_pages.specs.Index.{tree, tree_below};
 ghost use Rattle.btree_pages.specs.OnWay.{IsReached};
-ghost use Rattle.btree_pages.specs.Tree.{IsSoundTree, pairs_of_tree};
+ghost use Rattle.btree_laws.specs.Tree.{IsSoundTree, pairs_of_tree};
 ghost use Rattle.btree_pages.specs.Writes.{IsRead};
 
 use crate::checking::FORM;

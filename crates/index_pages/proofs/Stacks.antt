@@ -1,5 +1,11 @@
 -- Lists of what is free, which are used as stacks.
 use Rattle.std.proofs.Common.{◌≡◌, ◌≢◌, ℕ, zero, suc, ◌+◌, ◌-◌, ◌<◌, ◌≤◌, Bool, true, false, nat_eq, inl, inr, List, [], ◌∷◌, length, Option, Some, None, refl, sym, ◌∙◌, ap, subst, arith}
+use Rattle.std.specs.List.{AllByRecursion, IsDistinct, list_any}
+use Rattle.std.proofs.lemmas.Bool.{cases_Bool}
+use Rattle.std.proofs.lemmas.Bool.Decides.{nat_tests}
+use Rattle.std.proofs.lemmas.Map.Steps.{length-le_from_distinct_below}
+use Rattle.mars_base.specs.Check.{test, both, IsSingle}
+use Rattle.mars_base.proofs.Checks.{test_single, both_single}
 use Rattle.record_slots.specs.Free.{next_of, member_at}
 use Rattle.record_slots.specs.declared.free.Free.{Free}
 use Rattle.index_pages.specs.Slots.{Names, HasRank, list_check}
@@ -77,3 +83,49 @@ module _ (said : ℕ → Option Free) (low end : ℕ) where
 pub member_after : (said : ℕ → Option Free) (named n i : ℕ) → member_at said (member_at said named n) i ≡ member_at said named (n + i)
 member_after said named zero i = ap (λ (j : ℕ). member_at said named j) (let e : i ≡ 0 + i = omega arith in e)
 member_after said named (suc n) i = member_after said (next_of (said (named - 1))) n i ∙ ap (λ (j : ℕ). member_at said named j) (let e : suc (n + i) ≡ suc n + i = omega arith in e)
+
+-- the members, each as its distance from the lowest number
+abbrev members : (ℕ → Option Free) → ℕ → ℕ → ℕ → List ℕ
+members said low zero named = []
+members said low (suc n) named = (named - 1 - low) ∷ members said low n (next_of (said (named - 1)))
+
+module _ (said : ℕ → Option Free) (low end : ℕ) where
+  many : (n named : ℕ) → length (members said low n named) ≡ n
+  many zero named = refl
+  many (suc n) named = ap suc (many n (next_of (said (named - 1))))
+
+  -- one of a higher rank is not among them
+  higher_apart : (n named m rank : ℕ) → IsList said low end n named → low ≤ m → HasRank rank (said m) → n < rank → AllByRecursion (λ y. nat_eq (m - low) y ≡ false) (members said low n named)
+  higher_apart zero named m rank l le ranked less = tt
+  higher_apart (suc n) named m rank l le ranked less =
+      let other : m ≢ named - 1 = λ same. (let e = one_rank (said m) rank (suc n) ranked (subst (λ (x : ℕ). HasRank (suc n) (said x)) (sym same) l.1) in omega (arith, e, less)) in
+      let apart : m - low ≢ named - 1 - low = λ same. other (omega (arith, same, le, l.0.0)) in
+      (grind (arith, nat_tests, apart), higher_apart n (next_of (said (named - 1))) m rank l.2 le ranked (omega arith))
+
+  distinct : (n named : ℕ) → IsList said low end n named → IsDistinct nat_eq (members said low n named)
+  unfolding IsDistinct
+  distinct zero named l = tt
+  distinct (suc n) named l = (higher_apart n (next_of (said (named - 1))) (named - 1) (suc n) l.2 (omega (arith, l.0.0)) l.1 (omega arith), distinct n (next_of (said (named - 1))) l.2)
+
+  inside : (n named q : ℕ) → IsList said low end n named → list_any (nat_eq q) (members said low n named) ≡ true → q < end - low
+  inside zero named q l has = absurd (cc)
+  inside (suc n) named q l has = elim (cases_Bool (nat_eq q (named - 1 - low))) [
+    | inl here ↦ (let e : q ≡ named - 1 - low = grind (arith, nat_tests) in omega (arith, e, l.0.0, l.0.1))
+    | inr there ↦ inside n (next_of (said (named - 1))) q l.2 (rw there at has)
+  ]
+
+  -- no more are free than there are numbers
+  pub list_few : (n named : ℕ) → low ≤ end → IsList said low end n named → n + low ≤ end
+  list_few n named le l =
+      let few = length-le_from_distinct_below (members said low n named) (end - low) (distinct n named l) (λ q has. inside n named q l has) in
+      omega (arith, few, many n named, le)
+
+-- a list has at most one verdict
+pub list_single : (said : ℕ → Option Free) (page_of : ℕ → ℕ) (low end n named page : ℕ) → IsSingle (list_check said page_of low end n named page)
+list_single said page_of low end zero named page = test_single (named ≡ 0) page
+list_single said page_of low end (suc n) named page =
+    both_single (test (Names low end named) page) (both (test (HasRank (suc n) (said (named - 1))) (page_of (named - 1))) (list_check said page_of low end n (next_of (said (named - 1))) (page_of (named - 1))))
+    (test_single (Names low end named) page)
+    (both_single (test (HasRank (suc n) (said (named - 1))) (page_of (named - 1))) (list_check said page_of low end n (next_of (said (named - 1))) (page_of (named - 1)))
+    (test_single (HasRank (suc n) (said (named - 1))) (page_of (named - 1)))
+    (list_single said page_of low end n (next_of (said (named - 1))) (page_of (named - 1))))

@@ -12,7 +12,7 @@ use Rattle.index_pages.proofs.Looking.{looks_none, looks_next}
 use Rattle.index_pages.proofs.Sizes.{index_pages_most}
 use Rattle.index_pages.proofs.Reading.{from_step, from_end}
 use Rattle.btree_pages.specs.Checked.{high_of, IsFrontOf}
-use Rattle.btree_pages.specs.Tree.{AreChildren, next_low, children_check, tree_from}
+use Rattle.btree_laws.specs.Tree.{AreChildren, next_low, children_check, tree_from}
 use Rattle.index_pages.specs.Slots.{IsVerdict}
 use Rattle.btree_pages.proofs.Checks.{whole_left, named_step, named_here, ChildrenLeft, children_step, children_fail, inner_fails, inner_children}
 use Rattle.record_slots.specs.Places.{page_bytes}

@@ -4,7 +4,7 @@ use Rattle.page_store.specs.Looks.{Looks}
 use Rattle.page_store.specs.Shown.{pages_of}
 use Rattle.index_pages.specs.Page.{pairs_from, pairs_said}
 use Rattle.btree_pages.specs.Checked.{high_of, IsFrontOf}
-use Rattle.btree_pages.specs.Tree.{AreChildren}
+use Rattle.btree_laws.specs.Tree.{AreChildren}
 use Rattle.btree_pages.proofs.Checks.{ChildrenLeft}
 use Rattle.btree_pages.proofs.checking.+under.Given as goal
 

@@ -10,7 +10,7 @@ use Rattle.record_slots.specs.Places.{page_bytes}
 use Rattle.index_pages.specs.Page.{level_said, level_of, pairs_said, page_pairs}
 use Rattle.index_pages.proofs.Looking.{looks_none, looks_next}
 use Rattle.index_pages.proofs.Sizes.{index_pages_are}
-use Rattle.btree_pages.specs.Descent.{child_for}
+use Rattle.btree_laws.specs.Descent.{child_for}
 use Rattle.btree_pages.specs.Leaf.{bound_in, AtLeaf}
 use Rattle.btree_pages.specs.Node.{IsNode}
 use Rattle.index_pages.specs.declared.page.Head.{Head}

@@ -7,7 +7,7 @@ use Rattle.record_slots.specs.Places.{page_bytes}
 use Rattle.page_store.specs.Pairs.{Pair}
 use Rattle.index_pages.specs.Page.{level_of}
 use Rattle.index_pages.proofs.Sizes.{index_pages_are}
-use Rattle.btree_pages.specs.Descent.{child_for}
+use Rattle.btree_laws.specs.Descent.{child_for}
 use Rattle.btree_pages.specs.Node.{IsNode}
 use Rattle.btree_pages.specs.declared.node.Node.{Node}
 use Rattle.index_pages.proofs.Causing.{look_cause, still_same}
