@@ -1,12 +1,18 @@
 -- A chain whose pages are as they were, and whose slots still carry their keys.
-use Rattle.std.proofs.Common.{◌≡◌, ◌≢◌, ℕ, zero, suc, ◌<◌, ◌≤◌, true, false, nat_eq, inl, inr, List, [], ◌++◌, None, refl, sym, ◌∙◌, ap, subst, arith}
+use Rattle.std.proofs.Common.{◌≡◌, ◌≢◌, ℕ, zero, suc, ◌<◌, ◌≤◌, true, false, nat_eq, inl, inr, List, [], ◌++◌, Some, None, refl, sym, ◌∙◌, ap, subst, arith}
 use Rattle.std.proofs.lemmas.Bool.Decides.{eqb_tells}
 use Rattle.record_slots.specs.Places.{page_bytes, next_page, AreGiven}
+use Rattle.std.specs.Prelude.{slice_get}
+use Rattle.std.specs.Option.{option_map}
+use Rattle.record_slots.specs.Super.{next_page_said}
+use Rattle.record_slots.specs.declared.super_page.TableEntry.{TableEntry}
+use Rattle.page_store.specs.Index.{KeepsIndex, HasCounts, IsTable}
 use Rattle.page_store.specs.Pairs.{Pair, Rise}
+use Rattle.index_pages.proofs.Tabled.{whole_seen, whole_passes, whole_counts, front_rests, table_own}
 use Rattle.index_pages.specs.Keys.{key_end}
 use Rattle.index_pages.specs.Page.{page_pairs, pairs_said, kind_said, level_said, count_said, link_said, link_of}
 use Rattle.index_pages.specs.Pieces.{joined}
-use Rattle.key_list.specs.Chain.{behind, chain_pieces, first_key, chain_check, pairs_of_chain}
+use Rattle.key_list.specs.Chain.{behind, chain_pieces, first_key, chain_check, IsSoundChain, pairs_of_chain}
 use Rattle.key_list.specs.Seen.{IsChainPage, IsChain, pages_of_sound, sound_by_pages, pieces_have}
 use Rattle.index_pages.specs.Ways.{Keeps, IsOwn}
 use Rattle.index_pages.proofs.Kept.{given_kept}
@@ -80,6 +86,30 @@ chain_of_table_rests old new root table own sound keeps same pages =
     let r = chain_rests table old new keeps pages (next_page old) root 0 own (pages_of_sound old root table sound) in (
       sound_by_pages new root table (subst (λ (n : ℕ). IsChain table n new root 0) (sym same) r.0),
       sym (pieces_have new root) ∙ ap (λ (n : ℕ). joined (chain_pieces n new root 0)) same ∙ r.1 0 ∙ pieces_have old root,
+    )
+
+-- the chain of each table of sound data is sound
+pub sound_table : (bytes : List ℕ) (table root : ℕ) → IsSoundChain bytes → IsTable bytes table root → chain_check bytes root table None
+sound_table bytes table root sound is = (whole_seen 0 chain_check bytes sound).tables table root is
+
+pub sound_chain_counts : (bytes : List ℕ) → IsSoundChain bytes → HasCounts bytes
+sound_chain_counts bytes sound = whole_counts 0 chain_check bytes (whole_seen 0 chain_check bytes sound)
+
+-- and those of all tables
+pub sound_chains_rest : (old new : List ℕ) → IsSoundChain old → KeepsIndex old new → IsSoundChain new × ((table root : ℕ) → IsTable old table root → pairs_of_chain new root ≡ pairs_of_chain old root)
+sound_chains_rest old new sound keeps =
+    let w = whole_seen 0 chain_check old sound in
+    let f = front_rests 0 chain_check old new w keeps in
+    let same : next_page new ≡ next_page old = ap next_page_said (keeps.pages 0 (omega (arith, w.front.some_pages, w.front.pages))) in
+    let each : (table root : ℕ) → IsTable old table root → chain_check new root table None × (pairs_of_chain new root ≡ pairs_of_chain old root) =
+    λ table root is. chain_of_table_rests old new root table (table_own 0 old table root w.front is) (w.tables table root is) f.keeps same (λ x some lt. keeps.pages x (omega (arith, lt, w.front.pages))) in (
+      whole_passes 0 chain_check new (record {
+        front = f.front;
+        slots = f.slots;
+        pages = f.pages;
+        tables = λ table root is. (each table root (subst (λ (ts : List TableEntry). option_map (λ entry. entry.root) (slice_get ts table) ≡ Some root) f.tables is)).0;
+      }),
+      λ table root is. (each table root is).1,
     )
 
 pub sound_chain_given : (bytes : List ℕ) (root table : ℕ) → chain_check bytes root table None → AreGiven bytes table (pairs_of_chain bytes root)
