@@ -330,7 +330,7 @@ module _ (table : ℕ) where
         )
 
 -- the pages of a chain from this one on, at most n
-chain_list : ℕ → List ℕ → ℕ → List ℕ
+abbrev chain_list : ℕ → List ℕ → ℕ → List ℕ
 chain_list zero bytes page = []
 chain_list (suc n) bytes page = page ∷ (if nat_eq (link_of bytes page) 0 then [] else chain_list n bytes (link_of bytes page))
 
