@@ -2,7 +2,7 @@
 ghost use Rattle.std.specs.Prelude.{◌≡◌, ◌<◌, ◌≤◌, ◌↔◌, ◌^◌, IfOk, IfSome, IfNone, IsErrOf, IsTrue};
 ghost use Rattle.eaw_face.specs.Causes.{IsAlive};
 ghost use Rattle.array_shape.specs.Places.{page_count};
-ghost use Rattle.record_slots.specs.Places.{next_slot, page_bytes};
+ghost use Rattle.record_slots.specs.Places.{next_slot, page_bytes, tables_of, IsSuper};
 ghost use Rattle.record_slots.specs.Super.{SaysSuper};
 ghost use Rattle.page_store.specs.Index.{slots_of, index_pages_of};
 ghost use Rattle.page_store.specs.Looks.{Looks, CheckCause, is_check_failed};
@@ -10,7 +10,7 @@ ghost use Rattle.page_store.specs.Shown.{pages_of};
 ghost use Rattle.index_pages.specs.Fetched.{IsFront};
 ghost use Rattle.index_pages.specs.Page.{count_said, pairs_said};
 ghost use Rattle.key_list.specs.Linked.{SaysLeaf};
-ghost use Rattle.index_pages.specs.Slots.{IsVerdict};
+ghost use Rattle.index_pages.specs.Slots.{IsVerdict, tables_check};
 ghost use Rattle.key_list.specs.Chain.{behind, IsChainHead, pair_check, pairs_check, chain_check};
 ghost use Rattle.key_list.specs.Checked.{low_of};
 ghost use Rattle.key_list.specs.Index.{chain};
@@ -39,11 +39,28 @@ pub fn check<S: EawStore>(pages: &mut Pages<S>) -> Result<(), CheckFault>
         Ok(()) => {}
         Err(fault) => return Err(fault),
     }
+    check_tables(pages, &front)
+}
+
+// Tests the chain of each table by its number.
+fn check_tables<S: EawStore>(pages: &mut Pages<S>, front: &Super) -> Result<(), CheckFault>
+    requires alive { IsAlive (S.view pages.old.store) }
+    requires front { IsFront (S.view pages.old.store).shape front.now }
+    requires sound { IsTrue S.tells → IsSuper 0 (S.view pages.old.store).state.bytes }
+    ensures looks { Looks S.tells (S.opens (S.view pages.old.store).shape) (is_check_failed result)
+        (pages_of (S.view pages.old.store) pages.old) (pages_of (S.view pages.new.store) pages.new) }
+    ensures cause { IsTrue S.tells → SaysSuper (page_bytes (S.view pages.old.store).state.bytes 0) front.now
+        → IsVerdict (tables_check (chain_check (S.view pages.old.store).state.bytes) 0 (tables_of (S.view pages.old.store).state.bytes)) result }
+    ensures dead { IsErrOf result CheckFault.Dead → ⊥ }
+{
     for table in 0..TABLES_MAX as u8 {
-        let Some(root) = table_root(&front, table) else {
+        let Some(root) = table_root(front, table) else {
             return Ok(());
         };
-        match check_table(pages, root, table, &front) {
+        if root >= front.next_page {
+            return Err(CheckFault::Damaged { page: 0 });
+        }
+        match check_table(pages, root, table, front) {
             Ok(()) => {}
             Err(fault) => return Err(fault),
         }
