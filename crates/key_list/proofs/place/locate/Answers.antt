@@ -10,6 +10,7 @@ use Rattle.index_pages.proofs.Sizes.{index_pages_are}
 use Rattle.key_list.specs.Linked.{IsLinked}
 use Rattle.key_list.specs.declared.place.Located.{Located}
 use Rattle.index_pages.proofs.Causing.{look_cause}
+use Rattle.key_list.specs.Resting.{sound_table}
 use Rattle.key_list.proofs.Walking.{key_page_linked}
 use Rattle.key_list.proofs.place.locate.Goals as goal
 
@@ -24,11 +25,11 @@ returns-in-Err-read_page-clause-cause g c =
     look_cause Head Located g.S.EawStore.tells view mid (IsLinked (index_pages_of mid.shape) (page_bytes mid.state.bytes c.in-Ok-page_for.page)) c.in-Ok-page_for.page c.in-Err-read_page.fault still
     (λ told alive.
     let pages = index_pages_are view.shape view.state.bytes (g.met.S.EawStore.long c.args.pages.now.store told) in
-    let page : c.in-Ok-page_for.page ≡ page_of_key view.state.bytes c.args.key = c.in-Ok-page_for.ensures.page told ∙ ap (λ (s : State). page_of_key s.bytes c.args.key) ((c.in-Ok.ensures.looks.still refl).state told) in
+    let page : c.in-Ok-page_for.page ≡ page_of_key view.state.bytes c.args.root c.args.key = c.in-Ok-page_for.ensures.page told ∙ ap (λ (s : State). page_of_key s.bytes c.args.root c.args.key) ((c.in-Ok.ensures.looks.still refl).state told) in
     subst (λ (n : ℕ). IsLinked n (page_bytes mid.state.bytes c.in-Ok-page_for.page)) (ap index_pages_of (sym looks.shape))
     (subst (λ (s : State). IsLinked (index_pages_of view.shape) (page_bytes s.bytes c.in-Ok-page_for.page)) (sym (still.state told))
     (subst (λ (p : ℕ). IsLinked (index_pages_of view.shape) (page_bytes view.state.bytes p)) (sym page)
-    (key_page_linked view.state.bytes (index_pages_of view.shape) c.args.key (c.requires told alive) pages))))
+    (key_page_linked view.state.bytes c.args.root c.args.table (index_pages_of view.shape) c.args.key (c.requires.sound told alive).0 (sound_table view.state.bytes c.args.table c.args.root (c.requires.sound told alive) (c.requires.named told alive)) pages))))
     c.in-Err-read_page.ensures.cause
 
 pub returns-in-Err-clause-looks : goal.returns-in-Err-clause-looks
