@@ -1,5 +1,5 @@
 -- Data after parts.
-use Rattle.std.proofs.Common.{◌≡◌, ℕ, ◌+◌, ◌<◌, ◌≤◌, inl, inr, List, [], ◌∷◌, ◌++◌, length, get_or, refl, sym, ◌∙◌, subst, arith}
+use Rattle.std.proofs.Common.{◌≡◌, ℕ, ◌+◌, ◌<◌, ◌≤◌, inl, inr, List, [], ◌∷◌, ◌++◌, length, get_or, refl, sym, ◌∙◌, ap, subst, arith}
 use Rattle.std.proofs.lemmas.List.{ext_get_or}
 use Rattle.std.proofs.lemmas.Bool.{cases_lt}
 use Rattle.mars_base.specs.Bytes.{put}
@@ -61,3 +61,24 @@ applied-append (p ∷ ps) qs d = applied-append ps qs (put d p.0 p.1)
 pub all_fit-append : (n : ℕ) (ps qs : List Part) → AllFit n ps → AllFit n qs → AllFit n (ps ++ qs)
 all_fit-append n [] qs fit fit' = fit'
 all_fit-append n (p ∷ ps) qs fit fit' = (fit.0, all_fit-append n ps qs fit.1 fit')
+
+-- the same parts again, whatever bytes stood where they lie
+pub applied_over : (ps : List Part) (d e : List ℕ) → AllFit (length d) ps → SameOutside (ranges_of ps) (applied ps d) e → applied ps e ≡ applied ps d
+applied_over ps d e fit same =
+    let away = applied_away ps d fit in
+    applied_equal ps d e fit (record { long = same.long ∙ away.long; same = λ i out. same.same i out ∙ away.same i out })
+
+pub fit_front : (n : ℕ) (ps qs : List Part) → AllFit n (ps ++ qs) → AllFit n ps
+fit_front n [] qs fit = tt
+fit_front n (p ∷ ps) qs fit = (fit.0, fit_front n ps qs fit.1)
+
+pub fit_back : (n : ℕ) (ps qs : List Part) → AllFit n (ps ++ qs) → AllFit n qs
+fit_back n [] qs fit = fit
+fit_back n (p ∷ ps) qs fit = fit_back n ps qs fit.1
+
+pub applied_suffix : (ps qs : List Part) (d : List ℕ) → AllFit (length d) (ps ++ qs) → applied qs (applied (ps ++ qs) d) ≡ applied (ps ++ qs) d
+applied_suffix ps qs d fit =
+    let long = length-applied ps d (fit_front (length d) ps qs fit) in
+    ap (applied qs) (applied-append ps qs d)
+    ∙ applied_twice qs (applied ps d) (subst (λ n. AllFit n qs) (sym long) (fit_back (length d) ps qs fit))
+    ∙ sym (applied-append ps qs d)

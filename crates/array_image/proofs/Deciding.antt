@@ -1,9 +1,12 @@
--- All rows of a transaction are decided, or none.
-use Rattle.std.proofs.Common.{◌≡◌, ℕ, zero, suc, ◌^◌, ◌<◌, Bool, true, false, not, ◌&&◌, ◌||◌, ⊎_elim, refl, sym, ◌∙◌, ap, arith}
+-- What a carried ballot says, and which rows it decides.
+use Rattle.std.proofs.Common.{◌≡◌, ℕ, zero, suc, ◌^◌, ◌<◌, Bool, true, false, not, ◌&&◌, ◌||◌, ⊎_elim, refl, sym, ◌∙◌, ap, subst, arith}
 use Rattle.std.specs.Prelude.{nat_eq, nat_lt}
-use Rattle.std.proofs.lemmas.Bool.{and_parts, cases_Bool, cases_eq, and_from, and_left, and_right, eq-eqb, lt-ltb, false≢true}
+use Rattle.std.specs.Cmp.{both_ways}
+use Rattle.std.proofs.lemmas.Bool.{and_left, and_right, and_parts, cases_eq, and_from, eq-eqb, eqb-true, lt-ltb, ltb-true, false≢true, false_from_ne_true}
 use Rattle.row_bytes.specs.declared.row.Row.{Row}
-use Rattle.array_image.specs.Decided.{has_logger, all_below, agrees, decides}
+use Rattle.row_bytes.specs.declared.ballot.Ballot.{Ballot}
+use Rattle.row_bytes.specs.Ballots.{ballot_of, has_row, same_ballot}
+use Rattle.array_image.specs.Decided.{all_below, agrees, carried, decides}
 
 pub all_from : (n : ℕ) (p : ℕ → Bool) → ((k : ℕ) → k < n → p k ≡ true) → all_below n p ≡ true
 all_from zero p f = refl
@@ -14,10 +17,6 @@ none_from zero p k lt fails = absurd (omega arith)
 none_from (suc n) p k lt fails =
     ⊎_elim (λ is. and_left (p n) (all_below n p) (ap p (sym is) ∙ fails)) (λ ne. and_right (p n) (all_below n p) (none_from n p k (omega arith) fails)) (cases_eq k n)
 
-all_same : (n : ℕ) (p q : ℕ → Bool) → ((k : ℕ) → k < n → p k ≡ q k) → all_below n p ≡ all_below n q
-all_same zero p q same = refl
-all_same (suc n) p q same = (λ i. same n (omega arith) i && all_same n p q (λ k lt. same k (omega arith)) i)
-
 pub implied : (a b : Bool) → (a ≡ true → b ≡ true) → (not a || b) ≡ true
 implied true b f = f refl
 implied false b f = refl
@@ -25,89 +24,129 @@ implied false b f = refl
 pub denied : (a b : Bool) → a ≡ true → b ≡ false → (not a || b) ≡ false
 denied a b is fails = ap (λ c. not c || b) is ∙ fails
 
--- a row that is not voted is not decided
-pub not_decided : (loggers : ℕ) (rows : ℕ → Row) (g : ℕ) → (rows g).voted ≡ false → decides loggers rows g ≡ false
-unfolding decides
-not_decided loggers rows g not_so =
-    and_left ((rows g).voted && has_logger (rows g).mask g && nat_lt (rows g).mask (2 ^ loggers)) _
-    (and_left ((rows g).voted && has_logger (rows g).mask g) _ (and_left (rows g).voted _ not_so))
-
-pub decided_voted : (loggers : ℕ) (rows : ℕ → Row) (g : ℕ) → decides loggers rows g ≡ true → (rows g).voted ≡ true
-decided_voted loggers rows g so = ⊎_elim (λ is. is) (λ not_so. absurd (false≢true (sym (not_decided loggers rows g not_so) ∙ so))) (cases_Bool (rows g).voted)
-
-all_at : (n : ℕ) (p : ℕ → Bool) → all_below n p ≡ true → (k : ℕ) → k < n → p k ≡ true
+pub all_at : (n : ℕ) (p : ℕ → Bool) → all_below n p ≡ true → (k : ℕ) → k < n → p k ≡ true
 all_at zero p all k lt = absurd (omega arith)
 all_at (suc n) p all k lt =
     let both = and_parts (p n) (all_below n p) all in
     ⊎_elim (λ is. ap p is ∙ both.0) (λ ne. all_at n p both.1 k (omega arith)) (cases_eq k n)
 
--- a row that is decided stays so with more votes
-pub decided_still : (loggers : ℕ) (rows others : ℕ → Row) → ((h : ℕ) → h < loggers → (others h).mask ≡ (rows h).mask) → ((h : ℕ) → h < loggers → (rows h).voted ≡ true → (others h).voted ≡ true) → (g : ℕ) → g < loggers → decides loggers rows g ≡ true → decides loggers others g ≡ true
-unfolding decides
-decided_still loggers rows others masks votes g lt so =
-    let m = (rows g).mask in
-    let all = and_parts ((rows g).voted && has_logger m g && nat_lt m (2 ^ loggers)) (all_below loggers (agrees m rows)) so in
-    let small = and_parts ((rows g).voted && has_logger m g) (nat_lt m (2 ^ loggers)) all.0 in
-    let own = and_parts (rows g).voted (has_logger m g) small.0 in
-    let each = all_from loggers (agrees m others) (λ h below. more (has_logger m h) (rows h) (others h) m (masks h below) (votes h below) (all_at loggers (agrees m rows) all.1 h below)) in
-    let at_mask : ((others g).voted && has_logger m g && nat_lt m (2 ^ loggers) && all_below loggers (agrees m others)) ≡ true =
-    and_from ((others g).voted && has_logger m g && nat_lt m (2 ^ loggers)) _ (and_from ((others g).voted && has_logger m g) _ (and_from (others g).voted (has_logger m g) (votes g lt own.0) own.1) small.1) each in
-    ap (λ (k : ℕ). (others g).voted && has_logger k g && nat_lt k (2 ^ loggers) && all_below loggers (agrees k others)) (masks g lt) ∙ at_mask
-  where
-    more : (has : Bool) (row other : Row) (m : ℕ) → other.mask ≡ row.mask → (row.voted ≡ true → other.voted ≡ true) → (not has || (row.voted && nat_eq row.mask m)) ≡ true → (not has || (other.voted && nat_eq other.mask m)) ≡ true
-    more false row other m same vote so' = refl
-    more true row other m same vote so' = let both = and_parts row.voted (nat_eq row.mask m) so' in and_from other.voted (nat_eq other.mask m) (vote both.0) (ap (λ (k : ℕ). nat_eq k m) same ∙ both.1)
+holds_where : (a b : Bool) → (not a || b) ≡ true → a ≡ true → b ≡ true
+holds_where true b so is = so
+holds_where false b so is = absurd (false≢true is)
 
--- rows that say the same are decided alike
-pub decides_same : (loggers : ℕ) (rows others : ℕ → Row) → ((h : ℕ) → h < loggers → rows h ≡ others h) → (g : ℕ) → g < loggers → decides loggers rows g ≡ decides loggers others g
-unfolding decides
-decides_same loggers rows others same g lt =
-    let each : (m : ℕ) → all_below loggers (agrees m rows) ≡ all_below loggers (agrees m others) =
-    λ m. all_same loggers (agrees m rows) (agrees m others) (λ h below. ap (λ (r : Row). not (has_logger m h) || (r.voted && nat_eq r.mask m)) (same h below)) in
-    ap (λ (r : Row). r.voted && has_logger r.mask g && nat_lt r.mask (2 ^ loggers) && all_below loggers (agrees r.mask rows)) (same g lt)
-    ∙ ap (λ (b : Bool). (others g).voted && has_logger (others g).mask g && nat_lt (others g).mask (2 ^ loggers) && b) (each (others g).mask)
+ballots_same : (a b : Ballot) → same_ballot a b ≡ true → a ≡ b
+ballots_same a b so =
+    let two = and_parts (nat_eq a.mask b.mask && nat_eq a.group b.group) (nat_eq a.order b.order) so in
+    let one = and_parts (nat_eq a.mask b.mask) (nat_eq a.group b.group) two.0 in
+    let mask = eqb-true a.mask b.mask one.0 in
+    let group = eqb-true a.group b.group one.1 in
+    let order = eqb-true a.order b.order two.1 in
+    (λ i. record { mask = mask i; group = group i; order = order i })
 
--- rows of one mask, with votes only at loggers of the mask
-module _ (loggers mask : ℕ) (rows : ℕ → Row) (small : mask < 2 ^ loggers) (mask_is : (g : ℕ) → g < loggers → has_logger mask g ≡ true → (rows g).mask ≡ mask)
-    (outside : (g : ℕ) → g < loggers → has_logger mask g ≡ false → (rows g).voted ≡ false) where
-  -- with all votes each row of the mask is decided
-  pub decided_all : ((h : ℕ) → h < loggers → has_logger mask h ≡ true → (rows h).voted ≡ true) → (g : ℕ) → g < loggers → decides loggers rows g ≡ has_logger mask g
-  unfolding decides
-  decided_all votes g lt = ⊎_elim
-      (λ has.
-      let each = all_from loggers (agrees mask rows) (λ h below. implied (has_logger mask h) ((rows h).voted && nat_eq (rows h).mask mask) (λ here. and_from (rows h).voted (nat_eq (rows h).mask mask) (votes h below here) (eq-eqb (rows h).mask mask (mask_is h below here)))) in
-      let at_mask : ((rows g).voted && has_logger mask g && nat_lt mask (2 ^ loggers) && all_below loggers (agrees mask rows)) ≡ true =
-      and_from ((rows g).voted && has_logger mask g && nat_lt mask (2 ^ loggers)) _ (and_from ((rows g).voted && has_logger mask g) _ (and_from (rows g).voted (has_logger mask g) (votes g lt has) has) (lt-ltb mask (2 ^ loggers) small)) each in
-      ap (λ (m : ℕ). (rows g).voted && has_logger m g && nat_lt m (2 ^ loggers) && all_below loggers (agrees m rows)) (mask_is g lt has) ∙ at_mask ∙ sym has)
-      (λ lacks. not_decided loggers rows g (outside g lt lacks) ∙ sym lacks)
-      (cases_Bool (has_logger mask g))
+same_ballots : (a b : Ballot) → a ≡ b → same_ballot a b ≡ true
+same_ballots a b is = and_from (nat_eq a.mask b.mask && nat_eq a.group b.group) (nat_eq a.order b.order)
+    (and_from (nat_eq a.mask b.mask) (nat_eq a.group b.group) (eq-eqb a.mask b.mask (ap (λ (x : Ballot). x.mask) is)) (eq-eqb a.group b.group (ap (λ (x : Ballot). x.group) is)))
+    (eq-eqb a.order b.order (ap (λ (x : Ballot). x.order) is))
 
-  -- if one is missing, none is
-  pub decided_none : (h : ℕ) → h < loggers → has_logger mask h ≡ true → (rows h).voted ≡ false → (g : ℕ) → g < loggers → decides loggers rows g ≡ false
-  unfolding decides
-  decided_none h below here unvoted g lt = ⊎_elim
-      (λ has.
-      let none = none_from loggers (agrees mask rows) h below (denied (has_logger mask h) _ here (and_left (rows h).voted _ unvoted)) in
-      ap (λ (m : ℕ). (rows g).voted && has_logger m g && nat_lt m (2 ^ loggers) && all_below loggers (agrees m rows)) (mask_is g lt has)
-      ∙ and_right ((rows g).voted && has_logger mask g && nat_lt mask (2 ^ loggers)) _ none)
-      (λ lacks. not_decided loggers rows g (outside g lt lacks))
-      (cases_Bool (has_logger mask g))
+-- the ballot has only loggers and numbers of the array, and its rows are voted with it
+pub record IsCarried (loggers numbers : ℕ) (rows : ℕ → ℕ → Row) (b : Ballot) : Type 0 where
+  pub small_mask : b.mask < 2 ^ loggers
+  pub small_group : b.group < 2 ^ numbers
+  pub voted : (g t : ℕ) → g < loggers → t < numbers → has_row b g t ≡ true → (rows g t).voted ≡ true
+  pub same : (g t : ℕ) → g < loggers → t < numbers → has_row b g t ≡ true → ballot_of t (rows g t) ≡ b
 
--- Whether each logger of a mask has voted.
-pub data Votes (loggers mask : ℕ) (rows : ℕ → Row) : Type 0 where
-  all_voted : ((h : ℕ) → h < loggers → has_logger mask h ≡ true → (rows h).voted ≡ true) → Votes loggers mask rows
-  one_lacks : (h : ℕ) → h < loggers → has_logger mask h ≡ true → (rows h).voted ≡ false → Votes loggers mask rows
+module _ (loggers numbers : ℕ) where
+  module _ (rows : ℕ → ℕ → Row) where
+    pub carried_means : (b : Ballot) → carried loggers numbers rows b ≡ true → IsCarried loggers numbers rows b
+    unfolding carried
+    carried_means b so =
+        let two = and_parts (nat_lt b.mask (2 ^ loggers) && nat_lt b.group (2 ^ numbers)) (all_below numbers (λ t. all_below loggers (λ g. agrees b rows g t))) so in
+        let one = and_parts (nat_lt b.mask (2 ^ loggers)) (nat_lt b.group (2 ^ numbers)) two.0 in
+        let each : (g t : ℕ) → g < loggers → t < numbers → has_row b g t ≡ true → ((rows g t).voted && same_ballot (ballot_of t (rows g t)) b) ≡ true =
+        λ g t lt lt' has. holds_where (has_row b g t) ((rows g t).voted && same_ballot (ballot_of t (rows g t)) b) (all_at loggers (λ h. agrees b rows h t) (all_at numbers (λ u. all_below loggers (λ h. agrees b rows h u)) two.1 t lt') g lt) has in
+        record {
+          small_mask = ltb-true b.mask (2 ^ loggers) one.0;
+          small_group = ltb-true b.group (2 ^ numbers) one.1;
+          voted = λ g t lt lt' has. (and_parts (rows g t).voted (same_ballot (ballot_of t (rows g t)) b) (each g t lt lt' has)).0;
+          same = λ g t lt lt' has. ballots_same (ballot_of t (rows g t)) b (and_parts (rows g t).voted (same_ballot (ballot_of t (rows g t)) b) (each g t lt lt' has)).1;
+        }
 
-pub count_votes : (loggers mask : ℕ) (rows : ℕ → Row) → Votes loggers mask rows
-count_votes zero mask rows = all_voted (λ h lt has. absurd (omega arith))
-count_votes (suc n) mask rows = more (count_votes n mask rows)
-  where
-    more : Votes n mask rows → Votes (suc n) mask rows
-    more (one_lacks h lt has unvoted) = one_lacks h (omega arith) has unvoted
-    more (all_voted f) = ⊎_elim
-        (λ has. ⊎_elim
-        (λ so. all_voted (λ h lt here. ⊎_elim (λ is. ap (λ (k : ℕ). (rows k).voted) is ∙ so) (λ ne. f h (omega arith) here) (cases_eq h n)))
-        (λ not_so. one_lacks n (omega arith) has not_so)
-        (cases_Bool (rows n).voted))
-        (λ lacks. all_voted (λ h lt here. ⊎_elim (λ is. absurd (false≢true (sym lacks ∙ ap (λ (k : ℕ). has_logger mask k) (sym is) ∙ here))) (λ ne. f h (omega arith) here) (cases_eq h n)))
-        (cases_Bool (has_logger mask n))
+    pub carried_from : (b : Ballot) → IsCarried loggers numbers rows b → carried loggers numbers rows b ≡ true
+    unfolding carried
+    carried_from b is = and_from (nat_lt b.mask (2 ^ loggers) && nat_lt b.group (2 ^ numbers)) (all_below numbers (λ t. all_below loggers (λ g. agrees b rows g t)))
+        (and_from (nat_lt b.mask (2 ^ loggers)) (nat_lt b.group (2 ^ numbers)) (lt-ltb b.mask (2 ^ loggers) is.small_mask) (lt-ltb b.group (2 ^ numbers) is.small_group))
+        (all_from numbers (λ t. all_below loggers (λ g. agrees b rows g t)) (λ t lt'. all_from loggers (λ g. agrees b rows g t) (λ g lt.
+        implied (has_row b g t) ((rows g t).voted && same_ballot (ballot_of t (rows g t)) b) (λ has.
+        and_from (rows g t).voted (same_ballot (ballot_of t (rows g t)) b) (is.voted g t lt lt' has) (same_ballots (ballot_of t (rows g t)) b (is.same g t lt lt' has))))))
+
+    -- a decided row: its ballot has it, and is carried
+    pub decided_has : (g t : ℕ) → decides loggers numbers rows g t ≡ true → has_row (ballot_of t (rows g t)) g t ≡ true
+    decided_has g t so = (and_parts (has_row (ballot_of t (rows g t)) g t) (carried loggers numbers rows (ballot_of t (rows g t))) so).0
+
+    pub decided_carried : (g t : ℕ) → decides loggers numbers rows g t ≡ true → IsCarried loggers numbers rows (ballot_of t (rows g t))
+    decided_carried g t so = carried_means (ballot_of t (rows g t)) (and_parts (has_row (ballot_of t (rows g t)) g t) (carried loggers numbers rows (ballot_of t (rows g t))) so).1
+
+    pub decided_voted : (g t : ℕ) → g < loggers → t < numbers → decides loggers numbers rows g t ≡ true → (rows g t).voted ≡ true
+    decided_voted g t lt lt' so = (decided_carried g t so).voted g t lt lt' (decided_has g t so)
+
+    pub not_decided : (g t : ℕ) → g < loggers → t < numbers → (rows g t).voted ≡ false → decides loggers numbers rows g t ≡ false
+    not_decided g t lt lt' not_so = false_from_ne_true (decides loggers numbers rows g t) (λ so. false≢true (sym not_so ∙ decided_voted g t lt lt' so))
+
+    -- each row of a carried ballot is decided
+    pub carried_decides : (b : Ballot) → IsCarried loggers numbers rows b → (g t : ℕ) → g < loggers → t < numbers → has_row b g t ≡ true → decides loggers numbers rows g t ≡ true
+    carried_decides b is g t lt lt' has =
+        subst (λ a. (has_row a g t && carried loggers numbers rows a) ≡ true) (sym (is.same g t lt lt' has)) (and_from (has_row b g t) (carried loggers numbers rows b) has (carried_from b is))
+
+  -- A row that is decided stays so where its ballot's rows keep what they say and their votes.
+  module _ (rows others : ℕ → ℕ → Row) (ballots : (g t : ℕ) → g < loggers → t < numbers → ballot_of t (others g t) ≡ ballot_of t (rows g t)) where
+    pub carried_still : (b : Ballot) → ((h u : ℕ) → h < loggers → u < numbers → has_row b h u ≡ true → (others h u).voted ≡ true) → IsCarried loggers numbers rows b → IsCarried loggers numbers others b
+    carried_still b votes is = record {
+      small_mask = is.small_mask;
+      small_group = is.small_group;
+      voted = votes;
+      same = λ g t lt lt' has. ballots g t lt lt' ∙ is.same g t lt lt' has;
+    }
+
+    pub decided_still : (g t : ℕ) → g < loggers → t < numbers → ((h u : ℕ) → h < loggers → u < numbers → decides loggers numbers rows h u ≡ true → ballot_of u (rows h u) ≡ ballot_of t (rows g t) → (others h u).voted ≡ true)
+        → decides loggers numbers rows g t ≡ true → decides loggers numbers others g t ≡ true
+    decided_still g t lt lt' votes so =
+        let b = ballot_of t (rows g t) in
+        let is = decided_carried rows g t so in
+        carried_decides others b (carried_still b (λ h u below below' has. votes h u below below' (carried_decides rows b is h u below below' has) (is.same h u below below' has)) is) g t lt lt' (decided_has rows g t so)
+
+  -- rows that say the same are decided alike
+  pub decides_same : (rows others : ℕ → ℕ → Row) → ((g t : ℕ) → g < loggers → t < numbers → others g t ≡ rows g t) → (g t : ℕ) → g < loggers → t < numbers → decides loggers numbers others g t ≡ decides loggers numbers rows g t
+  decides_same rows others same g t lt lt' = both_ways (decides loggers numbers others g t) (decides loggers numbers rows g t)
+      (decided_still others rows (λ h u below below'. ap (ballot_of u) (sym (same h u below below'))) g t lt lt' (λ h u below below' so is. ap (λ (r : Row). r.voted) (sym (same h u below below')) ∙ decided_voted others h u below below' so))
+      (decided_still rows others (λ h u below below'. ap (ballot_of u) (same h u below below')) g t lt lt' (λ h u below below' so is. ap (λ (r : Row). r.voted) (same h u below below') ∙ decided_voted rows h u below below' so))
+
+  -- a row that is decided stays so if each voted row says the same
+  pub decided_where_voted : (rows others : ℕ → ℕ → Row) → ((g t : ℕ) → g < loggers → t < numbers → (rows g t).voted ≡ true → others g t ≡ rows g t) → (g t : ℕ) → g < loggers → t < numbers → decides loggers numbers rows g t ≡ true → decides loggers numbers others g t ≡ true
+  decided_where_voted rows others same g t lt lt' so =
+      let b = ballot_of t (rows g t) in
+      let is = decided_carried rows g t so in
+      carried_decides others b (record {
+        small_mask = is.small_mask;
+        small_group = is.small_group;
+        voted = λ h u below below' has. ap (λ (r : Row). r.voted) (same h u below below' (is.voted h u below below' has)) ∙ is.voted h u below below' has;
+        same = λ h u below below' has. ap (ballot_of u) (same h u below below' (is.voted h u below below' has)) ∙ is.same h u below below' has;
+      }) g t lt lt' (decided_has rows g t so)
+
+-- The tests of a ballot, one after another.
+module _ (loggers numbers : ℕ) (rows : ℕ → ℕ → Row) (b : Ballot) where
+  pub big_mask : nat_lt b.mask (2 ^ loggers) ≡ false → carried loggers numbers rows b ≡ false
+  unfolding carried
+  big_mask big = and_left (nat_lt b.mask (2 ^ loggers) && nat_lt b.group (2 ^ numbers)) _ (and_left (nat_lt b.mask (2 ^ loggers)) _ big)
+
+  pub big_group : nat_lt b.group (2 ^ numbers) ≡ false → carried loggers numbers rows b ≡ false
+  unfolding carried
+  big_group big = and_left (nat_lt b.mask (2 ^ loggers) && nat_lt b.group (2 ^ numbers)) _ (and_right (nat_lt b.mask (2 ^ loggers)) _ big)
+
+  pub one_disagrees : (t : ℕ) → t < numbers → all_below loggers (λ g. agrees b rows g t) ≡ false → carried loggers numbers rows b ≡ false
+  unfolding carried
+  one_disagrees t lt fails = and_right (nat_lt b.mask (2 ^ loggers) && nat_lt b.group (2 ^ numbers)) _ (none_from numbers (λ u. all_below loggers (λ g. agrees b rows g u)) t lt fails)
+
+  pub all_agree : nat_lt b.mask (2 ^ loggers) ≡ true → nat_lt b.group (2 ^ numbers) ≡ true → ((t : ℕ) → t < numbers → all_below loggers (λ g. agrees b rows g t) ≡ true) → carried loggers numbers rows b ≡ true
+  unfolding carried
+  all_agree small small' each = and_from (nat_lt b.mask (2 ^ loggers) && nat_lt b.group (2 ^ numbers)) (all_below numbers (λ t. all_below loggers (λ g. agrees b rows g t)))
+      (and_from (nat_lt b.mask (2 ^ loggers)) (nat_lt b.group (2 ^ numbers)) small small') (all_from numbers (λ t. all_below loggers (λ g. agrees b rows g t)) each)

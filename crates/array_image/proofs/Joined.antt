@@ -1,5 +1,5 @@
 -- Joined lists.
-use Rattle.std.proofs.Common.{◌≡◌, ◌≢◌, ℕ, zero, suc, ◌+◌, ◌<◌, ◌≤◌, ⊎_elim, List, [], ◌++◌, refl, sym, ◌∙◌, ap, subst, append_assoc, append-nil, arith}
+use Rattle.std.proofs.Common.{◌≡◌, ◌≢◌, ℕ, zero, suc, ◌+◌, ◌-◌, ◌<◌, ◌≤◌, ⊎_elim, List, [], ◌++◌, refl, sym, ◌∙◌, ap, subst, append_assoc, append-nil, arith}
 use Rattle.std.proofs.lemmas.Bool.{cases_eq}
 use Rattle.pcm_media.specs.Images.{IsOutside}
 use Rattle.pcm_media.proofs.Left.{outside-append, outside-both}
@@ -33,6 +33,36 @@ module _ {A : Type 0} (f : ℕ → List A) where
       ap (λ (l : List A). f k ++ l) (joined_more (k + 1) n)
       ∙ sym (append_assoc (f k) (joined f (k + 1) n) (f (k + 1 + n)))
       ∙ ap (λ (i : ℕ). joined f k (suc n) ++ f i) (omega arith)
+
+-- the first that may not be empty
+pub joined_first : {A : Type 0} (f : ℕ → List A) (k n o : ℕ) → k ≤ o → o < k + n → ((i : ℕ) → k ≤ i → i < o → f i ≡ []) → joined f k n ≡ f o ++ joined f (o + 1) (k + n - (o + 1))
+joined_first f k zero o le lt none = absurd (omega arith)
+joined_first {A = A} f k (suc n) o le lt none = ⊎_elim
+    (λ is. let rest : n ≡ k + suc n - (o + 1) = omega arith in (λ i. f (is i) ++ joined f (is i + 1) (rest i)))
+    (λ ne.
+    let rest : k + 1 + n - (o + 1) ≡ k + suc n - (o + 1) = omega arith in
+    ap (λ (l : List A). l ++ joined f (k + 1) n) (none k (omega arith) (omega arith))
+    ∙ joined_first f (k + 1) n o (omega arith) (omega arith) (λ i le' lt'. none i (omega arith) lt')
+    ∙ ap (λ (m : ℕ). f o ++ joined f (o + 1) m) rest)
+    (cases_eq k o)
+
+-- one order number after another, over those at which there is nothing
+pub joined_past : {A : Type 0} (f : ℕ → List A) (from n : ℕ) → ((i : ℕ) → from ≤ i → i < from + n → f i ≡ []) → joined f 0 (from + n) ≡ joined f 0 from
+joined_past {A = A} f from zero none = ap (joined f 0) (omega arith)
+joined_past {A = A} f from (suc n) none =
+    let next : from + suc n ≡ suc (from + n) = omega arith in
+    ap (joined f 0) next ∙ joined_more f 0 (from + n)
+    ∙ ap (λ (l : List A). joined f 0 (from + n) ++ l) (none (0 + (from + n)) (omega arith) (omega arith))
+    ∙ append-nil (joined f 0 (from + n)) ∙ joined_past f from n (λ i le lt. none i le (omega arith))
+
+pub joined_next : {A : Type 0} (f : ℕ → List A) (from o : ℕ) → from ≤ o → ((i : ℕ) → from ≤ i → i < o → f i ≡ []) → joined f 0 (o + 1) ≡ joined f 0 from ++ f o
+joined_next {A = A} f from o le none =
+    let next : o + 1 ≡ suc o = omega arith in
+    let here : 0 + o ≡ o = omega arith in
+    let far : o ≡ from + (o - from) = omega arith in
+    ap (joined f 0) next ∙ joined_more f 0 o
+    ∙ (λ i. joined f 0 (far i) ++ f (here i))
+    ∙ ap (λ (l : List A). l ++ f o) (joined_past f from (o - from) (λ i le' lt. none i le' (omega arith)))
 
 pub outside_joined : (f : ℕ → List (ℕ × ℕ)) (x k n : ℕ) → ((i : ℕ) → k ≤ i → i < k + n → IsOutside (f i) x) → IsOutside (joined f k n) x
 outside_joined f x k zero out = tt

@@ -4,9 +4,12 @@ pub mod Applied
 pub mod Data
 pub mod Rows
 pub mod Deciding
-pub mod Standing
 pub mod Frames
 pub mod Orders
+pub mod Parts
+pub mod Recovery
+pub mod Clearing
+pub mod Recovering
 pub mod Calls
 pub mod Headers
-pub mod Staging
+pub mod Examples

@@ -1,21 +1,18 @@
 -- The order of parts on different loggers does not matter: their pages are apart.
 use Rattle.std.proofs.Common.{◌≡◌, ℕ, zero, suc, ◌+◌, ◌/◌, ◌%◌, ◌<◌, ◌≤◌, Bool, cond, ◌⊎◌, inl, inr, ⊎_elim, List, [], ◌∷◌, ◌++◌, length, get_or, refl, sym, ◌∙◌, ap, subst, arith}
-use Rattle.std.specs.Prelude.{slice_index, nat_eq}
+use Rattle.std.specs.Prelude.{nat_eq}
 use Rattle.std.proofs.lemmas.Bool.{cases_Bool, cases_eq, cases_lt, eq-eqb, ne_eqb, false≢true}
 use Rattle.std.proofs.lemmas.List.{ext_get_or, append-nil}
 use Rattle.mars_base.specs.Bytes.{put}
 use Rattle.mars_base.proofs.Puts.{length-put, get_or-put_inside}
 use Rattle.pcm_media.proofs.Left.{get_or-put_outside}
 use Rattle.array_shape.specs.declared.shape.Shape.{Shape}
-use Rattle.array_shape.specs.Places.{data_len, logger_of, media_len}
+use Rattle.array_shape.specs.Places.{data_len, logger_of}
 use Rattle.array_image.specs.Joined.{joined}
 use Rattle.array_shape.specs.Logged.{Part, applied, AllFit, AllPlaced, AllOwned, parts_at}
-use Rattle.array_image.specs.Marked.{named_at, named_parts, AreGood}
 use Rattle.array_image.proofs.Places.{logger_below}
 use Rattle.array_image.proofs.Applied.{length-applied}
 use Rattle.array_image.proofs.Data.{all_fit}
-use Rattle.array_image.proofs.Rows.{parts_owned}
-use Rattle.array_image.proofs.Standing.{named_placed}
 
 module _ (shape : Shape) where
   fits : (ps : List Part) (d : List ℕ) → length d ≡ data_len shape → AllPlaced shape ps → length (applied ps d) ≡ data_len shape
@@ -61,12 +58,16 @@ module _ (shape : Shape) where
       ∙ ap (λ (l : List Part). get_or (applied l d) a 0) (same g (logger_below shape a (omega (arith, fits ps d long placed))))
       ∙ sym (byte_of_logger a g refl qs d d long long placed' refl))
 
-  parts_at-append : (g : ℕ) (ps qs : List Part) → parts_at shape g (ps ++ qs) ≡ parts_at shape g ps ++ parts_at shape g qs
+  pub parts_at-append : (g : ℕ) (ps qs : List Part) → parts_at shape g (ps ++ qs) ≡ parts_at shape g ps ++ parts_at shape g qs
   parts_at-append g [] qs = refl
   parts_at-append g (p ∷ ps) qs = ⊎_elim
       (λ is. (λ i. cond (is i) (p ∷ parts_at-append g ps qs i) (parts_at-append g ps qs i)) ∙ ap (λ (b : Bool). cond b (p ∷ parts_at shape g ps) (parts_at shape g ps) ++ parts_at shape g qs) (sym is))
       (λ is. (λ i. cond (is i) (p ∷ parts_at-append g ps qs i) (parts_at-append g ps qs i)) ∙ ap (λ (b : Bool). cond b (p ∷ parts_at shape g ps) (parts_at shape g ps) ++ parts_at shape g qs) (sym is))
       (cases_Bool (nat_eq (logger_of shape p.0) g))
+
+  pub parts_at_each : (g : ℕ) (f : ℕ → List Part) (k n : ℕ) → parts_at shape g (joined f k n) ≡ joined (λ i. parts_at shape g (f i)) k n
+  parts_at_each g f k zero = refl
+  parts_at_each g f k (suc n) = parts_at-append g (f k) (joined f (k + 1) n) ∙ ap (λ (l : List Part). parts_at shape g (f k) ++ l) (parts_at_each g f (k + 1) n)
 
   all_at : (g : ℕ) (ps : List Part) → AllOwned shape g ps → parts_at shape g ps ≡ ps
   all_at g [] owned = refl
@@ -93,29 +94,3 @@ module _ (shape : Shape) where
       later j (suc m) owned' lt' =
           parts_at-append g (lists j) (joined lists (j + 1) m)
           ∙ (λ i. none_at g j (λ is. omega arith) (lists j) (owned' j (omega arith) (omega arith)) i ++ later (j + 1) m (λ h le' below. owned' h (omega arith) (omega arith)) (omega arith) i)
-
-  -- A list with the parts that are named for each logger gives the data that a commit of these parts gives.
-  pub applied_named : (image : List ℕ) (t : ℕ) (firsts counts : List ℕ) (log : List Part) (d : List ℕ) → length image ≡ media_len shape → t < shape.numbers → AreGood shape image t firsts counts → length d ≡ data_len shape → AllPlaced shape log
-      → ((g : ℕ) → g < shape.loggers → parts_at shape g log ≡ named_at shape image t firsts counts g) → applied (named_parts shape image t firsts counts) d ≡ applied log d
-  applied_named image t firsts counts log d long small good d_long placed same =
-      applied_any_order (named_parts shape image t firsts counts) log d d_long (named_placed shape image t firsts counts 0 shape.loggers long small (omega arith) good) placed (λ g lt.
-      parts_at-joined (named_at shape image t firsts counts) 0 shape.loggers (λ h le below. parts_owned shape image h t (slice_index firsts h) (slice_index counts h) long (omega arith) small (good.fit h (omega arith)) (λ e from to. good.cells h e (omega arith) from to)) g (omega arith) (omega arith)
-      ∙ sym (same g lt))
-
-  -- if parts change nothing any more, those of some loggers change nothing
-  pub applied_some : (lists some : ℕ → List Part) (d : List ℕ) → length d ≡ data_len shape → ((g : ℕ) → g < shape.loggers → AllOwned shape g (lists g)) → ((g : ℕ) → g < shape.loggers → (some g ≡ lists g) ⊎ (some g ≡ []))
-      → AllPlaced shape (joined lists 0 shape.loggers) → AllPlaced shape (joined some 0 shape.loggers) → applied (joined lists 0 shape.loggers) d ≡ d → applied (joined some 0 shape.loggers) d ≡ d
-  applied_some lists some d long owned which placed placed' already = ext_get_or 0 (applied (joined some 0 shape.loggers) d) d (fits (joined some 0 shape.loggers) d long placed' ∙ sym long) (λ a lt.
-      let g = logger_of shape a in
-      let below = logger_below shape a (omega (arith, fits (joined some 0 shape.loggers) d long placed')) in
-      byte_of_logger a g refl (joined some 0 shape.loggers) d d long long placed' refl
-      ∙ ap (λ (l : List Part). get_or (applied l d) a 0) (parts_at-joined some 0 shape.loggers (λ h le below'. some_owned h (omega arith)) g (omega arith) (omega arith))
-      ∙ ⊎_elim
-      (λ is.
-      ap (λ (l : List Part). get_or (applied l d) a 0) (is ∙ sym (parts_at-joined lists 0 shape.loggers (λ h le below'. owned h (omega arith)) g (omega arith) (omega arith)))
-      ∙ sym (byte_of_logger a g refl (joined lists 0 shape.loggers) d d long long placed refl) ∙ ap (λ (l : List ℕ). get_or l a 0) already)
-      (λ none. ap (λ (l : List Part). get_or (applied l d) a 0) none)
-      (which g below))
-    where
-      some_owned : (h : ℕ) → h < shape.loggers → AllOwned shape h (some h)
-      some_owned h lt = ⊎_elim (λ is. subst (λ l. AllOwned shape h l) (sym is) (owned h lt)) (λ none. subst (λ l. AllOwned shape h l) (sym none) tt) (which h lt)

@@ -1,5 +1,5 @@
 -- Rows and cells of images that are the same at some places.
-use Rattle.std.proofs.Common.{◌≡◌, ℕ, zero, suc, ◌+◌, ◌<◌, ◌≤◌, List, ◌∷◌, length, get_or, drop, refl, sym, ◌∙◌, ap, subst, arith}
+use Rattle.std.proofs.Common.{◌≡◌, ℕ, zero, suc, ◌+◌, ◌^◌, ◌<◌, ◌≤◌, cond, List, ◌∷◌, length, get_or, drop, refl, sym, ◌∙◌, ap, subst, arith}
 use Rattle.std.specs.Prelude.{nat_eq}
 use Rattle.std.proofs.lemmas.List.{length-take-le, length-drop}
 use Rattle.byteorder.specs.Endian.{little_from}
@@ -12,6 +12,7 @@ use Rattle.row_bytes.specs.declared.row.Row.{Row}
 use Rattle.row_bytes.specs.Said.{row_said}
 use Rattle.array_shape.specs.Logged.{AllOwned, IsOwned}
 use Rattle.array_image.specs.Image.{row_of, cell_of, cell_head, cell_part, parts_from, IsGoodCell}
+use Rattle.row_bytes.specs.Ballots.{ballot_of}
 use Rattle.array_image.proofs.Places.{cell_fits_in}
 
 pub little_same : (i n : ℕ) (xs ys : List ℕ) → ((k : ℕ) → i ≤ k → k < i + n → get_or xs k 0 ≡ get_or ys k 0) → little_from i n xs ≡ little_from i n ys
@@ -30,6 +31,20 @@ pub record SameRest (old new : Row) : Type 0 where
   pub mask : new.mask ≡ old.mask
   pub first : new.first ≡ old.first
   pub count : new.count ≡ old.count
+  pub group : new.group ≡ old.group
+  pub order : new.order ≡ old.order
+
+pub rest_of_same : (old new : Row) → new ≡ old → SameRest old new
+rest_of_same old new is = record {
+  mask = ap (λ (r : Row). r.mask) is;
+  first = ap (λ (r : Row). r.first) is;
+  count = ap (λ (r : Row). r.count) is;
+  group = ap (λ (r : Row). r.group) is;
+  order = ap (λ (r : Row). r.order) is;
+}
+
+pub rest_ballot : (t : ℕ) (old new : Row) → SameRest old new → ballot_of t new ≡ ballot_of t old
+rest_ballot t old new rest = (λ i. record { mask = rest.mask i; group = cond (nat_eq (rest.group i) 0) (2 ^ t) (rest.group i); order = rest.order i })
 
 said_rest : (xs ys : List ℕ) → ((k : ℕ) → 1 ≤ k → k < 16 → get_or ys k 0 ≡ get_or xs k 0) → SameRest (row_said xs) (row_said ys)
 unfolding row_said
@@ -37,6 +52,8 @@ said_rest xs ys same = record {
   mask = same 1 (omega arith) (omega arith);
   first = little_same 2 2 ys xs (λ k le lt. same k (omega arith) (omega arith));
   count = little_same 4 2 ys xs (λ k le lt. same k (omega arith) (omega arith));
+  group = little_same 6 8 ys xs (λ k le lt. same k (omega arith) (omega arith));
+  order = little_same 14 2 ys xs (λ k le lt. same k (omega arith) (omega arith));
 }
 
 module _ (shape : Shape) where

@@ -1,45 +1,55 @@
 -- Which rows of an image are decided, and the data that it settles to.
 use Rattle.std.specs.Prelude.{ℕ, zero, suc, ◌^◌, Bool, true, not, ◌&&◌, ◌||◌, nat_eq, nat_lt, if◌then◌else◌, List, []}
-use Rattle.std.specs.Int.{bit_at}
 use Rattle.array_shape.specs.declared.shape.Shape.{Shape}
-use Rattle.row_bytes.specs.declared.row.Row.{Row}
-use Rattle.array_image.specs.Joined.{joined}
 use Rattle.array_shape.specs.Logged.{Part, applied}
-use Rattle.array_image.specs.Image.{row_of, row_parts, data_of}
-
--- a mask has logger g
-abbrev pub has_logger : ℕ → ℕ → Bool
-has_logger mask g = nat_eq (bit_at mask g) 1
+use Rattle.row_bytes.specs.declared.ballot.Ballot.{Ballot}
+use Rattle.row_bytes.specs.declared.row.Row.{Row}
+use Rattle.row_bytes.specs.Ballots.{ballot_of, has_row, same_ballot}
+use Rattle.array_image.specs.Joined.{joined}
+use Rattle.array_image.specs.Image.{data_of, row_of, row_parts}
 
 -- the test holds for each number below n
 abbrev pub all_below : ℕ → (ℕ → Bool) → Bool
 all_below zero p = true
 all_below (suc n) p = p n && all_below n p
 
--- logger h is not in the mask, or its row is voted with that same mask
-abbrev pub agrees : ℕ → (ℕ → Row) → ℕ → Bool
-agrees mask rows h = not (has_logger mask h) || ((rows h).voted && nat_eq (rows h).mask mask)
+-- the row is none of the commit's, or it is voted with its ballot
+abbrev pub agrees : Ballot → (ℕ → ℕ → Row) → ℕ → ℕ → Bool
+agrees ballot rows g t = not (has_row ballot g t) || ((rows g t).voted && same_ballot (ballot_of t (rows g t)) ballot)
 
--- Of the rows that the loggers have for one number, that of g is decided: it is voted, its mask has g and only loggers of the
--- array, and the rows at all loggers of the mask are voted with that same mask.
-unfoldable pub decides : ℕ → (ℕ → Row) → ℕ → Bool
-decides loggers rows g = (rows g).voted && has_logger (rows g).mask g && nat_lt (rows g).mask (2 ^ loggers) && all_below loggers (agrees (rows g).mask rows)
+-- A ballot is carried: it has only loggers and numbers of the array, and the rows of all its numbers at all its loggers are voted
+-- with that same ballot.
+unfoldable pub carried : ℕ → ℕ → (ℕ → ℕ → Row) → Ballot → Bool
+carried loggers numbers rows ballot = nat_lt ballot.mask (2 ^ loggers) && nat_lt ballot.group (2 ^ numbers)
+    && all_below numbers (λ t. all_below loggers (λ g. agrees ballot rows g t))
 
--- the row of number t at logger g is decided
+-- The row of number t at logger g is decided: its ballot has it, and is carried. (So the row is voted.)
+abbrev pub decides : ℕ → ℕ → (ℕ → ℕ → Row) → ℕ → ℕ → Bool
+decides loggers numbers rows g t = has_row (ballot_of t (rows g t)) g t && carried loggers numbers rows (ballot_of t (rows g t))
+
 abbrev pub decided : Shape → List ℕ → ℕ → ℕ → Bool
-decided shape image g t = decides shape.loggers (λ h. row_of shape image h t) g
+decided shape image g t = decides shape.loggers shape.numbers (row_of shape image) g t
 
--- the parts of a row if it is decided, else none
-abbrev pub decided_parts : Shape → List ℕ → ℕ → ℕ → List Part
-decided_parts shape image g t = if decided shape image g t then row_parts shape image g t else []
+-- it is, with this order number
+abbrev pub decided_as : Shape → List ℕ → ℕ → ℕ → ℕ → Bool
+decided_as shape image o g t = decided shape image g t && nat_eq (row_of shape image g t).order o
 
--- the parts of all decided rows of one number, and of all numbers
-abbrev pub number_parts : Shape → List ℕ → ℕ → List Part
-number_parts shape image t = joined (λ g. decided_parts shape image g t) 0 shape.loggers
+-- the parts of a row if it is decided with this order number, else none
+abbrev pub decided_parts : Shape → List ℕ → ℕ → ℕ → ℕ → List Part
+decided_parts shape image o t g = if decided_as shape image o g t then row_parts shape image g t else []
 
+-- the parts of all decided rows with one order number, by rising number, then logger
+abbrev pub order_parts : Shape → List ℕ → ℕ → List Part
+order_parts shape image o = joined (λ t. joined (decided_parts shape image o t) 0 shape.loggers) 0 shape.numbers
+
+-- how many order numbers there are
+unfoldable pub orders : ℕ
+orders = 2 ^ 16
+
+-- the parts of all decided rows, by rising order number, then number, logger and cell
 abbrev pub all_decided : Shape → List ℕ → List Part
-all_decided shape image = joined (λ t. number_parts shape image t) 0 shape.numbers
+all_decided shape image = joined (order_parts shape image) 0 orders
 
--- the data once the parts of all decided rows are written into it, by rising number, logger and cell
+-- the data once these parts are written into it
 abbrev pub settled_data : Shape → List ℕ → List ℕ
 settled_data shape image = applied (all_decided shape image) (data_of shape image)

@@ -2,4 +2,4 @@ pub mod Joined
 pub mod Image
 pub mod Decided
 pub mod Standing
-pub mod Marked
+pub mod Votes

@@ -1,38 +1,31 @@
--- A transfer that is committed keeps the sum.
+-- A transfer that is made keeps the sum, and so does one that is in doubt.
 use Rattle.std.proofs.Common.{◌≡◌, ◌≢◌, ℕ, ⊎_elim, List, [], ◌∷◌, ◌++◌, sym, ◌∙◌, ap, subst}
-use Rattle.std.specs.Prelude.{Option, unwrap_or}
 use Rattle.std.proofs.lemmas.List.{append-nil}
 use Rattle.history.specs.Writes.{Table}
 use Rattle.history.specs.Table.{Granted, left_by}
-use Rattle.history.specs.Legal.{records}
 use Rattle.history.specs.declared.transaction.Done.{Done}
 use Rattle.caller_steps.specs.Core.{CoreView}
-use Rattle.caller_steps.specs.State.{calls_of, records_of, done_by}
-use Rattle.bank.specs.Accounts.{sum_of, KeepsSum}
-use Rattle.bank.specs.Moves.{IsBalanced, Holds, MayGrow}
+use Rattle.caller_steps.specs.State.{records_of, done_by}
+use Rattle.transactions.specs.Makes.{Adds, MayAdd}
+use Rattle.bank.specs.Accounts.{KeepsSum, Transfers}
+use Rattle.bank.specs.Moves.{IsBalanced}
 use Rattle.bank.proofs.Sums.{sum_transfers, keeps_more}
 
--- the commit then keeps the sum
-pub balanced : (caller from to amount : ℕ) (old mid new : CoreView) → from ≢ to → mid.state.base ≡ old.state.base → mid.state.history ≡ old.state.history → mid.state.doubt ≡ old.state.doubt
-    → new.state.base ≡ mid.state.base → Holds caller from to amount mid → MayGrow caller mid new → IsBalanced old.state → IsBalanced new.state
-balanced caller from to amount old mid new apart base history doubt base' held grew keeps =
-    ⊎_elim (λ same. along (new.state.history ++ new.state.doubt) same keeps_mid)
-    (λ grown. along_more (new.state.history ++ new.state.doubt) grown.1
-    (keeps_more mid.state.base mid.state.history done (subst (λ (hs : List Done). KeepsSum mid.state.base hs) (ap (λ (ds : List Done). mid.state.history ++ ds) grown.0 ∙ append-nil mid.state.history) keeps_mid) same_sum)) grew
-  where
-    done : Done
-    done = done_by mid.state caller (calls_of mid.state caller)
+-- the calls move the amount
+abbrev pub Moves : ℕ → ℕ → ℕ → Unit {0} → Table → Granted → Type 0
+Moves from to amount done table calls = Transfers from to amount table (left_by table calls)
 
-    keeps_mid : IsBalanced mid.state
-    keeps_mid = subst (λ (p : Table × List Done × List Done). KeepsSum p.0 (p.1 ++ p.2)) (λ i. (sym base i, sym history i, sym doubt i)) keeps
+module _ (caller from to amount : ℕ) (old new : CoreView) (apart : from ≢ to) (base : new.state.base ≡ old.state.base) (keeps : IsBalanced old.state) where
+  along : (history : List Done) → new.state.history ++ new.state.doubt ≡ history → KeepsSum old.state.base history → IsBalanced new.state
+  along history is keeps = subst (λ (p : Table × List Done). KeepsSum p.0 p.1) (λ i. (sym base i, sym is i)) keeps
 
-    same_sum : sum_of (left_by (records mid.state.base mid.state.history) done.calls) ≡ sum_of (records mid.state.base mid.state.history)
-    same_sum =
-        ap (λ (o : Option Granted). sum_of (left_by (records_of mid.state) (unwrap_or o []))) held.live
-        ∙ sum_transfers from to amount (records_of mid.state) (left_by (records_of mid.state) held.calls) apart held.transfers
+  added : Adds (Moves from to amount) caller old new → IsBalanced new.state
+  added adds =
+      let certain : KeepsSum old.state.base old.state.history =
+      subst (λ (h : List Done). KeepsSum old.state.base h) (ap (λ (d : List Done). old.state.history ++ d) adds.before ∙ append-nil old.state.history) keeps in
+      along (old.state.history ++ done_by old.state caller adds.calls ∷ []) adds.left
+      (keeps_more old.state.base old.state.history (done_by old.state caller adds.calls) certain
+      (sum_transfers from to amount (records_of old.state) (left_by (records_of old.state) adds.calls) apart adds.does))
 
-    along : (w : List Done) → w ≡ mid.state.history ++ mid.state.doubt → IsBalanced mid.state → KeepsSum new.state.base w
-    along w is keeps = subst (λ (p : Table × List Done). KeepsSum p.0 p.1) (λ i. (sym base' i, sym is i)) keeps
-
-    along_more : (w : List Done) → w ≡ mid.state.history ++ done ∷ [] → KeepsSum mid.state.base (mid.state.history ++ done ∷ []) → KeepsSum new.state.base w
-    along_more w is keeps = subst (λ (p : Table × List Done). KeepsSum p.0 p.1) (λ i. (sym base' i, sym is i)) keeps
+  pub balanced : MayAdd (Moves from to amount) caller old new → IsBalanced new.state
+  balanced grows = ⊎_elim (λ same. along (old.state.history ++ old.state.doubt) same keeps) added grows

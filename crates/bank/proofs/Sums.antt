@@ -10,6 +10,7 @@ use Rattle.std.specs.FinMap.{get, insert, entries, entries_sorted, entries-inser
 use Rattle.std.proofs.Math.Nat.{le_refl}
 use Rattle.std.proofs.lemmas.Bool.{false≢true, cases_lt}
 use Rattle.std.proofs.lemmas.List.{take-append-le, take_all, length-append}
+use Rattle.std.proofs.lemmas.Fmt.{decimal_is_IsNumeral}
 use Rattle.std.proofs.lemmas.List.Sums.{fold-append, sum_by-cons}
 use Rattle.history.specs.Writes.{Table}
 use Rattle.history.specs.Table.{left_by}
@@ -17,7 +18,6 @@ use Rattle.history.specs.Legal.{records}
 use Rattle.history.specs.declared.transaction.Done.{Done}
 use Rattle.history.proofs.Tables.{get-set_there}
 use Rattle.bank.specs.Accounts.{worth, sum_of, Transfers, KeepsSum}
-use Rattle.bank.proofs.Texts.{worth_decimal}
 
 first_of_both : (a b : Bool) → IsTrue (a && b) → IsTrue a
 first_of_both true b h = refl
@@ -75,10 +75,10 @@ sum_insert table k v was there =
 -- a transfer keeps the sum
 pub sum_transfers : (from to amount : ℕ) (old new : Table) → from ≢ to → Transfers from to amount old new → sum_of new ≡ sum_of old
 sum_transfers from to amount old new apart moved =
-    let less = decimal (worth moved.payer - amount) in
-    let more = decimal (worth moved.payee + amount) in
+    let less = decimal (moved.payer - amount) in
+    let more = decimal (moved.payee + amount) in
     let mid = insert old from less in
-    let there : get mid to ≡ Some moved.payee = get-set_there old from (Some less) to (λ is. apart (sym is)) ∙ moved.has_payee in
+    let there : get mid to ≡ Some (decimal moved.payee) = get-set_there old from (Some less) to (λ is. apart (sym is)) ∙ moved.has_payee in
     let small = moved.small in
     let enough = moved.enough in
     let fits = moved.fits in
@@ -86,10 +86,12 @@ sum_transfers from to amount old new apart moved =
     omega (
       arith,
       e,
-      sum_insert old from less moved.payer moved.has_payer,
-      sum_insert mid to more moved.payee there,
-      worth_decimal (worth moved.payer - amount) (omega arith),
-      worth_decimal (worth moved.payee + amount) fits,
+      sum_insert old from less (decimal moved.payer) moved.has_payer,
+      sum_insert mid to more (decimal moved.payee) there,
+      (decimal_is_IsNumeral (moved.payer - amount) (omega arith)).1,
+      (decimal_is_IsNumeral (moved.payee + amount) fits).1,
+      (decimal_is_IsNumeral moved.payer small).1,
+      (decimal_is_IsNumeral moved.payee (omega arith)).1,
     )
 
 -- one more transaction that keeps the sum

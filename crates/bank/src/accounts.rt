@@ -1,14 +1,16 @@
-// Balances as values of records, and why a transfer is refused.
-ghost use Rattle.std.specs.Prelude.{◌≡◌, ◌^◌, ◌<◌, IfSome, decimal};
-ghost use Rattle.bank.specs.Accounts.{worth};
+// Accounts, and why a transfer is given up.
+ghost use Rattle.std.specs.Prelude.{◌≡◌, ◌<◌, decimal, IsTrue, IfOk, IfErr};
+ghost use Rattle.history.specs.declared.call.Call.TheVariants.{Get, Put};
+ghost use Rattle.history.specs.declared.call.Reply.TheVariants.{Fine, Found};
+ghost use Rattle.caller_steps.specs.Sound.{IsSound};
+ghost use Rattle.transactions.specs.Adds.{Stays, Adds};
+ghost use Rattle.bank.specs.Moves.{IsOfRead, IsOfCore};
 
-use history::Reply;
-use record_slots::Value;
-use std::str;
-use texts::{Piece, ShortText};
+use caller_steps::Core;
+use transactions::{Stop, get, number_in, put, value_of};
 
 /// Why a transfer was not made, or a balance was not given.
-#[derive(Debug, PartialEq, Eq, Drop)]
+#[derive(Clone, Copy, Debug, PartialEq, Eq)]
 pub enum Refusal {
     /// There is no such account, or its record is not the decimal of a u64.
     NoAccount { account: u64 },
@@ -16,26 +18,40 @@ pub enum Refusal {
     Insufficient { balance: u64 },
     /// The other account would exceed a u64.
     TooMuch { balance: u64 },
-    /// The core gave this reply. After `Busy` another caller holds one of the accounts, so try again later. After `Media` the transfer may
-    /// have been made or not, and each call is answered `Dead` until the array is opened again.
-    Core(Reply),
 }
 
-// The number that a value spells.
-pub(crate) fn number_in(value: &Value) -> Option<u64>
-    ensures { IfSome result (λ n. n ≡ worth value.now) }
+// Reads an account.
+pub(crate) fn read<C: Core>(core: &mut C, caller: u8, account: u64) -> Result<u64, Stop<Refusal>>
+    requires inside { caller < (C.view core.old).limits.callers }
+    requires sound { IsTrue C.tells → IsSound (C.view core.old).state }
+    ensures limits { (C.view core.new).limits ≡ (C.view core.old).limits }
+    ensures stays { IsTrue C.tells → Stays caller (C.view core.old) (C.view core.new) }
+    ensures cause { IfErr result (IsOfRead account) }
+    ensures found { IsTrue C.tells → IfOk result (λ n. Adds caller (Get account) (Found (decimal n)) (C.view core.old) (C.view core.new)) }
 {
-    let text = str::from_utf8(value.as_bytes()).ok()?;
-    u64::from_str_radix(text, 10).ok()
-}
-
-// The value that spells the number.
-pub(crate) fn value_of(number: u64) -> Value
-    ensures { result ≡ decimal number }
-{
-    let text = ShortText::of(&[Piece::Number(number)]);
-    match Value::of(text.as_bytes()) {
-        Some(value) => value,
-        None => unreachable!(),
+    let Some(value) = get(core, caller, account)? else {
+        return Err(Stop::GivenUp(Refusal::NoAccount { account }));
+    };
+    match number_in(&value) {
+        Some(number) => Ok(number),
+        None => Err(Stop::GivenUp(Refusal::NoAccount { account })),
     }
+}
+
+// Writes an account.
+pub(crate) fn write<C: Core>(
+    core: &mut C,
+    caller: u8,
+    account: u64,
+    number: u64,
+) -> Result<(), Stop<Refusal>>
+    requires inside { caller < (C.view core.old).limits.callers }
+    requires sound { IsTrue C.tells → IsSound (C.view core.old).state }
+    ensures limits { (C.view core.new).limits ≡ (C.view core.old).limits }
+    ensures stays { IsTrue C.tells → Stays caller (C.view core.old) (C.view core.new) }
+    ensures cause { IfErr result IsOfCore }
+    ensures written { IsTrue C.tells → IfOk result (λ done. Adds caller (Put account (decimal number)) Fine (C.view core.old) (C.view core.new)) }
+{
+    put(core, caller, account, value_of(number))?;
+    Ok(())
 }

@@ -5,7 +5,6 @@
 
 mod accounts;
 mod laws;
-mod steps;
 mod transfers;
 
 pub use accounts::Refusal;

@@ -8,7 +8,7 @@ use Rattle.caller_plans.specs.declared.plan.PlanEnd.{PlanEnd}
 use Rattle.caller_plans.specs.declared.fate.LineFault.{LineFault}
 use Rattle.caller_plans.specs.declared.draft.Draft.{Draft}
 use Rattle.caller_plans.specs.declared.script.Reading.{Reading}
-use Rattle.caller_plans.specs.Plans.{plan_of, planned, calls_by, faults_from}
+use Rattle.caller_plans.specs.Plans.{planned, calls_by, faults_from}
 
 -- a caller that has made no call
 abbrev pub empty_draft : Draft
@@ -24,7 +24,7 @@ drafted draft calls = draft.plans ++ planned draft.begun calls
 
 -- the plan of these calls, if there is one, with this end
 abbrev pub plan_ended : Option (List Call) → PlanEnd → List Plan
-plan_ended begun end = option_to_list (option_map (λ calls. plan_of calls end) begun)
+plan_ended begun end = option_to_list (option_map (λ calls. record { calls = calls; end = end }) begun)
 
 -- whether a caller is within a transaction; beyond the callers none is
 abbrev pub one_within : Option Draft → Bool

@@ -1,29 +1,25 @@
 -- What each caller of a script plans.
-use Rattle.std.specs.Prelude.{ℕ, zero, suc, Bool, true, false, IsTrue, nat_eq, if◌then◌else◌, List, [], ◌∷◌, ◌++◌, All, Option, Some, None}
+use Rattle.std.specs.Prelude.{ℕ, zero, suc, Bool, true, false, IsTrue, not, nat_eq, if◌then◌else◌, List, [], ◌∷◌, ◌++◌, All, Option, Some, None}
 use Rattle.history.specs.declared.call.Call.{Call}
 use Rattle.history.specs.declared.call.Call.TheVariants.{Begin, Commit, Abort}
 use Rattle.script_text.specs.declared.line.Line.{Line}
 use Rattle.script_text.specs.declared.line.Line.TheVariants.{Nothing, Told, Bad}
 use Rattle.script_text.specs.Line.{LineSays}
 use Rattle.caller_plans.specs.declared.plan.Plan.{Plan}
-use Rattle.caller_plans.specs.declared.plan.PlanEnd.{PlanEnd}
 use Rattle.caller_plans.specs.declared.plan.PlanEnd.TheVariants as end
 use Rattle.caller_plans.specs.declared.fate.LineFault.{LineFault}
 use Rattle.caller_plans.specs.declared.fate.LineFault.TheVariants as fault
-
-abbrev pub plan_of : List Call → PlanEnd → Plan
-plan_of calls end = record { calls = calls; end = end }
 
 -- The transactions that a caller's calls make, from outside a transaction or after these calls of one that has begun. A call outside a
 -- transaction is passed over, and so is a begin within one.
 abbrev pub planned : Option (List Call) → List Call → List Plan
 planned None [] = []
-planned (Some made) [] = plan_of made end.Unended ∷ []
+planned (Some made) [] = record { calls = made; end = end.Unended } ∷ []
 planned None (Begin ∷ calls) = planned (Some []) calls
 planned None (call ∷ calls) = planned None calls
 planned (Some made) (Begin ∷ calls) = planned (Some made) calls
-planned (Some made) (Commit ∷ calls) = plan_of made end.Commit ∷ planned None calls
-planned (Some made) (Abort ∷ calls) = plan_of made end.Abort ∷ planned None calls
+planned (Some made) (Commit ∷ calls) = record { calls = made; end = end.Commit } ∷ planned None calls
+planned (Some made) (Abort ∷ calls) = record { calls = made; end = end.Abort } ∷ planned None calls
 planned (Some made) (call ∷ calls) = planned (Some (made ++ call ∷ [])) calls
 
 -- whether a caller is within a transaction after a call, given whether it was before
@@ -35,10 +31,8 @@ within_after was call = was
 
 -- a call outside a transaction, or a begin within one
 abbrev pub is_stray : Bool → Call → Bool
-is_stray false Begin = false
-is_stray false call = true
-is_stray true Begin = true
-is_stray true call = false
+is_stray within Begin = within
+is_stray within call = not within
 
 -- the calls of a caller, in order
 abbrev pub calls_by : ℕ → List Line → List Call

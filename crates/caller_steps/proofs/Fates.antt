@@ -25,7 +25,7 @@ pub data Fate (old : State) (caller : ℕ) (call : Call) (reply : Reply) (new : 
   granted : (calls : Granted) → old.live caller ≡ Some calls → IsFree old caller call → Answers (view_of old caller) call reply
       → (index : Index) → new ≡ record (with_live old caller (Some (calls ++ (call, reply) ∷ []))) { index = index } → Fate old caller call reply new
   committed : (calls : Granted) → call ≡ Commit → reply ≡ Committed (length old.history + 1) → old.live caller ≡ Some calls
-      → new ≡ record (with_live old caller None) { history = old.history ++ done_by old caller calls ∷ [] } → Fate old caller call reply new
+      → (index : Index) → new ≡ record (with_live old caller None) { history = old.history ++ done_by old caller calls ∷ []; index = index } → Fate old caller call reply new
   doubted : (calls : Granted) → call ≡ Commit → reply ≡ Media → old.live caller ≡ Some calls → (index : Index)
       → new ≡ record (with_live old caller None) { doubt = done_by old caller calls ∷ []; index = index; is_dead = true } → Fate old caller call reply new
   aborted : call ≡ Abort → reply ≡ Fine → new ≡ with_live old caller None → Fate old caller call reply new
@@ -86,7 +86,7 @@ module _ (limits : Limits) (old : State) (caller : ℕ) (new : State) where
   fate_at (Some calls) (Back n) reply is (inl (none, s)) = says (Back n) reply (NoSave n) refl refl s
   fate_at (Some calls) (Back n) reply is (inr (some, a)) = asks calls (Back n) reply is a
   fate_at (Some calls) Commit reply is (inl short) = says Commit reply NoMemory refl refl short
-  fate_at (Some calls) Commit reply is (inr (inl (re, e))) = committed calls refl re is e
+  fate_at (Some calls) Commit reply is (inr (inl (re, index, settles, e))) = committed calls refl re is index e
   fate_at (Some calls) Commit reply is (inr (inr (wrote, re, index, e))) = doubted calls refl re is index e
   fate_at (Some calls) Abort reply is (re, e) = aborted refl re e
 
@@ -193,7 +193,7 @@ module _ (old : State) (caller : ℕ) (call : Call) (reply : Reply) (new : State
         others = λ other ne. live_moved other (Some (calls ++ (call, reply) ∷ [])) ne (ap (λ (s : State). s.live) e);
         refused = λ re ok. absurd (true≢false (sym re ∙ plain.done));
       }
-  fate_moves (committed calls c r l e) = record {
+  fate_moves (committed calls c r l index e) = record {
     base = ap (λ (s : State). s.base) e;
     history = ap (λ (s : State). s.history) e
         ∙ ap (λ (cs : Granted). old.history ++ done_by old caller cs ∷ []) (sym (ap (λ (o : Option Granted). unwrap_or o []) l))

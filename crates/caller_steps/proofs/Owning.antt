@@ -48,7 +48,7 @@ module _ (limits : Limits) (old : State) (caller : ℕ) (new : State) where
   fault_same call reply media other (failed r index e) = (ap (λ (s : State). s.live) e, ap (λ (s : State). s.doubt) e)
   fault_same call reply media other (began c r e) = absurd (true≢false (sym media ∙ ap is_media r))
   fault_same call reply media other (granted calls l free answers index e) = absurd (true≢false (sym media ∙ (answer_plain _ call reply answers).sure))
-  fault_same call reply media other (committed calls c r l e) = absurd (true≢false (sym media ∙ ap is_media r))
+  fault_same call reply media other (committed calls c r l index e) = absurd (true≢false (sym media ∙ ap is_media r))
   fault_same call reply media other (doubted calls c r l index e) = absurd (true≢false (sym (ap is_commit c) ∙ other))
   fault_same call reply media other (aborted c r e) = absurd (true≢false (sym media ∙ ap is_media r))
 
@@ -58,7 +58,7 @@ module _ (limits : Limits) (old : State) (caller : ℕ) (new : State) where
   sure_same call reply sure (failed r index e) = ap (λ (s : State). s.doubt) e
   sure_same call reply sure (began c r e) = ap (λ (s : State). s.doubt) e
   sure_same call reply sure (granted calls l free answers index e) = ap (λ (s : State). s.doubt) e
-  sure_same call reply sure (committed calls c r l e) = ap (λ (s : State). s.doubt) e
+  sure_same call reply sure (committed calls c r l index e) = ap (λ (s : State). s.doubt) e
   sure_same call reply sure (doubted calls c r l index e) = absurd (true≢false (sym (ap is_media r) ∙ sure))
   sure_same call reply sure (aborted c r e) = ap (λ (s : State). s.doubt) e
 
@@ -88,7 +88,7 @@ module _ (limits : Limits) (old : State) (caller : ℕ) (new : State) where
   number_at call reply (failed r index e) is = absurd (true≢false (sym is ∙ ap is_committed r))
   number_at call reply (began c r e) is = absurd (true≢false (sym is ∙ ap is_committed r))
   number_at call reply (granted calls l free answers index e) is = absurd (true≢false (sym is ∙ (answer_plain _ call reply answers).uncommitted))
-  number_at call reply (committed calls c r l e) is = r
+  number_at call reply (committed calls c r l index e) is = r
   number_at call reply (doubted calls c r l index e) is = absurd (true≢false (sym is ∙ ap is_committed r))
   number_at call reply (aborted c r e) is = absurd (true≢false (sym is ∙ ap is_committed r))
 

@@ -6,6 +6,7 @@ use Rattle.std.specs.FinMap.{get}
 use Rattle.std.proofs.lemmas.Bool.{true≢false, or_left, or_right, or_parts}
 use Rattle.std.proofs.lemmas.List.Folds.{list_any-append}
 use Rattle.history.specs.Key.{Key}
+use Rattle.history.specs.Writes.{Write}
 use Rattle.history.specs.Table.{Granted, Work, Answers, found, removed}
 use Rattle.history.specs.Locks.{touches, touched, clash}
 use Rattle.history.specs.declared.call.Call.{Call}
@@ -14,7 +15,7 @@ use Rattle.history.specs.declared.call.Reply.{Reply}
 use Rattle.history.specs.declared.call.Reply.TheVariants.{Fine, NoTransaction, Already, NoSave, SavesFull, Busy, LogFull, SlotsFull, PagesFull, Media, Dead, NoMemory}
 use Rattle.caller_steps.specs.State.{State, Index, view_of}
 use Rattle.caller_steps.specs.Locked.{Blocks}
-use Rattle.caller_steps.specs.Room.{Limits, LacksAt, Lacks, GainsKey, KeepsKeys, TakesPages, Inserts, IndexesAt, Indexes}
+use Rattle.caller_steps.specs.Room.{Limits, LacksAt, Lacks, GainsKey, KeepsKeys, TakesPages, Inserts, IndexesAt, Indexes, Settles}
 use Rattle.caller_steps.specs.Step.{Says, Asks, StepAt, StepIf, Step, Runs}
 use Rattle.caller_steps.specs.Fate.{is_media}
 use Rattle.caller_steps.specs.Run.{Turn, Goes, GoesAlong, has_fault, IsTurn}
@@ -29,6 +30,14 @@ pub record IndexMoves (limits : Limits) (call : Call) (old new : Index) : Type 0
   pub pages : old.next_page ≤ new.next_page
   pub levels : old.level ≤ new.level
   pub keys : KeepsKeys old new ⊎ ((key : Key) × IsTrue (is_put key call) × (old.slot_of key ≡ None) × GainsKey limits key old new)
+
+-- the data takes writes
+settled_index : (limits : Limits) (call : Call) (writes : List Write) (old new : Index) → Settles writes old new → IndexMoves limits call old new
+settled_index limits call writes old new s = record {
+  pages = (let p = ap (λ (i : Index). i.next_page) s.keys in omega arith);
+  levels = (let l = ap (λ (i : Index). i.level) s.keys in omega arith);
+  keys = inl (record { slot_of = ap (λ (i : Index). i.slot_of) s.keys; slots = ap (λ (i : Index). i.next_slot) s.keys });
+}
 
 same_index : (limits : Limits) (call : Call) (old new : Index) → new ≡ old → IndexMoves limits call old new
 same_index limits call old new e = record {
@@ -179,7 +188,10 @@ module _ (limits : Limits) (old : State) (caller : ℕ) (new : State) where
   left_at (Some calls) (Back n) reply (inl (none, s)) = says (Back n) reply (NoSave n) tt s
   left_at (Some calls) (Back n) reply (inr (some, a)) = asks calls (Back n) reply a
   left_at (Some calls) Commit reply (inl short) = says Commit reply NoMemory tt short
-  left_at (Some calls) Commit reply (inr (inl (re, e))) = same Commit reply (subst (λ r. Told limits old caller new Commit r) (sym re) tt) (ap (λ (s : State). s.index) e)
+  left_at (Some calls) Commit reply (inr (inl (re, index, settles, e))) = record {
+    told = subst (λ r. Told limits old caller new Commit r) (sym re) tt;
+    index = λ alive. subst (λ (i : Index). IndexMoves limits Commit old.index i) (sym (ap (λ (s : State). s.index) e)) (settled_index limits Commit _ old.index index settles);
+  }
   left_at (Some calls) Commit reply (inr (inr (wrote, re, index, e))) = fails Commit reply re (ap (λ (s : State). s.is_dead) e)
   left_at (Some calls) Abort reply (re, e) = same Abort reply (subst (λ r. Told limits old caller new Abort r) (sym re) tt) (ap (λ (s : State). s.index) e)
 

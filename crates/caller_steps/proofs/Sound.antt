@@ -103,8 +103,8 @@ module _ (old : State) (caller : ℕ) (sound : IsSound old) where
     longer = IsLegal-push old.base old.history (done_by old caller calls) sound.legal refl own_right
 
     -- a transaction commits
-    commits : old.is_dead ≡ false → IsSound (record (with_live old caller None) { history = old.history ++ done_by old caller calls ∷ [] })
-    commits alive = record {
+    commits : old.is_dead ≡ false → (index : Index) → IsSound (record (with_live old caller None) { history = old.history ++ done_by old caller calls ∷ []; index = index })
+    commits alive index = record {
       legal = longer;
       certain = sound.certain;
       doubtful = subst (λ d. IsLegal old.base ((old.history ++ done_by old caller calls ∷ []) ++ d)) (sym (sound.certain alive))
@@ -125,7 +125,7 @@ module _ (old : State) (caller : ℕ) (sound : IsSound old) where
   fate_sound call reply new alive (failed r index e) = subst IsSound (sym e) (same index true (λ is. alive))
   fate_sound call reply new alive (began c r e) = subst IsSound (sym e) begins
   fate_sound call reply new alive (granted calls l free answers index e) = subst IsSound (sym e) (grows calls (ap (λ o. unwrap_or o []) l) call reply index free answers)
-  fate_sound call reply new alive (committed calls c r l e) = subst IsSound (sym e) (commits calls (ap (λ o. unwrap_or o []) l) alive)
+  fate_sound call reply new alive (committed calls c r l index e) = subst IsSound (sym e) (commits calls (ap (λ o. unwrap_or o []) l) alive index)
   fate_sound call reply new alive (doubted calls c r l index e) = subst IsSound (sym e) (doubts calls (ap (λ o. unwrap_or o []) l) index)
   fate_sound call reply new alive (aborted c r e) = subst IsSound (sym e) ends
 

@@ -1,5 +1,5 @@
 -- How much room an array has for writes, and what calls make of its index.
-use Rattle.std.specs.Prelude.{ℕ, suc, ◌≡◌, ◌+◌, ◌-◌, ◌<◌, ◌≤◌, ◌⊎◌, Bool, false, nat_eq, length, filter, Option, Some, None, IsSome, unwrap_or}
+use Rattle.std.specs.Prelude.{ℕ, suc, ◌≡◌, ◌+◌, ◌-◌, ◌<◌, ◌≤◌, ◌⊎◌, Bool, false, nat_eq, List, [], length, filter, Option, Some, None, IsSome, unwrap_or}
 use Rattle.std.specs.FinMap.{get}
 use Rattle.std.specs.Map.{update}
 use Rattle.mars_base.specs.Room.{IsFirstFull}
@@ -82,6 +82,11 @@ pub record GainsKey (limits : Limits) (key : Key) (old new : Index) : Type 0 whe
 pub record KeepsKeys (old new : Index) : Type 0 where
   pub slot_of : new.slot_of ≡ old.slot_of
   pub slots : new.next_slot ≡ old.next_slot
+
+-- The data takes these writes, in slots that their keys have. Without a write all of it stays.
+pub record Settles (writes : List Write) (old new : Index) : Type 0 where
+  pub keys : new ≡ record old { bytes = new.bytes }
+  pub none : writes ≡ [] → new ≡ old
 
 -- at most nine more pages are given out, within those of the index, and no level is lost
 pub record TakesPages (limits : Limits) (old new : Index) : Type 0 where

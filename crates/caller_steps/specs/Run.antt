@@ -1,8 +1,9 @@
 -- Runs of a core: the calls of callers and their replies, one after another, and what each caller has of one.
-use Rattle.std.specs.Prelude.{ℕ, ◌≡◌, ◌<◌, ◌≤◌, Bool, true, IsTrue, nat_eq, List, [], ◌∷◌, ◌++◌, map, filter, None}
+use Rattle.std.specs.Prelude.{ℕ, ◌≡◌, ◌<◌, ◌≤◌, Bool, true, false, IsTrue, nat_eq, List, [], ◌∷◌, ◌++◌, map, filter, None}
 use Rattle.std.specs.List.{list_any}
 use Rattle.history.specs.Table.{Granted}
 use Rattle.history.specs.declared.call.Call.{Call}
+use Rattle.history.specs.declared.call.Call.TheVariants.{Put, Del}
 use Rattle.history.specs.declared.call.Reply.{Reply}
 use Rattle.history.specs.declared.call.Reply.TheVariants.{Dead}
 use Rattle.history.specs.declared.transaction.Done.{Done}
@@ -39,6 +40,16 @@ turns_of caller turns = map (λ (turn : Turn). (turn.1, turn.2)) (filter (λ (tu
 -- the transactions of a caller in a history, in order
 abbrev pub commits_of : ℕ → List Done → List Done
 commits_of caller history = filter (λ (done : Done). nat_eq done.caller caller) history
+
+-- the call asks to write a record, or to remove one
+abbrev pub is_write : Call → Bool
+is_write (Put key value) = true
+is_write (Del key) = true
+is_write _ = false
+
+-- a turn asks for that
+abbrev pub has_write : List Turn → Bool
+has_write turns = list_any (λ (turn : Turn). is_write turn.1) turns
 
 -- a turn reports a fault of the medium
 abbrev pub has_fault : List Turn → Bool

@@ -8,7 +8,7 @@ use Rattle.history.specs.declared.call.Reply.{Reply}
 use Rattle.history.specs.declared.call.Reply.TheVariants.{Fine, Committed, NoTransaction, Already, NoSave, SavesFull, Busy, Media, Dead, NoMemory}
 use Rattle.caller_steps.specs.State.{State, Index, view_of, with_live, done_by}
 use Rattle.caller_steps.specs.Locked.{IsFree, IsBusyWith}
-use Rattle.caller_steps.specs.Room.{Limits, Fits, Lacks, Indexes}
+use Rattle.caller_steps.specs.Room.{Limits, Fits, Lacks, Indexes, Settles}
 
 -- the most saves that a transaction may have
 abbrev pub most_saves : ℕ
@@ -47,9 +47,10 @@ abbrev pub Asks : Limits → Granted → State → ℕ → Call → Reply → St
 Asks limits calls old caller call reply new = Says NoMemory old reply new ⊎ (IsHeld old caller call reply new
     ⊎ (IsFree old caller call × (Grants limits calls old caller call reply new ⊎ (Refuses limits old caller call reply new ⊎ (IsTrue (uses_index call) × Fails old reply new)))))
 
+-- the transaction is the next one of the history, and the data takes its writes
 abbrev pub Commits : Granted → State → ℕ → Reply → State → Type 0
-Commits calls old caller reply new =
-    (reply ≡ Committed (length old.history + 1)) × (new ≡ record (with_live old caller None) { history = old.history ++ done_by old caller calls ∷ [] })
+Commits calls old caller reply new = (reply ≡ Committed (length old.history + 1)) × (index : Index) × Settles (log_of calls).writes old.index index
+    × (new ≡ record (with_live old caller None) { history = old.history ++ done_by old caller calls ∷ []; index = index })
 
 -- the medium failed in a commit of a transaction that has written something, so it is in doubt
 abbrev pub Doubts : Granted → State → ℕ → Reply → State → Type 0

@@ -10,7 +10,7 @@ ghost use Rattle.caller_steps.specs.State.{State, Index};
 ghost use Rattle.caller_steps.specs.Room.{Limits};
 ghost use Rattle.caller_steps.specs.Step.{Runs};
 ghost use Rattle.caller_steps.specs.Prefix.{Grows};
-ghost use Rattle.caller_steps.specs.Run.{Turn, GoesAlong, AreOf, turns_of, commits_of, has_fault, HasNoOthers, LastTurn, IsTurn, IsTold};
+ghost use Rattle.caller_steps.specs.Run.{Turn, GoesAlong, AreOf, turns_of, commits_of, has_fault, has_write, HasNoOthers, LastTurn, IsTurn, IsTold};
 ghost use Rattle.caller_steps.specs.Own.{own_of, live_by, doubtful};
 ghost use Rattle.caller_steps.specs.Shown.{AreAsked, Gained, Shows};
 
@@ -81,4 +81,11 @@ pub fn what_an_index_gains()
     ensures slots { (first now : Index) (keys : List Key) → Gained first keys now → now.next_slot ≡ first.next_slot + length keys }
     ensures missing { (first now : Index) (keys : List Key) → Gained first keys now → All (λ key. first.slot_of key ≡ None) keys }
     ensures apart { (first now : Index) (keys : List Key) → Gained first keys now → AllPairs (λ one other. one ≢ other) keys }
+{}
+
+/// A run from callers without transactions in which no turn asks to write or to remove a record leaves the index and all bytes of the data as
+/// they were, unless the medium fails.
+pub fn what_reads_leave()
+    ensures { (limits : Limits) (first now : State) (turns : List Turn) → Runs limits first turns now → ((caller : ℕ) → first.live caller ≡ None) → IsFalse (has_write turns) → IsFalse now.is_dead
+        → now.index ≡ first.index }
 {}

@@ -51,7 +51,7 @@ step_commits limits old new caller call reply step sure = go (step_fate limits o
     go (failed is index e) = absurd (true≢false (sym sure ∙ ap is_committed is))
     go (began c is e) = absurd (true≢false (sym sure ∙ ap is_committed is))
     go (granted calls live unheld answers index e) = absurd (true≢false (sym sure ∙ (answer_plain _ call reply answers).uncommitted))
-    go (committed calls c is live e) = c
+    go (committed calls c is live index e) = c
     go (doubted calls c is live index e) = c
     go (aborted c is e) = absurd (true≢false (sym sure ∙ ap is_committed is))
 

@@ -1,7 +1,7 @@
 // The calls that a run made of its medium.
 use crate::report::{CaseFault, Report};
 use crate::run::Left;
-use pcm_media::{Call, Record};
+use crate::traced::{Call, Record, has_failed};
 use std::alloc::Global;
 
 /// Compares the calls with what a case says of them.
@@ -57,12 +57,7 @@ fn has_failed_before_last(records: &[Record]) -> bool {
     let Some((_, before)) = records.split_last() else {
         return false;
     };
-    for record in before {
-        if !record.is_done {
-            return true;
-        }
-    }
-    false
+    has_failed(before)
 }
 
 // The text of a call, counted from 1.

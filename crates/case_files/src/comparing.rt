@@ -3,7 +3,8 @@ use crate::calls::compare_calls;
 use crate::ran::Ran;
 use crate::report::{CaseFault, Report};
 use crate::run::{Left, Placed, Run, TroubleKind, Wanted};
-use pcm_media::{Call, MemoryMedia, Record};
+use crate::traced::{Call, Record};
+use pcm_media::MemoryMedia;
 use std::alloc::Global;
 
 /// Compares what a run over an image, in which the `nth` call may have failed, came to with what is wanted of it.
@@ -18,7 +19,7 @@ pub fn compare(
     compare_answers(run, nth, ran, report)?;
     compare_places(&run.left, ran.media.bytes(), report)?;
     compare_others(&run.left, before, ran.media.bytes(), report)?;
-    compare_calls(alloc, &run.left, ran.media.calls(), report)
+    compare_calls(alloc, &run.left, &ran.calls, report)
 }
 
 // One of the ways will do.
@@ -134,7 +135,7 @@ pub fn compare_ran(other: &Ran, ran: &Ran, report: &mut Report) -> Result<(), Ca
         let (wanted, was) = (other.sink.written(), ran.sink.written());
         return Err(report.differs("the answers over memory", wanted, was));
     }
-    let lost = lost_range(other.media.calls());
+    let lost = lost_range(&other.calls);
     if !are_same_outside(lost, other.media.bytes(), ran.media.bytes()) {
         let (wanted, was) = (other.media.bytes(), ran.media.bytes());
         return Err(report.differs("the bytes over memory", wanted, was));

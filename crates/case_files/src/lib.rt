@@ -75,6 +75,8 @@ mod ran;
 mod report;
 mod run;
 mod text_lines;
+mod traced;
+mod traced_media;
 
 pub use case::{Case, Image, Play};
 pub use comparing::{compare, compare_ran};
@@ -85,3 +87,5 @@ pub use page_call::{PageCall, PageLine};
 pub use ran::Ran;
 pub use report::{CaseFault, Report};
 pub use run::{Left, Made, Placed, Run, Trouble, TroubleKind, Wanted};
+pub use traced::{Call, Record, has_failed};
+pub use traced_media::TracedMedia;

@@ -1,3 +1,4 @@
+use crate::traced::Record;
 use outside::MemorySink;
 use pcm_media::MemoryMedia;
 
@@ -10,6 +11,8 @@ pub struct Ran {
     pub sink: MemorySink,
     /// Whether a call of the medium failed, or one of the file.
     pub has_failed: bool,
+    /// The calls that it made of the medium, the first first.
+    pub calls: Vec<Record>,
     /// A medium with what it left.
     pub media: MemoryMedia,
 }

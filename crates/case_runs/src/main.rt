@@ -1,20 +1,13 @@
 //! Plays the cases that the files of a folder say, and tells of each that does not come to what it says. The folder is the first
 //! argument, or else the one in which the program runs. How cases are written, in files whose names end in `.cases`, stands at the head
 //! of the crate `case_files`. Begin with `playing`: a case of whole runs makes each run once for each call that is to fail, over memory
-//! (`once`) or over a file (`over_file`); a case of calls of pages goes over plain memory and over an array (`page_cases`).
+//! (`once`) or over a file (`over_file`); a case of calls of pages is played by the crate `case_pages`.
 #![tactic(auto)]
 
 mod file_bytes;
-mod image;
 mod once;
 mod over_file;
-mod page_answers;
-mod page_cases;
-mod page_steps;
-mod page_stores;
-mod plain;
 mod playing;
-mod progress;
 mod tally;
 mod way;
 

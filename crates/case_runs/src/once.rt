@@ -1,6 +1,6 @@
 // One run of a case.
-use crate::image::media_of;
-use case_files::{CaseFault, Ran, Run, TroubleKind};
+use case_files::{CaseFault, Ran, Record, Run, TracedMedia, TroubleKind, has_failed};
+use case_pages::media_of;
 use mars_shell::{OpenGate, Status, fault_text, run};
 use outside::{MemorySink, MemorySource};
 use pcm_media::{FusedMedia, Media, MemoryMedia};
@@ -16,9 +16,10 @@ pub fn ran_with(
     alloc: Global,
     status: Status,
     sink: MemorySink,
-    media: MemoryMedia,
+    left: (Vec<Record>, MemoryMedia),
     has_failed: bool,
 ) -> Result<Ran, CaseFault> {
+    let (calls, media) = left;
     let mut buf = [0; 64];
     let len = fault_text(&status, &mut buf);
     Ok(Ran {
@@ -26,6 +27,7 @@ pub fn ran_with(
         fault: Vec::from_slice(alloc, &buf[..len])?,
         sink,
         has_failed,
+        calls,
         media,
     })
 }
@@ -43,18 +45,11 @@ pub fn run_over_memory<R: AllocGlobal + Threads + Wait + Sync>(
         media.fail(call)?;
     }
     let mut sink = sink_of(rt.alloc(), asked, nth)?;
+    let media = TracedMedia::wrap(rt.alloc(), media);
     let (status, media) = run_over(rt, asked, nth, &mut sink, media)?;
-    let has_failed = has_failed(&media);
-    ran_with(rt.alloc(), status, sink, media, has_failed)
-}
-
-fn has_failed(media: &MemoryMedia) -> bool {
-    for record in media.calls() {
-        if !record.is_done {
-            return true;
-        }
-    }
-    false
+    let left = media.into_parts()?;
+    let has_failed = has_failed(&left.0);
+    ran_with(rt.alloc(), status, sink, left, has_failed)
 }
 
 /// The call of a medium, or of a file, that is to fail.

@@ -1,9 +1,9 @@
 // A run over a file.
 use crate::file_bytes::{lengthened, same_as};
-use crate::image::media_of;
 use crate::once::{failing_call, ran_with, run_over, run_over_memory, sink_of};
 use crate::way::{Way, answers};
 use case_files::{CaseFault, Ran, Report, Run, compare_ran};
+use case_pages::media_of;
 use mars_shell::{Status, room};
 use media_file::{CallFault, Calls, FileMedia, HonestCalls};
 use pcm_media::Media;
@@ -31,8 +31,8 @@ pub fn run_over_file<R: AllocGlobal + Threads + Wait + Sync>(
     let file = HonestCalls::new(alloc, image, answers(alloc, way, fails)?)?;
     let mut sink = sink_of(alloc, asked, nth)?;
     let Ok(media) = FileMedia::over(file, room(alloc, &asked.words)?) else {
-        let (status, media) = (Status::MediaFault, media_of(alloc, image)?);
-        let ran = ran_with(alloc, status, sink, media, fails.is_some())?;
+        let left = (Vec::new(alloc), media_of(alloc, image)?);
+        let ran = ran_with(alloc, Status::MediaFault, sink, left, fails.is_some())?;
         return Ok(OverFile { ran, calls: None });
     };
     let (status, media) = run_over(rt, asked, nth, &mut sink, media)?;

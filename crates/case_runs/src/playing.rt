@@ -1,12 +1,9 @@
 // The runs of a case, one behind the other.
-use crate::image::{first_media, image_before};
 use crate::once::{failing_call, run_over_memory};
 use crate::over_file::{compare_memory, run_over_file};
-use crate::page_cases::play_pages;
-use crate::plain::{compare_plain, has_twin};
-use crate::progress::{Progress, Trial};
 use crate::way::{WAYS, Way};
 use case_files::{Case, CaseFault, Image, Play, Ran, Run, compare};
+use case_pages::{Progress, Trial, compare_plain, first_media, has_twin, image_before, play_pages};
 use pcm_media::MemoryMedia;
 use std::alloc::Global;
 use std::sync::Wait;

@@ -1,30 +1,55 @@
--- Calls at one logger after another: where they write, and what the rows say then.
-use Rattle.std.proofs.Common.{◌≡◌, ◌≢◌, ℕ, ◌+◌, ◌<◌, ◌≤◌, Bool, cond, ⊎_elim, List, [], ◌∷◌, sym, ◌∙◌, ap, subst, arith}
-use Rattle.std.specs.Prelude.{nat_lt, slice_index}
-use Rattle.std.proofs.lemmas.Bool.{cases_eq, lt-ltb}
-use Rattle.pcm_media.specs.Images.{Content, SameOutside, IsOutside, Touched}
+-- Calls at one row after another: where they write, and what the rows say then.
+use Rattle.std.proofs.Common.{◌≡◌, ◌≢◌, ℕ, ◌+◌, ◌<◌, ◌≤◌, Bool, true, false, cond, ⊎_elim, List, [], ◌∷◌, sym, ◌∙◌, subst, arith}
+use Rattle.std.proofs.lemmas.Bool.{cases_eq, false≢true}
+use Rattle.pcm_media.specs.Images.{SameOutside, IsOutside}
 use Rattle.array_shape.specs.declared.shape.Shape.{Shape}
 use Rattle.array_shape.specs.Places.{row_at}
 use Rattle.row_bytes.specs.declared.row.Row.{Row}
+use Rattle.row_bytes.specs.declared.ballot.Ballot.{Ballot}
+use Rattle.row_bytes.specs.Ballots.{has_row}
 use Rattle.array_image.specs.Image.{row_of}
-use Rattle.array_image.proofs.Joined.{outside_at}
+use Rattle.array_image.specs.Joined.{joined}
+use Rattle.array_image.proofs.Joined.{outside_at, outside_joined}
 use Rattle.array_image.proofs.Places.{same_row}
 use Rattle.array_image.proofs.Rows.{row_away}
-use Rattle.coordinator.specs.Between.{counted_places, body_places, vote_places, Names, HaveNames, HaveVotes}
+use Rattle.coordinator.specs.Places.{votes_at, bodies_at}
 
-counted_at : (shape : Shape) (counts : List ℕ) (place : ℕ → ℕ × ℕ) (g : ℕ) → g < shape.loggers → 0 < slice_index counts g → (i : ℕ) → IsOutside (counted_places shape counts place) i → IsOutside (place g ∷ []) i
-counted_at shape counts place g lt some i out =
-    let here = outside_at (λ h. cond (nat_lt 0 (slice_index counts h)) (place h ∷ []) []) i 0 shape.loggers out g (omega arith) (omega arith) in
-    subst (λ b. IsOutside (cond b (place g ∷ []) []) i) (lt-ltb 0 (slice_index counts g) some) here
+-- ranges that are chosen by a test
+chosen_at : (test : ℕ → Bool) (place : ℕ → ℕ × ℕ) (n g : ℕ) → g < n → test g ≡ true → (i : ℕ) → IsOutside (joined (λ h. cond (test h) (place h ∷ []) []) 0 n) i → IsOutside (place g ∷ []) i
+chosen_at test place n g lt so i out =
+    let here = outside_at (λ h. cond (test h) (place h ∷ []) []) i 0 n out g (omega arith) (omega arith) in
+    subst (λ b. IsOutside (cond b (place g ∷ []) []) i) so here
 
-pub body_within : (shape : Shape) (t : ℕ) (counts : List ℕ) (g : ℕ) → g < shape.loggers → 0 < slice_index counts g → (i : ℕ) → IsOutside (body_places shape t counts) i → IsOutside ((row_at shape g t + 1, 15) ∷ []) i
-body_within shape t counts g lt some i out = counted_at shape counts (λ h. (row_at shape h t + 1, 15)) g lt some i out
+none_chosen : (test : ℕ → Bool) (place : ℕ → ℕ × ℕ) (n i : ℕ) → ((g : ℕ) → g < n → test g ≡ true → IsOutside (place g ∷ []) i) → IsOutside (joined (λ h. cond (test h) (place h ∷ []) []) 0 n) i
+none_chosen test place n i away = outside_joined (λ h. cond (test h) (place h ∷ []) []) i 0 n (λ g le lt. one (test g) (place g) (λ so. away g (omega arith) so))
+  where
+    one : (b : Bool) (r : ℕ × ℕ) → (b ≡ true → IsOutside (r ∷ []) i) → IsOutside (cond b (r ∷ []) []) i
+    one true r f = f (λ j. true)
+    one false r f = tt
 
-pub vote_within : (shape : Shape) (t : ℕ) (counts : List ℕ) (g : ℕ) → g < shape.loggers → 0 < slice_index counts g → (i : ℕ) → IsOutside (vote_places shape t counts) i → IsOutside ((row_at shape g t, 1) ∷ []) i
-vote_within shape t counts g lt some i out = counted_at shape counts (λ h. (row_at shape h t, 1)) g lt some i out
+module _ (shape : Shape) (ballot : Ballot) (g t : ℕ) (lt : g < shape.loggers) (has : has_row ballot g t ≡ true) (i : ℕ) where
+  pub vote_within : IsOutside (votes_at shape ballot t) i → IsOutside ((row_at shape g t, 1) ∷ []) i
+  vote_within = chosen_at (λ h. has_row ballot h t) (λ h. (row_at shape h t, 1)) shape.loggers g lt has i
 
--- the row of another logger stays
-module _ (shape : Shape) (t : ℕ) (small : t < shape.numbers) (n at len : ℕ) (within : (i : ℕ) → at ≤ i → i < at + len → (row_at shape n t ≤ i) × (i < row_at shape n t + 16)) (old new : List ℕ) (same : SameOutside ((at, len) ∷ []) old new) where
+  pub body_within : IsOutside (bodies_at shape ballot t) i → IsOutside ((row_at shape g t + 1, 15) ∷ []) i
+  body_within = chosen_at (λ h. has_row ballot h t) (λ h. (row_at shape h t + 1, 15)) shape.loggers g lt has i
+
+-- no place in a row of number t
+abbrev pub IsInNoRow : Shape → ℕ → ℕ → Type 0
+IsInNoRow shape t i = (g : ℕ) → g < shape.loggers → row_at shape g t ≤ i → i < row_at shape g t + 16 → ⊥
+
+pub votes_in_rows : (shape : Shape) (ballot : Ballot) (t i : ℕ) → IsInNoRow shape t i → IsOutside (votes_at shape ballot t) i
+votes_in_rows shape ballot t i none = none_chosen (λ h. has_row ballot h t) (λ h. (row_at shape h t, 1)) shape.loggers i (λ g lt so. ((λ from below. none g lt (omega arith) (omega arith)), tt))
+
+pub bodies_in_rows : (shape : Shape) (ballot : Ballot) (t i : ℕ) → IsInNoRow shape t i → IsOutside (bodies_at shape ballot t) i
+bodies_in_rows shape ballot t i none = none_chosen (λ h. has_row ballot h t) (λ h. (row_at shape h t + 1, 15)) shape.loggers i (λ g lt so. ((λ from below. none g lt (omega arith) (omega arith)), tt))
+
+-- a row that the test does not take
+pub one_skipped : (test : ℕ → Bool) (P : ℕ → Type 0) (n : ℕ) → test n ≡ false → ((g : ℕ) → g < n → test g ≡ true → P g) → (g : ℕ) → g < n + 1 → test g ≡ true → P g
+one_skipped test P n lacks before g lt so = ⊎_elim (λ is. absurd (false≢true (sym lacks ∙ subst (λ k. test k ≡ true) is so))) (λ ne. before g (omega arith) so) (cases_eq g n)
+
+-- what holds of the rows of number t at the loggers below n still holds once that of logger n has been written
+module _ (shape : Shape) (t : ℕ) (small : t < shape.numbers) (test : ℕ → Bool) (Q : ℕ → Row → Type 0) (n at len : ℕ) (within : (i : ℕ) → at ≤ i → i < at + len → (row_at shape n t ≤ i) × (i < row_at shape n t + 16)) (old new : List ℕ) (same : SameOutside ((at, len) ∷ []) old new) where
   other_row : (g : ℕ) → g ≢ n → row_of shape new g t ≡ row_of shape old g t
   other_row g ne = row_away shape ((at, len) ∷ []) old new g t same (λ i from below. (
     (λ from' below'.
@@ -32,18 +57,20 @@ module _ (shape : Shape) (t : ℕ) (small : t < shape.numbers) (n at len : ℕ) 
     tt,
   ))
 
-pub names_from : (row : Row) (vote : Bool) (mask first count : ℕ) → row ≡ record { voted = vote; mask = mask; first = first; count = count } → Names row mask first count
-names_from row vote mask first count is = record { mask_is = ap (λ (r : Row). r.mask) is; first_is = ap (λ (r : Row). r.first) is; count_is = ap (λ (r : Row). r.count) is }
-
-module _ (shape : Shape) (t : ℕ) (small : t < shape.numbers) (counts : List ℕ) (n : ℕ) (old new : Content) where
-  pub names_more : (mask : ℕ) (firsts : List ℕ) → Touched ((row_at shape n t + 1, 15) ∷ []) old new → HaveNames shape t mask firsts counts n old.bytes → Names (row_of shape new.bytes n t) mask (slice_index firsts n) (slice_index counts n) → HaveNames shape t mask firsts counts (n + 1) new.bytes
-  names_more mask firsts touched names here g lt some = ⊎_elim
-      (λ is. subst (λ k. Names (row_of shape new.bytes k t) mask (slice_index firsts k) (slice_index counts k)) (sym is) here)
-      (λ ne. subst (λ (r : Row). Names r mask (slice_index firsts g) (slice_index counts g)) (sym (other_row shape t small n (row_at shape n t + 1) 15 (λ i from below. (omega arith, omega arith)) old.bytes new.bytes touched.bytes g ne)) (names g (omega arith) some))
+  pub rows_more : ((g : ℕ) → g < n → test g ≡ true → Q g (row_of shape old g t)) → Q n (row_of shape new n t) → (g : ℕ) → g < n + 1 → test g ≡ true → Q g (row_of shape new g t)
+  rows_more before here g lt so = ⊎_elim
+      (λ is. subst (λ k. Q k (row_of shape new k t)) (sym is) here)
+      (λ ne. subst (λ (r : Row). Q g r) (sym (other_row g ne)) (before g (omega arith) so))
       (cases_eq g n)
 
-  pub votes_more : (vote : Bool) → Touched ((row_at shape n t, 1) ∷ []) old new → HaveVotes shape t counts vote n old.bytes → (row_of shape new.bytes n t).voted ≡ vote → HaveVotes shape t counts vote (n + 1) new.bytes
-  votes_more vote touched votes here g lt some = ⊎_elim
-      (λ is. ap (λ (k : ℕ). (row_of shape new.bytes k t).voted) is ∙ here)
-      (λ ne. ap (λ (r : Row). r.voted) (other_row shape t small n (row_at shape n t) 1 (λ i from below. (omega arith, omega arith)) old.bytes new.bytes touched.bytes g ne) ∙ votes g (omega arith) some)
-      (cases_eq g n)
+-- what holds of the rows of the numbers below n still holds once those of number n have been written
+module _ (shape : Shape) (test : ℕ → ℕ → Bool) (Q : ℕ → ℕ → Row → Type 0) (n : ℕ) (small : n < shape.numbers) (ranges : List (ℕ × ℕ)) (in_rows : (i : ℕ) → IsInNoRow shape n i → IsOutside ranges i) (old new : List ℕ) (same : SameOutside ranges old new) where
+  other_number : (g t : ℕ) → t < shape.numbers → t ≢ n → row_of shape new g t ≡ row_of shape old g t
+  other_number g t lt ne = row_away shape ranges old new g t same (λ i from below. in_rows i (λ h lt' from' below'. ne (same_row shape g h t n i lt small from below from' below').1))
+
+  pub numbers_more : ((g t : ℕ) → g < shape.loggers → t < n → test g t ≡ true → Q g t (row_of shape old g t)) → ((g : ℕ) → g < shape.loggers → test g n ≡ true → Q g n (row_of shape new g n))
+      → (g t : ℕ) → g < shape.loggers → t < n + 1 → test g t ≡ true → Q g t (row_of shape new g t)
+  numbers_more before here g t lt lt' so = ⊎_elim
+      (λ is. subst (λ k. Q g k (row_of shape new g k)) (sym is) (here g lt (subst (λ k. test g k ≡ true) is so)))
+      (λ ne. subst (λ (r : Row). Q g t r) (sym (other_number g t (omega arith) ne)) (before g t lt (omega arith) so))
+      (cases_eq t n)

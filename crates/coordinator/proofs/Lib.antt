@@ -1,8 +1,6 @@
-pub mod Between
-pub mod Masks
 pub mod Calls
-pub mod Applying
-pub mod Committing
-pub mod Whole
-pub mod Header
 pub mod Costing
+pub mod Applying
+pub mod Placing
+pub mod Committing
+pub mod Masks

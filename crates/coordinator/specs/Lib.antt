@@ -1,2 +1,3 @@
-pub mod Between
+pub mod Commits
 pub mod Costs
+pub mod Places

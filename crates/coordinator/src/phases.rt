@@ -1,97 +1,156 @@
-// The four phases of a commit: calls at each logger with a count, then a barrier.
-ghost use Rattle.std.specs.Prelude.{◌≡◌, ◌+◌, ◌*◌, ◌≤◌, ◌<◌, [], ◌∷◌, ℕ, true, length, slice_index, sum, IsTrue, OnOk};
+// The phases of a commit: calls at each of its rows, by number and logger, then a barrier.
+ghost use Rattle.std.specs.Prelude.{◌≡◌, ◌+◌, ◌*◌, ◌≤◌, ◌<◌, [], ℕ, true, IsTrue, OnOk};
 ghost use Rattle.mars_base.specs.Costs.{Costs};
 ghost use Rattle.pcm_media.specs.View.{View, Writes};
 ghost use Rattle.array_shape.specs.Places.{media_len};
 ghost use Rattle.array_shape.specs.Logged.{applied, places_of};
-ghost use Rattle.array_image.specs.Image.{data_of};
-ghost use Rattle.array_image.specs.Marked.{named_parts, AreGood};
-ghost use Rattle.coordinator.specs.Between.{body_places, vote_places, HaveNames, HaveVotes};
-ghost use Rattle.coordinator.specs.Costs.{voters};
+ghost use Rattle.row_bytes.specs.Ballots.{has_row};
+ghost use Rattle.array_image.specs.Image.{row_of, data_of};
+ghost use Rattle.array_image.specs.Votes.{votes_of};
+ghost use Rattle.commit_queue.specs.Between.{bodies_of};
+ghost use Rattle.coordinator.specs.Commits.{AreGood, AreThere, Says, number_parts, parts_named};
+ghost use Rattle.coordinator.specs.Costs.{parts_at, parts_in_all, rows_at, rows_in_all};
+ghost use Rattle.coordinator.specs.Places.{bodies_at, votes_at};
 
+use crate::cells::{Cells, cells_in};
 use array_shape::Shape;
 use logger::Logger;
 use mars_base::Failed;
 use pcm_media::Media;
+use row_bytes::Ballot;
 
 // Writes the rows without their votes.
-pub(crate) fn prepare<M: Media>(
+pub(crate) fn put_rows<M: Media>(
     media: &mut M,
     shape: &Shape,
-    tid: u8,
-    mask: u8,
-    firsts: &[u16],
-    counts: &[u16],
+    ballot: Ballot,
+    cells: &[Cells; 512],
 ) -> Result<(), Failed>
-    requires tid { tid < shape.now.numbers }
-    requires firsts { length firsts.now ≡ shape.now.loggers }
-    requires counts { length counts.now ≡ shape.now.loggers }
     requires size { (M.view media.old).size ≡ media_len shape.now }
-    ensures costs { Costs true (voters counts.now + 1) (M.view media.old).moment (M.view media.new).moment result }
-    ensures does { Writes M.tells (body_places shape.now tid counts.now) (M.view media.old) (M.view media.new) result }
-    ensures names { IsTrue M.tells → OnOk result (((M.view media.new).content.unsettled ≡ []) × HaveNames shape.now tid mask firsts.now counts.now shape.now.loggers (M.view media.new).content.bytes) }
+    ensures costs { Costs true (rows_in_all shape.now ballot + 1) (M.view media.old).moment (M.view media.new).moment result }
+    ensures does { Writes M.tells (bodies_of shape.now (has_row ballot)) (M.view media.old) (M.view media.new) result }
+    ensures names { IsTrue M.tells → OnOk result (((M.view media.new).content.unsettled ≡ []) × ((g t : ℕ) → g < shape.now.loggers → t < shape.now.numbers → has_row ballot g t ≡ true
+        → Says ballot cells.now g t (row_of shape.now (M.view media.new).content.bytes g t))) }
 {
-    for number in 0..shape.loggers {
-        let at = usize::from(number);
-        if counts[at] == 0 {
-            continue;
-        }
-        let logger = Logger::new(*shape, number);
-        logger.put_row(media, tid, mask, firsts[at], counts[at])?;
+    for tid in 0..shape.numbers {
+        put_rows_of(media, shape, ballot, cells, tid)?;
     }
     media.barrier()
+}
+
+// Those of one number.
+fn put_rows_of<M: Media>(
+    media: &mut M,
+    shape: &Shape,
+    ballot: Ballot,
+    cells: &[Cells; 512],
+    tid: u8,
+) -> Result<(), Failed>
+    requires tid { tid < shape.now.numbers }
+    requires size { (M.view media.old).size ≡ media_len shape.now }
+    ensures costs { Costs true (rows_at shape.now ballot tid) (M.view media.old).moment (M.view media.new).moment result }
+    ensures does { Writes M.tells (bodies_at shape.now ballot tid) (M.view media.old) (M.view media.new) result }
+    ensures names { IsTrue M.tells → OnOk result ((g : ℕ) → g < shape.now.loggers → has_row ballot g tid ≡ true
+        → Says ballot cells.now g tid (row_of shape.now (M.view media.new).content.bytes g tid)) }
+{
+    for number in 0..shape.loggers {
+        if !ballot.has_row(number, tid) {
+            continue;
+        }
+        let Cells { first, count } = cells_in(cells, number, tid);
+        let row = ballot.row(tid, first, count);
+        Logger::new(*shape, number).put_row(media, tid, row)?;
+    }
+    Ok(())
 }
 
 // Writes or clears the votes. Once all of them stand, the parts are decided.
 pub(crate) fn set_votes<M: Media>(
     media: &mut M,
     shape: &Shape,
+    ballot: Ballot,
+    voted: bool,
+) -> Result<(), Failed>
+    requires size { (M.view media.old).size ≡ media_len shape.now }
+    ensures costs { Costs true (rows_in_all shape.now ballot + 1) (M.view media.old).moment (M.view media.new).moment result }
+    ensures does { Writes M.tells (votes_of shape.now (has_row ballot)) (M.view media.old) (M.view media.new) result }
+    ensures votes { IsTrue M.tells → OnOk result (((M.view media.new).content.unsettled ≡ []) × ((g t : ℕ) → g < shape.now.loggers → t < shape.now.numbers → has_row ballot g t ≡ true
+        → (row_of shape.now (M.view media.new).content.bytes g t).voted ≡ voted)) }
+{
+    for tid in 0..shape.numbers {
+        set_votes_of(media, shape, ballot, tid, voted)?;
+    }
+    media.barrier()
+}
+
+// Those of one number.
+fn set_votes_of<M: Media>(
+    media: &mut M,
+    shape: &Shape,
+    ballot: Ballot,
     tid: u8,
-    counts: &[u16],
     voted: bool,
 ) -> Result<(), Failed>
     requires tid { tid < shape.now.numbers }
-    requires counts { length counts.now ≡ shape.now.loggers }
     requires size { (M.view media.old).size ≡ media_len shape.now }
-    ensures costs { Costs true (voters counts.now + 1) (M.view media.old).moment (M.view media.new).moment result }
-    ensures does { Writes M.tells (vote_places shape.now tid counts.now) (M.view media.old) (M.view media.new) result }
-    ensures votes { IsTrue M.tells → OnOk result (((M.view media.new).content.unsettled ≡ []) × HaveVotes shape.now tid counts.now voted shape.now.loggers (M.view media.new).content.bytes) }
+    ensures costs { Costs true (rows_at shape.now ballot tid) (M.view media.old).moment (M.view media.new).moment result }
+    ensures does { Writes M.tells (votes_at shape.now ballot tid) (M.view media.old) (M.view media.new) result }
+    ensures votes { IsTrue M.tells → OnOk result ((g : ℕ) → g < shape.now.loggers → has_row ballot g tid ≡ true
+        → (row_of shape.now (M.view media.new).content.bytes g tid).voted ≡ voted) }
 {
     for number in 0..shape.loggers {
-        if counts[usize::from(number)] == 0 {
+        if !ballot.has_row(number, tid) {
             continue;
         }
         Logger::new(*shape, number).set_vote(media, tid, voted)?;
     }
-    media.barrier()
+    Ok(())
 }
 
 // Writes the parts into the data.
 pub(crate) fn install<M: Media>(
     media: &mut M,
     shape: &Shape,
-    tid: u8,
-    firsts: &[u16],
-    counts: &[u16],
+    ballot: Ballot,
+    cells: &[Cells; 512],
 ) -> Result<(), Failed>
-    requires tid { tid < shape.now.numbers }
-    requires firsts { length firsts.now ≡ shape.now.loggers }
-    requires counts { length counts.now ≡ shape.now.loggers }
-    requires entries { (g : ℕ) → g < shape.now.loggers → slice_index firsts.now g + slice_index counts.now g ≤ shape.now.entries }
+    requires there { AreThere shape.now ballot cells.now }
     requires size { (M.view media.old).size ≡ media_len shape.now }
-    requires good { IsTrue M.tells → AreGood shape.now (M.view media.old).content.bytes tid firsts.now counts.now }
-    ensures costs { Costs M.tells (2 * sum counts.now + 1) (M.view media.old).moment (M.view media.new).moment result }
-    ensures does { Writes M.tells (places_of shape.now (named_parts shape.now (M.view media.old).content.bytes tid firsts.now counts.now)) (M.view media.old) (M.view media.new) result }
+    requires good { IsTrue M.tells → AreGood shape.now (M.view media.old).content.bytes ballot cells.now }
+    ensures costs { Costs M.tells (2 * parts_in_all shape.now ballot cells.now + 1) (M.view media.old).moment (M.view media.new).moment result }
+    ensures does { Writes M.tells (places_of shape.now (parts_named shape.now (M.view media.old).content.bytes ballot cells.now)) (M.view media.old) (M.view media.new) result }
     ensures applied { IsTrue M.tells → OnOk result (((M.view media.new).content.unsettled ≡ [])
-        × (data_of shape.now (M.view media.new).content.bytes ≡ applied (named_parts shape.now (M.view media.old).content.bytes tid firsts.now counts.now) (data_of shape.now (M.view media.old).content.bytes))) }
+        × (data_of shape.now (M.view media.new).content.bytes ≡ applied (parts_named shape.now (M.view media.old).content.bytes ballot cells.now) (data_of shape.now (M.view media.old).content.bytes))) }
 {
-    for number in 0..shape.loggers {
-        let at = usize::from(number);
-        if counts[at] == 0 {
-            continue;
-        }
-        let logger = Logger::new(*shape, number);
-        logger.apply(media, tid, firsts[at], counts[at])?;
+    for tid in 0..shape.numbers {
+        install_of(media, shape, ballot, cells, tid)?;
     }
     media.barrier()
+}
+
+// Those of one number.
+fn install_of<M: Media>(
+    media: &mut M,
+    shape: &Shape,
+    ballot: Ballot,
+    cells: &[Cells; 512],
+    tid: u8,
+) -> Result<(), Failed>
+    requires tid { tid < shape.now.numbers }
+    requires there { AreThere shape.now ballot cells.now }
+    requires size { (M.view media.old).size ≡ media_len shape.now }
+    requires good { IsTrue M.tells → AreGood shape.now (M.view media.old).content.bytes ballot cells.now }
+    ensures costs { Costs M.tells (2 * parts_at shape.now ballot cells.now tid) (M.view media.old).moment (M.view media.new).moment result }
+    ensures does { Writes M.tells (places_of shape.now (number_parts shape.now (M.view media.old).content.bytes ballot cells.now tid)) (M.view media.old) (M.view media.new) result }
+    ensures applied { IsTrue M.tells → OnOk result (data_of shape.now (M.view media.new).content.bytes ≡
+        applied (number_parts shape.now (M.view media.old).content.bytes ballot cells.now tid) (data_of shape.now (M.view media.old).content.bytes)) }
+{
+    for number in 0..shape.loggers {
+        if !ballot.has_row(number, tid) {
+            continue;
+        }
+        let Cells { first, count } = cells_in(cells, number, tid);
+        Logger::new(*shape, number).apply(media, tid, first, count)?;
+    }
+    Ok(())
 }

@@ -1,13 +1,13 @@
 pub mod Done
 pub mod Order
 pub mod Goods
-pub mod Frames
-pub mod Finding
 pub mod Clearing
 pub mod Tests
 pub mod Tabling
 pub mod Read
 pub mod Applying
 pub mod Votes
+pub mod Leaving
 pub mod Lists
 pub mod Moments
+pub mod Phases

@@ -89,7 +89,7 @@ module _ (shape : Shape) (image : List ℕ) (rows : List Row) (are : RowsAre sha
       (cases_Bool (decided_in shape rows g t)))
 
   pub none_decided : HasNoVote shape image → (g t : ℕ) → g < shape.loggers → t < shape.numbers → decided_in shape rows g t ≡ false
-  none_decided none g t lt lt' = not_decided shape.loggers (λ h. row_in rows h t) g (ap (λ (r : Row). r.voted) (are g t lt lt') ∙ none g t lt lt')
+  none_decided none g t lt lt' = not_decided shape.loggers shape.numbers (row_in rows) g t lt lt' (ap (λ (r : Row). r.voted) (are g t lt lt') ∙ none g t lt lt')
 
   pub no_count : HasNoVote shape image → (length (at_rows shape (λ g t. decided_in shape rows g t) row_name) ≡ 0) × (length (at_rows shape (λ g t. (row_in rows g t).voted && not (decided_in shape rows g t)) row_name) ≡ 0)
   no_count none =

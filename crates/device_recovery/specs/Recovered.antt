@@ -1,15 +1,15 @@
 -- What recovery finds, says and writes.
-use Rattle.std.specs.Prelude.{ℕ, ◌≡◌, ◌+◌, ◌*◌, ◌<◌, Bool, true, false, ◌&&◌, not, if◌then◌else◌, List, [], ◌∷◌, ◌++◌, length}
+use Rattle.std.specs.Prelude.{ℕ, ◌≡◌, ◌+◌, ◌*◌, ◌<◌, Bool, true, false, not, if◌then◌else◌, List, [], ◌∷◌, ◌++◌, length}
 use Rattle.mars_base.specs.Bytes.{range}
 use Rattle.mars_base.specs.Check.{Check, test, unless, each}
 use Rattle.pcm_media.specs.Images.{Content, MayLeave}
 use Rattle.array_shape.specs.declared.shape.Shape.{Shape}
-use Rattle.array_shape.specs.Places.{row_at}
 use Rattle.array_image.specs.Joined.{joined}
 use Rattle.array_shape.specs.Logged.{places_of}
 use Rattle.array_image.specs.Image.{row_of}
 use Rattle.array_image.specs.Decided.{decided, all_decided, settled_data}
-use Rattle.array_image.specs.Standing.{IsGoodRow, IsLawful}
+use Rattle.array_image.specs.Standing.{IsGoodRow, IsLawful, StandsFor}
+use Rattle.array_image.specs.Votes.{dropped, votes_of}
 use Rattle.device_recovery.specs.declared.report.Report.{Report}
 use Rattle.device_recovery.specs.declared.report.RecoverFault.{RecoverFault}
 use Rattle.device_recovery.specs.declared.report.RecoverFault.TheVariants.{Media}
@@ -42,7 +42,7 @@ abbrev pub decided_rows : Shape → List ℕ → List (ℕ × ℕ)
 decided_rows shape image = at_rows shape (λ g t. decided shape image g t) row_name
 
 abbrev pub dropped_rows : Shape → List ℕ → List (ℕ × ℕ)
-dropped_rows shape image = at_rows shape (λ g t. (row_of shape image g t).voted && not (decided shape image g t)) row_name
+dropped_rows shape image = at_rows shape (dropped shape image) row_name
 
 -- no row is voted
 abbrev pub HasNoVote : Shape → List ℕ → Type 0
@@ -58,11 +58,8 @@ pub record Counts (shape : Shape) (image : List ℕ) (report : Report) : Type 0 
   pub dropped : report.dropped ≡ length (dropped_rows shape image)
 
 -- where recovery writes: the votes of voted rows, and the parts of decided ones
-abbrev pub number_votes : Shape → List ℕ → ℕ → List (ℕ × ℕ)
-number_votes shape image = at_number shape (λ g t. (row_of shape image g t).voted) (λ g t. (row_at shape g t, 1))
-
 abbrev pub voted_places : Shape → List ℕ → List (ℕ × ℕ)
-voted_places shape image = at_rows shape (λ g t. (row_of shape image g t).voted) (λ g t. (row_at shape g t, 1))
+voted_places shape image = votes_of shape (λ g t. (row_of shape image g t).voted)
 
 abbrev pub recovered_places : Shape → List ℕ → List (ℕ × ℕ)
 recovered_places shape image = places_of shape (all_decided shape image) ++ voted_places shape image
@@ -72,6 +69,11 @@ pub record SettlesLike (shape : Shape) (other image : List ℕ) : Type 0 where
   pub lawful : IsLawful shape image
   pub header : range image 0 512 ≡ range other 0 512
   pub same : settled_data shape image ≡ settled_data shape other
+
+-- lawful, with this header, and settles to this data
+pub record SettlesTo (shape : Shape) (bytes header image : List ℕ) : Type 0 where
+  pub stands : StandsFor shape image bytes
+  pub header_is : range image 0 512 ≡ header
 
 -- it settles like some image that could be left at first
 pub record KeepsSense (shape : Shape) (content : Content) (image : List ℕ) : Type 0 where

@@ -12,6 +12,7 @@ mod report;
 mod rows;
 mod settling;
 mod table;
+mod which;
 
 pub use recovery::recover;
 pub use report::{RecoverFault, Report};

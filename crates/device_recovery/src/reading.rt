@@ -18,6 +18,8 @@ const NO_ROW: Row = Row {
     mask: 0,
     first: 0,
     count: 0,
+    group: 0,
+    order: 0,
 };
 
 fn read_one<M: Media>(media: &mut M, shape: &Shape, logger: u8, tid: u8) -> Result<Row, Failed>

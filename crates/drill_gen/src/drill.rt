@@ -1,6 +1,6 @@
 // The script of a drill.
-ghost use Rattle.std.specs.Prelude.{◌≡◌, ◌<◌, ◌^◌, ◌++◌, IfOk, OnOk};
-ghost use Rattle.drill_gen.specs.Drill.{drill, one_by_one, in_pairs};
+ghost use Rattle.std.specs.Prelude.{◌≡◌, ◌<◌, ◌^◌, ◌++◌, true, false, IfOk, OnOk};
+ghost use Rattle.drill_gen.specs.Drill.{drill, in_turn};
 
 use crate::draws::Draws;
 use crate::transaction::{Turns, draw_transaction, push_alone, push_pair};
@@ -25,7 +25,7 @@ pub fn script(alloc: Global, seed: u32, transactions: u32, callers: u8) -> Resul
 
 fn push_singles(turns: &mut Turns, draws: &mut Draws, count: u32) -> Result<(), NoMemory>
     requires small { draws.old.x < 2 ^ 31 }
-    ensures { OnOk result (turns.new ≡ turns.old ++ one_by_one draws.old.x 0 count) }
+    ensures { OnOk result (turns.new ≡ turns.old ++ in_turn false draws.old.x count) }
 {
     for _nth in 0..count {
         let drawn = draw_transaction(draws);
@@ -36,7 +36,7 @@ fn push_singles(turns: &mut Turns, draws: &mut Draws, count: u32) -> Result<(), 
 
 fn push_pairs(turns: &mut Turns, draws: &mut Draws, count: u32) -> Result<(), NoMemory>
     requires small { draws.old.x < 2 ^ 31 }
-    ensures { OnOk result (turns.new ≡ turns.old ++ in_pairs draws.old.x 0 count) }
+    ensures { OnOk result (turns.new ≡ turns.old ++ in_turn true draws.old.x count) }
 {
     for _nth in 0..count / 2 {
         let first = draw_transaction(draws);

@@ -1,9 +1,9 @@
 // A transaction of a drill.
-ghost use Rattle.std.specs.Prelude.{◌≡◌, ◌<◌, ◌^◌, ◌∷◌, ◌++◌, codes, OnOk};
+ghost use Rattle.std.specs.Prelude.{◌≡◌, ◌<◌, ◌^◌, ◌%◌, ◌∷◌, ◌++◌, nat_eq, if◌then◌else◌, codes, OnOk};
 ghost use Rattle.std.specs.Fmt.{decimal};
 ghost use Rattle.record_slots.specs.Text.{IsValue};
 ghost use Rattle.drill_gen.specs.Draws.{draw, drawn_on};
-ghost use Rattle.drill_gen.specs.Drill.{alone, paired, drawn_from, put_of, end_of};
+ghost use Rattle.drill_gen.specs.Drill.{alone, paired, drawn_from, put_from};
 
 use crate::draws::Draws;
 use history::Call;
@@ -43,7 +43,7 @@ pub fn draw_transaction(draws: &mut Draws) -> Transaction
 
 fn draw_put(draws: &mut Draws) -> Call
     requires { draws.old.x < 2 ^ 31 }
-    ensures drawn { result ≡ put_of (draw (drawn_on draws.old.x 1)) (draw (drawn_on draws.old.x 2)) }
+    ensures drawn { result ≡ put_from draws.old.x }
     ensures on { draws.new.x ≡ drawn_on draws.old.x 2 }
     ensures small { draws.new.x < 2 ^ 31 }
 {
@@ -53,7 +53,7 @@ fn draw_put(draws: &mut Draws) -> Call
 }
 
 fn end_of(drawn: u64) -> Call
-    ensures { result ≡ end_of drawn }
+    ensures { result ≡ (if nat_eq (drawn % 8) 0 then Call.Abort else Call.Commit) }
 {
     if drawn % ENDS == 0 {
         Call::Abort

@@ -19,7 +19,8 @@ use Rattle.device_recovery.specs.declared.report.RecoverFault.TheVariants as rec
 use Rattle.device_recovery.specs.Recovered.{rows_good, recovered_places, voted_places}
 use Rattle.pcm_media.specs.Answer.{media_answer}
 use Rattle.device_recovery.specs.Recovered as recovered
-use Rattle.device_recovery.proofs.Clearing.{votes_away}
+use Rattle.array_image.specs.Image.{row_of}
+use Rattle.array_image.proofs.Frames.{votes_away}
 use Rattle.eaw_device.specs.declared.fault.AttachFault.{AttachFault}
 use Rattle.eaw_device.specs.declared.fault.AttachFault.TheVariants.{NotMars, BadShape, BadRow, Media, NoMemory}
 use Rattle.eaw_device.specs.Opens.{header_of, HoldsArray, AttachCause, AttachLeaves}
@@ -29,7 +30,7 @@ use Rattle.eaw_device.specs.Attaching.{AllSay, IsOfHeader, IsOfRecovery, header_
 recovered_behind : (shape : Shape) (image : List ℕ) → AreBehind (recovered_places shape image)
 recovered_behind shape image i lt =
     outside-both (places_of shape (all_decided shape image)) (voted_places shape image) i (places_behind shape (all_decided shape image) i lt)
-    (votes_away shape image i (λ g t below below' so is. omega arith))
+    (votes_away shape (λ g t. (row_of shape image g t).voted) i (λ g t below below' so is. omega arith))
 
 -- so if all is settled after it, each image left has the header that was read
 pub recovered_says : (shape : Shape) (old new : Content) → ((i : ℕ) → IsOutside new.unsettled i) → SaysShape (header_of old.bytes) shape → Touched (recovered_places shape old.bytes) old new → AllSay shape new

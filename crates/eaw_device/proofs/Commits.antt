@@ -9,7 +9,7 @@ use Rattle.array_shape.specs.declared.shape.Shape.{Shape}
 use Rattle.array_shape.specs.Places.{media_len}
 use Rattle.array_shape.specs.Logged.{Part, applied}
 use Rattle.array_image.specs.Image.{data_of}
-use Rattle.array_image.specs.Standing.{IsEither, IsClean, SameCells}
+use Rattle.array_image.specs.Standing.{IsEither, SameCells}
 use Rattle.eaw_face.specs.State.{listed}
 use Rattle.eaw_face.specs.StoreView.{IsLive, log_len}
 use Rattle.eaw_face.specs.Command.{commit, abort, nested_top, partial_abort}
@@ -20,7 +20,7 @@ use Rattle.eaw_device.specs.declared.log.Log.{Log}
 use Rattle.eaw_device.specs.Opens.{Opens}
 use Rattle.eaw_device.specs.Logs.{parts_in, IsKept, entries_at}
 use Rattle.eaw_device.specs.Steps.{WritesBehind}
-use Rattle.eaw_device.specs.Sound.{IsSound, view_of}
+use Rattle.eaw_device.specs.Sound.{IsSound, IsClean, view_of}
 use Rattle.eaw_device.proofs.Entries.{length-ranges_in}
 use Rattle.eaw_device.proofs.Tables.{ranges_there, parts_there}
 use Rattle.eaw_device.proofs.Doing.{Found, done, failed}

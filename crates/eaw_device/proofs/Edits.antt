@@ -18,7 +18,7 @@ use Rattle.array_image.specs.Image.{cell_of, cell_head, cell_part, data_of, IsGo
 use Rattle.array_image.proofs.Places.{cell_fits_in}
 use Rattle.array_image.proofs.Rows.{cell_away, length-cell}
 use Rattle.array_image.proofs.Frames.{AllWithin}
-use Rattle.array_image.proofs.Staging.{AreInCells, staged_data}
+use Rattle.eaw_device.proofs.Cells.{AreInCells, staged_data}
 use Rattle.eaw_face.specs.State.{listed, with_log, edited, range_at, part_at}
 use Rattle.eaw_face.specs.StoreView.{IsLive}
 use Rattle.eaw_face.specs.Command.{log_edit}

@@ -9,12 +9,13 @@ use Rattle.array_shape.specs.Places.{media_len}
 use Rattle.row_bytes.specs.Header.{SaysShape}
 use Rattle.row_bytes.specs.Said.{row_said}
 use Rattle.row_bytes.proofs.Heading.{header_bytes-says}
-use Rattle.array_image.specs.Image.{row_of, data_of}
+use Rattle.array_image.specs.Image.{data_of}
 use Rattle.array_image.proofs.Headers.{AreBehind, header_stays}
-use Rattle.array_image.proofs.Frames.{before_all, left_within}
+use Rattle.array_image.proofs.Frames.{before_all, left_sure}
 use Rattle.eaw_device.specs.Opens.{header_of}
 use Rattle.eaw_device.specs.Attaching.{AllOpenWith}
 use Rattle.eaw_device.specs.Fresh.{IsFresh, LeavesAsRead, HasParts, IsHalfFresh, behind_header}
+use Rattle.eaw_device.proofs.Cells.{unvoted_clean}
 use Rattle.eaw_device.proofs.FreshLemmas.{header_parts}
 use Rattle.eaw_device.proofs.OpeningLemmas.{clean_opens}
 
@@ -31,13 +32,7 @@ pub fresh_opens : (shape : Shape) (content : Content) → length content.bytes �
 fresh_opens shape content long fresh =
     let sure = settled_as_read content fresh.settled in
     clean_opens shape content
-    (λ image left.
-    let is = sure image left in
-    record {
-      long = ap length is ∙ long;
-      quiet = λ g t lt below. ap (λ (b : List ℕ). (row_of shape b g t).voted) is ∙ ap (λ (b : List ℕ). (row_said b).voted) (fresh.parts.rows g t lt below) ∙ zero_row;
-      holds = ap (data_of shape) is;
-    })
+    (unvoted_clean shape content long fresh.settled (λ g t lt below. ap (λ (b : List ℕ). (row_said b).voted) (fresh.parts.rows g t lt below) ∙ zero_row))
     (λ image left. subst (λ (h : List ℕ). SaysShape h shape) (sym (ap header_of (sure image left) ∙ fresh.header)) (header_bytes-says shape))
 
 -- what lies behind the header
@@ -52,7 +47,7 @@ parts_left shape old new long time = weaker (λ image left.
 
 -- while it is written
 pub header_left : (shape : Shape) (old new : View) → old.content.unsettled ≡ [] → HasParts shape old.content.bytes → LeavesOnly (MayLeave (partly ((0, 512) ∷ []) old.content)) old new → LeavesOnly (HasParts shape) old new
-header_left shape old new none parts time = weaker (λ image left. header_parts shape old.content.bytes image (left_within old.content ((0, 512) ∷ []) image none left) parts) time
+header_left shape old new none parts time = weaker (λ image left. header_parts shape old.content.bytes image (left_sure old.content ((0, 512) ∷ []) image (λ i. subst (λ (us : List (ℕ × ℕ)). IsOutside us i) (sym none) tt) left) parts) time
 
 pub both_left : (shape : Shape) (old mid new : View) → LeavesOnly (IsHalfFresh shape old.content) old mid → LeavesOnly (HasParts shape) mid new → LeavesOnly (IsHalfFresh shape old.content) old new
 both_left shape old mid new first second = then first (weaker (λ image parts. inr parts) second)

@@ -2,6 +2,8 @@ pub mod Attaching
 pub mod Formatting
 pub mod FreshLemmas
 pub mod Spared
+pub mod Cells
+pub mod Grouping
 pub mod OpeningLemmas
 pub mod ReadingLemmas
 pub mod Dealt
@@ -9,6 +11,9 @@ pub mod Entries
 pub mod Costing
 pub mod Keeping
 pub mod LogParts
+pub mod Alone
+pub mod Behind
+pub mod Naming
 pub mod Staged
 pub mod StagedCalls
 pub mod ReadParts

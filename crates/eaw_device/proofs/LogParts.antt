@@ -5,12 +5,11 @@ use Rattle.std.specs.List.{range_with_len}
 use Rattle.std.proofs.lemmas.Bool.{cases_eq, eq-eqb, ne_eqb}
 use Rattle.std.proofs.lemmas.List.Elements.{All-head, All-tail}
 use Rattle.array_shape.specs.declared.shape.Shape.{Shape}
-use Rattle.array_shape.specs.Places.{IsShape, logger_of, data_len, media_len}
+use Rattle.array_shape.specs.Places.{IsShape, logger_of}
 use Rattle.array_shape.specs.Parts.{is_write_part_on}
-use Rattle.array_shape.specs.Logged.{Part, applied, ranges_of, AllPlaced, parts_at}
+use Rattle.array_shape.specs.Logged.{Part, ranges_of, AllPlaced, parts_at}
 use Rattle.array_image.specs.Image.{cell_of, cell_part, parts_from}
-use Rattle.array_image.specs.Marked.{named_at, named_parts, AreGood}
-use Rattle.array_image.proofs.Orders.{applied_named}
+use Rattle.array_image.specs.Image.{IsGoodCell}
 use Rattle.eaw_face.specs.State.{is_range_on, count_on}
 use Rattle.eaw_device.specs.declared.log.Entry.{Entry}
 use Rattle.eaw_device.specs.declared.log.Log.{Log}
@@ -165,35 +164,29 @@ pub log_placed : (shape : Shape) (image : List ℕ) (t : ℕ) (log : Log) → Is
 log_placed shape image t log kept held = all_placed shape (parts_in shape image t log.entries.items) (subst (All (HasPlace shape)) (sym held.heads) kept.placed)
 
 -- what a log has from a position on, as it is named for a commit
-module _ (shape : Shape) (image : List ℕ) (t : ℕ) (log : Log) (kept : IsKept shape log) (held : IsHeld shape image t log) (offset : ℕ) (firsts counts : List ℕ)
-    (first : (g : ℕ) → g < shape.loggers → slice_index firsts g ≡ length (cells_on shape g (take offset log.entries.items)))
-    (count : (g : ℕ) → g < shape.loggers → slice_index counts g ≡ slice_index log.held g - slice_index firsts g) where
-  few : (g : ℕ) → g < shape.loggers → slice_index firsts g ≤ slice_index log.held g
-  few g lt = omega (arith, first g lt, first_few shape offset log.entries.items log.held kept.cells g lt)
+module _ (shape : Shape) (image : List ℕ) (t : ℕ) (log : Log) (kept : IsKept shape log) (offset : ℕ) where
+  -- at each logger the cells before the offset, and how many there are from it on
+  abbrev pub first_at : ℕ → ℕ
+  first_at g = length (cells_on shape g (take offset log.entries.items))
 
-  pub named_good : AreGood shape image t firsts counts
-  named_good = record {
-    fit = λ g lt. omega (arith, few g lt, count g lt, kept.fits g lt);
-    cells = λ g e lt from below. held.good g e lt (omega (arith, few g lt, count g lt));
-  }
+  abbrev pub count_at : ℕ → ℕ
+  count_at g = slice_index log.held g - first_at g
 
-  named_here : (g : ℕ) → g < shape.loggers → parts_at shape g (drop offset (parts_in shape image t log.entries.items)) ≡ named_at shape image t firsts counts g
-  named_here g lt =
-      let es = log.entries.items in
-      let last : cells_on shape g (drop offset log.entries.items) ≡ range_with_len (slice_index firsts g) (slice_index counts g) =
-      last_cells shape offset log.entries.items log.held kept.cells g lt ∙ (λ i. range_with_len (from g lt i) (many g lt i)) in
-      ap (parts_at shape g) (sym (parts_in-drop shape image t offset es))
-      ∙ parts_at-parts_in shape image t g (drop offset es) (ap ranges_of (parts_in-drop shape image t offset es) ∙ ranges_of-drop offset (parts_in shape image t es) ∙ ap (drop offset) held.heads ∙ sym (ranges_in-drop offset es))
-      ∙ ap (map (part_in shape image t g)) last ∙ sym (parts_from-numbers shape image t g (slice_index firsts g) (slice_index counts g))
-    where
-      from : (g : ℕ) → g < shape.loggers → 0 + length (cells_on shape g (take offset log.entries.items)) ≡ slice_index firsts g
-      from g lt = omega (arith, first g lt)
+  pub few : (g : ℕ) → g < shape.loggers → first_at g ≤ slice_index log.held g
+  few g lt = first_few shape offset log.entries.items log.held kept.cells g lt
 
-      many : (g : ℕ) → g < shape.loggers → slice_index log.held g - length (cells_on shape g (take offset log.entries.items)) ≡ slice_index counts g
-      many g lt = omega (arith, first g lt, count g lt)
+  module _ (held : IsHeld shape image t log) where
+    pub named_good : (g e : ℕ) → g < shape.loggers → first_at g ≤ e → e < first_at g + count_at g → IsGoodCell shape g (cell_of shape image g t e)
+    named_good g e lt from below = held.good g e lt (omega (arith, few g lt))
 
-  pub named_applied : (d : List ℕ) → length image ≡ media_len shape → t < shape.numbers → length d ≡ data_len shape
-      → applied (named_parts shape image t firsts counts) d ≡ applied (drop offset (parts_in shape image t log.entries.items)) d
-  named_applied d long small d_long =
-      applied_named shape image t firsts counts (drop offset (parts_in shape image t log.entries.items)) d long small named_good d_long
-      (all_placed-drop shape offset (parts_in shape image t log.entries.items) (log_placed shape image t log kept held)) named_here
+    pub named_here : (g : ℕ) → g < shape.loggers → parts_at shape g (drop offset (parts_in shape image t log.entries.items)) ≡ parts_from shape image g t (first_at g) (count_at g)
+    named_here g lt =
+        let es = log.entries.items in
+        let from_first : 0 + first_at g ≡ first_at g = omega arith in
+        ap (parts_at shape g) (sym (parts_in-drop shape image t offset es))
+        ∙ parts_at-parts_in shape image t g (drop offset es) (ap ranges_of (parts_in-drop shape image t offset es) ∙ ranges_of-drop offset (parts_in shape image t es) ∙ ap (drop offset) held.heads ∙ sym (ranges_in-drop offset es))
+        ∙ ap (map (part_in shape image t g)) (last_cells shape offset es log.held kept.cells g lt)
+        ∙ ap (λ (from : ℕ). map (part_in shape image t g) (range_with_len from (count_at g))) from_first ∙ sym (parts_from-numbers shape image t g (first_at g) (count_at g))
+
+    pub named_placed : AllPlaced shape (drop offset (parts_in shape image t log.entries.items))
+    named_placed = all_placed-drop shape offset (parts_in shape image t log.entries.items) (log_placed shape image t log kept held)

@@ -9,11 +9,12 @@ use Rattle.array_shape.specs.declared.shape.Shape.{Shape}
 use Rattle.row_bytes.specs.Header.{SaysShape}
 use Rattle.row_bytes.proofs.OneShape.{one_shape}
 use Rattle.array_image.specs.Image.{data_of}
-use Rattle.array_image.specs.Standing.{IsLawful, IsClean}
-use Rattle.array_image.proofs.Standing.{at_rest_stands}
+use Rattle.array_image.specs.Standing.{IsLawful}
+use Rattle.commit_queue.proofs.Between.{holds_stands}
 use Rattle.device_recovery.specs.Recovered.{KeepsSense}
 use Rattle.eaw_device.specs.Opens.{header_of, AllOpen, OpensLike, KeepsData}
 use Rattle.eaw_device.specs.Attaching.{AllSay, AllOpenWith}
+use Rattle.eaw_device.specs.Sound.{IsClean}
 
 module _ (shape : Shape) (content : Content) (opens : AllOpen shape content) where
   -- what may be left opens with its own data
@@ -61,4 +62,4 @@ keeps_then tells old mid new touched first second told shape opens =
 
 -- an array at rest opens with its data if each image has its header
 pub clean_opens : (shape : Shape) (content : Content) → IsClean shape content → AllSay shape content → AllOpenWith shape content (data_of shape content.bytes)
-clean_opens shape content clean says image left = record { header = says image left; stands = at_rest_stands shape image (data_of shape content.bytes) (clean image left) }
+clean_opens shape content clean says image left = record { header = says image left; stands = holds_stands shape [] (data_of shape content.bytes) image (clean image left).holds }

@@ -14,7 +14,7 @@ use Rattle.array_image.proofs.Joined.{outside_joined, outside_at}
 use Rattle.array_image.proofs.Places.{cell_fits_in}
 use Rattle.array_image.proofs.Rows.{cell_away, parts_same}
 use Rattle.array_image.proofs.Frames.{AllWithin}
-use Rattle.array_image.proofs.Staging.{AreInCells}
+use Rattle.eaw_device.proofs.Cells.{AreInCells}
 use Rattle.logger.specs.Cells.{cell_ranges, HoldsParts}
 use Rattle.eaw_device.specs.Steps.{staged_places}
 

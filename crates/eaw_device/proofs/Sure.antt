@@ -14,15 +14,15 @@ use Rattle.array_shape.specs.declared.shape.Shape.{Shape}
 use Rattle.array_shape.specs.Places.{media_len}
 use Rattle.row_bytes.specs.Header.{SaysShape}
 use Rattle.array_image.specs.Image.{data_of}
-use Rattle.array_image.specs.Standing.{IsEither, IsClean}
+use Rattle.array_image.specs.Standing.{IsEither}
 use Rattle.array_image.proofs.Frames.{AllWithin}
 use Rattle.array_image.proofs.Calls.{both_left}
 use Rattle.array_image.proofs.Headers.{AreBehind}
-use Rattle.array_image.proofs.Staging.{AreInCells, staging_clean, staging_left}
+use Rattle.eaw_device.proofs.Cells.{AreInCells, staging_clean, staging_left}
 use Rattle.eaw_face.specs.Does as face
 use Rattle.eaw_device.specs.Opens.{header_of, Opens}
 use Rattle.eaw_device.specs.Steps.{WritesBehind}
-use Rattle.eaw_device.specs.Sound.{IsSure}
+use Rattle.eaw_device.specs.Sound.{IsSure, IsClean}
 
 -- an image that is left during writes behind the header has a header that was left before them
 module _ (shape : Shape) (ranges : List (ℕ × ℕ)) (old : Content) (behind : AreBehind ranges) (long : 512 ≤ length old.bytes) (header : (image : List ℕ) → MayLeave old image → SaysShape (header_of image) shape)

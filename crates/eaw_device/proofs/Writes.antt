@@ -17,7 +17,7 @@ use Rattle.array_shape.specs.Parts.{parts_of, parts_on, part_of_write, parts_of_
 use Rattle.array_shape.proofs.Cutting.{parts_of_write-parts, write_parts_on-parts}
 use Rattle.array_shape.specs.Logged.{Part, ranges_of}
 use Rattle.array_image.specs.Image.{cell_of, data_of, IsGoodCell}
-use Rattle.array_image.proofs.Staging.{staged_data}
+use Rattle.eaw_device.proofs.Cells.{staged_data}
 use Rattle.logger.specs.Cells.{HoldsParts}
 use Rattle.logger.proofs.Staging.{IsWithin, all_within}
 use Rattle.eaw_face.specs.State.{listed, count_on}

@@ -12,7 +12,7 @@ use Rattle.array_shape.specs.declared.shape.Shape.{Shape}
 use Rattle.array_shape.specs.Places.{IsPlaced}
 use Rattle.array_shape.specs.Logged.{ranges_of}
 use Rattle.array_image.specs.Image.{data_of}
-use Rattle.array_image.proofs.Standing.{at_rest_stands}
+use Rattle.commit_queue.proofs.Between.{holds_stands}
 use Rattle.eaw_face.specs.State.{listed}
 use Rattle.eaw_face.specs.StoreView.{ArePlaced, LeavesSome}
 use Rattle.eaw_device.specs.declared.log.Log.{Log}
@@ -62,7 +62,7 @@ some_now media shape logs is_dead counts = record { image = media.content.bytes;
 
 -- what may be left of such an array opens with its data
 pub only_now : (shape : Shape) (content : Content) (image : List ℕ) → IsSure shape content → MayLeave content image → Opens shape image (data_of shape content.bytes)
-only_now shape content image sure left = record { header = sure.header image left; stands = at_rest_stands shape image (data_of shape content.bytes) (sure.clean image left) }
+only_now shape content image sure left = record { header = sure.header image left; stands = holds_stands shape [] (data_of shape content.bytes) image (sure.clean image left).holds }
 
 -- an image opens with only one data
 pub one_data : (shape : Shape) (image a b : List ℕ) → Opens shape image a → Opens shape image b → a ≡ b

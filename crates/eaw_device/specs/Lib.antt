@@ -7,3 +7,4 @@ pub mod Sound
 pub mod Laws
 pub mod Opening
 pub mod Costs
+pub mod Groups

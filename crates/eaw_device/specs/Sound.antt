@@ -1,5 +1,5 @@
 -- What a device keeps true, and what it shows.
-use Rattle.std.specs.Prelude.{ℕ, ◌≡◌, Bool, true, false, IsTrue, List, length, slice_get}
+use Rattle.std.specs.Prelude.{ℕ, ◌≡◌, Bool, true, false, IsTrue, List, [], length, slice_get}
 use Rattle.std.specs.Option.{option_map, ForSome}
 use Rattle.pcm_media.specs.Images.{Content, MayLeave}
 use Rattle.pcm_media.specs.View.{View}
@@ -7,13 +7,17 @@ use Rattle.array_shape.specs.declared.shape.Shape.{Shape}
 use Rattle.array_shape.specs.Places.{media_len, IsShape}
 use Rattle.row_bytes.specs.Header.{SaysShape}
 use Rattle.array_image.specs.Image.{data_of}
-use Rattle.array_image.specs.Standing.{IsClean}
+use Rattle.commit_queue.specs.Between.{IsAtRest}
 use Rattle.eaw_face.specs.StoreView.{StoreView, IsLive}
 use Rattle.eaw_face.specs.declared.fault.EawFault.{EawFault}
 use Rattle.eaw_face.specs.declared.fault.EawFault.TheVariants.{UnknownTid, Dead}
 use Rattle.eaw_device.specs.declared.log.Log.{Log}
 use Rattle.eaw_device.specs.Opens.{header_of}
 use Rattle.eaw_device.specs.Logs.{ranges_in, parts_in, IsKept, IsHeld, entries_at}
+
+-- no commit waits for its write-back, no row is voted, and the data is what a read gives, in every image that may be left
+abbrev pub IsClean : Shape → Content → Type 0
+IsClean shape content = IsAtRest shape [] (data_of shape content.bytes) content
 
 -- Each image that a loss of power may leave has the header of the array, no voted row, and the data that a read gives.
 pub record IsSure (shape : Shape) (content : Content) : Type 0 where

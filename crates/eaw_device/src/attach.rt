@@ -6,10 +6,10 @@ ghost use Rattle.array_shape.specs.Places.{media_len};
 ghost use Rattle.row_bytes.specs.Header.{SaysShape};
 ghost use Rattle.array_image.specs.Image.{data_of};
 ghost use Rattle.array_image.specs.Decided.{settled_data};
-ghost use Rattle.array_image.specs.Standing.{IsClean};
 ghost use Rattle.device_recovery.specs.Recovered.{rows_good, HasNoVote, quiet_calls};
 ghost use Rattle.eaw_device.specs.Opens.{header_of, AttachCause, AttachLeaves, KeepsData};
 ghost use Rattle.pcm_media.specs.Answer.{media_answer};
+ghost use Rattle.eaw_device.specs.Sound.{IsClean};
 ghost use Rattle.eaw_device.specs.Attaching.{AllSay, IsOfHeader, IsOfRecovery, is_of_media};
 
 use crate::fault::AttachFault;

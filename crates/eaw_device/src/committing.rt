@@ -1,19 +1,22 @@
-// A commit of what a log has from a position on.
-ghost use Rattle.std.specs.Prelude.{◌≡◌, ◌+◌, ◌-◌, ◌≤◌, ◌<◌, ℕ, Ok, drop, length, slice_index, IsTrue, OnOk, OnErr};
+// Commits of what logs have from positions on.
+ghost use Rattle.std.specs.Prelude.{◌≡◌, ◌≢◌, ◌+◌, ◌-◌, ◌^◌, ◌≤◌, ◌<◌, ℕ, true, Ok, drop, take, length, slice_index, IsTrue, OnOk, OnErr};
 ghost use Rattle.mars_base.specs.Costs.{Costs};
 ghost use Rattle.pcm_media.specs.View.{LeavesOnly};
 ghost use Rattle.array_shape.specs.Places.{media_len};
 ghost use Rattle.array_shape.specs.Logged.{applied};
+ghost use Rattle.row_bytes.specs.Ballots.{has};
 ghost use Rattle.array_image.specs.Image.{data_of};
-ghost use Rattle.array_image.specs.Standing.{IsEither, IsClean, SameCells};
-ghost use Rattle.eaw_device.specs.Logs.{ranges_in, parts_in, IsKept, IsHeld};
-ghost use Rattle.coordinator.specs.Costs.{commit_calls};
+ghost use Rattle.array_image.specs.Standing.{IsEither, SameCells};
+ghost use Rattle.coordinator.specs.Commits.{cells_in};
+ghost use Rattle.eaw_device.specs.Logs.{ranges_in, parts_in, cells_on, IsKept, IsHeld};
+ghost use Rattle.eaw_device.specs.Sound.{IsClean};
 ghost use Rattle.eaw_device.specs.Steps.{WritesBehind};
-ghost use Rattle.eaw_device.specs.Costs.{counts_of};
+ghost use Rattle.eaw_device.specs.Costs.{commit_cost};
+ghost use Rattle.eaw_device.specs.Groups.{group_parts, group_calls, HaveCells, HaveParts};
 
-use crate::log::{LOGGERS, Log};
+use crate::log::Log;
 use array_shape::Shape;
-use coordinator::commit_from;
+use coordinator::{Cells, ballot_for, commit};
 use mars_base::Failed;
 use pcm_media::Media;
 
@@ -39,27 +42,54 @@ pub(crate) fn commit_log<M: Media>(
         applied (drop offset (parts_in shape.now (M.view media.old).content.bytes tid log.now.entries.items)) (data_of shape.now (M.view media.old).content.bytes)) }
     ensures cells { IsTrue M.tells → SameCells shape.now (M.view media.old).content.bytes (M.view media.new).content.bytes }
     ensures does { WritesBehind M.tells (M.view media.old) (M.view media.new) result }
-    ensures costs { Costs M.tells (commit_calls (counts_of shape.now (drop offset (ranges_in log.now.entries.items)))) (M.view media.old).moment (M.view media.new).moment result }
+    ensures costs { Costs M.tells (commit_cost shape.now 1 (drop offset (ranges_in log.now.entries.items))) (M.view media.old).moment (M.view media.new).moment result }
     ensures due { OnErr result (offset < length log.now.entries.items) }
     ensures idle { length log.now.entries.items ≡ offset → media.new ≡ media.old }
 {
-    let firsts = log.counts_of_first(shape, offset);
-    let counts = counts_behind(shape, &log.held, &firsts);
-    let loggers = usize::from(shape.loggers);
-    commit_from(media, shape, tid, &firsts[..loggers], &counts[..loggers])
+    let mut cells = [Cells::NONE; 512];
+    name_cells(&mut cells, shape, tid, log, offset);
+    commit_cells(media, shape, 1 << tid, &cells)
 }
 
-// How many of each logger's held cells come after the first ones.
-fn counts_behind(shape: &Shape, held: &[u16], firsts: &[u16]) -> [u16; LOGGERS]
-    requires held { length held.now ≡ 8 }
-    requires firsts { length firsts.now ≡ 8 }
-    requires few { (g : ℕ) → g < shape.now.loggers → slice_index firsts.now g ≤ slice_index held.now g }
-    ensures long { length result ≡ 8 }
-    ensures counts { (g : ℕ) → g < shape.now.loggers → slice_index result g ≡ slice_index held.now g - slice_index firsts.now g }
+// Puts the cells that a log has from position `offset` on into the places of its number: eight for each number, one for each logger.
+fn name_cells(cells: &mut [Cells; 512], shape: &Shape, tid: u8, log: &Log, offset: usize)
+    requires tid { tid < shape.now.numbers }
+    requires kept { IsKept shape.now log.now }
+    requires offset { offset ≤ length log.now.entries.items }
+    ensures here { (g : ℕ) → g < shape.now.loggers → cells_in cells.new g tid ≡
+        (let first = length (cells_on shape.now g (take offset log.now.entries.items)) in record { first = first; count = slice_index log.now.held g - first }) }
+    ensures others { (g t : ℕ) → g < 8 → t ≢ tid → cells_in cells.new g t ≡ cells_in cells.old g t }
 {
-    let mut counts = [0; LOGGERS];
+    let firsts = log.counts_of_first(shape, offset);
     for logger in 0..usize::from(shape.loggers) {
-        counts[logger] = held[logger] - firsts[logger];
+        cells[8 * usize::from(tid) + logger] = Cells {
+            first: firsts[logger],
+            count: log.held[logger] - firsts[logger],
+        };
     }
-    counts
+}
+
+// Commits the parts in the cells that a table names for the numbers of a group.
+fn commit_cells<M: Media>(
+    media: &mut M,
+    shape: &Shape,
+    group: u64,
+    cells: &[Cells; 512],
+) -> Result<(), Failed>
+    requires group { group < 2 ^ shape.now.numbers }
+    requires size { (M.view media.old).size ≡ media_len shape.now }
+    requires clean { IsTrue M.tells → IsClean shape.now (M.view media.old).content }
+    requires there { HaveCells shape.now group cells.now }
+    requires good { IsTrue M.tells → HaveParts shape.now (M.view media.old).content.bytes group cells.now }
+    ensures any_moment { IsTrue M.tells → (let before = data_of shape.now (M.view media.old).content.bytes in
+        LeavesOnly (IsEither shape.now before (applied (group_parts shape.now (M.view media.old).content.bytes group cells.now) before)) (M.view media.old) (M.view media.new)) }
+    ensures clean { IsTrue M.tells → OnOk result (IsClean shape.now (M.view media.new).content) }
+    ensures committed { IsTrue M.tells → OnOk result (data_of shape.now (M.view media.new).content.bytes ≡
+        applied (group_parts shape.now (M.view media.old).content.bytes group cells.now) (data_of shape.now (M.view media.old).content.bytes)) }
+    ensures cells { IsTrue M.tells → SameCells shape.now (M.view media.old).content.bytes (M.view media.new).content.bytes }
+    ensures does { WritesBehind M.tells (M.view media.old) (M.view media.new) result }
+    ensures costs { Costs M.tells (group_calls shape.now group cells.now) (M.view media.old).moment (M.view media.new).moment result }
+    ensures idle { ((g t : ℕ) → g < shape.now.loggers → t < shape.now.numbers → has group t ≡ true → (cells_in cells.now g t).count ≡ 0) → (result ≡ Ok tt) × (media.new ≡ media.old) }
+{
+    commit(media, shape, ballot_for(shape, cells, group, 0), cells)
 }

@@ -52,7 +52,7 @@ pub(crate) fn stage_all<M: Media>(
     requires size { (M.view media.old).size ≡ media_len shape.now }
     ensures holds { IsTrue M.tells → OnOk result ((g : ℕ) → g < shape.now.loggers →
         HoldsParts shape.now (M.view media.new).content.bytes g tid (slice_index log.now.held g) (write_parts_on shape.now g addr bytes.now)) }
-    ensures costs { Costs true (2 * length (parts_of_write addr bytes.now)) (M.view media.old).moment (M.view media.new).moment result }
+    ensures costs { Costs true (length (parts_of_write addr bytes.now)) (M.view media.old).moment (M.view media.new).moment result }
     ensures does { Writes M.tells (staged_places shape.now tid log.now.held addr bytes.now) (M.view media.old) (M.view media.new) result }
 {
     for number in 0..shape.loggers {

@@ -90,6 +90,7 @@ impl Model for CallsWithRoom {
 
 impl CallsWithRoom {
     /// The calls with this one, in the room that there is.
+    #[inline]
     pub fn push(self, call: Call, reply: Reply) -> Calls
         ensures { result ≡ self ++ (call, reply) ∷ [] }
     {

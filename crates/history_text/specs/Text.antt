@@ -23,20 +23,15 @@ fate_line caller n (Committed at) = []
 fate_line caller n Aborted = told_line caller (codes "aborted " ++ decimal n)
 fate_line caller n (Refused reply) = told_line caller (codes "refused " ++ decimal n ++ 32 ∷ reply_text reply)
 
--- the lines of a caller's plans, from the n-th on
-abbrev pub fate_lines : ℕ → ℕ → List Fate → List ℕ
-fate_lines caller n [] = []
-fate_lines caller n (fate ∷ fates) = fate_line caller n fate ++ fate_lines caller (suc n) fates
-
--- the lines of all callers' plans, from this caller on
-abbrev pub all_fate_lines : ℕ → List (List Fate) → List ℕ
-all_fate_lines caller [] = []
-all_fate_lines caller (fates ∷ others) = fate_lines caller 1 fates ++ all_fate_lines (suc caller) others
+-- what is written of the elements of a list one after another, numbered from n on
+abbrev pub numbered : {A : Type 0} → (ℕ → A → List ℕ) → ℕ → List A → List ℕ
+numbered line n [] = []
+numbered line n (x ∷ xs) = line n x ++ numbered line (suc n) xs
 
 -- the line of a record
 abbrev pub rec_line : ℕ × List ℕ → List ℕ
 rec_line r = codes "rec " ++ (decimal r.0 ++ 32 ∷ (r.1 ++ 10 ∷ []))
 
--- the text of work that came to its end
+-- the text of work that came to its end: the callers are numbered from 0, and the plans of each from 1
 abbrev pub work_text : List LineFault → List Done → List (List Fate) → List (ℕ × List ℕ) → List ℕ
-work_text faults history fates records = flat_map fault_line faults ++ flat_map done_lines history ++ all_fate_lines 0 fates ++ flat_map rec_line records
+work_text faults history fates records = flat_map fault_line faults ++ flat_map done_lines history ++ numbered (λ caller. numbered (fate_line caller) 1) 0 fates ++ flat_map rec_line records

@@ -1,7 +1,7 @@
 // What became of a caller's plans that are not in the history.
 ghost use Rattle.std.specs.Prelude.{◌≡◌, ◌++◌, OnOk};
 ghost use Rattle.caller_plans.specs.declared.fate.Fate.TheVariants.{Aborted, Refused};
-ghost use Rattle.history_text.specs.Text.{fate_line, fate_lines};
+ghost use Rattle.history_text.specs.Text.{fate_line, numbered};
 
 use caller_plans::Fate;
 use history::Reply;
@@ -11,7 +11,7 @@ use texts::{Piece, append_pieces};
 
 /// Appends a line for each of the caller's plans that was aborted or refused. At `Err` some of them may have been appended.
 pub fn write_fates(text: &mut Vec<u8>, caller: u8, fates: &[Fate]) -> Result<(), NoMemory>
-    ensures { OnOk result (text.new.items ≡ text.old.items ++ fate_lines caller 1 fates.now) }
+    ensures { OnOk result (text.new.items ≡ text.old.items ++ numbered (fate_line caller) 1 fates.now) }
 {
     for (i, fate) in fates.iter().enumerate() {
         write_fate(text, caller, i as u64 + 1, fate)?;

@@ -1,6 +1,6 @@
 -- Cells that are written, in part or whole.
-use Rattle.std.proofs.Common.{◌≡◌, ℕ, zero, suc, ◌+◌, ◌*◌, ◌^◌, ◌<◌, ◌≤◌, inl, inr, List, [], ◌∷◌, length, get_or, take, drop, refl, sym, ◌∙◌, ap, subst, arith}
-use Rattle.std.proofs.lemmas.List.{get_or-drop, get_or-take, length-take-le, length-drop, ext_get_or}
+use Rattle.std.proofs.Common.{◌≡◌, ℕ, zero, suc, ◌+◌, ◌*◌, ◌^◌, ◌<◌, ◌≤◌, inl, inr, List, [], ◌∷◌, ◌++◌, length, get_or, take, drop, refl, sym, ◌∙◌, ap, subst, arith}
+use Rattle.std.proofs.lemmas.List.{get_or_append_left, get_or-append-add, get_or-drop, get_or-take, length-take-le, length-drop, ext_get_or}
 use Rattle.std.proofs.lemmas.Bool.{cases_lt, cases_eq}
 use Rattle.std.proofs.lemmas.Nat.{mul-le}
 use Rattle.mars_base.specs.Bytes.{put, range}
@@ -51,43 +51,44 @@ module _ (shape : Shape) (g t : ℕ) (there : g < shape.loggers) (small : t < sh
 
   -- a part in its cell
   abbrev put_one : List ℕ → ℕ → Part → List ℕ
-  put_one image e p = put (put image (cell_at shape g t e) (head_bytes (head_for p))) (cell_at shape g t e + 16) p.1
+  put_one image e p = put image (cell_at shape g t e) (head_bytes (head_for p) ++ p.1)
 
   module _ (image : List ℕ) (e : ℕ) (p : Part) (long : length image ≡ media_len shape) (below : e < shape.entries) (short : length p.1 ≤ 512) where
     abbrev at : ℕ
     at = cell_at shape g t e
 
-    abbrev with_head : List ℕ
-    with_head = put image at (head_bytes (head_for p))
-
     inside : at + 528 ≤ length image
     inside = omega (arith, cell_fits_in shape g t e there small below)
 
-    head_long : length with_head ≡ length image
-    head_long = length-put image at (head_bytes (head_for p)) (omega (arith, inside))
+    abbrev written : List ℕ
+    written = head_bytes (head_for p) ++ p.1
+
+    written_fits : at + length written ≤ length image
+    written_fits = omega (arith, inside)
 
     pub length-put_one : length (put_one image e p) ≡ length image
-    length-put_one = length-put with_head (at + 16) p.1 (omega (arith, inside, head_long)) ∙ head_long
+    length-put_one = length-put image at written written_fits
 
     pub one_away : SameOutside ((at, 528) ∷ []) image (put_one image e p)
     one_away = record {
       long = length-put_one;
-      same = λ i out.
-          get_or-put_outside with_head (at + 16) p.1 (omega (arith, inside, head_long)) i (λ le lt. out.0 (omega arith) (omega arith))
-          ∙ get_or-put_outside image at (head_bytes (head_for p)) (omega (arith, inside)) i (λ le lt. out.0 (omega arith) (omega arith));
+      same = λ i out. get_or-put_outside image at written written_fits i (λ le lt. out.0 le (omega arith));
     }
 
     abbrev cell : List ℕ
     cell = cell_of shape (put_one image e p) g t e
 
+    -- a byte of the cell that was written
+    one_byte : (k : ℕ) → k < length written → get_or cell k 0 ≡ get_or written k 0
+    one_byte k lt =
+        get_or-range (put_one image e p) at 528 k (omega arith)
+        ∙ get_or-put_inside image at written written_fits (at + k) (omega arith) (omega arith)
+        ∙ ap (λ (j : ℕ). get_or written j 0) (omega arith)
+
     one_head : p.0 < 2 ^ 64 → cell_head cell ≡ head_for p
     one_head fits =
         head_said-same (take 16 cell) (head_bytes (head_for p)) (λ k lt.
-        get_or-take 16 cell k 0 lt
-        ∙ get_or-range (put_one image e p) at 528 k (omega arith)
-        ∙ get_or-put_before with_head (at + 16) p.1 (omega (arith, inside, head_long)) (at + k) (omega arith)
-        ∙ get_or-put_inside image at (head_bytes (head_for p)) (omega (arith, inside)) (at + k) (omega arith) (omega arith)
-        ∙ ap (λ (j : ℕ). get_or (head_bytes (head_for p)) j 0) (omega arith))
+        get_or-take 16 cell k 0 lt ∙ one_byte k (omega arith) ∙ get_or_append_left (head_bytes (head_for p)) p.1 0 k (omega arith))
         ∙ head_said-bytes (head_for p) fits (omega arith)
 
     one_bytes : take (length p.1) (drop 16 cell) ≡ p.1
@@ -95,10 +96,7 @@ module _ (shape : Shape) (g t : ℕ) (there : g < shape.loggers) (small : t < sh
         let whole = length-range (put_one image e p) at 528 (omega (arith, inside, length-put_one)) in
         ext_get_or 0 (take (length p.1) (drop 16 cell)) p.1 (length-take-le (length p.1) (drop 16 cell) (omega (arith, length-drop 16 cell, whole))) (λ i lt.
         let few : i < length p.1 = omega (arith, length-take-le (length p.1) (drop 16 cell) (omega (arith, length-drop 16 cell, whole))) in
-        get_or-take (length p.1) (drop 16 cell) i 0 few ∙ get_or-drop 16 cell i 0
-        ∙ get_or-range (put_one image e p) at 528 (16 + i) (omega arith)
-        ∙ get_or-put_inside with_head (at + 16) p.1 (omega (arith, inside, head_long)) (at + (16 + i)) (omega arith) (omega arith)
-        ∙ ap (λ (j : ℕ). get_or p.1 j 0) (omega arith))
+        get_or-take (length p.1) (drop 16 cell) i 0 few ∙ get_or-drop 16 cell i 0 ∙ one_byte (16 + i) (omega arith) ∙ get_or-append-add (head_bytes (head_for p)) p.1 i 0)
 
     pub one_part : p.0 < 2 ^ 64 → cell_part cell ≡ p
     one_part fits = (λ i. ((one_head fits i).addr, take (one_head fits i).len (drop 16 cell))) ∙ ap (λ (bytes : List ℕ). (p.0, bytes)) one_bytes

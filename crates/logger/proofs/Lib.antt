@@ -1,5 +1,6 @@
 pub mod Rows
 pub mod Cells
+pub mod Heading
 pub mod Ranges
 pub mod Staging
 pub mod Applying

@@ -1,6 +1,7 @@
 // Reads and writes of one logger's region.
-ghost use Rattle.std.specs.Prelude.{◌≡◌, ◌+◌, ◌≤◌, ◌<◌, length};
+ghost use Rattle.std.specs.Prelude.{◌≡◌, ◌+◌, ◌≤◌, ◌<◌, ◌++◌, length, take};
 ghost use Rattle.array_shape.specs.Parts.{part_of_write};
+ghost use Rattle.row_bytes.specs.Written.{head_bytes};
 ghost use Rattle.array_image.specs.Image.{cell_head};
 
 use crate::stage_fault::StageFault;
@@ -42,33 +43,20 @@ impl Logger {
         Logger { shape, number }
     }
 
-    /// Writes a row except for its vote: bytes 1 to 15, and never byte 0.
-    pub fn put_row<M: Media>(
-        self,
-        media: &mut M,
-        tid: u8,
-        mask: u8,
-        first: u16,
-        count: u16,
-    ) -> Result<(), Failed>
+    /// Writes a row except for its vote: bytes 1 to 15, and never byte 0. Whether the row is voted is not looked at.
+    pub fn put_row<M: Media>(self, media: &mut M, tid: u8, row: Row) -> Result<(), Failed>
         requires size { (M.view media.old).size ≡ media_len self.shape }
         requires tid { tid < self.shape.numbers }
         ensures written { IsTrue M.tells → OnOk result ((M.view media.new).content ≡
-            written (row_at self.shape self.number tid + 1) (row_rest mask first count) (M.view media.old).content) }
+            written (row_at self.shape self.number tid + 1) (row_rest row) (M.view media.old).content) }
         ensures row { IsTrue M.tells → OnOk result (
             row_of self.shape (M.view media.new).content.bytes self.number tid ≡
-            (let row = row_of self.shape (M.view media.old).content.bytes self.number tid in
-            record row { mask = mask; first = first; count = count })) }
+            (let said = row in
+            record said { voted = (row_of self.shape (M.view media.old).content.bytes self.number tid).voted })) }
         ensures costs { Costs true 1 (M.view media.old).moment (M.view media.new).moment result }
         ensures does { Writes M.tells ((row_at self.shape self.number tid + 1, 15) ∷ [])
             (M.view media.old) (M.view media.new) result }
     {
-        let row = Row {
-            voted: false,
-            mask,
-            first,
-            count,
-        };
         let mut bytes = [0; 16];
         write_row(&row, &mut bytes);
         media.write(self.shape.row_at(self.number, tid) + 1, &bytes[1..])
@@ -163,7 +151,7 @@ impl Logger {
             (M.view media.old).content.bytes) }
         ensures holds { IsTrue M.tells → OnOk result (
             HoldsParts self.shape (M.view media.new).content.bytes self.number tid held (write_parts_here self addr bytes.now)) }
-        ensures costs { Costs true (2 * length (write_parts_here self addr bytes.now)) (M.view media.old).moment (M.view media.new).moment result }
+        ensures costs { Costs true (length (write_parts_here self addr bytes.now)) (M.view media.old).moment (M.view media.new).moment result }
         ensures does { Writes M.tells
             (cell_ranges self.shape self.number tid held (length (write_parts_here self addr bytes.now)))
             (M.view media.old) (M.view media.new) (media_answer is_of_media result) }
@@ -274,7 +262,7 @@ impl Logger {
         ensures written { IsTrue M.tells → OnOk result ((M.view media.new).content.bytes ≡
             applied (cell_writes self.shape self.number tid held (write_parts_here self addr bytes.now))
             (M.view media.old).content.bytes) }
-        ensures costs { Costs true (2 * length (write_parts_here self addr bytes.now)) (M.view media.old).moment (M.view media.new).moment result }
+        ensures costs { Costs true (length (write_parts_here self addr bytes.now)) (M.view media.old).moment (M.view media.new).moment result }
         ensures does { Writes M.tells
             (cell_ranges self.shape self.number tid held (length (write_parts_here self addr bytes.now)))
             (M.view media.old) (M.view media.new) result }
@@ -305,19 +293,13 @@ impl Logger {
         ensures written { IsTrue M.tells → OnOk result ((M.view media.new).content.bytes ≡
             applied (cell_writes self.shape self.number tid entry ((addr, bytes.now) ∷ []))
             (M.view media.old).content.bytes) }
-        ensures costs { Costs true 2 (M.view media.old).moment (M.view media.new).moment result }
+        ensures costs { Costs true 1 (M.view media.old).moment (M.view media.new).moment result }
         ensures does { Writes M.tells ((cell_at self.shape self.number tid entry, 528) ∷ [])
             (M.view media.old) (M.view media.new) result }
     {
-        let at = self.shape.cell_at(self.number, tid, entry);
-        let head = Head {
-            addr,
-            len: bytes.len() as u16,
-        };
-        let mut head_bytes = [0; 16];
-        write_head(&head, &mut head_bytes);
-        media.write(at, &head_bytes)?;
-        media.write(at + HEAD_LEN, bytes)
+        let cell = cell_with(addr, bytes);
+        let len = 16 + bytes.len();
+        media.write(self.shape.cell_at(self.number, tid, entry), &cell[..len])
     }
 
     fn read_cell<M: Media>(self, media: &mut M, tid: u8, entry: u16) -> Result<[u8; 528], Failed>
@@ -383,6 +365,23 @@ fn bytes_of(part: Part, addr: u64, bytes: &[u8]) -> &[u8]
 {
     let from = (part.addr - addr) as usize;
     &bytes[from..from + usize::from(part.len)]
+}
+
+// A cell that holds these bytes for an address; what lies behind them is 0.
+fn cell_with(addr: u64, bytes: &[u8]) -> [u8; 528]
+    requires { length bytes.now ≤ 512 }
+    ensures { take (16 + length bytes.now) result ≡ head_bytes (record { addr = addr; len = length bytes.now }) ++ bytes.now }
+{
+    let head = Head {
+        addr,
+        len: bytes.len() as u16,
+    };
+    let mut head_bytes = [0; 16];
+    write_head(&head, &mut head_bytes);
+    let mut cell = [0; 528];
+    cell[..16].copy_from_slice(&head_bytes);
+    cell[16..16 + bytes.len()].copy_from_slice(bytes);
+    cell
 }
 
 fn head_of(cell: &[u8; 528]) -> Head

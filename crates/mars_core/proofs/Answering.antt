@@ -23,7 +23,7 @@ use Rattle.record_table.specs.State.{TableState, seen_by}
 use Rattle.record_table.specs.Faults.{reply_to}
 use Rattle.record_table.specs.Causes.{Cause, IsSavedOut, IsScan}
 use Rattle.record_table.specs.Calls.{Replies, table_after, after}
-use Rattle.record_table.specs.Does.{Does, OpensWith, Indexed, is_failed}
+use Rattle.record_table.specs.Does.{Does, OpensWith, Indexed, IsQuiet, is_failed}
 use Rattle.record_table.specs.Shown.{state_of, keys_of}
 use Rattle.record_table.specs.Shown as shown
 use Rattle.record_table.specs.declared.fault.TableFault.{TableFault}
@@ -41,7 +41,7 @@ use Rattle.mars_core.specs.Over.{limits_of, index_of}
 use Rattle.mars_core.specs.Held.{core_over}
 use Rattle.mars_core.specs.Kept.{Mirrors, HasHeld, IsTied, IsKept}
 use Rattle.mars_core.specs.Works.{HasSaves, IsShown}
-use Rattle.mars_core.proofs.Indexing.{IsWithin, is_within, indexes_granted, indexes_refused, indexes_slots}
+use Rattle.mars_core.proofs.Indexing.{IsWithin, InsertsNone, is_within, indexes_granted, indexes_refused, indexes_slots}
 use Rattle.mars_core.proofs.Mirroring.{IsOfTable, scan_after, mirrors_granted, same_table, answers}
 use Rattle.mars_core.proofs.Rooming.{fits_is, log_lacks, slot_lacks, page_lacks, named_is}
 use Rattle.mars_core.proofs.Entering.{index_room, room_granted}
@@ -97,6 +97,18 @@ saved_out p t Commit of saves out = out
 saved_out p t Abort of saves out = out
 saved_out p t Begin of saves out = out
 
+-- a call of a table that inserts no key writes nothing into the data
+quiet_of : (index : below.Index) (p : PagesView) (t : ℕ) (call : Call) → IsOfTable call → InsertsNone (keys_of index p.store.state.bytes) call → IsQuiet index p t call
+quiet_of index p t (Put key value) of inserts = inserts
+quiet_of index p t (Get key) of inserts = tt
+quiet_of index p t (Del key) of inserts = tt
+quiet_of index p t (Scan low high) of inserts = tt
+quiet_of index p t Save of inserts = tt
+quiet_of index p t (Back n) of inserts = tt
+quiet_of index p t Commit of inserts = absurd of
+quiet_of index p t Abort of inserts = absurd of
+quiet_of index p t Begin of inserts = absurd of
+
 scan_same : (limits : Limits) (call : Call) (answer : Reply) (old new : Index) → IsScan call → Indexes limits call answer old new → new ≡ old
 scan_same limits (Scan low high) answer old new scan same = same
 scan_same limits (Get key) answer old new scan same = same
@@ -117,6 +129,7 @@ pub record Did (tells : Bool) (Opens : List ℕ → List ℕ → Type 0) (index 
   pub replies : IsTrue tells → IfOk result (Replies (state_of index old) t call)
   pub done : IsTrue tells → IfOk result (λ reply. state_of index new ≡ after t call reply (state_of index old))
   pub refused : IsTrue tells → IsFalse (is_failed result) → OnErr result (state_of index new ≡ state_of index old)
+  pub quiet : IsTrue tells → IsFalse (is_failed result) → IsQuiet index old t call → new.store.state.bytes ≡ old.store.state.bytes
   pub indexed : IsTrue tells → IsAlive old.store → IsFalse (is_failed result) → Indexed call (keys_of index old.store.state.bytes) (keys_of index new.store.state.bytes) result
   pub time : IsTrue tells → IsAlive old.store
       → LeavesOnly (λ image. OpensWith Opens index image (state_of index old).table ⊎ OpensWith Opens index image (table_after t call (state_of index old))) old.store new.store
@@ -131,6 +144,7 @@ did tells Opens index t call old new result does = record {
   replies = does.replies;
   done = does.done;
   refused = does.refused;
+  quiet = does.quiet;
   indexed = does.indexed;
   time = does.time;
 }
@@ -166,6 +180,7 @@ did_unkept tells Opens index t call old new rows alive does = record {
   replies = λ told. tt;
   done = λ told. tt;
   refused = λ told _. let is = scan told in does.done told ∙ ap (λ (c : Call). after t c (reply.Listed rows) (state_of index old)) is.2 ∙ scan_after (state_of index old) t is.0 is.1 (reply.Listed rows);
+  quiet = λ told _ quiet. does.quiet told refl quiet;
   indexed = λ told living _. let is = scan told in
       subst (λ (c : Call). (let r : Result Reply TableFault = Err NoMemory in Indexed c (keys_of index old.store.state.bytes) (keys_of index new.store.state.bytes) r)) (sym is.2)
       (subst (λ (c : Call). (let r : Result Reply TableFault = Ok (reply.Listed rows) in Indexed c (keys_of index old.store.state.bytes) (keys_of index new.store.state.bytes) r)) is.2 (does.indexed told living refl));
@@ -228,8 +243,9 @@ module _ (tells : Bool) (Opens : Shape → List ℕ → List ℕ → Type 0) (in
     module _ (told : IsTrue tells) where
       indexes : Indexes (limits_of p.store.shape) call answer s.index new.index
       indexes = subst (λ (x : Index). Indexes (limits_of p.store.shape) call answer x new.index) (sym shows.indexed)
-          (subst (λ (x : Index). Indexes (limits_of p.store.shape) call answer (index_of (keys_of index p.store.state.bytes)) x) (sym shows_new.indexed)
-          (indexes_granted p.store.shape (keys_of index p.store.state.bytes) (keys_of index q.store.state.bytes) (within told (Ok answer) works living) call answer answer of
+          (subst (λ (x : Index). Indexes (limits_of p.store.shape) call answer (index_of index p.store.state.bytes) x) (sym shows_new.indexed)
+          (indexes_granted p.store.shape p.store.state.bytes q.store.state.bytes (keys_of index p.store.state.bytes) (keys_of index q.store.state.bytes) (within told (Ok answer) works living) call answer answer of
+          (λ inserts. works.quiet told refl (quiet_of index p t call of inserts))
           (λ key value e. subst (λ (c : Call). Replies (state_of index p) t c answer) e (works.replies told)) (works.indexed told alive refl)))
 
       asks : Asks (limits_of p.store.shape) calls s t call answer new
@@ -290,8 +306,9 @@ module _ (tells : Bool) (Opens : Shape → List ℕ → List ℕ → Type 0) (in
       module _ (told : IsTrue tells) where
         indexes_still : Indexes (limits_of p.store.shape) call (reply_to f) s.index new.index
         indexes_still = subst (λ (x : Index). Indexes (limits_of p.store.shape) call (reply_to f) x new.index) (sym shows.indexed)
-            (subst (λ (x : Index). Indexes (limits_of p.store.shape) call (reply_to f) (index_of (keys_of index p.store.state.bytes)) x) (sym shows_new.indexed)
-            (indexes_refused p.store.shape (keys_of index p.store.state.bytes) (keys_of index q.store.state.bytes) (within told (Err f) works living_still) Reply call f of well (works.indexed told alive well)))
+            (subst (λ (x : Index). Indexes (limits_of p.store.shape) call (reply_to f) (index_of index p.store.state.bytes) x) (sym shows_new.indexed)
+            (indexes_refused p.store.shape p.store.state.bytes q.store.state.bytes (keys_of index p.store.state.bytes) (keys_of index q.store.state.bytes) (within told (Err f) works living_still) Reply call f of
+            (λ inserts. works.quiet told well (quiet_of index p t call of inserts)) well (works.indexed told alive well)))
 
         -- for its cause
         asks_fault : (g : TableFault) → Well g → (let r : Result Reply TableFault = Err g in Cause tells index t call p r) → Indexes (limits_of p.store.shape) call (reply_to g) s.index new.index

@@ -85,10 +85,10 @@ module _ (limits : Limits) (s : State) (named : (caller : ℕ) → AreNamed s.in
       ]
 
 -- a caller whose transaction begins or ends has nothing in the loggers
-pub room_empty : (limits : Limits) (s new : State) (t : ℕ) (calls : Option Granted) → unwrap_or calls [] ≡ [] → HasHeld limits s → new.index ≡ s.index → new.live ≡ update nat_eq s.live t calls → HasHeld limits new
+pub room_empty : (limits : Limits) (s new : State) (t : ℕ) (calls : Option Granted) → unwrap_or calls [] ≡ [] → HasHeld limits s → new.index.slot_of ≡ s.index.slot_of → new.live ≡ update nat_eq s.live t calls → HasHeld limits new
 room_empty limits s new t calls none room indexed live caller g = elim (cases_eq caller t) [
   | inl e ↦ subst (λ (v : ℕ). held_on limits new v g ≤ limits.entries) (sym e)
       (subst (λ (cs : Granted). length (filter (is_write_on limits new.index g) (log_of cs).writes) ≤ limits.entries) (sym (calls_here s new t calls live ∙ none)) (omega arith))
-  | inr ne ↦ subst (λ (x : Index). length (filter (is_write_on limits x g) (log_of (calls_of new caller)).writes) ≤ limits.entries) (sym indexed)
+  | inr ne ↦ subst (λ (x : ℕ → Option ℕ). length (filter (is_write_on limits (record s.index { slot_of = x }) g) (log_of (calls_of new caller)).writes) ≤ limits.entries) (sym indexed)
       (subst (λ (cs : Granted). length (filter (is_write_on limits s.index g) (log_of cs).writes) ≤ limits.entries) (sym (calls_there s new t calls live caller ne)) (room caller g))
 ]

@@ -22,19 +22,21 @@ use Rattle.history.specs.declared.call.Reply.TheVariants as reply
 use Rattle.history.specs.declared.transaction.Done.{Done}
 use Rattle.history.proofs.OneMore.{records-push}
 use Rattle.history.proofs.Pending.{left_is_written}
-use Rattle.record_table.specs.State.{TableState, seen_by}
+use Rattle.page_store.specs.Pairs.{found}
+use Rattle.record_table.specs.State.{TableState, Keys, seen_by}
 use Rattle.record_table.specs.Causes.{Cause}
 use Rattle.record_table.specs.Calls.{after}
 use Rattle.record_table.specs.Does.{Does, OpensWith}
 use Rattle.record_table.specs.Shown.{state_of}
 use Rattle.record_table.specs.declared.fault.TableFault.{TableFault}
 use Rattle.record_table.specs.declared.fault.TableFault.TheVariants as fault
-use Rattle.caller_steps.specs.State.{State, calls_of, records_of, done_by}
+use Rattle.caller_steps.specs.State.{State, Index, calls_of, records_of, done_by}
+use Rattle.caller_steps.specs.Room.{Settles}
 use Rattle.caller_steps.specs.Step.{Step}
 use Rattle.caller_steps.specs.Prefix.{HasPrefix, HasPrefixOf}
 use Rattle.caller_steps.specs.Core.{IsSafe, Steps}
 use Rattle.caller_steps.proofs.Sound.{step_sound}
-use Rattle.mars_core.specs.Over.{limits_of, index_of}
+use Rattle.mars_core.specs.Over.{limits_of}
 use Rattle.mars_core.specs.Held.{core_over}
 use Rattle.mars_core.specs.Kept.{Mirrors, HasHeld, IsTied, IsKept}
 use Rattle.mars_core.proofs.Mirroring.{with_one_here, mirrors_at, apart}
@@ -90,6 +92,10 @@ abort_fails tells index p t alive (fault.LogFull g h n) cause = absurd cause.1
 abort_fails tells index p t alive fault.SavesFull cause = absurd cause.1
 abort_fails tells index p t alive (fault.Damaged page) cause = absurd cause.1
 abort_fails tells index p t alive fault.NoMemory cause = absurd cause.1
+
+-- the index that has these keys, in this data
+abbrev with_bytes : List ℕ → Keys → Index
+with_bytes bytes keys = record { slot_of = found keys.pairs; next_slot = keys.next_slot; next_page = keys.next_page; level = keys.level; bytes = bytes }
 
 module _ (tells : Bool) (Opens : Shape → List ℕ → List ℕ → Type 0) (index : below.Index) (one : (shape : Shape) (image a b : List ℕ) → Opens shape image a → Opens shape image b → a ≡ b)
     (p q : PagesView) (old_laws : StoreLaws tells Opens p.store) (new_laws : StoreLaws tells Opens q.store) (s new : State) (shows : ShowsPages index p s) (shows_new : ShowsPages index q new)
@@ -149,12 +155,21 @@ module _ (tells : Bool) (Opens : Shape → List ℕ → List ℕ → Type 0) (in
     longer = history ∙ ap (λ (d : Done). s.history ++ d ∷ []) done_is
 
     module _ (told : IsTrue tells) where
-      index_same : new.index ≡ s.index
-      index_same = shows_new.indexed ∙ ap index_of (does.indexed told alive refl) ∙ sym shows.indexed
+      keys_same : new.index ≡ record s.index { bytes = new.index.bytes }
+      keys_same = shows_new.indexed ∙ (λ i. with_bytes q.store.state.bytes (does.indexed told alive refl i)) ∙ sym (λ i. record (shows.indexed i) { bytes = (shows_new.indexed i).bytes })
+
+      writes_are : ((state_of index p).logs t).writes ≡ (log_of calls).writes
+      writes_are = ap (λ (l : Log). l.writes) ((kept.tied told alive).mirrors.logs t) ∙ ap (λ (cs : Granted). (log_of cs).writes) at
+
+      settles : Settles (log_of calls).writes s.index new.index
+      settles = record {
+        keys = keys_same;
+        none = λ none. shows_new.indexed ∙ (λ i. with_bytes (does.quiet told refl (writes_are ∙ none) i) (does.indexed told alive refl i)) ∙ sym shows.indexed;
+      }
 
       step : Step (limits_of p.store.shape) s t Commit (Committed (length s.history + 1)) new
       step = step_of (limits_of p.store.shape) (Some calls) s new t Commit (Committed (length s.history + 1)) living_state is
-          (inr (inl (refl, λ i. record { base = base i; history = longer i; live = live i; doubt = doubt i; is_dead = dead_same i; index = index_same i })))
+          (inr (inl (refl, new.index, settles, λ i. record { base = base i; history = longer i; live = live i; doubt = doubt i; is_dead = dead_same i; index = new.index })))
 
       tied_new : IsTied index q new
       tied_new =
@@ -165,7 +180,7 @@ module _ (tells : Bool) (Opens : Shape → List ℕ → List ℕ → Type 0) (in
                 (seen_left done done_is (Ok (Committed k)) does live told ∙ (λ i. records (sym base i) (sym history i)))
                 (with_one_here (state_of index p).logs t (record { writes = []; saved = [] })) (apart (state_of index p) t Commit (Committed k)));
             sound = step_sound (limits_of p.store.shape) s t Commit (Committed (length s.history + 1)) new was.sound step;
-            room = subst (λ (h : Shape). HasHeld (limits_of h) new) (sym does.shape) (room_empty (limits_of p.store.shape) s new t None refl was.room index_same live);
+            room = subst (λ (h : Shape). HasHeld (limits_of h) new) (sym does.shape) (room_empty (limits_of p.store.shape) s new t None refl was.room (ap (λ (x : Index). x.slot_of) keys_same) live);
           }
 
       safe_new : IsSafe (core_over Opens index q.store new) q.store.moment (length new.history)
@@ -245,7 +260,7 @@ module _ (tells : Bool) (Opens : Shape → List ℕ → List ℕ → Type 0) (in
 
       module _ (told : IsTrue tells) where
         index_alike : new.index ≡ s.index
-        index_alike = shows_new.indexed ∙ ap index_of (does.indexed told alive refl) ∙ sym shows.indexed
+        index_alike = shows_new.indexed ∙ (λ i. with_bytes (does.quiet told refl tt i) (does.indexed told alive refl i)) ∙ sym shows.indexed
 
         step_abort : Step (limits_of p.store.shape) s t Abort Fine new
         step_abort = step_of (limits_of p.store.shape) (Some calls) s new t Abort Fine living_state is
@@ -260,7 +275,7 @@ module _ (tells : Bool) (Opens : Shape → List ℕ → List ℕ → Type 0) (in
                   (was.mirrors.table ∙ (λ i. records (sym base i) (sym history i)))
                   (with_one_here (state_of index p).logs t (record { writes = []; saved = [] })) (apart (state_of index p) t Abort Fine));
               sound = step_sound (limits_of p.store.shape) s t Abort Fine new was.sound step_abort;
-              room = subst (λ (h : Shape). HasHeld (limits_of h) new) (sym does.shape) (room_empty (limits_of p.store.shape) s new t None refl was.room index_alike live);
+              room = subst (λ (h : Shape). HasHeld (limits_of h) new) (sym does.shape) (room_empty (limits_of p.store.shape) s new t None refl was.room (ap (λ (x : Index). x.slot_of) index_alike) live);
             }
 
         safe_abort : IsSafe (core_over Opens index q.store new) q.store.moment (length new.history)

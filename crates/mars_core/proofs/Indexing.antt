@@ -1,6 +1,6 @@
 -- What a call does to the index, as callers see it.
 use Rattle.std.proofs.Common.{◌≡◌, ◌≤◌, ◌⊎◌, ℕ, inl, inr, Bool, true, false, cond, nat_eq, nat_lt, List, [], ◌∷◌, length, Option, Some, None, unwrap_or, Result, Ok, Err, refl, sym, ap, subst, ◌∙◌, arith, eq-eqb, ne_eqb, eqb-true}
-use Rattle.std.specs.Prelude.{IsFalse}
+use Rattle.std.specs.Prelude.{IsFalse, IsSome}
 use Rattle.std.proofs.lemmas.Map.{update_here}
 use Rattle.record_slots.specs.Places.{next_slot, next_page}
 use Rattle.std.proofs.lemmas.Bool.{false≢true}
@@ -20,7 +20,7 @@ use Rattle.record_table.specs.declared.fault.TableFault.{TableFault}
 use Rattle.record_table.specs.declared.fault.TableFault.TheVariants.{SlotsFull, PagesFull, SavesFull, LogFull, Media, Dead, Damaged, NoMemory}
 use Rattle.caller_steps.specs.State.{Index}
 use Rattle.caller_steps.specs.Room.{Limits, GainsKey, KeepsKeys, TakesPages, Inserts, IndexesAt, Indexes}
-use Rattle.mars_core.specs.Over.{limits_of, index_of}
+use Rattle.mars_core.specs.Over.{limits_of}
 use Rattle.record_table.specs.Faults.{reply_to}
 use Rattle.mars_core.proofs.Mirroring.{IsOfTable}
 
@@ -52,64 +52,76 @@ found-inserted (p ∷ ps) key to other none = in_front (nat_lt key p.0) (nat_eq 
     in_front true false ne none later = refl
     in_front false false ne none later = behind (nat_eq p.0 other) refl ne none later
 
-module _ (shape : Shape) (old new : Keys) (within : IsWithin shape new) where
-  takes : table.TakesPages old new → TakesPages (limits_of shape) (index_of old) (index_of new)
+-- the index that has these keys, in this data
+abbrev index_with : List ℕ → Keys → Index
+index_with bytes keys = record { slot_of = found keys.pairs; next_slot = keys.next_slot; next_page = keys.next_page; level = keys.level; bytes = bytes }
+
+-- the call inserts no key
+abbrev pub InsertsNone : Keys → Call → Type 0
+InsertsNone keys (Put key value) = IsSome (found keys.pairs key)
+InsertsNone keys call = Unit {0}
+
+module _ (shape : Shape) (a b : List ℕ) (old new : Keys) (within : IsWithin shape new) where
+  both : new ≡ old → b ≡ a → index_with b new ≡ index_with a old
+  both keys bytes = λ i. index_with (bytes i) (keys i)
+
+  takes : table.TakesPages old new → TakesPages (limits_of shape) (index_with a old) (index_with b new)
   takes t = record { later = t.later; few = t.few; most = within.pages; levels = t.levels }
 
-  keeps : table.KeepsKeys old new → KeepsKeys (index_of old) (index_of new)
+  keeps : table.KeepsKeys old new → KeepsKeys (index_with a old) (index_with b new)
   keeps k = record { slot_of = ap found k.pairs; slots = k.slots }
 
-  gains : (key : ℕ) → found old.pairs key ≡ None → table.GainsKey key old new → GainsKey (limits_of shape) key (index_of old) (index_of new)
+  gains : (key : ℕ) → found old.pairs key ≡ None → table.GainsKey key old new → GainsKey (limits_of shape) key (index_with a old) (index_with b new)
   gains key none g = record {
     left = omega (arith, g.slots, within.slots);
     slot_of = ap found g.pairs ∙ (λ i q. found-inserted old.pairs key old.next_slot q none i);
     slots = g.slots;
   }
 
-  refused_at : (T : Type 0) (key : ℕ) (o : Option ℕ) → found old.pairs key ≡ o → (f : TableFault) → (let r : Result T TableFault = Err f in IsFalse (is_failed r))
-      → (let r : Result T TableFault = Err f in IndexedAt key o old new r) → IndexesAt (limits_of shape) key o (reply_to f) (index_of old) (index_of new)
-  refused_at T key (Some slot) is f well same = ap index_of same
-  refused_at T key None is (LogFull g h n) well (t, inl k) = (takes t, inl (keeps k))
-  refused_at T key None is (LogFull g h n) well (t, inr k) = (takes t, inr (gains key is k))
-  refused_at T key None is (PagesFull n) well (t, k, most) = (takes t, keeps k, most)
-  refused_at T key None is (SlotsFull n) well (t, k) = (takes t, keeps k)
-  refused_at T key None is SavesFull well (t, k) = (takes t, keeps k)
-  refused_at T key None is Media well x = absurd (cc)
-  refused_at T key None is Dead well (t, k) = (takes t, keeps k)
-  refused_at T key None is (Damaged page) well (t, k) = (takes t, keeps k)
-  refused_at T key None is NoMemory well (t, k) = (takes t, keeps k)
+  refused_at : (T : Type 0) (key : ℕ) (o : Option ℕ) → found old.pairs key ≡ o → (IsSome o → b ≡ a) → (f : TableFault) → (let r : Result T TableFault = Err f in IsFalse (is_failed r))
+      → (let r : Result T TableFault = Err f in IndexedAt key o old new r) → IndexesAt (limits_of shape) key o (reply_to f) (index_with a old) (index_with b new)
+  refused_at T key (Some slot) is quiet f well same = both same (quiet refl)
+  refused_at T key None is quiet (LogFull g h n) well (t, inl k) = (takes t, inl (keeps k))
+  refused_at T key None is quiet (LogFull g h n) well (t, inr k) = (takes t, inr (gains key is k))
+  refused_at T key None is quiet (PagesFull n) well (t, k, most) = (takes t, keeps k, most)
+  refused_at T key None is quiet (SlotsFull n) well (t, k) = (takes t, keeps k)
+  refused_at T key None is quiet SavesFull well (t, k) = (takes t, keeps k)
+  refused_at T key None is quiet Media well x = absurd (cc)
+  refused_at T key None is quiet Dead well (t, k) = (takes t, keeps k)
+  refused_at T key None is quiet (Damaged page) well (t, k) = (takes t, keeps k)
+  refused_at T key None is quiet NoMemory well (t, k) = (takes t, keeps k)
 
-  granted_at : {T : Type 0} (key : ℕ) (o : Option ℕ) → found old.pairs key ≡ o → (answer : T)
-      → (let r : Result T TableFault = Ok answer in IndexedAt key o old new r) → IndexesAt (limits_of shape) key o Fine (index_of old) (index_of new)
-  granted_at key (Some slot) is answer same = ap index_of same
-  granted_at key None is answer (t, k) = (takes t, gains key is k)
+  granted_at : {T : Type 0} (key : ℕ) (o : Option ℕ) → found old.pairs key ≡ o → (IsSome o → b ≡ a) → (answer : T)
+      → (let r : Result T TableFault = Ok answer in IndexedAt key o old new r) → IndexesAt (limits_of shape) key o Fine (index_with a old) (index_with b new)
+  granted_at key (Some slot) is quiet answer same = both same (quiet refl)
+  granted_at key None is quiet answer (t, k) = (takes t, gains key is k)
 
   -- a refusal
-  pub indexes_refused : (T : Type 0) (call : Call) (f : TableFault) → IsOfTable call → (let r : Result T TableFault = Err f in IsFalse (is_failed r))
-      → (let r : Result T TableFault = Err f in Indexed call old new r) → Indexes (limits_of shape) call (reply_to f) (index_of old) (index_of new)
-  indexes_refused T (Put key value) f of well indexed = refused_at T key (found old.pairs key) refl f well indexed
-  indexes_refused T (Get key) f of well same = ap index_of same
-  indexes_refused T (Del key) f of well same = ap index_of same
-  indexes_refused T (Scan low high) f of well same = ap index_of same
-  indexes_refused T Save f of well same = ap index_of same
-  indexes_refused T (Back n) f of well same = ap index_of same
-  indexes_refused T Commit f of well same = absurd of
-  indexes_refused T Abort f of well same = absurd of
-  indexes_refused T Begin f of well same = absurd of
+  pub indexes_refused : (T : Type 0) (call : Call) (f : TableFault) → IsOfTable call → (InsertsNone old call → b ≡ a) → (let r : Result T TableFault = Err f in IsFalse (is_failed r))
+      → (let r : Result T TableFault = Err f in Indexed call old new r) → Indexes (limits_of shape) call (reply_to f) (index_with a old) (index_with b new)
+  indexes_refused T (Put key value) f of quiet well indexed = refused_at T key (found old.pairs key) refl quiet f well indexed
+  indexes_refused T (Get key) f of quiet well same = both same (quiet tt)
+  indexes_refused T (Del key) f of quiet well same = both same (quiet tt)
+  indexes_refused T (Scan low high) f of quiet well same = both same (quiet tt)
+  indexes_refused T Save f of quiet well same = both same (quiet tt)
+  indexes_refused T (Back n) f of quiet well same = both same (quiet tt)
+  indexes_refused T Commit f of quiet well same = absurd of
+  indexes_refused T Abort f of quiet well same = absurd of
+  indexes_refused T Begin f of quiet well same = absurd of
 
   -- a granted call
-  pub indexes_granted : {T : Type 0} (call : Call) (answer : T) (told : Reply) → IsOfTable call → ((key : ℕ) (value : List ℕ) → call ≡ Put key value → told ≡ Fine)
-      → (let r : Result T TableFault = Ok answer in Indexed call old new r) → Indexes (limits_of shape) call told (index_of old) (index_of new)
-  indexes_granted (Put key value) answer told of fine indexed =
-      subst (λ (r : Reply). IndexesAt (limits_of shape) key (found old.pairs key) r (index_of old) (index_of new)) (sym (fine key value refl)) (granted_at key (found old.pairs key) refl answer indexed)
-  indexes_granted (Get key) answer told of fine same = ap index_of same
-  indexes_granted (Del key) answer told of fine same = ap index_of same
-  indexes_granted (Scan low high) answer told of fine same = ap index_of same
-  indexes_granted Save answer told of fine same = ap index_of same
-  indexes_granted (Back n) answer told of fine same = ap index_of same
-  indexes_granted Commit answer told of fine same = absurd of
-  indexes_granted Abort answer told of fine same = absurd of
-  indexes_granted Begin answer told of fine same = absurd of
+  pub indexes_granted : {T : Type 0} (call : Call) (answer : T) (told : Reply) → IsOfTable call → (InsertsNone old call → b ≡ a) → ((key : ℕ) (value : List ℕ) → call ≡ Put key value → told ≡ Fine)
+      → (let r : Result T TableFault = Ok answer in Indexed call old new r) → Indexes (limits_of shape) call told (index_with a old) (index_with b new)
+  indexes_granted (Put key value) answer told of quiet fine indexed =
+      subst (λ (r : Reply). IndexesAt (limits_of shape) key (found old.pairs key) r (index_with a old) (index_with b new)) (sym (fine key value refl)) (granted_at key (found old.pairs key) refl quiet answer indexed)
+  indexes_granted (Get key) answer told of quiet fine same = both same (quiet tt)
+  indexes_granted (Del key) answer told of quiet fine same = both same (quiet tt)
+  indexes_granted (Scan low high) answer told of quiet fine same = both same (quiet tt)
+  indexes_granted Save answer told of quiet fine same = both same (quiet tt)
+  indexes_granted (Back n) answer told of quiet fine same = both same (quiet tt)
+  indexes_granted Commit answer told of quiet fine same = absurd of
+  indexes_granted Abort answer told of quiet fine same = absurd of
+  indexes_granted Begin answer told of quiet fine same = absurd of
 
 -- the keys stay, or the index gains one that it lacked
 abbrev pub Slots : Limits → Index → Index → Type 0

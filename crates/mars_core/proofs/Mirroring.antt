@@ -50,13 +50,16 @@ IsOfTable Commit = ⊥
 IsOfTable Abort = ⊥
 IsOfTable _ = Unit {0}
 
-pub of_table : (call : TableCall) → IsOfTable (call_of call)
+of_table : (call : TableCall) → IsOfTable (call_of call)
 of_table (table_call.Get key) = tt
 of_table (table_call.Put key value) = tt
 of_table (table_call.Del key) = tt
 of_table (table_call.Scan low high) = tt
 of_table table_call.Save = tt
 of_table (table_call.Back n) = tt
+
+pub is_of_table : (asked : TableCall) (call : Call) → call_of asked ≡ call → IsOfTable call
+is_of_table asked call said = subst IsOfTable said (of_table asked)
 
 -- it does not change the table
 pub same_table : (s : TableState) (t : ℕ) (call : Call) → IsOfTable call → table_after t call s ≡ s.table

@@ -118,8 +118,8 @@ module _ (tells : Bool) (Opens : Shape → List ℕ → List ℕ → Type 0) (in
     sound_new = subst index.sound (sym bytes_same) (sound told)
 
     -- its state is that of a core that was just opened
-    opened_is : state_at index q.store (table_of rows) history (live_in seats) doubt ≡ opened (shown.table_of index p.store.state.bytes) (index_of (keys_of index p.store.state.bytes))
-    opened_is = λ i. record { base = table_is i; history = empty i; live = λ t. none t i; doubt = sure i; is_dead = lives i; index = index_of (keys_of index (bytes_same i)) }
+    opened_is : state_at index q.store (table_of rows) history (live_in seats) doubt ≡ opened (shown.table_of index p.store.state.bytes) (index_of index p.store.state.bytes)
+    opened_is = λ i. record { base = table_is i; history = empty i; live = λ t. none t i; doubt = sure i; is_dead = lives i; index = index_of index (bytes_same i) }
 
     mirrors : Mirrors (state_of index q) (state_at index q.store (table_of rows) history (live_in seats) doubt)
     mirrors = subst (λ (s : State). Mirrors (state_of index q) s) (sym opened_is) (record {
@@ -131,7 +131,7 @@ module _ (tells : Bool) (Opens : Shape → List ℕ → List ℕ → Type 0) (in
     tied_new = record {
       index_sound = sound_new;
       mirrors = mirrors;
-      sound = subst IsSound (sym opened_is) (opened_sound (shown.table_of index p.store.state.bytes) (index_of (keys_of index p.store.state.bytes)));
+      sound = subst IsSound (sym opened_is) (opened_sound (shown.table_of index p.store.state.bytes) (index_of index p.store.state.bytes));
       room = subst (HasHeld (limits_of q.store.shape)) (sym opened_is) (λ caller g. omega arith);
     }
 

@@ -39,7 +39,7 @@ named_is index pairs [] same named = tt
 named_is index pairs (write ∷ writes) same named = (subst (λ (o : Option ℕ). IsSome o) (sym (same write.0)) named.0, named_is index pairs writes same named.1)
 
 -- A state s over what pages show, whose index is that of the data.
-module _ (index : below.Index) (p : PagesView) (s : State) (indexed : s.index ≡ index_of (keys_of index p.store.state.bytes)) (mirrors : Mirrors (state_of index p) s)
+module _ (index : below.Index) (p : PagesView) (s : State) (indexed : s.index ≡ index_of index p.store.state.bytes) (mirrors : Mirrors (state_of index p) s)
     (held : (t g : ℕ) → shown.held_on p t g ≡ length (filter (shown.is_write_on p.store.shape (index.pairs p.store.state.bytes) g) ((state_of index p).logs t).writes)) where
   -- what a logger holds
   pub held_is : (t g : ℕ) → held_on (limits_of p.store.shape) s t g ≡ shown.held_on p t g

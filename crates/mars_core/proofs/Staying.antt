@@ -175,7 +175,7 @@ module _ (tells : Bool) (Opens : Shape → List ℕ → List ℕ → Type 0) (in
           mirrors = mirrors_at (state_of index p) s was.mirrors (state_of index p) new t (Some []) live_is (was.mirrors.table ∙ sym (ap records_of begins))
               (was.mirrors.logs t ∙ ap (λ (cs : Granted). log_of cs) at) (λ u ne. refl);
           sound = step_sound (limits_of p.store.shape) s t Begin Fine new was.sound step;
-          room = room_empty (limits_of p.store.shape) s new t (Some []) refl was.room (ap (λ (x : State). x.index) begins) live_is;
+          room = room_empty (limits_of p.store.shape) s new t (Some []) refl was.room (ap (λ (x : State). x.index.slot_of) begins) live_is;
         }
 
     safe_new : IsSafe (core_over Opens index p.store new) p.store.moment (length new.history)
@@ -196,13 +196,16 @@ module _ (tells : Bool) (Opens : Shape → List ℕ → List ℕ → Type 0) (in
   }) (λ failed. absurd (false≢true failed)) (λ _. refl) step (λ told. stays p.store.moment p.store.left_since _) safe_new
 
 -- a call of the table outside of a transaction
-pub absent_at : (limits : Limits) (s : State) (t : ℕ) (call : TableCall) → StepAt limits None s t (call_of call) NoTransaction s
+absent_at : (limits : Limits) (s : State) (t : ℕ) (call : TableCall) → StepAt limits None s t (call_of call) NoTransaction s
 absent_at limits s t (table_call.Get key) = (refl, refl)
 absent_at limits s t (table_call.Put key value) = (refl, refl)
 absent_at limits s t (table_call.Del key) = (refl, refl)
 absent_at limits s t (table_call.Scan low high) = (refl, refl)
 absent_at limits s t table_call.Save = (refl, refl)
 absent_at limits s t (table_call.Back n) = (refl, refl)
+
+pub is_absent_at : (limits : Limits) (s : State) (t : ℕ) (asked : TableCall) (call : Call) → call_of asked ≡ call → StepAt limits None s t call NoTransaction s
+is_absent_at limits s t asked call said = subst (λ (c : Call). StepAt limits None s t c NoTransaction s) said (absent_at limits s t asked)
 
 pub absent_steps : (tells : Bool) (Opens : Shape → List ℕ → List ℕ → Type 0) (index : below.Index) (p : PagesView) (s : State) → ShowsPages index p s → (count : ℕ) (rows : List (ℕ × List ℕ)) → IsKept tells Opens index p count rows s
     → IsAlive p.store → (t : ℕ) (call : Call) → s.live t ≡ None → StepAt (limits_of p.store.shape) None s t call NoTransaction s → (new : State) → new ≡ s

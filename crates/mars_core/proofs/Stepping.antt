@@ -46,7 +46,7 @@ use Rattle.record_table.specs.Causes as table_causes
 
 -- the state shows these pages
 pub record ShowsPages (index : below.Index) (p : PagesView) (s : State) : Type 0 where
-  pub indexed : s.index ≡ index_of (keys_of index p.store.state.bytes)
+  pub indexed : s.index ≡ index_of index p.store.state.bytes
   pub dead : s.is_dead ≡ p.store.is_dead
 
 pub or_false : (b : Bool) → (b || false) ≡ b

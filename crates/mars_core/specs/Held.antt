@@ -32,7 +32,7 @@ state_at index store base history live doubt = record {
   live = live;
   doubt = doubt;
   is_dead = store.is_dead;
-  index = index_of (keys_of index store.state.bytes);
+  index = index_of index store.state.bytes;
 }
 
 abbrev pub state_over : {S : Type 0} → Index → StoreView → Held S → State

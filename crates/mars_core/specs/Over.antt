@@ -7,7 +7,6 @@ use Rattle.page_store.specs.Index.{Index, slots_of, index_pages_of}
 use Rattle.page_store.specs.Pairs.{found}
 use Rattle.record_table.specs.Does.{OpensWith}
 use Rattle.record_table.specs.Shown.{table_of, keys_of, logger_of_slot}
-use Rattle.record_table.specs.State.{Keys}
 use Rattle.caller_steps.specs.State as face
 use Rattle.caller_steps.specs.State.{opened, records_of}
 use Rattle.caller_steps.specs.Room.{Limits}
@@ -17,8 +16,9 @@ use Rattle.caller_steps.specs.Core.{CoreView}
 abbrev pub limits_of : Shape → Limits
 limits_of shape = record { callers = shape.numbers; slots = slots_of shape; index_pages = index_pages_of shape; loggers = shape.loggers; entries = shape.entries; logger_of = logger_of_slot shape }
 
-abbrev pub index_of : Keys → face.Index
-index_of keys = record { slot_of = found keys.pairs; next_slot = keys.next_slot; next_page = keys.next_page; level = keys.level }
+-- the index in the data, and the data, as callers see them
+abbrev pub index_of : Index → List ℕ → face.Index
+index_of index bytes = let keys = keys_of index bytes in record { slot_of = found keys.pairs; next_slot = keys.next_slot; next_page = keys.next_page; level = keys.level; bytes = bytes }
 
 -- The core shows its store. While the store is not dead, its data is a sound index with the records of the history.
 pub record IsOver (tells : Bool) (Opens : List ℕ → List ℕ → Type 0) (index : Index) (store : StoreView) (core : CoreView) : Type 0 where
@@ -28,7 +28,7 @@ pub record IsOver (tells : Bool) (Opens : List ℕ → List ℕ → Type 0) (ind
   pub left : (since : ℕ) (image : List ℕ) → (store.left_since since image → core.left_since since image) × (core.left_since since image → store.left_since since image)
   pub opens_to : (image : List ℕ) (table : _) → (OpensWith Opens index image table → core.opens image table) × (core.opens image table → OpensWith Opens index image table)
   pub dead : core.state.is_dead ≡ store.is_dead
-  pub keys : IsTrue tells → core.state.index ≡ index_of (keys_of index store.state.bytes)
+  pub keys : IsTrue tells → core.state.index ≡ index_of index store.state.bytes
   pub sound : IsTrue tells → IsAlive store → index.sound store.state.bytes
   pub table : IsTrue tells → IsAlive store → table_of index store.state.bytes ≡ records_of core.state
 
@@ -39,7 +39,7 @@ pub record Begins (tells : Bool) (Opens : List ℕ → List ℕ → Type 0) (ind
   pub alive : IsAlive new
   pub faults : new.faults ≡ old.faults
   pub shape : new.shape ≡ old.shape
-  pub state : IsTrue tells → core.state ≡ opened (table_of index old.state.bytes) (index_of (keys_of index old.state.bytes))
+  pub state : IsTrue tells → core.state ≡ opened (table_of index old.state.bytes) (index_of index old.state.bytes)
   pub fresh : (core.state.history ≡ []) × ((caller : ℕ) → core.state.live caller ≡ None) × (core.state.doubt ≡ [])
   pub sound : IsTrue tells → index.sound old.state.bytes
   pub time : IsTrue tells → LeavesOnly (λ image. Opens image old.state.bytes) old new

@@ -5,6 +5,7 @@ ghost use Rattle.mars_core.specs.TableCall.{call_of};
 ghost use Rattle.mars_core.specs.Works.{Works, HasSaves, IsSaveRefusal, Unmade, Made};
 
 use crate::live::Live;
+use crate::masks::mask_of;
 use crate::replies::{copy_of, found, removed};
 use crate::seats::Seats;
 use crate::table_call::TableCall;
@@ -44,19 +45,19 @@ pub fn work<S: EawStore, K: KeyIndex>(
     alloc: Global,
     records: &mut Records<S, K>,
     tid: u8,
-    call: &TableCall,
+    asked: TableCall<'_>,
 ) -> Result<Reply, TableFault>
     requires tid { tid < (S.view records.old.store).shape.numbers }
-    requires saves { HasSaves (length (counts_in records.old.marks tid)) (call_of call.now) }
-    ensures works { Works S.tells (S.opens (S.view records.old.store).shape) K.index tid (call_of call.now)
+    requires saves { HasSaves (length (counts_in records.old.marks tid)) (call_of asked) }
+    ensures works { Works S.tells (S.opens (S.view records.old.store).shape) K.index tid (call_of asked.entry)
         (pages_of (S.view records.old.store) records.old) (pages_of (S.view records.new.store) records.new) result }
 {
-    match *call {
+    match asked {
         TableCall::Get { key } => match records.get(tid, key) {
             Ok(value) => Ok(found(&value)),
             Err(fault) => Err(fault),
         },
-        TableCall::Put { key, value } => match records.put(tid, key, value) {
+        TableCall::Put { key, value } => match records.put(tid, key, *value) {
             Ok(()) => Ok(Reply::Fine),
             Err(fault) => Err(fault),
         },
@@ -79,38 +80,44 @@ pub fn work<S: EawStore, K: KeyIndex>(
     }
 }
 
-/// Answers a call of a live transaction, which comes back, with the call if it was granted. `seats` has the transactions of the others.
+/// Answers a call of a live transaction, which comes back, with the call if it was granted. `asked` is what the call asks of the records, and
+/// `seats` has the transactions of the others.
 pub fn answer<S: EawStore, K: KeyIndex>(
     alloc: Global,
     records: &mut Records<S, K>,
     seats: &Seats,
     caller: u8,
     live: Live,
-    call: &TableCall,
+    call: &Call,
+    asked: TableCall<'_>,
 ) -> (Live, Reply)
+    requires said { call_of asked ≡ call.now }
     requires inside { caller < (S.view records.old.store).shape.numbers }
     requires few { length seats.now ≤ 64 }
-    ensures answered { ((records.new ≡ records.old) × (result.0 ≡ live) × Unmade (length (counts_in records.old.marks caller)) seats.now caller (call_of call.now) result.1)
-        ⊎ Made S.tells (S.opens (S.view records.old.store).shape) K.index (length (counts_in records.old.marks caller)) seats.now caller live (call_of call.now)
+    ensures answered { ((records.new ≡ records.old) × (result.0 ≡ live) × Unmade (length (counts_in records.old.marks caller)) seats.now caller call.now result.1)
+        ⊎ Made S.tells (S.opens (S.view records.old.store).shape) K.index (length (counts_in records.old.marks caller)) seats.now caller live call.now
         (pages_of (S.view records.old.store) records.old) (pages_of (S.view records.new.store) records.new) result.0 result.1 }
 {
-    let asked = call.call();
-    if let Some(refusal) = refused_save(records.saves(caller), &asked) {
+    if let Some(refusal) = refused_save(records.saves(caller), call) {
         return (live, refusal);
     }
+    let mask = live.touched();
     // Room is reserved before the call is made, so that nothing is written that there is no memory to keep.
-    let live = match live.with_room() {
-        Ok(live) => live,
-        Err(live) => return (live, Reply::NoMemory),
+    let calls = match live.into_calls().with_room() {
+        Ok(calls) => calls,
+        Err(calls) => return (Live::of(calls, mask), Reply::NoMemory),
     };
-    if let Some(holder) = seats.holder(caller, &asked) {
-        return (live.into_live(), Reply::Busy { holder });
+    if let Some(holder) = seats.holder(caller, call) {
+        return (Live::of(calls.into_calls(), mask), Reply::Busy { holder });
     }
-    match work(alloc, records, caller, call) {
+    match work(alloc, records, caller, asked) {
         Ok(reply) => match copy_of(&reply) {
-            Ok(kept) => (live.push(&asked, kept), reply),
-            Err(_) => (live.into_live(), Reply::NoMemory),
+            Ok(kept) => {
+                let calls = calls.push(*call, kept);
+                (Live::of(calls, mask | mask_of(call)), reply)
+            }
+            Err(_) => (Live::of(calls.into_calls(), mask), Reply::NoMemory),
         },
-        Err(fault) => (live.into_live(), Reply::from(fault)),
+        Err(fault) => (Live::of(calls.into_calls(), mask), Reply::from(fault)),
     }
 }

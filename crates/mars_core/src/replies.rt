@@ -26,6 +26,7 @@ pub fn removed(was: bool) -> Reply
 }
 
 // A granted reply once more. Only the rows of a scan take memory.
+#[inline]
 pub fn copy_of(reply: &Reply) -> Result<Reply, NoMemory>
     requires granted { IsFalse (is_refusal reply.now) }
     requires plain { IsFalse (is_committed reply.now) }

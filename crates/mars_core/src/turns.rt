@@ -21,7 +21,7 @@ use crate::doubt::Doubt;
 use crate::fault::CoreFault;
 use crate::live::Live;
 use crate::seats::Seats;
-use crate::table_call::TableCall;
+use crate::table_call::{Asked, TableCall};
 use caller_steps::Core as Steps;
 use eaw_face::EawStore;
 use history::{Call, Done, History, Reply, Rows};
@@ -144,11 +144,12 @@ impl<S: EawStore, K: KeyIndex> Core<S, K> {
     }
 
     // Answers a call that the one-thread table answers. Meanwhile the transaction is out of its seat.
-    fn ask(&mut self, caller: u8, call: &TableCall) -> Reply
+    fn ask(&mut self, caller: u8, call: &Call, asked: TableCall<'_>) -> Reply
+        requires said { call_of asked ≡ call.now }
         requires inside { caller < (S.view self.old.records.store).shape.numbers }
         requires alive { IsAlive (S.view self.old.records.store) }
         requires shown { IsShown S.tells K.index (pages_of (S.view self.old.records.store) self.old.records) }
-        ensures steps { Steps S.tells caller (call_of call.now) (core_of S.opens K.index (S.view self.old.records.store) self.old)
+        ensures steps { Steps S.tells caller call.now (core_of S.opens K.index (S.view self.old.records.store) self.old)
             (core_of S.opens K.index (S.view self.new.records.store) self.new) result }
     {
         let Some(live) = self.seats.take(caller) else {
@@ -161,6 +162,7 @@ impl<S: EawStore, K: KeyIndex> Core<S, K> {
             caller,
             live,
             call,
+            asked,
         );
         self.seats.put(caller, live);
         reply
@@ -228,28 +230,11 @@ impl<S: EawStore, K: KeyIndex> Steps for Core<S, K> {
         if self.records.is_dead() {
             return Reply::Dead;
         }
-        match call {
-            Call::Begin => self.begin(caller),
-            Call::Commit => self.commit(caller),
-            Call::Abort => self.abort(caller),
-            Call::Get { key } => self.ask(caller, &TableCall::Get { key: *key }),
-            Call::Put { key, value } => self.ask(
-                caller,
-                &TableCall::Put {
-                    key: *key,
-                    value: *value,
-                },
-            ),
-            Call::Del { key } => self.ask(caller, &TableCall::Del { key: *key }),
-            Call::Scan { low, high } => self.ask(
-                caller,
-                &TableCall::Scan {
-                    low: *low,
-                    high: *high,
-                },
-            ),
-            Call::Save => self.ask(caller, &TableCall::Save),
-            Call::Back { save } => self.ask(caller, &TableCall::Back { save: *save }),
+        match Asked::of(call) {
+            Asked::Begin => self.begin(caller),
+            Asked::Commit => self.commit(caller),
+            Asked::Abort => self.abort(caller),
+            Asked::Table(asked) => self.ask(caller, call, asked),
         }
     }
 

@@ -21,16 +21,13 @@ use Rattle.caller_steps.proofs.Continuing.{grows_longer}
 use Rattle.caller_steps.proofs.Fates.{Fate, refused, failed, began, granted, committed, doubted, aborted, step_fate}
 use Rattle.caller_steps.proofs.Refusing.{line_is as turn_is}
 use Rattle.caller_steps.proofs.Running.{turns_grow}
-use Rattle.script_text.specs.Line.{LineSays}
 use Rattle.script_text.specs.Replies.{reply_text, row_lines, reply_line, bad_line}
-use Rattle.script_text.specs.declared.line.Line.{Line}
-use Rattle.script_text.specs.declared.line.Line.TheVariants.{Nothing, Told, Bad}
 use Rattle.script_text.proofs.Words.{first_space}
 use Rattle.script_text.proofs.Numbers.{decimal_is_word}
 use Rattle.script_run.specs.Transcript.{Ends, Answered}
 use Rattle.script_run.specs.declared.ended.Ended.{Ended}
 use Rattle.script_run.specs.declared.ended.Ended.TheVariants.{All, WriteFault, MediaFault, NoMemory as Short}
-use Rattle.mars_shell.specs.Lines.{Gives, LineStops, call_script}
+use Rattle.mars_shell.specs.Lines.{LineGives, LineStops, call_script}
 
 first : List ℕ → ℕ
 first text = get_or text 0 0
@@ -126,7 +123,7 @@ committed_long old caller call k new (refused is sure index e) = absurd (cc)
 committed_long old caller call k new (failed is index e) = absurd (cc)
 committed_long old caller call k new (began is re e) = absurd (cc)
 committed_long old caller call k new (granted calls live free answers index e) = absurd (table_commits_nothing _ call k answers)
-committed_long old caller call k new (committed calls is re live e) =
+committed_long old caller call k new (committed calls is re live index e) =
     let count : k ≡ length old.history + 1 = cc in
     omega (arith, count, ap (λ (s : State). length s.history) e, length-append old.history (done_by old caller calls ∷ []))
 committed_long old caller call k new (doubted calls is re live index e) = absurd (cc)
@@ -140,18 +137,18 @@ record Adds (old new : List Turn) : Type 0 where
 none_added : (old new : List Turn) → new ≡ old → Adds old new
 none_added old new same = record { more = []; is = same ∙ sym (append-nil old) }
 
-gives_more : (old : List Turn) (n : ℕ) (line : Line) (text : List ℕ) (new : List Turn) → Gives old n line text new → Adds old new
-gives_more old n Nothing text new gives = none_added old new gives.1
-gives_more old n Bad text new gives = none_added old new gives.1
-gives_more old n (Told caller call) text new gives = record { more = (caller, call, gives.0) ∷ []; is = gives.2 }
-
 module _ (callers : ℕ) where
+  gives_more : (old : List Turn) (n : ℕ) (bytes text : List ℕ) (new : List Turn) → LineGives callers old n bytes text new → Adds old new
+  gives_more old n bytes text new (inl over) = none_added old new over.2
+  gives_more old n bytes text new (inr (inl bad)) = none_added old new bad.2
+  gives_more old n bytes text new (inr (inr told)) = record { more = (told.0, told.2.0, told.1) ∷ []; is = told.2.2 }
+
   stops_more : (old : List Turn) (n : ℕ) (bytes : List ℕ) (new : List Turn) → LineStops callers old n bytes new → Adds old new
   stops_more old n bytes new (inl short) = record { more = (short.0, short.1.0, NoMemory) ∷ []; is = short.1.2 }
-  stops_more old n bytes new (inr done) = gives_more old n done.1.0 done.0 new done.1.2
+  stops_more old n bytes new (inr done) = gives_more old n bytes done.0 new done.1
 
   ends_more : (old : List Turn) (n : ℕ) (bytes : List ℕ) (ended : Ended) (cut : Bool) (rest : List ℕ) (new : List Turn) → Ends (call_script callers) old n bytes ended cut rest new → Adds old new
-  ends_more old n bytes WriteFault cut rest new ends = gives_more old n ends.2.0 ends.1 new ends.2.2
+  ends_more old n bytes WriteFault cut rest new ends = gives_more old n bytes ends.1 new ends.2
   ends_more old n bytes MediaFault cut rest new ends = record { more = (ends.0, ends.1.0, Media) ∷ []; is = ends.1.2 }
   ends_more old n bytes Short cut rest new ends = stops_more old n bytes new ends.2
   ends_more old n bytes All cut rest new ends = absurd ends
@@ -162,7 +159,7 @@ module _ (callers : ℕ) where
   answered_more old n [] ended cut (answer ∷ answers) rest new is = absurd is
   answered_more old n (bytes ∷ lines) ended cut [] rest new ends = ends_more old n bytes ended cut rest new ends
   answered_more old n (bytes ∷ lines) ended cut (answer ∷ answers) rest new more =
-      let first = gives_more old n more.1.0 answer more.0 more.1.2 in
+      let first = gives_more old n bytes answer more.0 more.1 in
       let later = answered_more more.0 (n + 1) lines ended cut answers rest new more.2 in
       record { more = first.more ++ later.more; is = later.is ∙ ap (λ (turns : List Turn). turns ++ later.more) first.is ∙ append_assoc old first.more later.more }
 
@@ -177,12 +174,13 @@ record IsTold (m : ℕ) (turns : List Turn) : Type 0 where
   pub enough : m ≤ number
 
 module _ (callers : ℕ) (most : callers ≤ 2 ^ 64) (caller m : ℕ) (few : caller < 2 ^ 64) (fits : m < 2 ^ 64) where
-  gives_told : (old : List Turn) (n : ℕ) (bytes : List ℕ) (line : Line) (new : List Turn) → LineSays callers bytes line → Gives old n line (reply_line caller (Committed m)) new → IsTold m new
-  gives_told old n bytes Nothing new says gives = absurd (not_empty caller m few gives.0)
-  gives_told old n bytes Bad new says gives = absurd (not_bad caller m n few gives.0)
-  gives_told old n bytes (Told other call) new says gives =
-      let same = same_line caller other gives.0 m few (omega (arith, most, says.0)) fits gives.3 in
-      record { before = old; caller = other; call = call; number = same.0; after = []; is = gives.2 ∙ ap (λ (r : Reply). old ++ (other, call, r) ∷ []) same.1; enough = same.2 }
+  gives_told : (old : List Turn) (n : ℕ) (bytes : List ℕ) (new : List Turn) → LineGives callers old n bytes (reply_line caller (Committed m)) new → IsTold m new
+  gives_told old n bytes new (inl over) = absurd (not_empty caller m few over.1)
+  gives_told old n bytes new (inr (inl bad)) = absurd (not_bad caller m n few bad.1)
+  gives_told old n bytes new (inr (inr told)) =
+      let meets = told.2 in
+      let same = same_line caller told.0 told.1 m few (omega (arith, most, meets.1.0)) fits told.4 in
+      record { before = old; caller = told.0; call = meets.0; number = same.0; after = []; is = meets.2 ∙ ap (λ (r : Reply). old ++ (told.0, meets.0, r) ∷ []) same.1; enough = same.2 }
 
   told_on : (old new : List Turn) → IsTold m old → Adds old new → IsTold m new
   told_on old new told adds = record {
@@ -203,7 +201,7 @@ module _ (callers : ℕ) (most : callers ≤ 2 ^ 64) (caller m : ℕ) (few : cal
   answered_told old n (bytes ∷ lines) ended cut (answer ∷ answers) rest new more has = elim (Contains-append_cases (answer ∷ []) answers (reply_line caller (Committed m)) has) [
     | inl first ↦ elim (Contains-push_cases [] answer (reply_line caller (Committed m)) first) [
       | inl none ↦ absurd (omega (arith, none.1))
-      | inr same ↦ told_on more.0 new (gives_told old n bytes more.1.0 more.0 more.1.1 (subst (λ (text : List ℕ). Gives old n more.1.0 text more.0) same more.1.2))
+      | inr same ↦ told_on more.0 new (gives_told old n bytes more.0 (subst (λ (text : List ℕ). LineGives callers old n bytes text more.0) same more.1))
           (answered_more callers more.0 (n + 1) lines ended cut answers rest new more.2)
     ]
     | inr later ↦ answered_told more.0 (n + 1) lines ended cut answers rest new more.2 later

@@ -32,13 +32,13 @@ module _ (core : CoreView) (callers n : ℕ) (line : List ℕ) (progress : Progr
 
   -- a line that is passed over, and one that is refused
   pub passed_over : (text : List ℕ) → text ≡ [] → LineSays callers line Nothing → Answers line_script (Stands core) (Comes core progress core) progress n line text (let r : Answer = Ok tt in r)
-  passed_over text is says = (progress, (refl, (Nothing, says_here Nothing says, (is, refl))), stands, no_turn)
+  passed_over text is says = (progress, (refl, inl (says_here Nothing says, is, refl)), stands, no_turn)
 
   pub refused : (text : List ℕ) → text ≡ bad_line n → LineSays callers line Bad → Answers line_script (Stands core) (Comes core progress core) progress n line text (let r : Answer = Ok tt in r)
-  refused text is says = (progress, (refl, (Bad, says_here Bad says, (is, refl))), stands, no_turn)
+  refused text is says = (progress, (refl, inr (inl (says_here Bad says, is, refl))), stands, no_turn)
 
   pub refused_short : (text : List ℕ) → LineSays callers line Bad → Answers line_script (Stands core) (Comes core progress core) progress n line text (let r : Answer = Err NoMemory in r)
-  refused_short text says = (progress, (refl, inr (bad_line n, (Bad, says_here Bad says, (refl, refl)))), no_turn)
+  refused_short text says = (progress, (refl, inr (bad_line n, inr (inl (says_here Bad says, refl, refl)))), no_turn)
 
   module _ (tells : Bool) (told : IsTrue tells) (later : CoreView) (caller : ℕ) (call : Call) (reply : Reply) (says : LineSays callers line (Told caller call)) (steps : Steps tells caller call core later reply) where
     abbrev after : Progress
@@ -60,8 +60,8 @@ module _ (core : CoreView) (callers n : ℕ) (line : List ℕ) (progress : Progr
     -- a call of a caller, whose reply was written or not
     pub called : (before text : List ℕ) (result : Answer) → before ≡ [] → Replied caller reply before text result → Answers line_script (Stands later) (Comes core progress later) progress n line text result
     called before text (Ok x) none replied =
-        (after, (refl, (Told caller call, says_here (Told caller call) says, (reply, replied.0, refl, replied.1 ∙ ap (λ (front : List ℕ). front ++ reply_line caller reply) none))), stand, come)
+        (after, (refl, inr (inr (caller, reply, (call, says_here (Told caller call) says, refl), replied.0, replied.1 ∙ ap (λ (front : List ℕ). front ++ reply_line caller reply) none))), stand, come)
     called before text (Err (Media number)) none replied =
         (after, (refl, (call, subst (λ (c : ℕ). LineSays progress.callers line (Told c call)) (sym replied.0) (says_here (Told caller call) says), as_told number said.Media replied.0 replied.1)), come)
     called before text (Err NoMemory) none (inl short) = (after, (refl, inl (caller, (call, says_here (Told caller call) says, as_told caller said.NoMemory refl short))), come)
-    called before text (Err NoMemory) none (inr goes) = (after, (refl, inr (reply_line caller reply, (Told caller call, says_here (Told caller call) says, (reply, goes, refl, refl)))), come)
+    called before text (Err NoMemory) none (inr goes) = (after, (refl, inr (reply_line caller reply, inr (inr (caller, reply, (call, says_here (Told caller call) says, refl), goes, refl)))), come)

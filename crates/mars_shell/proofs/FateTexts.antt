@@ -2,7 +2,7 @@
 use Rattle.std.proofs.Common.{◌≡◌, ℕ, zero, suc, ◌<◌, List, [], ◌∷◌, ◌++◌, length, drop, slice_index_or, refl, sym, ap, ◌∙◌, arith}
 use Rattle.std.proofs.lemmas.List.{append_assoc}
 use Rattle.caller_plans.specs.declared.fate.Fate.{Fate}
-use Rattle.history_text.specs.Text.{fate_lines, all_fate_lines}
+use Rattle.history_text.specs.Text.{fate_line, numbered}
 
 pub cons_at : {X : Type 0} (xs : List X) (i : ℕ) (d : X) → i < length xs → drop i xs ≡ slice_index_or xs i d ∷ drop (suc i) xs
 cons_at [] i d less = absurd (omega (arith, less))
@@ -15,6 +15,6 @@ nothing_left (x ∷ xs) = nothing_left xs
 
 -- one caller's lines, and those of the callers after it
 pub one_more : (text : List ℕ) (all : List (List Fate)) (caller : ℕ) (d : List Fate) → caller < length all →
-    (text ++ fate_lines caller 1 (slice_index_or all caller d)) ++ all_fate_lines (suc caller) (drop (suc caller) all) ≡ text ++ all_fate_lines caller (drop caller all)
+    (text ++ numbered (fate_line caller) 1 (slice_index_or all caller d)) ++ numbered (λ caller. numbered (fate_line caller) 1) (suc caller) (drop (suc caller) all) ≡ text ++ numbered (λ caller. numbered (fate_line caller) 1) caller (drop caller all)
 one_more text all caller d less =
-    append_assoc text _ _ ∙ ap (λ (fates : List (List Fate)). text ++ all_fate_lines caller fates) (sym (cons_at all caller d less))
+    append_assoc text _ _ ∙ ap (λ (fates : List (List Fate)). text ++ numbered (λ caller. numbered (fate_line caller) 1) caller fates) (sym (cons_at all caller d less))

@@ -116,6 +116,7 @@ module _ (tells : Bool) (told : IsTrue tells) (Opens : Shape → List ℕ → Li
           }) (says.time told)) (subst (λ (s : Shape). LeavesOnly (opens_of Opens s index served.final 0) mid new) says.shape served.since);
           now = λ image left. subst (λ (s : Shape). opens_of Opens s index served.final (length served.final.history) image) says.shape (served.now image left);
           left = served.left;
+          unwritten = λ unfailed reads. served.unwritten unfailed reads ∙ bytes_are;
           spared = λ is. spared_on (served.spared is);
         }
 

@@ -1,5 +1,5 @@
 -- The work of callers on threads over the records of a store, from what a core makes of it.
-use Rattle.std.proofs.Common.{◌≡◌, ◌≢◌, ◌↔◌, ℕ, zero, suc, ◌+◌, ◌<◌, ◌≤◌, List, None, get_or, length, Bool, true, false, refl, sym, ap, subst, ◌∙◌, arith}
+use Rattle.std.proofs.Common.{◌≡◌, ◌≢◌, ◌↔◌, ℕ, zero, suc, ◌+◌, ◌<◌, ◌≤◌, List, None, get_or, length, ◌++◌, Bool, true, false, refl, sym, ap, subst, ◌∙◌, arith}
 use Rattle.std.specs.Prelude.{IsTrue}
 use Rattle.std.specs.FinMap.{entries}
 use Rattle.std.specs.List.{flat_map}
@@ -22,11 +22,13 @@ use Rattle.caller_work.specs.Tries.{IsWork}
 use Rattle.caller_work.specs.Worked.{Worked, is_fault, of_caller}
 use Rattle.history_text.specs.Text.{done_lines, work_text}
 use Rattle.script_run.specs.Lines.{lines_of}
+use Rattle.texts.specs.MediaFault.{media_line}
 use Rattle.script_text.specs.declared.line.Line.{Line}
 use Rattle.script_run.specs.declared.ended.Ended.{Ended}
 use Rattle.script_run.specs.declared.ended.Ended.TheVariants as ends
-use Rattle.mars_shell.specs.Joint.{TellsWork, IsBrokenOff, JointWork}
+use Rattle.mars_shell.specs.Joint.{JointWork}
 use Rattle.mars_shell.specs.OnCore.{TurnsOn}
+use Rattle.mars_shell.specs.Told.{TellsEnd}
 
 -- each caller has its plans
 pub as_many : (caller callers : ℕ) (said : List Line) → length (plans_from caller callers said) ≡ callers
@@ -42,11 +44,11 @@ plans_at first (suc callers) (suc caller) at said less is = plans_at (suc first)
 -- the same text for equal things
 pub retold : (ended : Ended) (cut : Bool) (text : List ℕ) (faults faults' : List LineFault) (history history' : List Done) (base base' : List (ℕ × List ℕ)) (fates fates' : List (List Fate))
     → faults ≡ faults' → history ≡ history' → base ≡ base' → fates ≡ fates'
-    → TellsWork ended cut text (work_text faults history fates (entries (records (rows.table_of base) history))) (flat_map done_lines history)
-    → TellsWork ended cut text (work_text faults' history' fates' (entries (records (rows.table_of base') history'))) (flat_map done_lines history')
+    → TellsEnd ended cut text (work_text faults history fates (entries (records (rows.table_of base) history))) (flat_map done_lines history ++ media_line)
+    → TellsEnd ended cut text (work_text faults' history' fates' (entries (records (rows.table_of base') history'))) (flat_map done_lines history' ++ media_line)
 retold ended cut text faults faults' history history' base base' fates fates' f h b t tells =
-    subst (λ (lines : List ℕ). TellsWork ended cut text (work_text faults' history' fates' (entries (records (rows.table_of base') history'))) lines) (ap (flat_map done_lines) h)
-    (subst (λ (whole : List ℕ). TellsWork ended cut text whole (flat_map done_lines history)) (λ i. work_text (f i) (h i) (t i) (entries (records (rows.table_of (b i)) (h i)))) tells)
+    subst (λ (lines : List ℕ). TellsEnd ended cut text (work_text faults' history' fates' (entries (records (rows.table_of base') history'))) lines) (ap (λ (l : List Done). flat_map done_lines l ++ media_line) h)
+    (subst (λ (whole : List ℕ). TellsEnd ended cut text whole (flat_map done_lines history ++ media_line)) (λ i. work_text (f i) (h i) (t i) (entries (records (rows.table_of (b i)) (h i)))) tells)
 
 module _ (tells : Bool) (core last : CoreView) (callers tries : ℕ) (input : List ℕ) (said : List Line) (says : AllSay callers (lines_of input) said)
     (plans : List (List Plan)) (plans_are : plans ≡ plans_from 0 callers said) (fates : List (List Fate)) (end : WorkEnd) (worked : Worked tells tries plans core last fates end) (enough : callers ≤ core.limits.callers) where
@@ -67,8 +69,8 @@ module _ (tells : Bool) (core last : CoreView) (callers tries : ℕ) (input : Li
   fault_of work.All is = absurd (true≢false (sym is))
   fault_of work.NoMemory is = absurd (true≢false (sym is))
 
-  joint_work : (ended : Ended) (cut : Bool) (text : List ℕ) → ((IsBrokenOff ended → ⊥) → end ≡ work.All) → (ended ≡ ends.MediaFault) ↔ (end ≡ work.MediaFault)
-      → TellsWork ended cut text (work_text (faults_from 1 (λ caller. false) said) last.state.history fates (entries (records last.state.base last.state.history))) (flat_map done_lines last.state.history)
+  joint_work : (ended : Ended) (cut : Bool) (text : List ℕ) → (ended ≢ ends.MediaFault → ended ≢ ends.NoMemory → end ≡ work.All) → (ended ≡ ends.MediaFault) ↔ (end ≡ work.MediaFault)
+      → TellsEnd ended cut text (work_text (faults_from 1 (λ caller. false) said) last.state.history fates (entries (records last.state.base last.state.history))) (flat_map done_lines last.state.history ++ media_line)
       → JointWork callers tries input ended cut text core.limits worked.turns last.state
   joint_work ended cut text whole fault tells_work = record {
     enough = enough;
@@ -81,14 +83,14 @@ module _ (tells : Bool) (core last : CoreView) (callers tries : ℕ) (input : Li
         let within : caller < length plans = omega (arith, less, counted) in (
           get_or worked.stopped caller None,
           subst (λ (his : List Plan). IsWork (Times tries) his (turns_of caller worked.turns) (of_caller fates caller) (get_or worked.stopped caller None)) (ap (λ (all : List (List Plan)). of_caller all caller) plans_are ∙ plans_at 0 callers caller caller said less (omega arith)) (worked.works caller within),
-          (λ unbroken. worked.whole (whole unbroken) caller within),
+          (λ unfailed remembered. worked.whole (whole unfailed remembered) caller within),
         );
     fault = (λ is. worked.dead ∙ ap is_fault (fault.0 is), λ has. fault.1 (fault_of end (sym worked.dead ∙ has)));
     tells = tells_work;
   }
 
-  pub joint_turns : IsTrue tells → (ended : Ended) (cut : Bool) (text : List ℕ) → ((IsBrokenOff ended → ⊥) → end ≡ work.All) → (ended ≡ ends.MediaFault) ↔ (end ≡ work.MediaFault)
-      → TellsWork ended cut text (work_text (faults_from 1 (λ caller. false) said) last.state.history fates (entries (records last.state.base last.state.history))) (flat_map done_lines last.state.history)
+  pub joint_turns : IsTrue tells → (ended : Ended) (cut : Bool) (text : List ℕ) → (ended ≢ ends.MediaFault → ended ≢ ends.NoMemory → end ≡ work.All) → (ended ≡ ends.MediaFault) ↔ (end ≡ work.MediaFault)
+      → TellsEnd ended cut text (work_text (faults_from 1 (λ caller. false) said) last.state.history fates (entries (records last.state.base last.state.history))) (flat_map done_lines last.state.history ++ media_line)
       → TurnsOn (JointWork callers tries input ended cut text) core ended last
   joint_turns told ended cut text whole fault tells_work = record {
     turns = worked.turns;

@@ -7,12 +7,10 @@ use Rattle.caller_steps.specs.Core.{CoreView, IsSafe}
 use Rattle.history.specs.declared.call.Reply.TheVariants as reply
 use Rattle.mars_manager.specs.Sharing.{CanShare}
 use Rattle.script_run.specs.Lines.{lines_of}
-use Rattle.script_text.specs.declared.line.Line.{Line}
-use Rattle.script_text.specs.declared.line.Line.TheVariants.{Nothing, Told, Bad}
 use Rattle.script_run.specs.Transcript.{Ends, Answered, Ran}
 use Rattle.script_run.specs.declared.ended.Ended.{Ended}
 use Rattle.script_run.specs.declared.ended.Ended.TheVariants.{All as Done, WriteFault, MediaFault, NoMemory}
-use Rattle.mars_shell.specs.Lines.{Gives, LineStops, call_script}
+use Rattle.mars_shell.specs.Lines.{LineGives, LineStops, call_script}
 use Rattle.mars_shell.specs.OnCore.{TurnsOn}
 use Rattle.mars_shell.specs.Run.{Answers}
 use Rattle.mars_shell.specs.Standing.{Progress, line_script, Stands, Comes}
@@ -21,19 +19,19 @@ use Rattle.mars_shell.proofs.Making.{no_fault, clean_more, living}
 
 -- ---- turns without a fault of the medium
 
-gives_clean : (old : List Turn) (n : ℕ) (line : Line) (text : List ℕ) (new : List Turn) → Gives old n line text new → has_fault old ≡ false → has_fault new ≡ false
-gives_clean old n Nothing text new gives none = ap has_fault gives.1 ∙ none
-gives_clean old n Bad text new gives none = ap has_fault gives.1 ∙ none
-gives_clean old n (Told caller call) text new gives none = ap has_fault gives.2 ∙ clean_more old (caller, call, gives.0) none (no_fault gives.0 gives.1)
-
 module _ (callers : ℕ) where
+  gives_clean : (old : List Turn) (n : ℕ) (bytes text : List ℕ) (new : List Turn) → LineGives callers old n bytes text new → has_fault old ≡ false → has_fault new ≡ false
+  gives_clean old n bytes text new (inl over) none = ap has_fault over.2 ∙ none
+  gives_clean old n bytes text new (inr (inl bad)) none = ap has_fault bad.2 ∙ none
+  gives_clean old n bytes text new (inr (inr told)) none = ap has_fault told.2.2 ∙ clean_more old (told.0, told.2.0, told.1) none (no_fault told.1 told.3)
+
   stops_clean : (old : List Turn) (n : ℕ) (bytes : List ℕ) (new : List Turn) → LineStops callers old n bytes new → has_fault old ≡ false → has_fault new ≡ false
   stops_clean old n bytes new (inl short) none = ap has_fault short.1.2 ∙ clean_more old (short.0, short.1.0, reply.NoMemory) none refl
-  stops_clean old n bytes new (inr done) none = gives_clean old n done.1.0 done.0 new done.1.2 none
+  stops_clean old n bytes new (inr done) none = gives_clean old n bytes done.0 new done.1 none
 
   ends_clean : (old : List Turn) (n : ℕ) (bytes : List ℕ) (ended : Ended) (cut : Bool) (rest : List ℕ) (new : List Turn) → ended ≢ MediaFault → Ends (call_script callers) old n bytes ended cut rest new
       → has_fault old ≡ false → has_fault new ≡ false
-  ends_clean old n bytes WriteFault cut rest new unfailed ends none = gives_clean old n ends.2.0 ends.1 new ends.2.2 none
+  ends_clean old n bytes WriteFault cut rest new unfailed ends none = gives_clean old n bytes ends.1 new ends.2 none
   ends_clean old n bytes MediaFault cut rest new unfailed ends none = absurd (unfailed refl)
   ends_clean old n bytes NoMemory cut rest new unfailed ends none = stops_clean old n bytes new ends.2 none
   ends_clean old n bytes Done cut rest new unfailed ends none = absurd ends
@@ -44,7 +42,7 @@ module _ (callers : ℕ) where
   answered_clean old n [] ended cut (answer ∷ answers) rest new unfailed is none = absurd is
   answered_clean old n (bytes ∷ lines) ended cut [] rest new unfailed ends none = ends_clean old n bytes ended cut rest new unfailed ends none
   answered_clean old n (bytes ∷ lines) ended cut (answer ∷ answers) rest new unfailed more none =
-      answered_clean more.0 (n + 1) lines ended cut answers rest new unfailed more.2 (gives_clean old n more.1.0 answer more.0 more.1.2 none)
+      answered_clean more.0 (n + 1) lines ended cut answers rest new unfailed more.2 (gives_clean old n bytes answer more.0 more.1 none)
 
 -- ---- the turns of the lines
 

@@ -1,8 +1,8 @@
 -- Calls that a core makes one after another, and the tally of their replies.
-use Rattle.std.proofs.Common.{◌≡◌, ℕ, zero, suc, ◌+◌, ◌<◌, ◌≤◌, Bool, true, false, List, [], ◌∷◌, ◌++◌, length, map, take, get_or, refl, sym, ap, subst, ◌∙◌, arith, cond, length-append, Result, Err, inl, inr, nat_le, ◌||◌}
+use Rattle.std.proofs.Common.{◌≡◌, ℕ, zero, suc, ◌+◌, ◌<◌, ◌≤◌, Bool, true, false, List, [], ◌∷◌, ◌++◌, length, map, take, get_or, refl, sym, ap, subst, ◌∙◌, arith, cond, length-append, Result, Err, nat_le, ◌||◌, codes}
 use Rattle.std.specs.Prelude.{IsTrue, IsFalse}
 use Rattle.std.specs.List.{All, count_by}
-use Rattle.std.proofs.lemmas.Bool.{cases_lt, false≢true}
+use Rattle.std.proofs.lemmas.Bool.{false≢true}
 use Rattle.std.proofs.lemmas.Bool.Decides.{nat_tests}
 use Rattle.std.proofs.lemmas.List.{map-append, take_more}
 use Rattle.std.proofs.lemmas.List.Elements.{All-from_recursion, All-append, All-nil, All-weaker}
@@ -15,18 +15,18 @@ use Rattle.caller_steps.specs.State.{State}
 use Rattle.caller_steps.specs.Room.{Limits}
 use Rattle.caller_steps.specs.Run.{Turn, has_fault}
 use Rattle.caller_steps.specs.Step.{Step, Runs}
-use Rattle.caller_steps.specs.Fate.{is_committed, is_media}
+use Rattle.caller_steps.specs.Fate.{is_media}
 use Rattle.caller_steps.specs.Core.{CoreView, Steps}
 use Rattle.caller_steps.proofs.Running.{turns_dead, turns_of_runs}
 use Rattle.caller_steps.proofs.Continuing.{continues_none, continues_step, continues_on}
-use Rattle.drill_gen.specs.Drill.{alone, paired, one_by_one, in_pairs, drill, transaction}
+use Rattle.drill_gen.specs.Draws.{drawn_on}
+use Rattle.drill_gen.specs.Drill.{drawn_from, alone, paired, in_turn, drill}
 use Rattle.drill_gen.specs.declared.transaction.Transaction.{Transaction}
 use Rattle.script_run.specs.declared.responder.Stop.{Stop}
 use Rattle.script_run.specs.declared.responder.Stop.TheVariants.{Media, NoMemory}
-use Rattle.mars_shell.specs.Drill.{without_reply, GoOn}
 use Rattle.mars_shell.specs.Lines.{goes_on}
-use Rattle.mars_shell.specs.Made.{Made, EndsEarly}
-use Rattle.mars_shell.specs.Tally.{is_aborted, is_busy, is_full, tally_of, more_if, counted, Counted}
+use Rattle.mars_shell.specs.Made.{without_reply, GoOn, Made, EndsEarly}
+use Rattle.mars_shell.specs.Tally.{counts, tally_of, more_if, counted, Counted}
 use Rattle.mars_shell.specs.declared.tally.Tally.{Tally}
 
 -- ---- the tally
@@ -40,10 +40,10 @@ count_more p turns turn = sum_by-append (λ l. cond (p l) 1 0) turns (turn ∷ [
 
 pub tally_more : (turns : List Turn) (caller : ℕ) (call : Call) (reply : Reply) → tally_of (turns ++ (caller, call, reply) ∷ []) ≡ counted (tally_of turns) call reply
 tally_more turns caller call reply = λ i. record {
-  committed = count_more (λ turn. is_committed turn.2) turns (caller, call, reply) i;
-  aborted = count_more (λ turn. is_aborted turn.1 turn.2) turns (caller, call, reply) i;
-  busy = count_more (λ turn. is_busy turn.2) turns (caller, call, reply) i;
-  refused = count_more (λ turn. is_full turn.2) turns (caller, call, reply) i;
+  committed = count_more (λ (turn : Turn). counts (codes "committed") turn.2 turn.1) turns (caller, call, reply) i;
+  aborted = count_more (λ (turn : Turn). counts (codes "aborted") turn.2 turn.1) turns (caller, call, reply) i;
+  busy = count_more (λ (turn : Turn). counts (codes "busy") turn.2 turn.1) turns (caller, call, reply) i;
+  refused = count_more (λ (turn : Turn). counts (codes "refused") turn.2 turn.1) turns (caller, call, reply) i;
 }
 
 -- ---- turns without a fault of the medium
@@ -132,21 +132,15 @@ paired_inside : (callers : ℕ) (t u : Transaction) → 2 ≤ callers → All (I
 paired_inside callers t u two = All-from_recursion (IsOf callers) (paired t u)
     (omega (arith, two), (omega (arith, two), (omega (arith, two), (omega (arith, two), (omega (arith, two), (omega (arith, two), (omega (arith, two), (omega (arith, two), tt))))))))
 
-one_by_one_inside : (callers seed i count : ℕ) → 1 ≤ callers → All (IsOf callers) (one_by_one seed i count)
-one_by_one_inside callers seed i zero some = All-nil (IsOf callers)
-one_by_one_inside callers seed i (suc count) some =
-    All-append (IsOf callers) (alone (transaction seed i)) (one_by_one seed (i + 1) count) (alone_inside callers (transaction seed i) some) (one_by_one_inside callers seed (i + 1) count some)
-
-in_pairs_inside : (callers seed i count : ℕ) → 2 ≤ callers → All (IsOf callers) (in_pairs seed i count)
-in_pairs_inside callers seed i zero two = All-nil (IsOf callers)
-in_pairs_inside callers seed i (suc zero) two = alone_inside callers (transaction seed i) (omega (arith, two))
-in_pairs_inside callers seed i (suc (suc count)) two =
-    All-append (IsOf callers) (paired (transaction seed i) (transaction seed (i + 1))) (in_pairs seed (i + 2) count) (paired_inside callers (transaction seed i) (transaction seed (i + 1)) two)
-    (in_pairs_inside callers seed (i + 2) count two)
+in_turn_inside : (callers : ℕ) (pairs : Bool) (x count : ℕ) → 1 ≤ callers → (pairs ≡ true → 2 ≤ callers) → All (IsOf callers) (in_turn pairs x count)
+in_turn_inside callers pairs x zero some two = All-nil (IsOf callers)
+in_turn_inside callers true x (suc zero) some two = All-append (IsOf callers) (alone (drawn_from x)) [] (alone_inside callers (drawn_from x) some) (All-nil (IsOf callers))
+in_turn_inside callers true x (suc (suc count)) some two =
+    All-append (IsOf callers) (paired (drawn_from x) (drawn_from (drawn_on x 5))) (in_turn true (drawn_on x 10) count) (paired_inside callers (drawn_from x) (drawn_from (drawn_on x 5)) (two refl))
+    (in_turn_inside callers true (drawn_on x 10) count some two)
+in_turn_inside callers false x (suc count) some two =
+    All-append (IsOf callers) (alone (drawn_from x)) (in_turn false (drawn_on x 5) count) (alone_inside callers (drawn_from x) some) (in_turn_inside callers false (drawn_on x 5) count some two)
 
 -- each caller is one of the array's
 pub drill_inside : (seed count callers : ℕ) → 1 ≤ callers → All (λ turn. turn.0 < callers) (drill seed count callers)
-drill_inside seed count callers some = elim (cases_lt callers 2) [
-  | inl one ↦ let is : nat_le 2 callers ≡ false = grind (arith, nat_tests) in rw is (one_by_one_inside callers seed 0 count some)
-  | inr two ↦ let is : nat_le 2 callers ≡ true = grind (arith, nat_tests) in rw is (in_pairs_inside callers seed 0 count two)
-]
+drill_inside seed count callers some = in_turn_inside callers (nat_le 2 callers) seed count some (λ is. let two : 2 ≤ callers = grind (arith, nat_tests, is) in two)

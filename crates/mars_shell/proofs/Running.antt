@@ -103,11 +103,13 @@ module _ (tells : Bool) (told : IsTrue tells) (old : View) (only_now : (image : 
         recovers : (least : ℕ) (image : List ℕ) → opens_of Opens store.shape (index_at store.state.bytes) served.final least image → Recovers store.shape (index_in store.shape old) served.final least image
         recovers least image has = subst (λ (b : List ℕ). Recovers store.shape (index_at b) served.final least image) (attached.bytes told) has
 
+        bytes_now : data_of store.shape new.content.bytes ≡ later.state.bytes
+        bytes_now = ap (λ (s : Shape). data_of s new.content.bytes) (sym served.shape) ∙ behind.bytes
+
         -- the data at the end names the index that it is sound under
         own_all : HasAll (index_at store.state.bytes) later.state.bytes served.final → HasAll (index_at (data_of store.shape new.content.bytes)) (data_of store.shape new.content.bytes) served.final
         own_all has =
-            let same : data_of store.shape new.content.bytes ≡ later.state.bytes = ap (λ (s : Shape). data_of s new.content.bytes) (sym served.shape) ∙ behind.bytes in
-            subst (λ (b : List ℕ). HasAll (index_at b) b served.final) (sym same)
+            subst (λ (b : List ℕ). HasAll (index_at b) b served.final) (sym bytes_now)
             (subst (λ (i : Index). HasAll i later.state.bytes served.final) (sym (sound_says store.state.bytes later.state.bytes has.sound)) has)
 
         -- callers took turns
@@ -128,6 +130,7 @@ module _ (tells : Bool) (told : IsTrue tells) (old : View) (only_now : (image : 
           };
           quiet = λ unfailed. subst (λ (s : Shape). HasNoVote s new.content.bytes) served.shape (behind.quiet told (served.left unfailed).0);
           left = λ unfailed. own_all (served.left unfailed).1;
+          unwritten = λ unfailed reads. bytes_now ∙ served.unwritten unfailed reads ∙ attached.bytes told;
         }
 
         -- and what was opened stays, if the store was spared

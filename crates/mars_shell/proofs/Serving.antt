@@ -6,15 +6,17 @@ use Rattle.array_shape.specs.declared.shape.Shape.{Shape}
 use Rattle.eaw_face.specs.StoreView.{StoreView, LeavesOnly}
 use Rattle.page_store.specs.Index.{Index}
 use Rattle.record_table.specs.Does.{OpensWith}
-use Rattle.record_table.specs.Shown.{table_of, keys_of}
+use Rattle.record_table.specs.Shown.{table_of}
 use Rattle.history.specs.Legal.{records}
 use Rattle.caller_steps.specs.State.{State}
+use Rattle.caller_steps.specs.State as caller
 use Rattle.caller_steps.specs.Room.{Limits}
 use Rattle.caller_steps.specs.Run.{Turn}
 use Rattle.caller_steps.specs.Step.{Runs}
 use Rattle.caller_steps.specs.Sound.{IsSound}
 use Rattle.caller_steps.specs.Prefix.{HasPrefixOf}
 use Rattle.caller_steps.specs.Core.{CoreView, Continues}
+use Rattle.caller_steps.proofs.Reading.{reads_leave}
 use Rattle.caller_steps.proofs.Sound.{opened_sound}
 use Rattle.mars_core.specs.Attached.{CoreCause, GivesBack, is_media_fault}
 use Rattle.mars_core.specs.Over.{limits_of, index_of, IsOver, Begins}
@@ -51,7 +53,7 @@ module _ (tells : Bool) (Opens : Shape → List ℕ → List ℕ → Type 0) (in
     history = begins.fresh.0;
     live = begins.fresh.1;
     enough = subst (λ (l : Limits). callers ≤ l.callers) (sym limits_are) few;
-    sound = λ told. subst IsSound (sym (begun_is told)) (opened_sound (table_of index old.state.bytes) (index_of (keys_of index old.state.bytes)));
+    sound = λ told. subst IsSound (sym (begun_is told)) (opened_sound (table_of index old.state.bytes) (index_of index old.state.bytes));
     now = λ told image left. record { count = 0; at_least = omega arith; at_most = omega arith; opens = opens_base told image left };
   }
     where
@@ -129,6 +131,8 @@ module _ (tells : Bool) (Opens : Shape → List ℕ → List ℕ → Type 0) (in
       left = λ unfailed.
           let living = sym over.dead ∙ turns.alive unfailed in
           (living, record { sound = over.sound told living; table = over.table told living; keys = over.keys told });
+      unwritten = λ unfailed reads. ap (λ (x : caller.Index). x.bytes) (sym (over.keys told)
+          ∙ reads_leave (limits_of old.shape) (begun_on index old.state.bytes) later.state turns.turns (of_first (λ l s. Runs l s turns.turns later.state) turns.runs) (λ caller. refl) reads (turns.alive unfailed));
       spared = unchanged;
     }
 

@@ -1,6 +1,8 @@
 -- What a drill over a core comes to.
-use Rattle.std.proofs.Common.{◌≡◌, ◌≢◌, ℕ, List, [], ◌∷◌, ◌++◌, map, take, length, Bool, false, refl, subst}
-use Rattle.std.specs.Prelude.{IsTrue}
+use Rattle.std.proofs.Common.{◌≡◌, ◌≢◌, ℕ, List, [], ◌∷◌, ◌++◌, map, take, length, Bool, true, false, refl, sym, ap, subst, ◌∙◌}
+use Rattle.std.specs.Prelude.{IsTrue, if◌then◌else◌, codes, count_by, flat_map}
+use Rattle.std.specs.Fmt.{decimal}
+use Rattle.std.proofs.lemmas.List.{append_assoc, append-nil, length-map}
 use Rattle.std.specs.FinMap.{entries}
 use Rattle.history.specs.declared.call.Call.{Call}
 use Rattle.caller_steps.specs.State.{State, records_of}
@@ -14,20 +16,34 @@ use Rattle.texts.specs.Written.{IsWritten}
 use Rattle.script_run.specs.declared.ended.Ended.{Ended}
 use Rattle.script_run.specs.declared.ended.Ended.TheVariants.{All, WriteFault, MediaFault, NoMemory}
 use Rattle.script_run.specs.declared.responder.Stop.TheVariants as stop
-use Rattle.mars_shell.specs.Dump.{IsCutAt}
-use Rattle.mars_shell.specs.Drill.{without_reply, GoOn, summary_text, Summed, Drills}
-use Rattle.mars_shell.specs.Made.{Made, EndsEarly, SummedUp}
+use Rattle.mars_shell.specs.Dump.{number_line}
+use Rattle.mars_shell.specs.Drill.{summary_text, AreMade, Drills}
+use Rattle.mars_shell.specs.Made.{without_reply, GoOn, Made, EndsEarly, SummedUp}
 use Rattle.mars_shell.specs.OnCore.{TurnsOn}
-use Rattle.mars_shell.specs.Tally.{tally_of}
+use Rattle.mars_shell.specs.Tally.{counts, tally_of, key_sum, tally_text}
+use Rattle.mars_shell.specs.Told.{TellsEnd}
 use Rattle.mars_shell.proofs.Lining.{safe_now}
 use Rattle.mars_shell.proofs.Making.{clean_all, living}
 
-summed_as : (numbers : DrillNumbers) (script : List (ℕ × Call)) (ended : Ended) (cut : Bool) (text : List ℕ) (turns : List Turn) (final : State) → map without_reply turns ≡ script → GoOn turns
-    → IsCutAt ended cut → IsWritten cut text (summary_text numbers (tally_of turns) (entries (records_of final))) → Summed numbers script ended cut text turns final
-summed_as numbers script All cut text turns final whole on end wrote = (whole, on, end, wrote)
-summed_as numbers script WriteFault cut text turns final whole on end wrote = (whole, on, end, wrote)
-summed_as numbers script MediaFault cut text turns final whole on end wrote = absurd end
-summed_as numbers script NoMemory cut text turns final whole on end wrote = absurd end
+-- the summary of a tally is that of the replies that it counts
+four : (f : List ℕ → List ℕ) (a b c d rest : List ℕ) → f a ++ (f b ++ (f c ++ (f d ++ rest))) ≡ flat_map f (a ∷ b ∷ c ∷ d ∷ []) ++ rest
+four f a b c d rest =
+    let flat : f a ++ (f b ++ (f c ++ (f d ++ rest))) ≡ (f a ++ (f b ++ (f c ++ (f d ++ [])))) ++ rest = simp (append_assoc, append-nil) in flat
+
+tally_is : (numbers : DrillNumbers) (turns : List Turn) (rows : List (ℕ × List ℕ)) → tally_text numbers (tally_of turns) rows ≡ summary_text numbers turns rows
+tally_is numbers turns rows = ap (λ (l : List ℕ). number_line (codes "drill " ++ decimal numbers.seed) numbers.count ++ l)
+    (four (λ (word : List ℕ). number_line word (count_by (λ (turn : Turn). counts word turn.2 turn.1) turns)) (codes "committed") (codes "aborted") (codes "busy") (codes "refused")
+    (number_line (codes "records") (length rows) ++ number_line (codes "sum") (key_sum rows)))
+
+-- it was written whole or cut short
+summed_as : (ended : Ended) (cut : Bool) (text whole : List ℕ) → ended ≡ (if cut then WriteFault else All) → IsWritten cut text whole → TellsEnd ended cut text whole media_line
+summed_as ended true text whole end wrote = subst (λ (e : Ended). TellsEnd e true text whole media_line) (sym end) (refl, wrote)
+summed_as ended false text whole end wrote = subst (λ (e : Ended). TellsEnd e false text whole media_line) (sym end) (refl, wrote)
+
+-- all calls were made
+made_as : (ended : Ended) (cut : Bool) (script : List (ℕ × Call)) (turns : List Turn) → ended ≡ (if cut then WriteFault else All) → map without_reply turns ≡ script → GoOn turns → AreMade ended script turns
+made_as ended true script turns end whole on = subst (λ (e : Ended). AreMade e script turns) (sym end) (sym (length-map turns without_reply) ∙ ap length whole, on)
+made_as ended false script turns end whole on = subst (λ (e : Ended). AreMade e script turns) (sym end) (sym (length-map turns without_reply) ∙ ap length whole, on)
 
 module _ (numbers : DrillNumbers) (tells : Bool) (old new : CoreView) (callers : ℕ) (callers_are : callers ≡ old.limits.callers) where
   -- the script of so many callers is the array's
@@ -37,28 +53,29 @@ module _ (numbers : DrillNumbers) (tells : Bool) (old new : CoreView) (callers :
   module _ (told : IsTrue tells) (ready : CanShare tells 0 old) where
     -- turns of the script, of which this is told
     turns_on : (ended : Ended) (cut : Bool) (text : List ℕ) (turns : List Turn) → Made tells old (drill numbers.seed numbers.count callers) turns new
-        → Summed numbers (drill numbers.seed numbers.count old.limits.callers) ended cut text turns new.state → (ended ≢ MediaFault → has_fault turns ≡ false) → TurnsOn (Drills numbers ended cut text) old ended new
-    turns_on ended cut text turns made said clean = record {
+        → AreMade ended (drill numbers.seed numbers.count old.limits.callers) turns → TellsEnd ended cut text (summary_text numbers turns (entries (records_of new.state))) media_line
+        → (ended ≢ MediaFault → has_fault turns ≡ false) → TurnsOn (Drills numbers ended cut text) old ended new
+    turns_on ended cut text turns made all said clean = record {
       turns = turns;
       runs = made.runs told;
-      does = record { drawn = own turns made; told = said };
+      does = record { drawn = own turns made; made = all; told = said };
       continues = made.comes told (ready.sound told) (safe_now tells 0 old ready told);
       alive = λ unfailed. living old.limits old.state new.state turns (made.runs told) ready.alive (clean unfailed);
     }
 
     -- a drill comes to a summary, which is written whole or cut short,
-    pub summary_told : (whole : List ℕ) (ended : Ended) (cut : Bool) (text : List ℕ) → SummedUp tells numbers old (drill numbers.seed numbers.count callers) whole new → IsCutAt ended cut
-        → IsWritten cut text whole → TurnsOn (Drills numbers ended cut text) old ended new
+    pub summary_told : (whole : List ℕ) (ended : Ended) (cut : Bool) (text : List ℕ) → SummedUp tells numbers old (drill numbers.seed numbers.count callers) whole new
+        → ended ≡ (if cut then WriteFault else All) → IsWritten cut text whole → TurnsOn (Drills numbers ended cut text) old ended new
     summary_told whole ended cut text up end wrote = turns_on ended cut text up.0 up.1
-        (summed_as numbers (drill numbers.seed numbers.count old.limits.callers) ended cut text up.0 new.state
-        (subst (λ (n : ℕ). map without_reply up.0 ≡ drill numbers.seed numbers.count n) callers_are up.2) up.3 end (subst (λ (t : List ℕ). IsWritten cut text t) (up.4 told) wrote))
+        (made_as ended cut (drill numbers.seed numbers.count old.limits.callers) up.0 end (subst (λ (n : ℕ). map without_reply up.0 ≡ drill numbers.seed numbers.count n) callers_are up.2) up.3)
+        (summed_as ended cut text (summary_text numbers up.0 (entries (records_of new.state))) end (subst (λ (t : List ℕ). IsWritten cut text t) (up.4 told ∙ tally_is numbers up.0 (entries (records_of new.state))) wrote))
         (λ unfailed. clean_all up.0 up.3)
 
     -- to a fault of the medium,
     pub fault_told : (number : ℕ) (cut : Bool) (text : List ℕ) → EndsEarly tells old (drill numbers.seed numbers.count callers) (stop.Media number) new → IsWritten cut text media_line
         → TurnsOn (Drills numbers MediaFault cut text) old MediaFault new
-    fault_told number cut text early wrote = turns_on MediaFault cut text early.0 early.1 (early.2, wrote) (λ unfailed. absurd (unfailed refl))
+    fault_told number cut text early wrote = turns_on MediaFault cut text early.0 early.1 early.2 wrote (λ unfailed. absurd (unfailed refl))
 
     -- or to an end for lack of memory
     pub short_told : EndsEarly tells old (drill numbers.seed numbers.count callers) stop.NoMemory new → TurnsOn (Drills numbers NoMemory false []) old NoMemory new
-    short_told early = turns_on NoMemory false [] early.0 early.1 (refl, refl) (λ unfailed. early.2)
+    short_told early = turns_on NoMemory false [] early.0 early.1 tt (refl, refl) (λ unfailed. early.2)

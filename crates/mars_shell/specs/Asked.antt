@@ -3,7 +3,6 @@ use Rattle.std.specs.Prelude.{ℕ, ◌≤◌, ◌⊎◌, List, length, Bool, IsT
 use Rattle.pcm_media.specs.View.{View}
 use Rattle.array_shape.specs.declared.shape.Shape.{Shape}
 use Rattle.command_words.specs.Asked.{AsksFor, AskForNothing}
-use Rattle.command_words.specs.declared.words.FormatNumbers.{FormatNumbers}
 use Rattle.command_words.specs.declared.words.Words.{Words}
 use Rattle.command_words.specs.declared.words.Words.TheVariants.{Run, Callers, Eaw, Dump, Drill, Format}
 use Rattle.eaw_device.specs.Opens.{HoldsArray}
@@ -29,11 +28,6 @@ abbrev pub WordsSay : List (List ℕ) → Status → Type 0 → (Words → Type 
 WordsSay words Usage Unread Holds = AskForNothing words ⊎ ((asked : Words) × AsksFor words asked × IsOfCallers asked × Holds asked)
 WordsSay words NoMemory Unread Holds = Unread ⊎ ((asked : Words) × AsksFor words asked × Holds asked)
 WordsSay words _ Unread Holds = (asked : Words) × AsksFor words asked × Holds asked
-
--- one thing for a format, another for the other commands
-abbrev pub IfFormat : Words → (FormatNumbers → Type 0) → Type 0 → Type 0
-IfFormat (Format numbers) Formats Other = Formats numbers
-IfFormat _ Formats Other = Other
 
 -- one thing for a command that reads no input, another for one that does
 abbrev pub IfReads : Words → Type 0 → Type 0 → Type 0

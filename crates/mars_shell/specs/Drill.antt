@@ -1,56 +1,52 @@
 -- What a drill does and writes.
-use Rattle.std.specs.Prelude.{ℕ, ◌≡◌, ◌%◌, ◌^◌, List, [], ◌∷◌, ◌++◌, length, map, take, codes, Bool, false, IsTrue}
+use Rattle.std.specs.Prelude.{ℕ, ◌≡◌, ◌%◌, ◌^◌, List, [], ◌∷◌, ◌++◌, length, map, take, count_by, flat_map, bytes_eq, codes, Bool, IsTrue}
 use Rattle.std.specs.FinMap.{entries}
 use Rattle.std.specs.Fmt.{decimal}
 use Rattle.std.specs.List.{All, sum_by}
 use Rattle.history.specs.declared.call.Call.{Call}
-use Rattle.history.specs.declared.call.Reply.TheVariants as reply
+use Rattle.history.specs.declared.call.Call.TheVariants.{Abort}
+use Rattle.history.specs.declared.call.Reply.{Reply}
+use Rattle.history.specs.declared.call.Reply.TheVariants.{Fine, Committed, Busy, LogFull, SlotsFull, PagesFull, Media}
 use Rattle.caller_steps.specs.State.{State, records_of}
 use Rattle.caller_steps.specs.Room.{Limits}
 use Rattle.caller_steps.specs.Run.{Turn}
 use Rattle.drill_gen.specs.Drill.{drill}
 use Rattle.command_words.specs.declared.words.DrillNumbers.{DrillNumbers}
 use Rattle.texts.specs.MediaFault.{media_line}
-use Rattle.texts.specs.Written.{IsWritten}
 use Rattle.script_run.specs.declared.ended.Ended.{Ended}
 use Rattle.script_run.specs.declared.ended.Ended.TheVariants.{MediaFault, NoMemory}
-use Rattle.mars_shell.specs.Dump.{IsCutAt, number_line}
+use Rattle.mars_shell.specs.Dump.{number_line}
 use Rattle.mars_shell.specs.Lines.{goes_on}
-use Rattle.mars_shell.specs.Tally.{tally_of}
-use Rattle.mars_shell.specs.declared.tally.Tally.{Tally}
+use Rattle.mars_shell.specs.Told.{TellsEnd}
 
--- a caller and its call
-abbrev pub without_reply : Turn → ℕ × Call
-without_reply turn = (turn.0, turn.1)
+-- the word under which the summary counts a reply to a call: a commit or an abort that was done, a locked key, or an array that is full
+abbrev pub word_of : Reply → Call → List ℕ
+word_of (Committed n) call = codes "committed"
+word_of Fine Abort = codes "aborted"
+word_of (Busy holder) call = codes "busy"
+word_of (LogFull logger held needed) call = codes "refused"
+word_of (SlotsFull slots) call = codes "refused"
+word_of (PagesFull pages) call = codes "refused"
+word_of reply call = []
 
--- after each of these replies the script goes on
-abbrev pub GoOn : List Turn → Type 0
-GoOn turns = All (λ turn. IsTrue (goes_on turn.2)) turns
+-- the seed and the count, how many replies count under each word, and the records at the end: how many, and the sum of their keys modulo
+-- 2^64
+abbrev pub summary_text : DrillNumbers → List Turn → List (ℕ × List ℕ) → List ℕ
+summary_text numbers turns rows = number_line (codes "drill " ++ decimal numbers.seed) numbers.count
+    ++ (flat_map (λ word. number_line word (count_by (λ (turn : Turn). bytes_eq (word_of turn.2 turn.1) word) turns))
+    (codes "committed" ∷ codes "aborted" ∷ codes "busy" ∷ codes "refused" ∷ [])
+    ++ (number_line (codes "records") (length rows) ++ number_line (codes "sum") (sum_by (λ row. row.0) rows % 2 ^ 64)))
 
--- the sum of the keys of rows, modulo 2^64
-abbrev pub key_sum : List (ℕ × List ℕ) → ℕ
-key_sum rows = sum_by (λ row. row.0) rows % 2 ^ 64
+-- By how the script ended: all its calls were made, and after each reply it went on. If the medium failed, it was at the last call made.
+abbrev pub AreMade : Ended → List (ℕ × Call) → List Turn → Type 0
+AreMade MediaFault script turns = (made : List Turn) × (caller : ℕ) × (call : Call)
+    × (turns ≡ made ++ (caller, call, Media) ∷ []) × All (λ turn. IsTrue (goes_on turn.2)) made
+AreMade NoMemory script turns = Unit {0}
+AreMade ended script turns = (length turns ≡ length script) × All (λ turn. IsTrue (goes_on turn.2)) turns
 
--- the seed and the count, the tally of the replies, and the records at the end: how many, and the sum of their keys
-abbrev pub summary_text : DrillNumbers → Tally → List (ℕ × List ℕ) → List ℕ
-summary_text numbers tally rows = number_line (codes "drill " ++ decimal numbers.seed) numbers.count
-    ++ (number_line (codes "committed") tally.committed ++ (number_line (codes "aborted") tally.aborted
-    ++ (number_line (codes "busy") tally.busy ++ (number_line (codes "refused") tally.refused
-    ++ (number_line (codes "records") (length rows) ++ number_line (codes "sum") (key_sum rows))))))
-
--- the medium failed at the last call
-abbrev pub FailsAtLast : List Turn → Type 0
-FailsAtLast turns = (made : List Turn) × (caller : ℕ) × (call : Call) × (turns ≡ made ++ (caller, call, reply.Media) ∷ []) × GoOn made
-
--- What is written of these calls of a script and their replies, by how it ended. The summary is of all its calls. It may be cut short, and
--- so may the line that reports a fault of the medium. If memory ran out, nothing is written.
-abbrev pub Summed : DrillNumbers → List (ℕ × Call) → Ended → Bool → List ℕ → List Turn → State → Type 0
-Summed numbers script MediaFault cut text turns final = FailsAtLast turns × IsWritten cut text media_line
-Summed numbers script NoMemory cut text turns final = (cut ≡ false) × (text ≡ [])
-Summed numbers script ended cut text turns final = (map without_reply turns ≡ script) × GoOn turns × IsCutAt ended cut
-    × IsWritten cut text (summary_text numbers (tally_of turns) (entries (records_of final)))
-
--- The turns are the calls of the drawn script, or the first so many of them.
+-- The turns are the calls of the drawn script, or the first so many of them. If all were made the summary is written, and if the medium
+-- failed the line that says so.
 pub record Drills (numbers : DrillNumbers) (ended : Ended) (cut : Bool) (text : List ℕ) (limits : Limits) (turns : List Turn) (final : State) : Type 0 where
-  pub drawn : map without_reply turns ≡ take (length turns) (drill numbers.seed numbers.count limits.callers)
-  pub told : Summed numbers (drill numbers.seed numbers.count limits.callers) ended cut text turns final
+  pub drawn : map (λ (turn : Turn). (turn.0, turn.1)) turns ≡ take (length turns) (drill numbers.seed numbers.count limits.callers)
+  pub made : AreMade ended (drill numbers.seed numbers.count limits.callers) turns
+  pub told : TellsEnd ended cut text (summary_text numbers turns (entries (records_of final))) media_line

@@ -1,5 +1,5 @@
 -- What a dump of the records does on a medium that tells its bytes.
-use Rattle.std.specs.Prelude.{ℕ, ◌≡◌, List, [], ◌∷◌, ◌++◌, length, codes, Bool, true, false}
+use Rattle.std.specs.Prelude.{ℕ, ◌≡◌, List, [], ◌∷◌, ◌++◌, length, codes, Bool, if◌then◌else◌}
 use Rattle.std.specs.FinMap.{entries}
 use Rattle.std.specs.Fmt.{decimal}
 use Rattle.std.specs.List.{flat_map}
@@ -25,16 +25,10 @@ number_line word n = word ++ 32 ∷ (decimal n ++ 10 ∷ [])
 abbrev pub dump_lines : List (ℕ × List ℕ) → List ℕ
 dump_lines rows = flat_map rec_line rows ++ number_line (codes "records") (length rows)
 
--- whether the sink cut the text short, by how the dump ended, which it does in these two ways only
-abbrev pub IsCutAt : Ended → Bool → Type 0
-IsCutAt All cut = cut ≡ false
-IsCutAt WriteFault cut = cut ≡ true
-IsCutAt _ cut = ⊥
-
--- No call was made, and the records are written, or a front of that text if it was cut short.
+-- No call was made, and the records are written, or a front of that text if the sink cut it short, which is how else a dump may end.
 pub record Dumps (ended : Ended) (cut : Bool) (text : List ℕ) (limits : Limits) (turns : List Turn) (final : State) : Type 0 where
   pub none : turns ≡ []
-  pub end : IsCutAt ended cut
+  pub end : ended ≡ (if cut then WriteFault else All)
   pub wrote : IsWritten cut text (dump_lines (entries (records_of final)))
 
 -- What was opened stays, however the work ended: no row is voted, and each image that a loss of power may leave opens with the data that was

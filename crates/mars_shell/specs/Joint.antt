@@ -1,5 +1,5 @@
 -- What comes of a script whose callers work on threads.
-use Rattle.std.specs.Prelude.{ℕ, ◌≡◌, ◌≤◌, ◌<◌, ◌↔◌, List, [], ◌∷◌, ◌++◌, length, codes, Bool, false, IsTrue, Option, None}
+use Rattle.std.specs.Prelude.{ℕ, ◌≡◌, ◌≢◌, ◌≤◌, ◌<◌, ◌↔◌, List, ◌++◌, length, Bool, false, IsTrue, Option, None}
 use Rattle.std.specs.FinMap.{entries}
 use Rattle.std.specs.List.{flat_map}
 use Rattle.history.specs.Legal.{records}
@@ -15,28 +15,15 @@ use Rattle.caller_work.specs.Worked.{of_caller}
 use Rattle.history_text.specs.Text.{done_lines, work_text}
 use Rattle.script_run.specs.Lines.{lines_of}
 use Rattle.texts.specs.MediaFault.{media_line}
-use Rattle.texts.specs.Written.{IsWritten}
 use Rattle.script_text.specs.declared.line.Line.{Line}
 use Rattle.script_run.specs.declared.ended.Ended.{Ended}
 use Rattle.script_run.specs.declared.ended.Ended.TheVariants.{MediaFault, NoMemory}
-use Rattle.mars_shell.specs.Dump.{IsCutAt}
-
--- What is written at each end, given the whole text and the text of the history. If the medium failed, it is the history and the line that
--- says so.
-abbrev pub TellsWork : Ended → Bool → List ℕ → List ℕ → List ℕ → Type 0
-TellsWork MediaFault cut text whole history = IsWritten cut text (history ++ media_line)
-TellsWork NoMemory cut text whole history = (cut ≡ false) × (text ≡ [])
-TellsWork ended cut text whole history = IsCutAt ended cut × IsWritten cut text whole
-
--- the work ended at a fault of the medium or for lack of memory
-abbrev pub IsBrokenOff : Ended → Type 0
-IsBrokenOff MediaFault = Unit {0}
-IsBrokenOff NoMemory = Unit {0}
-IsBrokenOff ended = ⊥
+use Rattle.mars_shell.specs.Told.{TellsEnd}
 
 -- What comes of the callers' work on a core of these limits, which has at least as many callers: what the lines of the input say, and that
 -- each caller's turns are those that its plans ask for, of which its fates are told. The work ended at a fault of the medium exactly if the
--- medium has failed, and unless it broke off each caller came to the end of its plans. TellsWork says what the text is.
+-- medium has failed. If neither that was so nor memory ran out, each caller came to the end of its plans. The text has all of this, or, if the
+-- medium failed, the history and a line that says so.
 pub record JointWork (callers tries : ℕ) (input : List ℕ) (ended : Ended) (cut : Bool) (text : List ℕ) (limits : Limits) (turns : List Turn) (final : State) : Type 0 where
   pub enough : callers ≤ limits.callers
   pub said : List Line
@@ -45,7 +32,7 @@ pub record JointWork (callers tries : ℕ) (input : List ℕ) (ended : Ended) (c
   pub fates : List (List Fate)
   pub each : length fates ≡ callers
   pub works : (caller : ℕ) → caller < callers → (stopped : Option Reply) × IsWork (Times tries) (planned None (calls_by caller said)) (turns_of caller turns) (of_caller fates caller) stopped
-      × ((IsBrokenOff ended → ⊥) → stopped ≡ None)
+      × (ended ≢ MediaFault → ended ≢ NoMemory → stopped ≡ None)
   pub fault : (ended ≡ MediaFault) ↔ IsTrue final.is_dead
-  pub tells : TellsWork ended cut text (work_text (faults_from 1 (λ caller. false) said) final.history fates (entries (records final.base final.history)))
-      (flat_map done_lines final.history)
+  pub tells : TellsEnd ended cut text (work_text (faults_from 1 (λ caller. false) said) final.history fates (entries (records final.base final.history)))
+      (flat_map done_lines final.history ++ media_line)

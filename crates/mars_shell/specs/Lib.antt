@@ -9,6 +9,7 @@ pub mod Forms
 pub mod PrefixLaw
 pub mod Run
 pub mod Dump
+pub mod Told
 pub mod Served
 pub mod Tally
 pub mod Drill

@@ -1,7 +1,9 @@
 -- Calls that a core made, one after another.
-use Rattle.std.specs.Prelude.{ℕ, ◌≡◌, List, length, map, take, Bool, IsTrue, IsFalse}
+use Rattle.std.specs.Prelude.{ℕ, ◌≡◌, List, [], ◌∷◌, ◌++◌, length, map, take, Bool, IsTrue, IsFalse}
+use Rattle.std.specs.List.{All}
 use Rattle.std.specs.FinMap.{entries}
 use Rattle.history.specs.declared.call.Call.{Call}
+use Rattle.history.specs.declared.call.Reply.TheVariants as reply
 use Rattle.command_words.specs.declared.words.DrillNumbers.{DrillNumbers}
 use Rattle.caller_steps.specs.State.{records_of}
 use Rattle.caller_steps.specs.Core.{CoreView, IsSafe, Continues}
@@ -10,9 +12,21 @@ use Rattle.caller_steps.specs.Run.{Turn, has_fault}
 use Rattle.caller_steps.specs.Step.{Runs}
 use Rattle.script_run.specs.declared.responder.Stop.{Stop}
 use Rattle.script_run.specs.declared.responder.Stop.TheVariants.{Media, NoMemory}
-use Rattle.mars_shell.specs.Drill.{without_reply, GoOn, FailsAtLast, summary_text}
-use Rattle.mars_shell.specs.Tally.{tally_of}
+use Rattle.mars_shell.specs.Lines.{goes_on}
+use Rattle.mars_shell.specs.Tally.{tally_of, tally_text}
 use Rattle.mars_shell.specs.declared.tally.Tally.{Tally}
+
+-- a caller and its call
+abbrev pub without_reply : Turn → ℕ × Call
+without_reply turn = (turn.0, turn.1)
+
+-- after each of these replies the script goes on
+abbrev pub GoOn : List Turn → Type 0
+GoOn turns = All (λ turn. IsTrue (goes_on turn.2)) turns
+
+-- the medium failed at the last call
+abbrev pub FailsAtLast : List Turn → Type 0
+FailsAtLast turns = (made : List Turn) × (caller : ℕ) × (call : Call) × (turns ≡ made ++ (caller, call, reply.Media) ∷ []) × GoOn made
 
 -- The first calls of a script were made, with these replies, from one core to a later one.
 pub record Made (tells : Bool) (old : CoreView) (script : List (ℕ × Call)) (turns : List Turn) (new : CoreView) : Type 0 where
@@ -33,4 +47,4 @@ MadeAll tells old script tally new = (turns : List Turn) × Made tells old scrip
 -- the same, with the text of the summary
 abbrev pub SummedUp : Bool → DrillNumbers → CoreView → List (ℕ × Call) → List ℕ → CoreView → Type 0
 SummedUp tells numbers old script text new = (turns : List Turn) × Made tells old script turns new × (map without_reply turns ≡ script) × GoOn turns
-    × (IsTrue tells → text ≡ summary_text numbers (tally_of turns) (entries (records_of new.state)))
+    × (IsTrue tells → text ≡ tally_text numbers (tally_of turns) (entries (records_of new.state)))

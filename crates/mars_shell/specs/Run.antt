@@ -1,5 +1,5 @@
 -- What a run over records does on a medium that tells its bytes.
-use Rattle.std.specs.Prelude.{ℕ, ◌≡◌, ◌≢◌, ◌^◌, ◌<◌, ◌≤◌, List, [], ◌++◌, length, Bool, Contains}
+use Rattle.std.specs.Prelude.{ℕ, ◌≡◌, ◌≢◌, ◌^◌, ◌<◌, ◌≤◌, List, [], ◌++◌, length, Bool, IsFalse, Contains}
 use Rattle.std.specs.List.{concat}
 use Rattle.pcm_media.specs.View.{View}
 use Rattle.array_shape.specs.declared.shape.Shape.{Shape}
@@ -8,12 +8,12 @@ use Rattle.array_image.specs.Decided.{settled_data}
 use Rattle.device_recovery.specs.Recovered.{HasNoVote}
 use Rattle.eaw_device.specs.Opens.{IsArray, HoldsArray}
 use Rattle.page_store.specs.Index.{Index}
-use Rattle.record_table.specs.Shown.{table_of, keys_of}
+use Rattle.record_table.specs.Shown.{table_of}
 use Rattle.history.specs.Legal.{IsLegal, records}
 use Rattle.history.specs.declared.call.Reply.TheVariants.{Committed}
 use Rattle.caller_steps.specs.State.{State, opened}
 use Rattle.caller_steps.specs.Room.{Limits}
-use Rattle.caller_steps.specs.Run.{Turn}
+use Rattle.caller_steps.specs.Run.{Turn, has_write}
 use Rattle.caller_steps.specs.Step.{Runs}
 use Rattle.mars_core.specs.Over.{limits_of, index_of}
 use Rattle.script_run.specs.Lines.{lines_of}
@@ -48,17 +48,18 @@ OverRecords callers Works old status new cut text =
 
 -- the callers before the first line, over this data under an index
 abbrev pub begun_on : Index → List ℕ → State
-begun_on index bytes = opened (table_of index bytes) (index_of (keys_of index bytes))
+begun_on index bytes = opened (table_of index bytes) (index_of index bytes)
 
 -- the data has the records and the keys of a state, under an index
 pub record HasAll (index : Index) (bytes : List ℕ) (state : State) : Type 0 where
   pub sound : index.sound bytes
   pub table : table_of index bytes ≡ records state.base state.history
-  pub keys : state.index ≡ index_of (keys_of index bytes)
+  pub keys : state.index ≡ index_of index bytes
 
 -- Callers took turns over an array whose records are sound: there is a run of steps from the state that was opened to the last one. Says
 -- tells, of the limits of the array, the turns and the last state, what was written. The history, also with what is in doubt, is legal on
--- the base and obeys the prefix law. Unless the medium failed, the data has exactly the records of the history.
+-- the base and obeys the prefix law. Unless the medium failed, the data has exactly the records of the history, and if no turn asked to
+-- write or to remove a record, it is byte for byte as it was opened.
 pub record TakesTurns (Says : Limits → List Turn → State → Type 0) (old : View) (ended : Ended) (new : View) : Type 0 where
   pub shape : Shape
   pub holds : HoldsRecords shape old
@@ -71,6 +72,7 @@ pub record TakesTurns (Says : Limits → List Turn → State → Type 0) (old : 
   pub prefix_law : PrefixLaw shape old final new
   pub quiet : ended ≢ MediaFault → HasNoVote shape new.content.bytes
   pub left : ended ≢ MediaFault → HasAll (index_at (data_of shape new.content.bytes)) (data_of shape new.content.bytes) final
+  pub unwritten : ended ≢ MediaFault → IsFalse (has_write turns) → data_of shape new.content.bytes ≡ settled_data shape old.content.bytes
 
 -- The lines of the input were answered one by one, each call of a caller by the reply of its turn. What was acknowledged as committed is
 -- kept: the history has at least n transactions if an answer is the whole line `c committed n`.

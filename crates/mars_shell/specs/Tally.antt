@@ -1,41 +1,42 @@
--- The tally of the replies to a script.
-use Rattle.std.specs.Prelude.{ℕ, ◌≡◌, ◌+◌, Bool, true, false, if◌then◌else◌, List, count_by, IsTrue, Result, Ok, Err}
+-- The tally of the replies to a script, and the summary that is made of it.
+use Rattle.std.specs.Prelude.{ℕ, ◌≡◌, ◌+◌, ◌%◌, ◌^◌, Bool, if◌then◌else◌, List, ◌++◌, length, count_by, bytes_eq, codes, IsTrue, Result, Ok, Err}
+use Rattle.std.specs.Fmt.{decimal}
+use Rattle.std.specs.List.{sum_by}
 use Rattle.history.specs.declared.call.Call.{Call}
-use Rattle.history.specs.declared.call.Call.TheVariants.{Abort}
 use Rattle.history.specs.declared.call.Reply.{Reply}
-use Rattle.history.specs.declared.call.Reply.TheVariants.{Fine, Busy, LogFull, SlotsFull, PagesFull, Media, NoMemory}
-use Rattle.caller_steps.specs.Fate.{is_committed}
+use Rattle.history.specs.declared.call.Reply.TheVariants.{Media, NoMemory}
 use Rattle.caller_steps.specs.Run.{Turn}
 use Rattle.script_run.specs.declared.responder.Stop.{Stop}
 use Rattle.script_run.specs.declared.responder.Stop.TheVariants as stop
+use Rattle.command_words.specs.declared.words.DrillNumbers.{DrillNumbers}
+use Rattle.mars_shell.specs.Drill.{word_of}
+use Rattle.mars_shell.specs.Dump.{number_line}
 use Rattle.mars_shell.specs.Lines.{goes_on}
 use Rattle.mars_shell.specs.declared.tally.Tally.{Tally}
 
--- an abort that was done
-abbrev pub is_aborted : Call → Reply → Bool
-is_aborted Abort Fine = true
-is_aborted _ _ = false
+-- the reply to a call counts under this word of the summary
+abbrev pub counts : List ℕ → Reply → Call → Bool
+counts word reply call = bytes_eq (word_of reply call) word
 
-abbrev pub is_busy : Reply → Bool
-is_busy (Busy holder) = true
-is_busy _ = false
-
--- the array is full for this call
-abbrev pub is_full : Reply → Bool
-is_full (LogFull logger held needed) = true
-is_full (SlotsFull slots) = true
-is_full (PagesFull pages) = true
-is_full _ = false
-
--- of calls and their replies: the commits and aborts that were done, the calls whose keys were locked, and those for which the array was
--- full
+-- of calls and their replies: how many count under each word
 abbrev pub tally_of : List Turn → Tally
 tally_of turns = record {
-  committed = count_by (λ turn. is_committed turn.2) turns;
-  aborted = count_by (λ turn. is_aborted turn.1 turn.2) turns;
-  busy = count_by (λ turn. is_busy turn.2) turns;
-  refused = count_by (λ turn. is_full turn.2) turns;
+  committed = count_by (λ (turn : Turn). counts (codes "committed") turn.2 turn.1) turns;
+  aborted = count_by (λ (turn : Turn). counts (codes "aborted") turn.2 turn.1) turns;
+  busy = count_by (λ (turn : Turn). counts (codes "busy") turn.2 turn.1) turns;
+  refused = count_by (λ (turn : Turn). counts (codes "refused") turn.2 turn.1) turns;
 }
+
+-- the sum of the keys of rows, modulo 2^64
+abbrev pub key_sum : List (ℕ × List ℕ) → ℕ
+key_sum rows = sum_by (λ row. row.0) rows % 2 ^ 64
+
+-- the text of the summary with this tally and these records
+abbrev pub tally_text : DrillNumbers → Tally → List (ℕ × List ℕ) → List ℕ
+tally_text numbers tally rows = number_line (codes "drill " ++ decimal numbers.seed) numbers.count
+    ++ (number_line (codes "committed") tally.committed ++ (number_line (codes "aborted") tally.aborted
+    ++ (number_line (codes "busy") tally.busy ++ (number_line (codes "refused") tally.refused
+    ++ (number_line (codes "records") (length rows) ++ number_line (codes "sum") (key_sum rows))))))
 
 abbrev pub total : Tally → ℕ
 total tally = tally.committed + (tally.aborted + (tally.busy + tally.refused))
@@ -47,10 +48,10 @@ more_if so n = if so then n + 1 else n
 -- the tally with a further call and its reply
 abbrev pub counted : Tally → Call → Reply → Tally
 counted tally call reply = record {
-  committed = more_if (is_committed reply) tally.committed;
-  aborted = more_if (is_aborted call reply) tally.aborted;
-  busy = more_if (is_busy reply) tally.busy;
-  refused = more_if (is_full reply) tally.refused;
+  committed = more_if (counts (codes "committed") reply call) tally.committed;
+  aborted = more_if (counts (codes "aborted") reply call) tally.aborted;
+  busy = more_if (counts (codes "busy") reply call) tally.busy;
+  refused = more_if (counts (codes "refused") reply call) tally.refused;
 }
 
 -- the reply was counted, or it ends the script

@@ -1,7 +1,6 @@
 // The end of work whose text is written at once.
-ghost use Rattle.std.specs.Prelude.{◌≡◌, ◌⊎◌};
+ghost use Rattle.std.specs.Prelude.{◌≡◌, ◌⊎◌, if◌then◌else◌};
 ghost use Rattle.texts.specs.Written.{IsWritten, Wrote};
-ghost use Rattle.mars_shell.specs.Dump.{IsCutAt};
 
 use outside::Sink;
 use script_run::Ended;
@@ -10,7 +9,7 @@ use texts::write_whole;
 /// Writes the text of work that came to its end, and says how it then ended.
 pub fn write_ended<K: Sink>(sink: &mut K, text: &[u8]) -> Ended
     ensures wrote { Wrote K.tells (K.written sink.old) (K.written sink.new) (K.faults sink.old) (K.faults sink.new)
-        (λ cut part. IsCutAt result cut × IsWritten cut part text.now) }
+        (λ cut part. (result ≡ (if cut then Ended.WriteFault else Ended.All)) × IsWritten cut part text.now) }
     ensures end { (result ≡ Ended.All) ⊎ (result ≡ Ended.WriteFault) }
 {
     match write_whole(sink, text) {

@@ -1,13 +1,13 @@
 // What is told of the work of callers on threads.
-ghost use Rattle.std.specs.Prelude.{◌≡◌, ◌++◌, ◌≤◌, ◌↔◌, length, IfOk, OnOk};
+ghost use Rattle.std.specs.Prelude.{◌≡◌, ◌≢◌, ◌++◌, ◌≤◌, ◌↔◌, length, IfOk, OnOk};
 ghost use Rattle.std.specs.FinMap.{entries};
 ghost use Rattle.std.specs.List.{flat_map};
 ghost use Rattle.history.specs.Legal.{records};
 ghost use Rattle.history.specs.Rows.{table_of};
-ghost use Rattle.history_text.specs.Text.{done_lines, work_text, all_fate_lines};
+ghost use Rattle.history_text.specs.Text.{done_lines, work_text, fate_line, numbered};
 ghost use Rattle.texts.specs.MediaFault.{media_line};
 ghost use Rattle.texts.specs.Written.{Appends, IsWritten, Wrote};
-ghost use Rattle.mars_shell.specs.Joint.{TellsWork, IsBrokenOff};
+ghost use Rattle.mars_shell.specs.Told.{TellsEnd};
 
 use crate::ending::write_ended;
 use caller_plans::LineFault;
@@ -32,8 +32,8 @@ pub fn tell_end<K: Sink>(
 ) -> Ended
     requires few { length fates.now ≤ 255 }
     ensures told { Wrote K.tells (K.written sink.old) (K.written sink.new) (K.faults sink.old) (K.faults sink.new)
-        (λ cut text. TellsWork result cut text (work_text faults.now history.now fates.now (entries (records (table_of base.now) history.now))) (flat_map done_lines history.now)) }
-    ensures whole { (IsBrokenOff result → ⊥) → end ≡ WorkEnd.All }
+        (λ cut text. TellsEnd result cut text (work_text faults.now history.now fates.now (entries (records (table_of base.now) history.now))) (flat_map done_lines history.now ++ media_line)) }
+    ensures whole { result ≢ Ended.MediaFault → result ≢ Ended.NoMemory → end ≡ WorkEnd.All }
     ensures fault { (result ≡ Ended.MediaFault) ↔ (end ≡ WorkEnd.MediaFault) }
 {
     match end {
@@ -71,7 +71,7 @@ fn work_text(
 
 fn write_all_fates(text: &mut Vec<u8>, fates: &[Fates]) -> Result<(), NoMemory>
     requires few { length fates.now ≤ 255 }
-    ensures { OnOk result (text.new.items ≡ text.old.items ++ all_fate_lines 0 fates.now) }
+    ensures { OnOk result (text.new.items ≡ text.old.items ++ numbered (λ caller. numbered (fate_line caller) 1) 0 fates.now) }
 {
     for (caller, fates) in fates.iter().enumerate() {
         write_fates(text, caller as u8, fates.as_slice())?;

@@ -1,8 +1,8 @@
 // The text of a drill.
 ghost use Rattle.std.specs.Prelude.{◌≡◌, ◌++◌, codes, IfOk, OnOk};
 ghost use Rattle.std.specs.Fmt.{decimal};
-ghost use Rattle.mars_shell.specs.Drill.{key_sum, summary_text};
 ghost use Rattle.mars_shell.specs.Dump.{number_line};
+ghost use Rattle.mars_shell.specs.Tally.{key_sum, tally_text};
 
 use crate::number_line::append_number;
 use crate::tally::Tally;
@@ -21,7 +21,7 @@ pub fn summary_text(
     tally: &Tally,
     rows: &Rows,
 ) -> Result<Vec<u8>, NoMemory>
-    ensures { IfOk result (λ text. text.items ≡ summary_text numbers.now tally.now rows.now) }
+    ensures { IfOk result (λ text. text.items ≡ tally_text numbers.now tally.now rows.now) }
 {
     let rows = rows.as_slice();
     let mut text = Vec::new(alloc);

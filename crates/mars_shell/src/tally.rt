@@ -1,7 +1,7 @@
 // The tally of the replies to a script.
 ghost use Rattle.std.specs.Prelude.{◌≡◌, ◌≤◌, ◌<◌, ◌+◌, ◌-◌, ◌^◌, []};
 ghost use Rattle.history.specs.declared.call.Reply.TheVariants.{Fine};
-ghost use Rattle.mars_shell.specs.Tally.{tally_of, total, Counted, more_if, is_aborted};
+ghost use Rattle.mars_shell.specs.Tally.{tally_of, total, counted, Counted};
 
 use history::{Call, Reply};
 use script_run::Stop;
@@ -68,7 +68,8 @@ impl Tally {
     // Of the calls whose reply is just `Fine`, only an abort is counted.
     fn count_fine(&mut self, call: &Call)
         requires { self.old.aborted < 2 ^ 64 - 1 }
-        ensures { self.new ≡ record self.old { aborted = more_if (is_aborted call.now Fine) self.old.aborted } }
+        ensures counts { self.new ≡ counted self.old call.now Fine }
+        ensures one { total self.new ≤ total self.old + 1 }
     {
         match call {
             Call::Abort => self.aborted += 1,

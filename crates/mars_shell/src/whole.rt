@@ -3,8 +3,9 @@ ghost use Rattle.std.specs.Prelude.{◌≡◌, ◌≢◌, ◌⊎◌, ℕ, List, 
 ghost use Rattle.mars_base.specs.Causes.{Rose};
 ghost use Rattle.texts.specs.Written.{Wrote};
 ghost use Rattle.command_words.specs.Asked.{AskForNothing};
-ghost use Rattle.command_words.specs.declared.words.Words.TheVariants.{Dump};
-ghost use Rattle.mars_shell.specs.Asked.{WordsSay, IfFormat, IfReads, OutcomeFor, IsFit};
+ghost use Rattle.command_words.specs.declared.words.FormatNumbers.{FormatNumbers};
+ghost use Rattle.command_words.specs.declared.words.Words.TheVariants.{Dump, Format};
+ghost use Rattle.mars_shell.specs.Asked.{WordsSay, IfReads, OutcomeFor, IsFit};
 ghost use Rattle.mars_shell.specs.Formats.{FormatSays};
 ghost use Rattle.mars_shell.specs.Input.{InputSays};
 ghost use Rattle.mars_shell.specs.Statuses.{Counts};
@@ -50,8 +51,8 @@ pub fn run<
     // commands read none.
     ensures input { WordsSay (map string_bytes words.now) result.0 (source.new ≡ source.old) (λ asked. IfReads asked
         (source.new ≡ source.old) (IsTrue S.tells → InputSays result.0 (S.left source.old) (S.left source.new))) }
-    ensures formats { WordsSay (map string_bytes words.now) result.0 ((sink.new ≡ sink.old) × (result.1 ≡ media)) (λ asked. IfFormat asked
-        (λ numbers. FormatSays numbers (M.view media).size result.0 (sink.new ≡ sink.old) (result.1 ≡ media)) (Unit {0})) }
+    ensures formats { WordsSay (map string_bytes words.now) result.0 ((sink.new ≡ sink.old) × (result.1 ≡ media)) (λ asked. (numbers : FormatNumbers)
+        → asked ≡ Format numbers → FormatSays numbers (M.view media).size result.0 (sink.new ≡ sink.old) (result.1 ≡ media)) }
     // A dump writes nothing if the medium failed or memory ran out.
     ensures dumps { WordsSay (map string_bytes words.now) result.0 (sink.new ≡ sink.old) (λ asked. asked ≡ Dump → (result.0 ≡ Status.MediaFault) ⊎ (result.0 ≡ Status.NoMemory) → sink.new ≡ sink.old) }
     // What the words ask for was done, and each status has its cause. For `run` the text answers the lines of the input one by one, and for

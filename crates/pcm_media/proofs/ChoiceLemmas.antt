@@ -1,17 +1,18 @@
 -- Ranges that are not settled, and bytes that are chosen for them.
-use Rattle.std.proofs.Common.{◌≡◌, ℕ, ◌+◌, ◌≤◌, ◌⊎◌, Bool, true, false, inl, inr, ⊎_elim, List, [], ◌∷◌, ◌++◌, length, take, drop, refl, sym, ◌∙◌, ap, subst, arith, append_assoc}
-use Rattle.std.proofs.lemmas.List.{drop_all, take_all, append-nil, length-take, drop-append-le}
+use Rattle.std.proofs.Common.{◌≡◌, ℕ, ◌+◌, ◌≤◌, ◌⊎◌, Bool, true, false, inl, inr, ⊎_elim, List, [], ◌∷◌, ◌++◌, length, take, drop, refl, sym, ◌∙◌, ap, subst, arith}
+use Rattle.std.proofs.lemmas.List.{drop_all, take_all, append-nil}
 use Rattle.std.proofs.lemmas.Bool.{cases_lt}
 use Rattle.pcm_media.specs.declared.call.Call.{Call}
 use Rattle.pcm_media.specs.declared.call.Call.TheVariants.{Read, Write, Barrier}
-use Rattle.pcm_media.specs.declared.call.Record.{Record}
+use Rattle.pcm_media.specs.Calls.{Record, ranges_in}
 use Rattle.pcm_media.specs.Images.{Content, IsOutside}
-use Rattle.pcm_media.specs.Replay.{range_of, next_content_by, is_settling, next_unsettled, unsettled_after, content_after, byte_count, next_content}
-use Rattle.pcm_media.specs.Choice.{IsInside, IsChosen, ranges_of}
+use Rattle.pcm_media.specs.Replay.{next_content_by, next_unsettled, unsettled_after, content_after, byte_count, next_content}
+use Rattle.pcm_media.specs.declared.call.Place.{Place}
+use Rattle.pcm_media.specs.Choice.{IsInside, IsChosen}
 use Rattle.pcm_media.proofs.Left.{outside-append}
 
 unsettled-next_content_by : (call : Call) (is_done : Bool) (written : List ℕ) (content : Content) → (next_content_by call is_done written content).unsettled ≡ next_unsettled call is_done content.unsettled
-unsettled-next_content_by (Read at len) is_done written content = refl
+unsettled-next_content_by Read is_done written content = refl
 unsettled-next_content_by (Write at len) true written content = refl
 unsettled-next_content_by (Write at len) false written content = refl
 unsettled-next_content_by Barrier true written content = refl
@@ -28,26 +29,9 @@ pub unsettled_after-push : (records : List Record) (made : Record) (ranges : Lis
 unsettled_after-push [] made ranges = refl
 unsettled_after-push (x ∷ records) made ranges = unsettled_after-push records made (next_unsettled x.call x.is_done ranges)
 
-pub ranges_of-push : (records : List Record) (made : Record) → ranges_of (records ++ made ∷ []) ≡ range_of made.call ++ ranges_of records
-ranges_of-push [] made = append-nil-same made.call
-  where
-    append-nil-same : (call : Call) → [] ++ range_of call ≡ range_of call ++ []
-    append-nil-same (Read at len) = refl
-    append-nil-same (Write at len) = refl
-    append-nil-same Barrier = refl
-ranges_of-push (x ∷ records) made = ap (λ (l : List (ℕ × ℕ)). l ++ range_of x.call) (ranges_of-push records made) ∙ append_assoc (range_of made.call) (ranges_of records) (range_of x.call)
-
-pub settled_by : (call : Call) (is_done : Bool) (ranges : List (ℕ × ℕ)) → is_settling call is_done ≡ true → next_unsettled call is_done ranges ≡ []
-settled_by (Read at len) is_done ranges is = absurd (cc is)
-settled_by (Write at len) is_done ranges is = absurd (cc is)
-settled_by Barrier true ranges is = refl
-settled_by Barrier false ranges is = absurd (cc is)
-
-pub ranged_by : (call : Call) (is_done : Bool) (ranges : List (ℕ × ℕ)) → is_settling call is_done ≡ false → next_unsettled call is_done ranges ≡ range_of call ++ ranges
-ranged_by (Read at len) is_done ranges is = refl
-ranged_by (Write at len) is_done ranges is = refl
-ranged_by Barrier true ranges is = absurd (cc is)
-ranged_by Barrier false ranges is = refl
+pub ranges_in-push : (ps : List Place) (p : Place) → ranges_in (ps ++ p ∷ []) ≡ (p.at, p.len) ∷ ranges_in ps
+ranges_in-push [] p = refl
+ranges_in-push (x ∷ ps) p = ap (λ (l : List (ℕ × ℕ)). l ++ (x.at, x.len) ∷ []) (ranges_in-push ps p)
 
 in_or_out : (ranges : List (ℕ × ℕ)) (i : ℕ) → IsInside ranges i ⊎ IsOutside ranges i
 in_or_out [] i = inr tt
@@ -79,28 +63,12 @@ chosen_both choice rs ss old mid new a b = record {
       (in_or_out ss i);
 }
 
--- one more call of a list that is walked
-module _ (records : List Record) (i : ℕ) (made : Record) (more : take (i + 1) records ≡ take i records ++ made ∷ []) where
-  pub chosen_more : (choice old mid new : List ℕ) → IsChosen choice (ranges_of (take i records)) old mid → IsChosen choice (range_of made.call) mid new → IsChosen choice (ranges_of (take (i + 1) records)) old new
-  chosen_more choice old mid new first second =
-      subst (λ (ranges : List (ℕ × ℕ)). IsChosen choice ranges old new) (sym (ap ranges_of more ∙ ranges_of-push (take i records) made))
-      (chosen_both choice (ranges_of (take i records)) (range_of made.call) old mid new first second)
-
-  after_more : unsettled_after (take (i + 1) records) [] ≡ next_unsettled made.call made.is_done (unsettled_after (take i records) [])
-  after_more = ap (λ (l : List Record). unsettled_after l []) more ∙ unsettled_after-push (take i records) made []
-
-  pub settled_here : is_settling made.call made.is_done ≡ true → unsettled_after (take (i + 1) records) [] ≡ ranges_of (drop (i + 1) (take (i + 1) records))
-  settled_here is = after_more ∙ settled_by made.call made.is_done (unsettled_after (take i records) []) is
-      ∙ sym (ap ranges_of (drop_all (i + 1) (take (i + 1) records) (omega (arith, length-take (i + 1) records))))
-
-  pub settled_before : (len : ℕ) → is_settling made.call made.is_done ≡ false → len ≤ i → i ≤ length records → unsettled_after (take i records) [] ≡ ranges_of (drop len (take i records))
-      → unsettled_after (take (i + 1) records) [] ≡ ranges_of (drop len (take (i + 1) records))
-  settled_before len is le within before =
-      after_more ∙ ranged_by made.call made.is_done (unsettled_after (take i records) []) is
-      ∙ ap (λ (ranges : List (ℕ × ℕ)). range_of made.call ++ ranges) before
-      ∙ sym (ap (λ (l : List Record). ranges_of (drop len l)) more
-      ∙ ap ranges_of (drop-append-le len (take i records) (made ∷ []) (omega (arith, length-take i records)))
-      ∙ ranges_of-push (drop len (take i records)) made)
+-- one more place of a list that is walked
+pub chosen_more : (places : List Place) (i : ℕ) (p : Place) (choice old mid new : List ℕ) → take (i + 1) places ≡ take i places ++ p ∷ []
+    → IsChosen choice (ranges_in (take i places)) old mid → IsChosen choice ((p.at, p.len) ∷ []) mid new → IsChosen choice (ranges_in (take (i + 1) places)) old new
+chosen_more places i p choice old mid new more first second =
+    subst (λ (ranges : List (ℕ × ℕ)). IsChosen choice ranges old new) (sym (ap ranges_in more ∙ ranges_in-push (take i places) p))
+    (chosen_both choice (ranges_in (take i places)) ((p.at, p.len) ∷ []) old mid new first second)
 
 -- a vector whose slice was changed as a whole
 pub slice_back : (items over : List ℕ) (n : ℕ) → n ≡ length items → length over ≡ length items → take n (over ++ drop (length over) items) ≡ over

@@ -4,4 +4,5 @@ pub mod Writing
 mod Replay
 mod MemoryLemmas
 mod ChoiceLemmas
+mod CallLemmas
 mod FusedLemmas

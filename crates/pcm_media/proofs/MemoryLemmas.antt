@@ -6,7 +6,7 @@ use Rattle.mars_base.specs.Moments.{Elapses}
 use Rattle.mars_base.proofs.Going.{weaker}
 use Rattle.pcm_media.specs.declared.call.Call.{Call}
 use Rattle.pcm_media.specs.declared.call.Call.TheVariants.{Read, Write, Barrier}
-use Rattle.pcm_media.specs.declared.call.Record.{Record}
+use Rattle.pcm_media.specs.Calls.{Record}
 use Rattle.mars_base.specs.Bytes.{put}
 use Rattle.pcm_media.specs.Images.{Content, MayLeave, Touched, written}
 use Rattle.pcm_media.specs.View.{Writes}
@@ -19,7 +19,7 @@ use Rattle.pcm_media.proofs.Replay.{content_push, before_push, before_last, befo
 
 -- A call and the bytes that it writes fit each other and the medium.
 abbrev pub Suits : Call → List ℕ → ℕ → Type 0
-Suits (Read at len) bytes size = bytes ≡ []
+Suits Read bytes size = bytes ≡ []
 Suits (Write at len) bytes size = (len ≡ length bytes) × (at + len ≤ size)
 Suits Barrier bytes size = bytes ≡ []
 
@@ -29,15 +29,15 @@ own_bytes true bytes = bytes
 own_bytes false bytes = []
 
 byte_count_is : (call : Call) (is_done : Bool) (bytes : List ℕ) (size : ℕ) → Suits call bytes size → byte_count_of call is_done ≡ length (own_bytes is_done bytes)
-byte_count_is (Read at len) true bytes size suits = sym (ap length suits)
-byte_count_is (Read at len) false bytes size suits = refl
+byte_count_is Read true bytes size suits = sym (ap length suits)
+byte_count_is Read false bytes size suits = refl
 byte_count_is (Write at len) true bytes size suits = suits.0
 byte_count_is (Write at len) false bytes size suits = refl
 byte_count_is Barrier true bytes size suits = sym (ap length suits)
 byte_count_is Barrier false bytes size suits = refl
 
 touched_by_step : (call : Call) (is_done : Bool) (bytes : List ℕ) (content : Content) → Suits call bytes (length content.bytes) → Touched (range_of call) content (next_content_by call is_done (own_bytes is_done bytes) content)
-touched_by_step (Read at len) is_done bytes content suits = touched_by_nothing [] content
+touched_by_step Read is_done bytes content suits = touched_by_nothing [] content
 touched_by_step (Write at len) true bytes content suits =
     let whole : take len bytes ≡ bytes = take_all len bytes (omega (arith, suits.0)) in
     subst (λ (l : List ℕ). Touched ((at, len) ∷ []) content (record { bytes = put content.bytes at l; unsettled = (at, len) ∷ content.unsettled })) (sym whole)
@@ -167,7 +167,7 @@ module _ (start : List ℕ) (old new : Kept) where
     same_read = stays call ∙ tells.bytes
       where
         stays : (x : Call) → (next_content_by x false [] (content_of (shows old))).bytes ≡ (content_of (shows old)).bytes
-        stays (Read at len) = refl
+        stays Read = refl
         stays (Write at len) = refl
         stays Barrier = refl
 

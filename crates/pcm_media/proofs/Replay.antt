@@ -3,14 +3,14 @@ use Rattle.std.proofs.Common.{◌≡◌, ℕ, ◌+◌, ◌<◌, ◌≤◌, ◌�
 use Rattle.std.proofs.lemmas.List.{take-append-le, drop-append-le, length-drop, nil_from_length}
 use Rattle.pcm_media.specs.declared.call.Call.{Call}
 use Rattle.pcm_media.specs.declared.call.Call.TheVariants.{Read, Write, Barrier}
-use Rattle.pcm_media.specs.declared.call.Record.{Record}
+use Rattle.pcm_media.specs.Calls.{Record}
 use Rattle.mars_base.specs.Bytes.{put}
 use Rattle.pcm_media.specs.Images.{Content, MayLeave}
 use Rattle.pcm_media.specs.Replay.{byte_count_of, next_content_by, byte_count, total_bytes, next_content, IsStamped, content_after, LeftBefore}
 
 -- bytes that follow those of a call do not change what it does
 next_content_by-append : (call : Call) (is_done : Bool) (written more : List ℕ) (content : Content) → byte_count_of call is_done ≤ length written → next_content_by call is_done (written ++ more) content ≡ next_content_by call is_done written content
-next_content_by-append (Read at len) is_done written more content fits = refl
+next_content_by-append Read is_done written more content fits = refl
 next_content_by-append (Write at len) true written more content fits = ap (λ (bytes : List ℕ). record { bytes = put content.bytes at bytes; unsettled = (at, len) ∷ content.unsettled }) (take-append-le len written more fits)
 next_content_by-append (Write at len) false written more content fits = refl
 next_content_by-append Barrier true written more content fits = refl

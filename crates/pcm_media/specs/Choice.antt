@@ -1,8 +1,6 @@
 -- The image that a choice of bytes leaves where nothing is settled.
-use Rattle.std.specs.Prelude.{ℕ, ◌+◌, ◌%◌, ◌<◌, ◌≤◌, ◌≡◌, ◌⊎◌, ◌==◌, if◌then◌else◌, List, [], ◌∷◌, ◌++◌, length, slice_index}
-use Rattle.pcm_media.specs.declared.call.Record.{Record}
+use Rattle.std.specs.Prelude.{ℕ, ◌+◌, ◌%◌, ◌<◌, ◌≤◌, ◌≡◌, ◌⊎◌, ◌==◌, if◌then◌else◌, List, [], ◌∷◌, length, slice_index}
 use Rattle.pcm_media.specs.Images.{Content, MayLeave, SameOutside}
-use Rattle.pcm_media.specs.Replay.{range_of}
 
 -- the place lies in one of the ranges
 abbrev pub IsInside : List (ℕ × ℕ) → ℕ → Type 0
@@ -22,8 +20,3 @@ pub record IsLeftBy (choice : List ℕ) (content : Content) (image : List ℕ) :
 pub record IsChosen (choice : List ℕ) (ranges : List (ℕ × ℕ)) (old new : List ℕ) : Type 0 where
   pub outside : SameOutside ranges old new
   pub inside : (i : ℕ) → i < length new → IsInside ranges i → slice_index new i ≡ slice_index choice (i % length choice)
-
--- the ranges that these calls write, those of the last call first
-abbrev pub ranges_of : List Record → List (ℕ × ℕ)
-ranges_of [] = []
-ranges_of (made ∷ later) = ranges_of later ++ range_of made.call

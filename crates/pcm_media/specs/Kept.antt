@@ -4,7 +4,8 @@ use Rattle.std.specs.Bool.{OnTrue, OnFalse}
 use Rattle.mars_base.specs.Causes.{HasCause, next_count, faults_after}
 use Rattle.mars_base.specs.Moments.{Ticks}
 use Rattle.pcm_media.specs.declared.call.Call.{Call}
-use Rattle.pcm_media.specs.declared.call.Record.{Record}
+use Rattle.pcm_media.specs.Calls.{Record}
+use Rattle.pcm_media.specs.Logged.{Logged}
 
 -- Its calls, the oldest first, and the bytes of the writes that were done, one write after another; the moment; the numbers
 -- of the calls that are to fail; how many calls failed; and how many calls and written bytes it has room for.
@@ -75,3 +76,9 @@ pub record Takes (call : Call) (bytes : List ℕ) (old new : Kept) (is_done : Bo
   pub listed : new.listed ≡ old.listed
   pub calls_room : new.calls_room ≡ old.calls_room
   pub bytes_room : new.bytes_room ≡ old.bytes_room
+
+-- There is room for the calls that are still promised it, and while all calls were kept they are as many as the moment says.
+pub record IsRoomy (calls : Logged) (moment : ℕ) (is_cut : Bool) (calls_room : ℕ) : Type 0 where
+  pub room : calls_room ≤ length calls.records + calls.room
+  pub all : is_cut ≡ false → length calls.records ≡ moment
+  pub cut : is_cut ≡ true → calls_room ≤ length calls.records

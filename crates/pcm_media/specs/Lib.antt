@@ -1,5 +1,7 @@
 pub mod Images
 pub mod View
+pub mod Calls
+pub mod Logged
 pub mod Kept
 pub mod Replay
 pub mod Memory

@@ -2,7 +2,7 @@
 use Rattle.std.specs.Prelude.{ℕ, ◌+◌, ◌<◌, ◌≤◌, ◌⊎◌, Bool, true, false, List, [], ◌∷◌, take, drop}
 use Rattle.pcm_media.specs.declared.call.Call.{Call}
 use Rattle.pcm_media.specs.declared.call.Call.TheVariants.{Read, Write, Barrier}
-use Rattle.pcm_media.specs.declared.call.Record.{Record}
+use Rattle.pcm_media.specs.Calls.{Record}
 use Rattle.mars_base.specs.Bytes.{put}
 use Rattle.pcm_media.specs.Images.{Content, MayLeave, partly, settled}
 
@@ -12,20 +12,20 @@ at_rest bytes = record { bytes = bytes; unsettled = [] }
 
 -- the range that a call writes
 abbrev pub range_of : Call → List (ℕ × ℕ)
-range_of (Read at len) = []
+range_of Read = []
 range_of (Write at len) = (at, len) ∷ []
 range_of Barrier = []
 
 -- how many of the written bytes belong to this call, which was done or not
 abbrev pub byte_count_of : Call → Bool → ℕ
-byte_count_of (Read at len) is_done = 0
+byte_count_of Read is_done = 0
 byte_count_of (Write at len) true = len
 byte_count_of (Write at len) false = 0
 byte_count_of Barrier is_done = 0
 
 -- what one call makes of the content, when the written bytes begin with its own
 abbrev pub next_content_by : Call → Bool → List ℕ → Content → Content
-next_content_by (Read at len) is_done written content = content
+next_content_by Read is_done written content = content
 next_content_by (Write at len) true written content = record { bytes = put content.bytes at (take len written); unsettled = (at, len) ∷ content.unsettled }
 next_content_by (Write at len) false written content = partly ((at, len) ∷ []) content
 next_content_by Barrier true written content = settled content
@@ -49,15 +49,9 @@ abbrev pub IsStamped : ℕ → List Record → Type 0
 IsStamped now [] = Unit {0}
 IsStamped now (made ∷ later) = (made.moment ≤ now) × IsStamped now later
 
--- whether a call settles what was written before it
-abbrev pub is_settling : Call → Bool → Bool
-is_settling (Read at len) is_done = false
-is_settling (Write at len) is_done = false
-is_settling Barrier is_done = is_done
-
 -- the ranges that are not settled after a call, given those before it
 abbrev pub next_unsettled : Call → Bool → List (ℕ × ℕ) → List (ℕ × ℕ)
-next_unsettled (Read at len) is_done ranges = ranges
+next_unsettled Read is_done ranges = ranges
 next_unsettled (Write at len) is_done ranges = (at, len) ∷ ranges
 next_unsettled Barrier true ranges = []
 next_unsettled Barrier false ranges = ranges

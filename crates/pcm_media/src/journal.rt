@@ -1,18 +1,23 @@
 // The calls that a medium in memory keeps, and those that are to fail.
 ghost use Rattle.std.specs.Prelude.{◌≡◌, ◌↔◌, [], ◌∷◌, ◌++◌, length, IfOk, OnOk, OnErr, IsErr};
+ghost use Rattle.pcm_media.specs.Calls.{ranges_in};
+ghost use Rattle.pcm_media.specs.Replay.{unsettled_after};
 ghost use Rattle.mars_base.specs.Causes.{next_count};
 ghost use Rattle.pcm_media.specs.Kept.{fresh_kept, MustFail, HasRoom, Makes, Takes};
 
-use crate::{Call, Record};
+use crate::call::{Call, Place};
+use crate::call_log::CallLog;
 use mars_base::{Failed, NoMemory};
 use std::alloc::Global;
 use std::marker::Model;
 
 #[derive(Drop)]
 pub struct Journal {
-    records: Vec<Record>,
+    calls: CallLog,
     written: Vec<u8>,
     moment: u64,
+    // Whether there was no memory to keep a call. From then on none is kept, so that a kept call is numbered by its place.
+    is_cut: bool,
     listed: Vec<u64>,
     faults: u64,
     calls_room: u64,
@@ -22,13 +27,13 @@ pub struct Journal {
 impl Model for Journal {
     ghost use Rattle.std.specs.Prelude.{◌≤◌};
     ghost use Rattle.std.specs.Vec.{vec_capacity};
-    ghost use Rattle.pcm_media.specs.Kept.{Kept};
+    ghost use Rattle.pcm_media.specs.Kept.{Kept, IsRoomy};
 
     ghost Value = { Kept };
 
-    ghost view = { λ j. record { records = j.records.items; written = j.written.items; moment = j.moment; listed = j.listed.items; faults = j.faults; calls_room = j.calls_room; bytes_room = j.bytes_room } };
+    ghost view = { λ j. record { records = j.calls.records; written = j.written.items; moment = j.moment; listed = j.listed.items; faults = j.faults; calls_room = j.calls_room; bytes_room = j.bytes_room } };
 
-    ghost invariant = { λ j. (j.calls_room ≤ vec_capacity j.records) × (j.bytes_room ≤ vec_capacity j.written) };
+    ghost invariant = { λ j. IsRoomy j.calls j.moment j.is_cut j.calls_room × (j.bytes_room ≤ vec_capacity j.written) };
 }
 
 impl Journal {
@@ -37,9 +42,10 @@ impl Journal {
         ensures { IfOk result (λ j. j ≡ fresh_kept calls bytes) }
     {
         Ok(Journal {
-            records: Vec::with_capacity(alloc, calls as usize)?,
+            calls: CallLog::new(alloc, calls)?,
             written: Vec::with_capacity(alloc, bytes as usize)?,
             moment: 0,
+            is_cut: false,
             listed: Vec::new(alloc),
             faults: 0,
             calls_room: calls,
@@ -56,16 +62,11 @@ impl Journal {
         Ok(())
     }
 
-    pub fn records(&self) -> &[Record]
-        ensures { result.now ≡ self.now.records }
+    // The places of the writes that are not settled.
+    pub fn unsettled(&self) -> &[Place]
+        ensures { unsettled_after self.now.records [] ≡ ranges_in result.now }
     {
-        &self.records
-    }
-
-    pub fn written(&self) -> &[u8]
-        ensures { result.now ≡ self.now.written }
-    {
-        &self.written
+        self.calls.unsettled()
     }
 
     pub fn moment(&self) -> u64
@@ -94,16 +95,13 @@ impl Journal {
             return false;
         }
         self.moment += 1;
-        if self.records.reserve(1).is_err() {
+        self.is_cut = self.is_cut || self.calls.reserve().is_err();
+        if self.is_cut {
             return false;
         }
         let is_done = !self.listed.contains(&self.moment)
             && self.written.extend_from_slice(bytes).is_ok();
-        self.records.push_reserved(Record {
-            moment: self.moment,
-            call,
-            is_done,
-        });
+        self.calls.push(call, is_done);
         is_done
     }
 

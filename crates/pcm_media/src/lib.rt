@@ -7,13 +7,13 @@
 #![tactic(auto)]
 
 mod call;
+mod call_log;
 mod choice;
 mod fused_media;
 mod journal;
 mod media;
 mod memory_media;
 
-pub use call::{Call, Record};
 pub use fused_media::FusedMedia;
 pub use media::Media;
 pub use memory_media::MemoryMedia;

@@ -9,15 +9,17 @@ ghost use Rattle.pcm_media.specs.Kept.{MustFail, HasRoom, Makes};
 ghost use Rattle.pcm_media.specs.Memory.{fresh_memory, content_of, view_of, is_steady};
 ghost use Rattle.pcm_media.specs.Choice.{IsLeftBy};
 
+use crate::Media;
+use crate::call::Call;
 use crate::choice::choose;
 use crate::journal::Journal;
-use crate::{Call, Media, Record};
 use mars_base::{Failed, NoMemory};
 use std::alloc::Global;
 use std::marker::Model;
 
 /// A medium in memory, which keeps all its calls. As long as its room suffices and its moment is below the last value, a call
-/// fails exactly when it is listed. Beyond its room, a call also fails if memory runs out.
+/// fails exactly when it is listed. Beyond its room, a call also fails if memory runs out, and once it has for the record of a call,
+/// each call behind that one does. Of a read the record has no place.
 #[derive(Drop)]
 pub struct MemoryMedia {
     alloc: Global,
@@ -99,27 +101,13 @@ impl MemoryMedia {
             m ≡ fresh_memory m.start self.now.kept.calls_room self.now.kept.bytes_room) }
     {
         let mut image = Vec::from_slice(self.alloc, &self.bytes)?;
-        choose(&mut image, self.journal.records(), choice);
+        choose(&mut image, self.journal.unsettled(), choice);
         MemoryMedia::over(
             self.alloc,
             image,
             self.journal.calls_room(),
             self.journal.bytes_room(),
         )
-    }
-
-    /// Its calls, the oldest first.
-    pub fn calls(&self) -> &[Record]
-        ensures { result.now ≡ self.now.kept.records }
-    {
-        self.journal.records()
-    }
-
-    /// The bytes of the writes that were done, one write after another.
-    pub fn written(&self) -> &[u8]
-        ensures { result.now ≡ self.now.kept.written }
-    {
-        self.journal.written()
     }
 }
 
@@ -158,14 +146,10 @@ impl Media for MemoryMedia {
 
         ensures listed { HasRoom self.old.kept 0 → (IsErr result ↔ MustFail self.old.kept) }
         ensures past_room { MustFail self.old.kept → IsErr result }
-        ensures made { Makes (Read at (length buf.old)) [] self.old.kept self.new.kept result }
+        ensures made { Makes Read [] self.old.kept self.new.kept result }
         ensures start { self.new.start ≡ self.old.start }
     {
-        let call = Call::Read {
-            at,
-            len: buf.len() as u64,
-        };
-        self.journal.make(call, &[])?;
+        self.journal.make(Call::Read, &[])?;
         let at = at as usize;
         buf.copy_from_slice(&self.bytes[at..at + buf.len()]);
         Ok(())

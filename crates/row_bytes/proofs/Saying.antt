@@ -1,5 +1,5 @@
 -- What the bytes of rows and heads say, when some of them are the same.
-use Rattle.std.proofs.Common.{◌≡◌, ℕ, zero, suc, ◌+◌, ◌^◌, ◌<◌, ◌≤◌, Bool, true, false, nat_eq, if◌then◌else◌, List, ◌++◌, get_or, take, drop, replicate, refl, sym, ◌∙◌, ap, arith}
+use Rattle.std.proofs.Common.{◌≡◌, ℕ, zero, suc, ◌+◌, ◌^◌, ◌<◌, ◌≤◌, Bool, true, false, nat_eq, if◌then◌else◌, List, [], ◌++◌, get_or, take, drop, replicate, refl, sym, ◌∙◌, ap, arith}
 use Rattle.std.proofs.lemmas.List.{get_or-drop}
 use Rattle.byteorder.specs.Endian.{little_from, little_bytes}
 use Rattle.byteorder.specs.Numbers.{little_number-reads_back, little_from-take, little_from-cons}
@@ -27,60 +27,82 @@ little_from-same i j (suc n) xs ys same =
     cc
 
 -- a row with these fields
-abbrev pub row : Bool → ℕ → ℕ → ℕ → Row
-row voted mask first count = record { voted = voted; mask = mask; first = first; count = count }
+abbrev pub row : Bool → ℕ → ℕ → ℕ → ℕ → ℕ → Row
+row voted mask first count group order = record { voted = voted; mask = mask; first = first; count = count; group = group; order = order }
 
-pub row_said-is : (bytes : List ℕ) (voted : Bool) (mask first count : ℕ) → nat_eq (get_or bytes 0 0) 0xC3 ≡ voted → get_or bytes 1 0 ≡ mask → little_from 2 2 bytes ≡ first → little_from 4 2 bytes ≡ count → row_said bytes ≡ row voted mask first count
+pub row_said-is : (bytes : List ℕ) (r : Row) → nat_eq (get_or bytes 0 0) 0xC3 ≡ r.voted → get_or bytes 1 0 ≡ r.mask → little_from 2 2 bytes ≡ r.first → little_from 4 2 bytes ≡ r.count → little_from 6 8 bytes ≡ r.group → little_from 14 2 bytes ≡ r.order → row_said bytes ≡ r
 unfolding row_said
-row_said-is bytes voted mask first count v m f c = λ i. record { voted = v i; mask = m i; first = f i; count = c i }
+row_said-is bytes r v m f c g o = λ i. record { voted = v i; mask = m i; first = f i; count = c i; group = g i; order = o i }
 
--- the first 6 bytes say it all
+-- its 16 bytes say it all
 pub row_said-same : (xs ys : List ℕ) → ((k : ℕ) → k < 16 → get_or xs k 0 ≡ get_or ys k 0) → row_said xs ≡ row_said ys
 unfolding row_said
 row_said-same xs ys same =
-    row_said-is xs _ _ _ _ (ap (λ (b : ℕ). nat_eq b 0xC3) (same 0 (omega arith))) (same 1 (omega arith))
+    row_said-is xs (row_said ys) (ap (λ (b : ℕ). nat_eq b 0xC3) (same 0 (omega arith))) (same 1 (omega arith))
     (little_from-same 2 2 2 xs ys (λ k lt. same (2 + k) (omega arith)))
     (little_from-same 4 4 2 xs ys (λ k lt. same (4 + k) (omega arith)))
+    (little_from-same 6 6 8 xs ys (λ k lt. same (6 + k) (omega arith)))
+    (little_from-same 14 14 2 xs ys (λ k lt. same (14 + k) (omega arith)))
 
 -- a new byte 0 changes the vote alone
 pub row_said-vote : (old new : List ℕ) (vote : ℕ) → get_or new 0 0 ≡ vote → ((k : ℕ) → 1 ≤ k → k < 16 → get_or new k 0 ≡ get_or old k 0)
-    → row_said new ≡ row (nat_eq vote 0xC3) (row_said old).mask (row_said old).first (row_said old).count
+    → row_said new ≡ row (nat_eq vote 0xC3) (row_said old).mask (row_said old).first (row_said old).count (row_said old).group (row_said old).order
 unfolding row_said
 row_said-vote old new vote is same =
-    row_said-is new _ _ _ _ (ap (λ (b : ℕ). nat_eq b 0xC3) is) (same 1 (omega arith) (omega arith))
+    row_said-is new _ (ap (λ (b : ℕ). nat_eq b 0xC3) is) (same 1 (omega arith) (omega arith))
     (little_from-same 2 2 2 new old (λ k lt. same (2 + k) (omega arith) (omega arith)))
     (little_from-same 4 4 2 new old (λ k lt. same (4 + k) (omega arith) (omega arith)))
+    (little_from-same 6 6 8 new old (λ k lt. same (6 + k) (omega arith) (omega arith)))
+    (little_from-same 14 14 2 new old (λ k lt. same (14 + k) (omega arith) (omega arith)))
+
+-- its numbers fit into their bytes
+pub record AreSmall (r : Row) : Type 0 where
+  pub first : r.first < 2 ^ 16
+  pub count : r.count < 2 ^ 16
+  pub group : r.group < 2 ^ 64
+  pub order : r.order < 2 ^ 16
 
 -- the numbers that follow the vote
-first_written : (mask first count : ℕ) → first < 2 ^ 16 → little_from 1 2 (row_rest mask first count) ≡ first
-first_written mask first count fits =
-    sym (little_from-drop 0 1 2 (row_rest mask first count)) ∙ little_number-reads_back 2 first (little_bytes 2 count ++ replicate 10 0) fits
+module _ (r : Row) where
+  first_written : r.first < 2 ^ 16 → little_from 1 2 (row_rest r) ≡ r.first
+  first_written fits = sym (little_from-drop 0 1 2 (row_rest r)) ∙ little_number-reads_back 2 r.first (little_bytes 2 r.count ++ little_bytes 8 r.group ++ little_bytes 2 r.order) fits
 
-count_written : (mask first count : ℕ) → count < 2 ^ 16 → little_from 3 2 (row_rest mask first count) ≡ count
-count_written mask first count fits =
-    sym (little_from-drop 0 3 2 (row_rest mask first count)) ∙ little_number-reads_back 2 count (replicate 10 0) fits
+  count_written : r.count < 2 ^ 16 → little_from 3 2 (row_rest r) ≡ r.count
+  count_written fits = sym (little_from-drop 0 3 2 (row_rest r)) ∙ little_number-reads_back 2 r.count (little_bytes 8 r.group ++ little_bytes 2 r.order) fits
+
+  group_written : r.group < 2 ^ 64 → little_from 5 8 (row_rest r) ≡ r.group
+  group_written fits = sym (little_from-drop 0 5 8 (row_rest r)) ∙ little_number-reads_back 8 r.group (little_bytes 2 r.order) fits
+
+  order_written : r.order < 2 ^ 16 → little_from 13 2 (row_rest r) ≡ r.order
+  order_written fits = sym (little_from-drop 0 13 2 (row_rest r)) ∙ little_number-reads_back 2 r.order [] fits
 
 -- new bytes 1 to 15 change the rest alone
-pub row_said-rest : (old new : List ℕ) (mask first count : ℕ) → first < 2 ^ 16 → count < 2 ^ 16
-    → get_or new 0 0 ≡ get_or old 0 0 → ((k : ℕ) → k < 15 → get_or new (k + 1) 0 ≡ get_or (row_rest mask first count) k 0)
-    → row_said new ≡ row (row_said old).voted mask first count
+pub row_said-rest : (old new : List ℕ) (r : Row) → AreSmall r → get_or new 0 0 ≡ get_or old 0 0 → ((k : ℕ) → k < 15 → get_or new (k + 1) 0 ≡ get_or (row_rest r) k 0)
+    → row_said new ≡ row (row_said old).voted r.mask r.first r.count r.group r.order
 unfolding row_said
-row_said-rest old new mask first count small small' vote rest =
-    let at = λ (k : ℕ) (lt : k < 15). rest k lt in
-    row_said-is new _ _ _ _ (ap (λ (b : ℕ). nat_eq b 0xC3) vote) (rest 0 (omega arith))
-    (little_from-same 2 1 2 new (row_rest mask first count) (λ k lt. (let z : 2 + k ≡ 1 + k + 1 = omega arith in ap (λ (j : ℕ). get_or new j 0) z ∙ rest (1 + k) (omega arith))) ∙ first_written mask first count small)
-    (little_from-same 4 3 2 new (row_rest mask first count) (λ k lt. (let z : 4 + k ≡ 3 + k + 1 = omega arith in ap (λ (j : ℕ). get_or new j 0) z ∙ rest (3 + k) (omega arith))) ∙ count_written mask first count small')
+row_said-rest old new r small vote written =
+    row_said-is new _ (ap (λ (b : ℕ). nat_eq b 0xC3) vote) (written 0 (omega arith))
+    (little_from-same 2 1 2 new (row_rest r) (λ k lt. at 1 k (omega arith)) ∙ first_written r small.first)
+    (little_from-same 4 3 2 new (row_rest r) (λ k lt. at 3 k (omega arith)) ∙ count_written r small.count)
+    (little_from-same 6 5 8 new (row_rest r) (λ k lt. at 5 k (omega arith)) ∙ group_written r small.group)
+    (little_from-same 14 13 2 new (row_rest r) (λ k lt. at 13 k (omega arith)) ∙ order_written r small.order)
+  where
+    at : (i k : ℕ) → i + k < 15 → get_or new (suc i + k) 0 ≡ get_or (row_rest r) (i + k) 0
+    at i k lt = let z : suc i + k ≡ i + k + 1 = omega arith in ap (λ (j : ℕ). get_or new j 0) z ∙ written (i + k) lt
 
 vote_said : (voted : Bool) → nat_eq (if voted then 0xC3 else 0) 0xC3 ≡ voted
 vote_said true = refl
 vote_said false = refl
 
 -- what is written says what was meant
-pub row_said-bytes : (r : Row) → r.first < 2 ^ 16 → r.count < 2 ^ 16 → row_said (row_bytes r) ≡ r
-row_said-bytes r small small' =
-    row_said-is (row_bytes r) r.voted r.mask r.first r.count (vote_said r.voted) refl
-    (little_from-cons 1 2 (if r.voted then 0xC3 else 0) (row_rest r.mask r.first r.count) ∙ first_written r.mask r.first r.count small)
-    (little_from-cons 3 2 (if r.voted then 0xC3 else 0) (row_rest r.mask r.first r.count) ∙ count_written r.mask r.first r.count small')
+pub row_said-bytes : (r : Row) → AreSmall r → row_said (row_bytes r) ≡ r
+row_said-bytes r small =
+    let vote : ℕ = if r.voted then 0xC3 else 0 in
+    row_said-is (row_bytes r) r (vote_said r.voted) refl
+    (little_from-cons 1 2 vote (row_rest r) ∙ first_written r small.first)
+    (little_from-cons 3 2 vote (row_rest r) ∙ count_written r small.count)
+    (little_from-cons 5 8 vote (row_rest r) ∙ group_written r small.group)
+    (little_from-cons 13 2 vote (row_rest r) ∙ order_written r small.order)
 
 pub head_said-is : (bytes : List ℕ) (addr len : ℕ) → little_from 0 8 bytes ≡ addr → little_from 8 2 bytes ≡ len → head_said bytes ≡ record { addr = addr; len = len }
 unfolding head_said

@@ -1,3 +1,4 @@
 pub mod Said
+pub mod Ballots
 pub mod Written
 pub mod Header

@@ -4,10 +4,12 @@
 //! write bytes that say what it was given.
 #![tactic(auto)]
 
+mod ballot;
 mod head;
 mod header;
 mod row;
 
+pub use ballot::Ballot;
 pub use head::{Head, read_head, write_head};
 pub use header::{HeaderFault, read_array_header, write_array_header};
 pub use row::{Row, read_row, vote_byte, write_row};

@@ -8,19 +8,23 @@ use byteorder::{ByteOrder, LittleEndian};
 // The vote byte of a voted row. A row with any other vote byte is not voted.
 const VOTED: u8 = 0xC3;
 
-/// What the 16 bytes of a row say: one logger's share of a transaction.
+/// What the 16 bytes of a row say: the share of one number at one logger in a commit.
 #[derive(Clone, Copy, Debug, PartialEq, Eq)]
 pub struct Row {
     pub voted: bool,
-    /// The loggers that have parts of the transaction, one bit each.
+    /// The loggers that have rows of the commit, one bit each.
     pub mask: u8,
-    /// The first entry of the transaction's cells.
+    /// The first entry of its cells.
     pub first: u16,
     /// How many cells it has here.
     pub count: u16,
+    /// The numbers that are committed together, one bit each; 0 stands for this number alone.
+    pub group: u64,
+    /// The place of the commit among those that wait for their write-back; 0 if it does not wait.
+    pub order: u16,
 }
 
-/// What the bytes of a row say. Bytes 6 to 15 are ignored.
+/// What the bytes of a row say.
 pub fn read_row(bytes: &[u8; 16]) -> Row
     ensures { result ≡ row_said bytes.now }
 {
@@ -29,6 +33,8 @@ pub fn read_row(bytes: &[u8; 16]) -> Row
         mask: bytes[1],
         first: LittleEndian::read_u16(&bytes[2..]),
         count: LittleEndian::read_u16(&bytes[4..]),
+        group: LittleEndian::read_u64(&bytes[6..]),
+        order: LittleEndian::read_u16(&bytes[14..]),
     }
 }
 
@@ -49,10 +55,14 @@ pub fn write_row(row: &Row, out: &mut [u8; 16])
         mask,
         first,
         count,
+        group,
+        order,
     } = *row;
     out.fill(0);
     out[0] = vote_byte(voted);
     out[1] = mask;
     LittleEndian::write_u16(&mut out[2..], first);
     LittleEndian::write_u16(&mut out[4..], count);
+    LittleEndian::write_u64(&mut out[6..], group);
+    LittleEndian::write_u16(&mut out[14..], order);
 }

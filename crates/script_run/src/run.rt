@@ -1,7 +1,8 @@
 // The run of a script: each line is done and its answer is written.
 ghost use Rattle.std.specs.Prelude.{◌≡◌, OnOk, IsErrOf, IsTrue};
 ghost use Rattle.script_run.specs.Lines.{lines_of};
-ghost use Rattle.texts.specs.Written.{Wrote};
+ghost use Rattle.texts.specs.MediaFault.{numbered_media_line};
+ghost use Rattle.texts.specs.Written.{IsWritten, Wrote};
 ghost use Rattle.script_run.specs.Answers.{LineRan, ending};
 ghost use Rattle.script_run.specs.Counts.{Counts};
 ghost use Rattle.script_run.specs.Transcript.{Ran};
@@ -66,11 +67,18 @@ fn answer_line<K: Sink, R: Responder>(
             Err(_) => Err(Ended::WriteFault),
         },
         Err(Stop::Media { number }) => {
-            // This line is formed without memory, so how the script ends does not depend on memory.
-            let line = numbered_media_line(number);
-            write_front(sink, line.as_bytes());
+            write_media_fault(sink, number);
             Err(Ended::MediaFault)
         }
         Err(Stop::NoMemory) => Err(Ended::NoMemory),
     }
+}
+
+// Writes the line of a fault of the medium. It is formed without memory, so how the script ends does not depend on memory.
+#[cold]
+fn write_media_fault<K: Sink>(sink: &mut K, number: u8)
+    ensures { Wrote K.tells (K.written sink.old) (K.written sink.new) (K.faults sink.old) (K.faults sink.new) (λ cut part. IsWritten cut part (numbered_media_line number)) }
+{
+    let line = numbered_media_line(number);
+    write_front(sink, line.as_bytes());
 }

@@ -8,8 +8,8 @@ use Rattle.history.specs.declared.call.Reply.TheVariants.{Listed, LogFull, Media
 use Rattle.texts.specs.MediaFault.{media_fault, numbered_media_line}
 use Rattle.script_text.specs.Replies.{reply_text, told_line, row_lines, reply_line, bad_line}
 
--- the number, the words and the newline
-pub told_pieces : (caller : ℕ) (words number : List ℕ) → number ≡ decimal caller → (number ++ 32 ∷ []) ++ (words ++ 10 ∷ []) ≡ told_line caller words
+-- the number, a space, the words and the newline
+pub told_pieces : (caller : ℕ) (words number : List ℕ) → number ≡ decimal caller → number ++ (32 ∷ (words ++ 10 ∷ [])) ≡ told_line caller words
 told_pieces caller words number is = rw is (simp append_assoc)
 
 -- the line of a row

@@ -5,7 +5,7 @@ ghost use Rattle.script_text.specs.Replies.{reply_text, told_line, row_lines, re
 use history::Reply;
 use mars_base::NoMemory;
 use record_slots::Value;
-use texts::{MEDIA_FAULT, Piece, TextOut, append_pieces, put_pieces};
+use texts::{MEDIA_FAULT, Piece, TextOut, append_pieces, put_number, put_pieces};
 
 /// Appends the line of a reply, and a line for each row that it lists, or nothing.
 pub fn write_reply(out: &mut Vec<u8>, caller: u8, reply: &Reply) -> Result<(), NoMemory>
@@ -35,7 +35,8 @@ pub fn put_reply<E, T: TextOut<E>>(out: &mut T, caller: u8, reply: &Reply) -> Re
 fn put_told<E, T: TextOut<E>>(out: &mut T, caller: u8, reply: &Reply) -> Result<(), E>
     ensures { Appends T.tells (T.view out.old) (T.view out.new) result (told_line caller (reply_text reply.now)) }
 {
-    put_pieces(out, &[Piece::Number(u64::from(caller)), Piece::Words(b" ")])?;
+    put_number(out, u64::from(caller))?;
+    out.put(b" ")?;
     put_reply_text(out, reply)?;
     out.put(b"\n")
 }
@@ -46,10 +47,7 @@ pub fn put_reply_text<E, T: TextOut<E>>(out: &mut T, reply: &Reply) -> Result<()
 {
     match reply {
         Reply::Fine => out.put(b"ok"),
-        Reply::Found(value) => put_pieces(
-            out,
-            &[Piece::Words(b"val "), Piece::Words(value.as_bytes())],
-        ),
+        Reply::Found(value) => put_value(out, value),
         Reply::Absent => out.put(b"none"),
         Reply::Listed(rows) => put_count(out, b"rows ", rows.as_slice().len() as u64),
         Reply::Saved(n) => put_count(out, b"saved ", u64::from(*n)),
@@ -88,11 +86,19 @@ pub fn write_bad_line(out: &mut Vec<u8>, n: u64) -> Result<(), NoMemory>
     )
 }
 
+fn put_value<E, T: TextOut<E>>(out: &mut T, value: &Value) -> Result<(), E>
+    ensures { Appends T.tells (T.view out.old) (T.view out.new) result (codes "val " ++ value.now) }
+{
+    out.put(b"val ")?;
+    out.put(value.as_bytes())
+}
+
 // Puts words that end with a number.
 fn put_count<E, T: TextOut<E>>(out: &mut T, words: &[u8], n: u64) -> Result<(), E>
     ensures { Appends T.tells (T.view out.old) (T.view out.new) result (words.now ++ decimal n) }
 {
-    put_pieces(out, &[Piece::Words(words), Piece::Number(n)])
+    out.put(words)?;
+    put_number(out, n)
 }
 
 fn put_log_full<E, T: TextOut<E>>(out: &mut T, logger: u8, held: u16, needed: u16) -> Result<(), E>

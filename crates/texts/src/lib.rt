@@ -17,6 +17,6 @@ pub use append::append_pieces;
 pub use media_fault::{MEDIA_FAULT, MEDIA_LINE, numbered_media_line};
 pub use number::{read_below, read_u32, read_u64};
 pub use output::{write_front, write_whole};
-pub use pieces::{Piece, put_pieces};
+pub use pieces::{Piece, put_number, put_pieces};
 pub use short_text::ShortText;
 pub use text_out::TextOut;

@@ -33,7 +33,8 @@ fn put_piece<E, T: TextOut<E>>(out: &mut T, piece: &Piece<'_>) -> Result<(), E>
     }
 }
 
-fn put_number<E, T: TextOut<E>>(out: &mut T, n: u64) -> Result<(), E>
+/// Puts a number in decimal.
+pub fn put_number<E, T: TextOut<E>>(out: &mut T, n: u64) -> Result<(), E>
     ensures { Appends T.tells (T.view out.old) (T.view out.new) result (decimal n) }
 {
     let mut buffer = Buffer::new();

@@ -30,6 +30,7 @@ impl Model for ShortText {
 
 impl ShortText {
     /// The text of pieces, for which there has to be room, with 20 bytes for each number.
+    #[inline(always)]
     pub fn of(pieces: &[Piece<'_>]) -> ShortText
         requires { sum_by most_bytes pieces.now ≤ 80 }
         ensures text { result ≡ text_of pieces.now }

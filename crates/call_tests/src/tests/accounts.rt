@@ -11,6 +11,7 @@ use record_slots::Value;
 use std::alloc::Global;
 use std::process::Abort;
 use std::test::Fail;
+use transactions::Stop;
 
 // Makes an account, by a transaction of its own.
 fn open_account<C: Steps>(core: &mut C, account: u64, value: Value)
@@ -61,7 +62,7 @@ fn balances(alloc: Global, media: &MemoryMedia, choice: &[u8]) -> Option<(u64, u
 }
 
 // The answers to a transfer of 30 from the account 1, of 71 more, and of one into no account.
-fn pay_thrice<C: Steps>(core: &mut C) -> [Result<(), Refusal>; 3]
+fn pay_thrice<C: Steps>(core: &mut C) -> [Result<(), Stop<Refusal>>; 3]
     requires inside { 0 < (C.view core.old).limits.callers }
     requires sound { IsTrue C.tells → IsSound (C.view core.old).state }
 {
@@ -77,7 +78,7 @@ fn pay_behind(
     alloc: Global,
     image: &[u8],
     passes: u64,
-) -> Option<(Result<(), Refusal>, MemoryMedia)> {
+) -> Option<(Result<(), Stop<Refusal>>, MemoryMedia)> {
     let media = media_of(alloc, image)?;
     let mut core = open_bank(alloc, FusedMedia::wrap(media, passes))?;
     let answer = transfer(&mut core, 0, 1, 2, 30);
@@ -110,7 +111,7 @@ fn fate_behind(alloc: Global, image: &[u8], passes: u64) -> Fate {
 }
 
 // Whether an image may have these balances behind this answer.
-fn may_be_left(balances: Option<(u64, u64)>, answer: &Result<(), Refusal>) -> bool {
+fn may_be_left(balances: Option<(u64, u64)>, answer: &Result<(), Stop<Refusal>>) -> bool {
     match balances {
         Some((70, 80)) => true,
         Some((100, 50)) => answer.is_err(),
@@ -118,7 +119,7 @@ fn may_be_left(balances: Option<(u64, u64)>, answer: &Result<(), Refusal>) -> bo
     }
 }
 
-fn three_answers(alloc: Global) -> Option<[Result<(), Refusal>; 3]> {
+fn three_answers(alloc: Global) -> Option<[Result<(), Stop<Refusal>>; 3]> {
     let mut core = open_bank(alloc, with_accounts(alloc)?)?;
     Some(pay_thrice(&mut core))
 }
@@ -128,8 +129,8 @@ fn moves_and_refuses(rt: HostRuntime) -> Result<(), Fail> {
     let answers = three_answers(rt.alloc()).ok_or("accounts")?;
     let wanted = [
         Ok(()),
-        Err(Refusal::Insufficient { balance: 70 }),
-        Err(Refusal::NoAccount { account: 3 }),
+        Err(Stop::GivenUp(Refusal::Insufficient { balance: 70 })),
+        Err(Stop::GivenUp(Refusal::NoAccount { account: 3 })),
     ];
     assert!(rt; answers == wanted);
     Ok(())

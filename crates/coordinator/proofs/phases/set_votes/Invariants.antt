@@ -1,14 +1,16 @@
-use Rattle.std.proofs.Common.{◌≡◌, ◌+◌, take, IsTrue}
-use Rattle.coordinator.specs.Costs.{voters}
-use Rattle.coordinator.specs.Between.{vote_places, HaveVotes}
+use Rattle.std.proofs.Common.{◌≡◌, ◌+◌, ◌<◌, ℕ, true, IsTrue}
+use Rattle.row_bytes.specs.Ballots.{has_row}
+use Rattle.array_image.specs.Image.{row_of}
+use Rattle.array_image.specs.Votes.{votes_of}
 use Rattle.array_image.proofs.Calls.{SoFar}
+use Rattle.coordinator.specs.Costs.{total, rows_at}
 use Rattle.coordinator.proofs.phases.set_votes.Given as goal
 
-abbrev pub invariant-loop-number : goal.invariant-loop-number
-invariant-loop-number g l =
+abbrev pub invariant-loop-tid : goal.invariant-loop-tid
+invariant-loop-tid g l =
     let m = g.M.Media in
     record {
-      costs : (m.view l.media).moment ≡ (m.view l.fn.media).moment + voters (take l.number l.counts);
-      does : SoFar m.tells (vote_places l.shape l.tid l.counts) (m.view l.fn.media) (m.view l.media);
-      votes : IsTrue m.tells → HaveVotes l.shape l.tid l.counts l.voted l.number (m.view l.media).content.bytes;
+      costs : (m.view l.media).moment ≡ (m.view l.fn.media).moment + total (rows_at l.shape l.ballot) l.tid;
+      does : SoFar m.tells (votes_of l.shape (has_row l.ballot)) (m.view l.fn.media) (m.view l.media);
+      votes : IsTrue m.tells → (h t : ℕ) → h < l.shape.loggers → t < l.tid → has_row l.ballot h t ≡ true → (row_of l.shape (m.view l.media).content.bytes h t).voted ≡ l.voted;
     }

@@ -15,7 +15,7 @@ loop-nth-preserved-then-not-row_in c =
     let t = c.nth_row-at.result.tid in
     let so_far = c.loop-nth.invariant in
     let unvoted : (row_in rows g t).voted ≡ false = ap (λ (r : Row). r.voted) (sym c.row_in.ensures) ∙ not-true c.row_in.result.voted c.if-not-row_in.true in
-    let undecided : decided_in shape rows g t ≡ false = not_decided shape.loggers (λ h. row_in rows h t) g unvoted in
+    let undecided : decided_in shape rows g t ≡ false = not_decided shape.loggers shape.numbers (row_in rows) g t c.nth_row-at.ensures.one_logger c.nth_row-at.ensures.one_number unvoted in
     record {
       decided = so_far.decided ∙ sym (row_counts_not shape (λ h u. decided_in shape rows h u) c.loop-nth.nth g t c.nth_row-at.ensures.logger c.nth_row-at.ensures.tid undecided);
       dropped = so_far.dropped ∙ sym (row_counts_not shape (λ h u. (row_in rows h u).voted && not (decided_in shape rows h u)) c.loop-nth.nth g t c.nth_row-at.ensures.logger c.nth_row-at.ensures.tid (and_left (row_in rows g t).voted _ unvoted));

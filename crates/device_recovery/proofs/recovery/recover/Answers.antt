@@ -9,6 +9,7 @@ use Rattle.array_image.specs.Image.{data_of}
 use Rattle.array_image.specs.Decided.{settled_data}
 use Rattle.array_image.specs.Standing.{IsLawful}
 use Rattle.array_image.proofs.Calls.{none_yet, goes_on, ends_with, hands_on}
+use Rattle.commit_queue.specs.Between.{IsAtRest}
 use Rattle.device_recovery.proofs.Done.{all_done}
 use Rattle.device_recovery.specs.Table.{RowsAre}
 use Rattle.device_recovery.specs.Recovered.{rows_good, HasNoVote, recovered_places}
@@ -55,7 +56,8 @@ returns-then-report-eq0 g c =
     record {
       clean = λ told.
           let long : length now.content.bytes ≡ media_len shape = g.met.M.Media.long c.read_sound.new.media told ∙ read.does.size ∙ c.requires.size in
-          clean_from shape now.content long (read.sure told) (subst (λ bytes. HasNoVote shape bytes) (sym (same_bytes _ _ (read.does.touched told))) (none told));
+          clean_from shape (settled_data shape base) now.content long (read.sure told) (subst (λ bytes. HasNoVote shape bytes) (sym (same_bytes _ _ (read.does.touched told))) (none told))
+          (ap (λ (bytes : List ℕ). data_of shape bytes) (same_bytes _ _ (read.does.touched told)) ∙ sym (no_vote_settled shape base (none told)));
       settled = λ told. ap (λ (bytes : List ℕ). data_of shape bytes) (same_bytes _ _ (read.does.touched told)) ∙ sym (no_vote_settled shape base (none told));
       counts = λ told. record { decided = report.decided ∙ decided_count shape base rows (read.rows told); dropped = report.dropped ∙ dropped_count shape base rows (read.rows told) };
       sure = read.sure;
@@ -126,7 +128,7 @@ returns g c =
     let zero = no_count shape old.content.bytes rows (read.rows told) none in
     c.if-report-eq0.false (omega (arith, zero.0, zero.1, report.decided, report.dropped)) in
     record {
-      clean = settled.clean;
+      clean = λ told. subst (λ (bytes : List ℕ). IsAtRest shape [] (settled_data shape bytes) (m.view c.settle.new.media).content) (sym (same told)) (settled.clean told);
       settled = λ told. settled.settled told ∙ ap (λ (bytes : List ℕ). settled_data shape bytes) (sym (same told));
       counts = λ told. record { decided = report.decided ∙ decided_count shape old.content.bytes rows (read.rows told); dropped = report.dropped ∙ dropped_count shape old.content.bytes rows (read.rows told) };
       sure = settled.sure;

@@ -1,114 +1,16 @@
-use Rattle.std.proofs.Common.{refl, ◌≡◌, ◌+◌, ◌*◌, ℕ, ◌∙◌, sym, ap, subst, length, arith}
-use Rattle.std.proofs.lemmas.Result.{on_ok_weaker, IfOk-from_err}
-use Rattle.pcm_media.specs.Images.{IsOutside}
-use Rattle.array_shape.specs.declared.shape.Shape.{Shape}
-use Rattle.array_shape.specs.Places.{media_len}
-use Rattle.array_shape.specs.Logged.{applied, places_of}
-use Rattle.array_image.specs.Image.{cell_of, parts_from, data_of, IsGoodCell}
-use Rattle.array_image.specs.Decided.{settled_data}
-use Rattle.array_image.proofs.Calls.{goes_on, hands_on, barrier_keeps, then_barrier}
-use Rattle.device_recovery.proofs.Goods.{all_good}
+use Rattle.std.proofs.Common.{◌∙◌, sym, arith}
+use Rattle.std.proofs.lemmas.Bool.{false_from_ne_true}
+use Rattle.array_image.specs.Decided.{decided}
+use Rattle.device_recovery.proofs.Clearing.{none_settled}
 use Rattle.device_recovery.proofs.Read.{table_decided}
-use Rattle.device_recovery.proofs.Applying.{rows_settled, row_skipped, still_good, parts_within, row_applied}
 use Rattle.device_recovery.proofs.settling.settle_data.Goals as goal
 
-pub loop-nth-preserved-then-not-is_decided : goal.loop-nth-preserved-then-not-is_decided
-loop-nth-preserved-then-not-is_decided g c =
-    let m = g.M.Media in
-    let base = (m.view c.args.media.now).content.bytes in
+pub returns-then-is_none-clause-applied : goal.returns-then-is_none-clause-applied
+returns-then-is_none-clause-applied g c told =
     let shape = c.args.shape.now in
-    let at = c.nth_row-at.result in
-    let is = c.nth_row-at.ensures in
-    record {
-      does = c.loop-nth.invariant.does;
-      applied = λ told.
-          let not_so = sym (table_decided shape base c.args.rows.now (c.requires.rows told) at.logger at.tid is.one_logger is.one_number) ∙ sym c.if-not-is_decided.ensures in
-          row_skipped shape base c.loop-nth.nth at.logger at.tid is.logger is.tid _ not_so (c.loop-nth.invariant.applied told);
-    }
-
-pub apply-requires-clause-entries : goal.apply-requires-clause-entries
-apply-requires-clause-entries g c =
-    let at = c.nth_row-at.result in
-    let is = c.nth_row-at.ensures in
-    let fits = c.requires.fits at.logger at.tid is.one_logger is.one_number (sym c.if-not-is_decided.ensures) in
-    omega (arith, fits, ap (λ r. r.first + r.count) c.row_in-row.ensures, ap (λ (s : Shape). s.entries) c.new-logger.ensures.shape)
-
-pub apply-requires-clause-good : goal.apply-requires-clause-good
-apply-requires-clause-good g c told e from below =
-    let m = g.M.Media in
-    let base = (m.view c.args.media.now).content.bytes in
-    let cur = (m.view c.loop-nth.media).content.bytes in
-    let shape = c.args.shape.now in
-    let at = c.nth_row-at.result in
-    let is = c.nth_row-at.ensures in
-    let long : length base ≡ media_len shape = g.met.M.Media.long c.args.media.now told ∙ c.requires.size in
-    let so = sym (table_decided shape base c.args.rows.now (c.requires.rows told) at.logger at.tid is.one_logger is.one_number) ∙ sym c.if-not-is_decided.ensures in
-    let row = c.row_in-row.ensures ∙ c.requires.rows told at.logger at.tid is.one_logger is.one_number in
-    let good = still_good shape base c.loop-nth.nth at.logger at.tid is.logger is.tid long (all_good shape base (c.requires.good told)) cur (c.loop-nth.invariant.does.touched told).bytes is.one_logger is.one_number c.row_in-row.result row so e from below in
-    subst (λ (p : Shape × ℕ). IsGoodCell p.0 p.1 (cell_of p.0 cur p.1 at.tid e)) (λ i. (sym c.new-logger.ensures.shape i, sym c.new-logger.ensures.number i)) good
-
-pub returns-in_err-apply-clause-does : goal.returns-in_err-apply-clause-does
-returns-in_err-apply-clause-does g c =
-    let m = g.M.Media in
-    let base = (m.view c.args.media.now).content.bytes in
-    let cur = (m.view c.loop-nth.media).content.bytes in
-    let shape = c.args.shape.now in
-    let at = c.nth_row-at.result in
-    let is = c.nth_row-at.ensures in
-    let logger = c.new-logger.ensures in
-    let row = c.row_in-row.result in
-    let places : places_of c.new-logger.result.shape (parts_from c.new-logger.result.shape cur c.new-logger.result.number at.tid row.first row.count) ≡ places_of shape (parts_from shape cur at.logger at.tid row.first row.count) =
-    (λ i. places_of (logger.shape i) (parts_from (logger.shape i) cur (logger.number i) at.tid row.first row.count)) in
-    hands_on m.tells _ _ _ _ _ (λ told i out.
-    let long : length base ≡ media_len shape = g.met.M.Media.long c.args.media.now told ∙ c.requires.size in
-    let so = sym (table_decided shape base c.args.rows.now (c.requires.rows told) at.logger at.tid is.one_logger is.one_number) ∙ sym c.if-not-is_decided.ensures in
-    let row_is = c.row_in-row.ensures ∙ c.requires.rows told at.logger at.tid is.one_logger is.one_number in
-    subst (λ rs. IsOutside rs i) (sym places)
-    (parts_within shape base c.loop-nth.nth at.logger at.tid is.logger is.tid long (all_good shape base (c.requires.good told)) cur (c.loop-nth.invariant.does.touched told).bytes is.one_logger is.one_number row row_is so i out))
-    c.loop-nth.invariant.does c.from_residual.result c.from_residual.ensures.0 c.in_err-apply.ensures.does
-
-pub loop-nth-preserved : goal.loop-nth-preserved
-loop-nth-preserved g c =
-    let m = g.M.Media in
-    let base = (m.view c.args.media.now).content.bytes in
-    let cur = (m.view c.loop-nth.media).content.bytes in
-    let shape = c.args.shape.now in
-    let at = c.nth_row-at.result in
-    let is = c.nth_row-at.ensures in
-    let logger = c.new-logger.ensures in
-    let row = c.row_in-row.result in
-    let places : places_of c.new-logger.result.shape (parts_from c.new-logger.result.shape cur c.new-logger.result.number at.tid row.first row.count) ≡ places_of shape (parts_from shape cur at.logger at.tid row.first row.count) =
-    (λ i. places_of (logger.shape i) (parts_from (logger.shape i) cur (logger.number i) at.tid row.first row.count)) in
-    record {
-      does = goes_on m.tells _ _ _ _ _ (λ told i out.
-          let long : length base ≡ media_len shape = g.met.M.Media.long c.args.media.now told ∙ c.requires.size in
-          let so = sym (table_decided shape base c.args.rows.now (c.requires.rows told) at.logger at.tid is.one_logger is.one_number) ∙ sym c.if-not-is_decided.ensures in
-          let row_is = c.row_in-row.ensures ∙ c.requires.rows told at.logger at.tid is.one_logger is.one_number in
-          subst (λ rs. IsOutside rs i) (sym places)
-          (parts_within shape base c.loop-nth.nth at.logger at.tid is.logger is.tid long (all_good shape base (c.requires.good told)) cur (c.loop-nth.invariant.does.touched told).bytes is.one_logger is.one_number row row_is so i out))
-          c.loop-nth.invariant.does c.in_ok-apply.ensures.does refl;
-      applied = λ told.
-          let long : length base ≡ media_len shape = g.met.M.Media.long c.args.media.now told ∙ c.requires.size in
-          let so = sym (table_decided shape base c.args.rows.now (c.requires.rows told) at.logger at.tid is.one_logger is.one_number) ∙ sym c.if-not-is_decided.ensures in
-          let row_is = c.row_in-row.ensures ∙ c.requires.rows told at.logger at.tid is.one_logger is.one_number in
-          let new = (m.view c.apply.new.media).content.bytes in
-          row_applied shape base c.loop-nth.nth at.logger at.tid is.logger is.tid long (all_good shape base (c.requires.good told)) cur (c.loop-nth.invariant.does.touched told).bytes is.one_logger is.one_number row row_is so new (c.loop-nth.invariant.applied told)
-          ((λ i. data_of (sym logger.shape i) new) ∙ c.in_ok-apply.ensures.data_after told ∙ (λ i. applied (parts_from (logger.shape i) cur (logger.number i) at.tid row.first row.count) (data_of (logger.shape i) cur)));
-    }
-
-pub returns-in_err-apply-clause-applied : goal.returns-in_err-apply-clause-applied
-returns-in_err-apply-clause-applied g c told = IfOk-from_err c.from_residual.result _ c.from_residual.ensures.0
-
-pub returns-clause-applied : goal.returns-clause-applied
-returns-clause-applied g c told =
-    let m = g.M.Media in
-    let base = (m.view c.args.media.now).content.bytes in
-    let shape = c.args.shape.now in
-    let all : c.loop-nth.nth ≡ shape.loggers * shape.numbers = omega arith in
-    on_ok_weaker c.barrier.result (barrier_keeps (λ bytes. data_of shape bytes ≡ settled_data shape base) (m.view c.loop-nth.media).content (m.view c.barrier.new.self).content
-    (c.loop-nth.invariant.applied told ∙ rows_settled shape base c.loop-nth.nth all)) (c.barrier.ensures.settled told)
-
-pub returns-clause-does : goal.returns-clause-does
-returns-clause-does g c =
-    let m = g.M.Media in
-    then_barrier m.tells _ (m.view c.args.media.now) (m.view c.loop-nth.media) (m.view c.barrier.new.self) c.barrier.result c.loop-nth.invariant.does c.barrier.ensures.does
+    let base = (g.M.Media.view c.args.media.now).content.bytes in (
+      c.requires.sure told,
+      sym (none_settled shape base (λ h t lt lt'. false_from_ne_true (decided shape base h t) (λ so.
+          let none = c.next_order.ensures.none c.if-is_none.ensures h t lt lt' (table_decided shape base c.args.rows.now (c.requires.rows told) h t lt lt' ∙ so) in
+          omega (arith, none)))),
+    )

@@ -4,4 +4,4 @@ use Rattle.device_recovery.specs.Table.{row_in}
 use Rattle.device_recovery.proofs.table.all_agree.Given as goal
 
 abbrev pub invariant-loop-logger : goal.invariant-loop-logger
-invariant-loop-logger l = (h : ℕ) → h < l.logger → agrees l.mask (λ k. row_in l.rows k l.tid) h ≡ true
+invariant-loop-logger l = (g : ℕ) → g < l.logger → agrees l.ballot (row_in l.rows) g l.tid ≡ true

@@ -1,5 +1,6 @@
 use Rattle.std.proofs.lemmas.Result.{err_from_is_err_and}
-use Rattle.std.proofs.Common.{true, refl}
+use Rattle.std.proofs.Common.{ℕ, List, [], true, refl, sym, subst}
+use Rattle.commit_queue.specs.Between.{IsAtRest}
 use Rattle.mars_base.proofs.Costing.{costs_all}
 use Rattle.device_recovery.specs.declared.report.Report.{Report}
 use Rattle.eaw_device.proofs.OpeningLemmas.{settling_keeps}
@@ -39,7 +40,7 @@ returns g c =
     let new = m.view c.recover.new.media in
     let done = c.in_ok-recover.ensures in
     record {
-      clean = done.clean;
+      clean = λ told. subst (λ (d : List ℕ). IsAtRest shape [] d new.content) (sym (done.settled told)) (done.clean told);
       header = λ told. recovered_says shape old.content new.content (done.sure told) (c.requires.header told) (done.does.touched told);
       settled = done.settled;
       good = done.good;

@@ -1,19 +1,48 @@
-use Rattle.std.proofs.Common.{ℕ, [], ◌∷◌, ◌++◌, inl, inr, Ok, Err, refl, ◌∙◌, subst}
+use Rattle.std.proofs.Common.{ℕ, [], ◌∷◌, ◌++◌, inl, inr, Ok, Err, refl, sym, ◌∙◌, subst}
 use Rattle.history.specs.declared.call.Call.{Call}
-use Rattle.caller_steps.specs.Locked.{IsFree, IsBusyWith}
-use Rattle.mars_core.specs.Seats.{bare}
+use Rattle.page_store.specs.Shown.{pages_of}
+use Rattle.history.specs.Table.{Granted}
+use Rattle.mars_core.specs.Masks.{IsMaskOf}
 use Rattle.mars_core.specs.TableCall.{call_of}
-use Rattle.mars_core.specs.Works.{HasSaves}
+use Rattle.mars_core.specs.Works.{HasSaves, Works}
+use Rattle.mars_core.proofs.Touching.{mask-push}
 use Rattle.mars_core.proofs.asking.answer.Goals as goal
+
+pub work-requires : goal.work-requires
+work-requires g c = record {
+  tid = c.requires.inside;
+  saves = subst (λ (n : ℕ). HasSaves n (call_of c.args.asked)) c.saves.ensures.count (subst (λ (k : Call). HasSaves c.saves.result k) (sym c.requires.said) c.in_default.ensures.has);
+}
+
+-- the calls are those of the transaction, and the mask is theirs
+pub of-requires : goal.of-requires
+of-requires g c = subst (λ (calls : Granted). IsMaskOf calls c.touched-mask.result) (sym (c.in-Err.ensures.err ∙ c.into_calls.ensures)) c.touched-mask.ensures
+
+pub of-requires-in-Some-holder : goal.of-requires-in-Some-holder
+of-requires-in-Some-holder g c =
+    subst (λ (calls : Granted). IsMaskOf calls c.touched-mask.result) (sym (c.into_calls-in-Some-holder.ensures ∙ c.in-Ok.ensures.ok ∙ c.into_calls.ensures)) c.touched-mask.ensures
+
+pub of-requires-in-Ok-copy_of : goal.of-requires-in-Ok-copy_of
+of-requires-in-Ok-copy_of g c =
+    let was : IsMaskOf c.in-Ok.calls c.touched-mask.result = subst (λ (calls : Granted). IsMaskOf calls c.touched-mask.result) (sym (c.in-Ok.ensures.ok ∙ c.into_calls.ensures)) c.touched-mask.ensures in
+    rw (c.push-calls.ensures, c.mask_of.ensures) (mask-push c.in-Ok.calls c.touched-mask.result c.args.call.now c.in-Ok-copy_of.kept was)
+
+pub of-requires-in-Err-copy_of : goal.of-requires-in-Err-copy_of
+of-requires-in-Err-copy_of g c =
+    subst (λ (calls : Granted). IsMaskOf calls c.touched-mask.result) (sym (c.into_calls-in-Err-copy_of.ensures ∙ c.in-Ok.ensures.ok ∙ c.into_calls.ensures)) c.touched-mask.ensures
+
+pub of-requires-in-Err-work : goal.of-requires-in-Err-work
+of-requires-in-Err-work g c =
+    subst (λ (calls : Granted). IsMaskOf calls c.touched-mask.result) (sym (c.into_calls-in-Err-work.ensures ∙ c.in-Ok.ensures.ok ∙ c.into_calls.ensures)) c.touched-mask.ensures
 
 pub returns-in-Some-holder : goal.returns-in-Some-holder
 returns-in-Some-holder g c = record {
   answered = inl (
     refl,
-    c.into_live.ensures ∙ c.in-Ok.ensures.ok,
+    c.of-in-Some-holder.ensures ∙ c.into_calls-in-Some-holder.ensures ∙ c.in-Ok.ensures.ok ∙ c.into_calls.ensures,
     inr (
-      subst (λ (n : ℕ). HasSaves n (call_of c.args.call.now)) c.saves.ensures.count (subst (λ (k : Call). HasSaves c.saves.result k) c.call-asked.ensures c.in_default.ensures.has),
-      inr (c.in-Some-holder.holder, refl, subst (λ (k : Call). IsBusyWith (bare c.args.seats.now) c.args.caller k c.in-Some-holder.holder) c.call-asked.ensures c.in-Some-holder.ensures.busy),
+      subst (λ (n : ℕ). HasSaves n c.args.call.now) c.saves.ensures.count c.in_default.ensures.has,
+      inr (c.in-Some-holder.holder, refl, c.in-Some-holder.ensures.busy),
     ),
   );
 }
@@ -21,32 +50,35 @@ returns-in-Some-holder g c = record {
 pub returns-in-Ok-copy_of : goal.returns-in-Ok-copy_of
 returns-in-Ok-copy_of g c = record {
   answered = inr (record {
-    saves_there = subst (λ (n : ℕ). HasSaves n (call_of c.args.call.now)) c.saves.ensures.count (subst (λ (k : Call). HasSaves c.saves.result k) c.call-asked.ensures c.in_default.ensures.has);
-    free = subst (λ (k : Call). IsFree (bare c.args.seats.now) c.args.caller k) c.call-asked.ensures c.in_default-holder.ensures.free;
+    saves_there = subst (λ (n : ℕ). HasSaves n c.args.call.now) c.saves.ensures.count c.in_default.ensures.has;
+    free = c.in_default-holder.ensures.free;
     result = Ok c.in-Ok-work.reply;
-    works = c.in-Ok-work.ensures.works;
-    answered = inl (c.push.ensures ∙ (λ i. c.in-Ok.ensures.ok i ++ (c.call-asked.ensures i, c.in-Ok-copy_of.ensures.same i) ∷ []), refl);
+    works = subst (λ (k : Call). Works g.S.EawStore.tells (g.S.EawStore.opens (g.S.EawStore.view c.args.records.now.store).shape) g.K.KeyIndex.index c.args.caller k
+        (pages_of (g.S.EawStore.view c.args.records.now.store) c.args.records.now) (pages_of (g.S.EawStore.view c.work.new.records.store) c.work.new.records) (Ok c.in-Ok-work.reply)) c.requires.said c.in-Ok-work.ensures.works;
+    answered = inl (c.of-in-Ok-copy_of.ensures ∙ c.push-calls.ensures ∙ (λ i. (c.in-Ok.ensures.ok ∙ c.into_calls.ensures) i ++ (c.args.call.now, c.in-Ok-copy_of.ensures.same i) ∷ []), refl);
   });
 }
 
 pub returns-in-Err-copy_of : goal.returns-in-Err-copy_of
 returns-in-Err-copy_of g c = record {
   answered = inr (record {
-    saves_there = subst (λ (n : ℕ). HasSaves n (call_of c.args.call.now)) c.saves.ensures.count (subst (λ (k : Call). HasSaves c.saves.result k) c.call-asked.ensures c.in_default.ensures.has);
-    free = subst (λ (k : Call). IsFree (bare c.args.seats.now) c.args.caller k) c.call-asked.ensures c.in_default-holder.ensures.free;
+    saves_there = subst (λ (n : ℕ). HasSaves n c.args.call.now) c.saves.ensures.count c.in_default.ensures.has;
+    free = c.in_default-holder.ensures.free;
     result = Ok c.in-Ok-work.reply;
-    works = c.in-Ok-work.ensures.works;
-    answered = inr (c.in-Err-copy_of.ensures.listed.0, c.in-Err-copy_of.ensures.listed.1, c.into_live-in-Err-copy_of.ensures ∙ c.in-Ok.ensures.ok, refl);
+    works = subst (λ (k : Call). Works g.S.EawStore.tells (g.S.EawStore.opens (g.S.EawStore.view c.args.records.now.store).shape) g.K.KeyIndex.index c.args.caller k
+        (pages_of (g.S.EawStore.view c.args.records.now.store) c.args.records.now) (pages_of (g.S.EawStore.view c.work.new.records.store) c.work.new.records) (Ok c.in-Ok-work.reply)) c.requires.said c.in-Ok-work.ensures.works;
+    answered = inr (c.in-Err-copy_of.ensures.listed.0, c.in-Err-copy_of.ensures.listed.1, c.of-in-Err-copy_of.ensures ∙ c.into_calls-in-Err-copy_of.ensures ∙ c.in-Ok.ensures.ok ∙ c.into_calls.ensures, refl);
   });
 }
 
 pub returns-in-Err-work : goal.returns-in-Err-work
 returns-in-Err-work g c = record {
   answered = inr (record {
-    saves_there = subst (λ (n : ℕ). HasSaves n (call_of c.args.call.now)) c.saves.ensures.count (subst (λ (k : Call). HasSaves c.saves.result k) c.call-asked.ensures c.in_default.ensures.has);
-    free = subst (λ (k : Call). IsFree (bare c.args.seats.now) c.args.caller k) c.call-asked.ensures c.in_default-holder.ensures.free;
+    saves_there = subst (λ (n : ℕ). HasSaves n c.args.call.now) c.saves.ensures.count c.in_default.ensures.has;
+    free = c.in_default-holder.ensures.free;
     result = Err c.in-Err-work.fault;
-    works = c.in-Err-work.ensures.works;
-    answered = (c.into_live-in-Err-work.ensures ∙ c.in-Ok.ensures.ok, c.from.ensures);
+    works = subst (λ (k : Call). Works g.S.EawStore.tells (g.S.EawStore.opens (g.S.EawStore.view c.args.records.now.store).shape) g.K.KeyIndex.index c.args.caller k
+        (pages_of (g.S.EawStore.view c.args.records.now.store) c.args.records.now) (pages_of (g.S.EawStore.view c.work.new.records.store) c.work.new.records) (Err c.in-Err-work.fault)) c.requires.said c.in-Err-work.ensures.works;
+    answered = (c.of-in-Err-work.ensures ∙ c.into_calls-in-Err-work.ensures ∙ c.in-Ok.ensures.ok ∙ c.into_calls.ensures, c.from.ensures);
   });
 }

@@ -1,5 +1,5 @@
 use Rattle.std.proofs.Common.{◌≡◌, take}
-use Rattle.mars_shell.specs.Drill.{key_sum}
+use Rattle.mars_shell.specs.Tally.{key_sum}
 use Rattle.mars_shell.proofs.summary.key_sum.Given as goal
 
 -- the sum so far

@@ -1,7 +1,6 @@
 use Rattle.std.proofs.Common.{◌≡◌, ◌≤◌, List, length, false}
 use Rattle.caller_steps.specs.Run.{Turn}
-use Rattle.mars_shell.specs.Drill.{GoOn}
-use Rattle.mars_shell.specs.Made.{Made}
+use Rattle.mars_shell.specs.Made.{Made, GoOn}
 use Rattle.mars_shell.specs.Tally.{tally_of, total}
 use Rattle.mars_shell.proofs.turns.make_turns.Given as goal
 

@@ -1,4 +1,4 @@
-use Rattle.std.proofs.Common.{[], inl, ⊎_elim, refl, arith}
+use Rattle.std.proofs.Common.{◌≡◌, [], inl, ⊎_elim, refl, arith}
 use Rattle.std.specs.Prelude.{map, string_bytes, true, false, IsTrue}
 use Rattle.std.proofs.lemmas.Bool.{false≢true}
 use Rattle.command_words.specs.declared.words.Words.TheVariants.{Run, Callers, Eaw, Dump, Drill, Format}
@@ -53,7 +53,7 @@ pub returns-in-Ok-Run-clause-input : goal.returns-in-Ok-Run-clause-input
 returns-in-Ok-Run-clause-input g c = words_say (map string_bytes c.args.words.now) c.over_records.result.0 _ _ Run c.over_records.ensures.no_usage (rw c.in-Ok-Run.field-0-is at c.in-Ok-Run.ensures.asked) (c.over_records.ensures.input refl)
 
 pub returns-in-Ok-Run-clause-formats : goal.returns-in-Ok-Run-clause-formats
-returns-in-Ok-Run-clause-formats g c = words_say (map string_bytes c.args.words.now) c.over_records.result.0 _ _ Run c.over_records.ensures.no_usage (rw c.in-Ok-Run.field-0-is at c.in-Ok-Run.ensures.asked) tt
+returns-in-Ok-Run-clause-formats g c = words_say (map string_bytes c.args.words.now) c.over_records.result.0 _ _ Run c.over_records.ensures.no_usage (rw c.in-Ok-Run.field-0-is at c.in-Ok-Run.ensures.asked) (λ numbers is. absurd (let no : ⊥ = cc is in no))
 
 pub returns-in-Ok-Run-clause-dumps : goal.returns-in-Ok-Run-clause-dumps
 returns-in-Ok-Run-clause-dumps g c = words_say (map string_bytes c.args.words.now) c.over_records.result.0 _ _ Run c.over_records.ensures.no_usage (rw c.in-Ok-Run.field-0-is at c.in-Ok-Run.ensures.asked) (λ is. absurd (no_dump Run tt is))
@@ -99,7 +99,7 @@ pub returns-in-Ok-Callers-clause-input : goal.returns-in-Ok-Callers-clause-input
 returns-in-Ok-Callers-clause-input g c = callers_say (map string_bytes c.args.words.now) c.run_callers.result.0 _ _ c.in-Ok-Callers.numbers (rw c.in-Ok-Callers.field-0-is at c.in-Ok-Callers.ensures.asked) (c.run_callers.ensures.input)
 
 pub returns-in-Ok-Callers-clause-formats : goal.returns-in-Ok-Callers-clause-formats
-returns-in-Ok-Callers-clause-formats g c = callers_say (map string_bytes c.args.words.now) c.run_callers.result.0 _ _ c.in-Ok-Callers.numbers (rw c.in-Ok-Callers.field-0-is at c.in-Ok-Callers.ensures.asked) tt
+returns-in-Ok-Callers-clause-formats g c = callers_say (map string_bytes c.args.words.now) c.run_callers.result.0 _ _ c.in-Ok-Callers.numbers (rw c.in-Ok-Callers.field-0-is at c.in-Ok-Callers.ensures.asked) (λ numbers is. absurd (let no : ⊥ = cc is in no))
 
 pub returns-in-Ok-Callers-clause-dumps : goal.returns-in-Ok-Callers-clause-dumps
 returns-in-Ok-Callers-clause-dumps g c = callers_say (map string_bytes c.args.words.now) c.run_callers.result.0 _ _ c.in-Ok-Callers.numbers (rw c.in-Ok-Callers.field-0-is at c.in-Ok-Callers.ensures.asked) (λ is. absurd (no_dump (Callers c.in-Ok-Callers.numbers) tt is))
@@ -141,7 +141,7 @@ pub returns-in-Ok-Dump-clause-input : goal.returns-in-Ok-Dump-clause-input
 returns-in-Ok-Dump-clause-input g c = words_say (map string_bytes c.args.words.now) c.over_records-in-Ok-Dump.result.0 _ _ Dump c.over_records-in-Ok-Dump.ensures.no_usage (rw c.in-Ok-Dump.field-0-is at c.in-Ok-Dump.ensures.asked) (c.over_records-in-Ok-Dump.ensures.unread refl)
 
 pub returns-in-Ok-Dump-clause-formats : goal.returns-in-Ok-Dump-clause-formats
-returns-in-Ok-Dump-clause-formats g c = words_say (map string_bytes c.args.words.now) c.over_records-in-Ok-Dump.result.0 _ _ Dump c.over_records-in-Ok-Dump.ensures.no_usage (rw c.in-Ok-Dump.field-0-is at c.in-Ok-Dump.ensures.asked) tt
+returns-in-Ok-Dump-clause-formats g c = words_say (map string_bytes c.args.words.now) c.over_records-in-Ok-Dump.result.0 _ _ Dump c.over_records-in-Ok-Dump.ensures.no_usage (rw c.in-Ok-Dump.field-0-is at c.in-Ok-Dump.ensures.asked) (λ numbers is. absurd (let no : ⊥ = cc is in no))
 
 pub returns-in-Ok-Dump-clause-dumps : goal.returns-in-Ok-Dump-clause-dumps
 returns-in-Ok-Dump-clause-dumps g c = words_say (map string_bytes c.args.words.now) c.over_records-in-Ok-Dump.result.0 _ _ Dump c.over_records-in-Ok-Dump.ensures.no_usage (rw c.in-Ok-Dump.field-0-is at c.in-Ok-Dump.ensures.asked) (λ is. c.over_records-in-Ok-Dump.ensures.untold refl)
@@ -187,7 +187,7 @@ pub returns-in-Ok-Drill-clause-input : goal.returns-in-Ok-Drill-clause-input
 returns-in-Ok-Drill-clause-input g c = words_say (map string_bytes c.args.words.now) c.over_records-in-Ok-Drill.result.0 _ _ (Drill c.in-Ok-Drill.numbers) c.over_records-in-Ok-Drill.ensures.no_usage (rw c.in-Ok-Drill.field-0-is at c.in-Ok-Drill.ensures.asked) (c.over_records-in-Ok-Drill.ensures.unread refl)
 
 pub returns-in-Ok-Drill-clause-formats : goal.returns-in-Ok-Drill-clause-formats
-returns-in-Ok-Drill-clause-formats g c = words_say (map string_bytes c.args.words.now) c.over_records-in-Ok-Drill.result.0 _ _ (Drill c.in-Ok-Drill.numbers) c.over_records-in-Ok-Drill.ensures.no_usage (rw c.in-Ok-Drill.field-0-is at c.in-Ok-Drill.ensures.asked) tt
+returns-in-Ok-Drill-clause-formats g c = words_say (map string_bytes c.args.words.now) c.over_records-in-Ok-Drill.result.0 _ _ (Drill c.in-Ok-Drill.numbers) c.over_records-in-Ok-Drill.ensures.no_usage (rw c.in-Ok-Drill.field-0-is at c.in-Ok-Drill.ensures.asked) (λ numbers is. absurd (let no : ⊥ = cc is in no))
 
 pub returns-in-Ok-Drill-clause-dumps : goal.returns-in-Ok-Drill-clause-dumps
 returns-in-Ok-Drill-clause-dumps g c = words_say (map string_bytes c.args.words.now) c.over_records-in-Ok-Drill.result.0 _ _ (Drill c.in-Ok-Drill.numbers) c.over_records-in-Ok-Drill.ensures.no_usage (rw c.in-Ok-Drill.field-0-is at c.in-Ok-Drill.ensures.asked) (λ is. absurd (no_dump (Drill c.in-Ok-Drill.numbers) tt is))
@@ -257,7 +257,7 @@ pub returns-in-Ok-Eaw-clause-input : goal.returns-in-Ok-Eaw-clause-input
 returns-in-Ok-Eaw-clause-input g c = words_say (map string_bytes c.args.words.now) c.run_commands.result.0 _ _ Eaw c.run_commands.ensures.no_usage (rw c.in-Ok-Eaw.field-0-is at c.in-Ok-Eaw.ensures.asked) c.run_commands.ensures.input
 
 pub returns-in-Ok-Eaw-clause-formats : goal.returns-in-Ok-Eaw-clause-formats
-returns-in-Ok-Eaw-clause-formats g c = words_say (map string_bytes c.args.words.now) c.run_commands.result.0 _ _ Eaw c.run_commands.ensures.no_usage (rw c.in-Ok-Eaw.field-0-is at c.in-Ok-Eaw.ensures.asked) tt
+returns-in-Ok-Eaw-clause-formats g c = words_say (map string_bytes c.args.words.now) c.run_commands.result.0 _ _ Eaw c.run_commands.ensures.no_usage (rw c.in-Ok-Eaw.field-0-is at c.in-Ok-Eaw.ensures.asked) (λ numbers is. absurd (let no : ⊥ = cc is in no))
 
 pub returns-in-Ok-Eaw-clause-dumps : goal.returns-in-Ok-Eaw-clause-dumps
 returns-in-Ok-Eaw-clause-dumps g c = words_say (map string_bytes c.args.words.now) c.run_commands.result.0 _ _ Eaw c.run_commands.ensures.no_usage (rw c.in-Ok-Eaw.field-0-is at c.in-Ok-Eaw.ensures.asked) (λ is. absurd (no_dump Eaw tt is))
@@ -284,7 +284,7 @@ pub returns-in-Ok-Format-clause-input : goal.returns-in-Ok-Format-clause-input
 returns-in-Ok-Format-clause-input g c = words_say (map string_bytes c.args.words.now) c.run_format.result.0 _ _ (Format c.in-Ok-Format.numbers) (no_usage c.in-Ok-Format.numbers _ c.run_format.result.0 _ _ c.run_format.ensures.says) (rw c.in-Ok-Format.field-0-is at c.in-Ok-Format.ensures.asked) refl
 
 pub returns-in-Ok-Format-clause-formats : goal.returns-in-Ok-Format-clause-formats
-returns-in-Ok-Format-clause-formats g c = words_say (map string_bytes c.args.words.now) c.run_format.result.0 _ _ (Format c.in-Ok-Format.numbers) (no_usage c.in-Ok-Format.numbers _ c.run_format.result.0 _ _ c.run_format.ensures.says) (rw c.in-Ok-Format.field-0-is at c.in-Ok-Format.ensures.asked) c.run_format.ensures.says
+returns-in-Ok-Format-clause-formats g c = words_say (map string_bytes c.args.words.now) c.run_format.result.0 _ _ (Format c.in-Ok-Format.numbers) (no_usage c.in-Ok-Format.numbers _ c.run_format.result.0 _ _ c.run_format.ensures.says) (rw c.in-Ok-Format.field-0-is at c.in-Ok-Format.ensures.asked) (λ numbers is. rw (let same : c.in-Ok-Format.numbers ≡ numbers = cc is in same) at c.run_format.ensures.says)
 
 pub returns-in-Ok-Format-clause-dumps : goal.returns-in-Ok-Format-clause-dumps
 returns-in-Ok-Format-clause-dumps g c = words_say (map string_bytes c.args.words.now) c.run_format.result.0 _ _ (Format c.in-Ok-Format.numbers) (no_usage c.in-Ok-Format.numbers _ c.run_format.result.0 _ _ c.run_format.ensures.says) (rw c.in-Ok-Format.field-0-is at c.in-Ok-Format.ensures.asked) (λ is. absurd (no_dump (Format c.in-Ok-Format.numbers) tt is))

@@ -8,4 +8,4 @@ pub returns-clause-written : goal.returns-clause-written
 returns-clause-written c = grind (arith, common_steps)
 
 pub returns-clause-reads_back : goal.returns-clause-reads_back
-returns-clause-reads_back c = ap row_said (returns-clause-written c) ∙ row_said-bytes c.args.row.now (omega arith) (omega arith)
+returns-clause-reads_back c = ap row_said (returns-clause-written c) ∙ row_said-bytes c.args.row.now (record { first = omega arith; count = omega arith; group = omega arith; order = omega arith })

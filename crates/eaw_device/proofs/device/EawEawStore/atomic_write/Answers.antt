@@ -1,12 +1,11 @@
-use Rattle.std.proofs.Common.{ℕ, ◌*◌, List, length, refl, subst, arith}
+use Rattle.std.proofs.Common.{ℕ, List, length, refl, subst, arith}
 use Rattle.std.proofs.lemmas.Result.{err_from_is_err_and}
 use Rattle.mars_base.specs.Costs.{Costs}
 use Rattle.mars_base.proofs.Costing.{none_yet, costs_more, costs_then}
 use Rattle.array_shape.specs.declared.shape.Shape.{Shape}
 use Rattle.array_shape.specs.Parts.{parts_of_write}
 use Rattle.array_shape.specs.Logged.{ranges_of}
-use Rattle.coordinator.specs.Costs.{commit_calls}
-use Rattle.eaw_device.specs.Costs.{counts_of}
+use Rattle.eaw_device.specs.Costs.{commit_cost}
 use Rattle.array_image.proofs.Data.{length-data_of}
 use Rattle.eaw_device.specs.Opens.{Opens}
 use Rattle.eaw_device.specs.Logs.{ranges_in, parts_in, entries_at}
@@ -67,6 +66,6 @@ returns-clause-costs g c =
     c.args.tid c.args.addr c.args.bytes.now c.requires.free
     (λ told fine. none_ranges ranges_in (parts_in s.shape (m.view s.media).content.bytes c.args.tid) (entries_at s.logs.items c.args.tid) c.requires.free)
     (λ told. omega (arith, c.requires.inside, length-data_of s.shape (m.view s.media).content.bytes)) c.in_ok-log_write.field-0 wrote in
-    costs_then m.tells _ (2 * length parts) (commit_calls (counts_of s.shape (ranges_of parts))) _ _ _ c.commit.result refl
-    (costs_more m.tells (2 * length parts) 0 (2 * length parts) _ _ _ _ (omega arith) (none_yet m.tells 0 _ refl) c.in_ok-log_write.ensures.costs)
-    (subst (λ (p : Shape × List (ℕ × ℕ)). Costs m.tells (commit_calls (counts_of p.0 p.1)) (m.view mid.media).moment (m.view last.media).moment c.commit.result) (λ i. (wrote.shape i, ranges i)) c.commit.ensures.costs)
+    costs_then m.tells _ (length parts) (commit_cost s.shape 1 (ranges_of parts)) _ _ _ c.commit.result refl
+    (costs_more m.tells (length parts) 0 (length parts) _ _ _ _ (omega arith) (none_yet m.tells 0 _ refl) c.in_ok-log_write.ensures.costs)
+    (subst (λ (p : Shape × List (ℕ × ℕ)). Costs m.tells (commit_cost p.0 1 p.1) (m.view mid.media).moment (m.view last.media).moment c.commit.result) (λ i. (wrote.shape i, ranges i)) c.commit.ensures.costs)

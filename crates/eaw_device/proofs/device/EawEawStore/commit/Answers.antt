@@ -6,8 +6,7 @@ use Rattle.eaw_device.specs.Opens.{Opens}
 use Rattle.eaw_device.specs.Sound.{view_of}
 use Rattle.eaw_device.proofs.StagedCalls.{when_ok}
 use Rattle.eaw_device.proofs.Doing.{lacking, lacking_other, Found, found, when_err}
-use Rattle.coordinator.specs.Costs.{commit_calls}
-use Rattle.eaw_device.specs.Costs.{counts_of}
+use Rattle.eaw_device.specs.Costs.{commit_cost}
 use Rattle.eaw_device.proofs.Costing.{costs_done}
 use Rattle.eaw_device.proofs.Tables.{ranges_there}
 use Rattle.eaw_device.proofs.Commits.{its_len, commit_failed, commit_sound, commit_done}
@@ -117,7 +116,7 @@ returns-clause-costs g c =
     let there = found m.tells (m.view s.media) s.shape s.logs.items s.is_dead s.sound c.in_ok-at.ensures.alive c.args.tid c.in_ok-at.at c.index.result.now c.in_ok-at.ensures.at c.in_ok-at.ensures.live c.index.ensures in
     let ranges = ranges_there s.shape s.logs.items c.args.tid c.index.result.now there.there there.kept in
     costs_done m.tells _ _ _ _ c.commit_log.result tt (sym c.is_err.ensures.value ∙ c.if-is_err.false)
-    (ap (λ (rs : List (ℕ × ℕ)). commit_calls (counts_of s.shape (drop 0 rs))) (sym ranges)) c.commit_log.ensures.costs
+    (ap (λ (rs : List (ℕ × ℕ)). commit_cost s.shape 1 (drop 0 rs)) (sym ranges)) c.commit_log.ensures.costs
 
 pub returns-then-is_err-clause-refused : goal.returns-then-is_err-clause-refused
 returns-then-is_err-clause-refused g c = λ ne. absurd (ne refl)
@@ -134,5 +133,5 @@ returns-then-is_err-clause-costs g c =
     let s = c.args.self.now in
     let there = found m.tells (m.view s.media) s.shape s.logs.items s.is_dead s.sound c.in_ok-at.ensures.alive c.args.tid c.in_ok-at.at c.index.result.now c.in_ok-at.ensures.at c.in_ok-at.ensures.live c.index.ensures in
     let ranges = ranges_there s.shape s.logs.items c.args.tid c.index.result.now there.there there.kept in
-    let same = ap (λ (rs : List (ℕ × ℕ)). commit_calls (counts_of s.shape (drop 0 rs))) ranges in
+    let same = ap (λ (rs : List (ℕ × ℕ)). commit_cost s.shape 1 (drop 0 rs)) ranges in
     record { done = λ exact. tt; most = omega (arith, c.commit_log.ensures.costs.most, same) }

@@ -17,7 +17,7 @@ returns-clause-row g c told =
     let old = (g.M.Media.view c.args.media.now).content in
     let long : length old.bytes ≡ media_len c.args.self.shape = g.met.M.Media.long c.args.media.now told ∙ c.requires.size in
     let row = (λ i. row_of c.args.self.shape (put old.bytes (c.row_at.ensures i + 1) (take 15 (drop 1 (c.write_row.ensures.written i)))) c.args.self.number c.args.tid)
-    ∙ row_of-put_rest c.args.self.shape c.args.self.number c.args.tid old.bytes long c.args.self.there c.requires.tid c.args.mask c.args.first c.args.count (omega arith) (omega arith) in
+    ∙ row_of-put_rest c.args.self.shape c.args.self.number c.args.tid old.bytes long c.args.self.there c.requires.tid c.args.row (record { first = omega arith; count = omega arith; group = omega arith; order = omega arith }) in
     on_ok_weaker c.write.result (λ is. ap (λ (content : Content). row_of c.args.self.shape content.bytes c.args.self.number c.args.tid) is ∙ row) (c.write.ensures.written told)
 
 pub returns-clause-costs : goal.returns-clause-costs

@@ -27,7 +27,7 @@ returns-clause-row g c told =
     let long : length old.bytes ≡ media_len shape = g.met.M.Media.long c.args.media.now told ∙ c.requires.size in
     let at = ap (λ (at : ℕ). row_of shape (put old.bytes at (c.vote_byte.result ∷ [])) number c.args.tid) c.row_at.ensures in
     let reads = ap (λ (n : ℕ). nat_eq n 0xC3) c.vote_byte.ensures ∙ vote_reads c.args.voted in
-    let said = row_of-put_vote shape number c.args.tid old.bytes long c.args.self.there c.requires.tid c.vote_byte.result ∙ ap (λ (v : Bool). row v was.mask was.first was.count) reads in
+    let said = row_of-put_vote shape number c.args.tid old.bytes long c.args.self.there c.requires.tid c.vote_byte.result ∙ ap (λ (v : Bool). row v was.mask was.first was.count was.group was.order) reads in
     on_ok_weaker c.write.result (λ is. ap (λ (content : Content). row_of shape content.bytes number c.args.tid) is ∙ at ∙ said) (c.write.ensures.written told)
 
 pub returns-clause-costs : goal.returns-clause-costs

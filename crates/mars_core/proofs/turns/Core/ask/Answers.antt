@@ -10,13 +10,12 @@ use Rattle.mars_core.specs.Held.{Held, core_of, state_at}
 use Rattle.mars_core.specs.Kept.{IsKept}
 use Rattle.mars_core.specs.Over.{limits_of}
 use Rattle.mars_core.specs.Seats.{Seats, live_in}
-use Rattle.mars_core.specs.TableCall.{call_of}
 use Rattle.mars_core.specs.Works.{IsShown}
 use Rattle.mars_core.proofs.Answered.{unmade_steps, made_keeps, made_steps}
 use Rattle.mars_core.proofs.Answering.{IndexLaws}
-use Rattle.mars_core.proofs.Mirroring.{of_table}
+use Rattle.mars_core.proofs.Mirroring.{is_of_table}
 use Rattle.mars_core.proofs.Prefixes.{StoreLaws}
-use Rattle.mars_core.proofs.Staying.{update_same, changed_back, changed_twice, kept_same, absent_at, absent_steps}
+use Rattle.mars_core.proofs.Staying.{update_same, changed_back, changed_twice, kept_same, is_absent_at, absent_steps}
 use Rattle.mars_core.proofs.turns.Core.ask.Given.{Over}
 use Rattle.mars_core.proofs.turns.Core.ask.Goals as goal
 
@@ -48,13 +47,13 @@ returns-in_default g c =
     let i = c.self.inside in
     let same = nothing i.seats c.take.new.self c.args.caller c.take.result c.take.ensures.live c.in_default.is c.take.ensures.out.live in
     record {
-      steps = subst (λ (h : Held g.row.S.Denot). Steps g.S.EawStore.tells c.args.caller (call_of c.args.call.now) (core_of g.S.EawStore.opens g.K.KeyIndex.index (g.S.EawStore.view h.records.store) h)
+      steps = subst (λ (h : Held g.row.S.Denot). Steps g.S.EawStore.tells c.args.caller c.args.call.now (core_of g.S.EawStore.opens g.K.KeyIndex.index (g.S.EawStore.view h.records.store) h)
           (core_of g.S.EawStore.opens g.K.KeyIndex.index (g.S.EawStore.view c.self.inside.records.store)
           (record { records = c.self.inside.records; base = c.self.inside.base; seats = c.take.new.self; history = c.self.inside.history; doubt = c.self.inside.doubt })) NoTransaction) c.self.view_is
           (absent_steps g.S.EawStore.tells g.S.EawStore.opens g.K.KeyIndex.index (pages_of (g.S.EawStore.view i.records.store) i.records)
           (state_at g.K.KeyIndex.index (g.S.EawStore.view i.records.store) (table_of i.base) i.history (live_in i.seats) i.doubt) (record { indexed = refl; dead = refl }) (length i.seats) i.base c.self.invariant
-          (subst (λ (h : Held g.row.S.Denot). IsAlive (g.S.EawStore.view h.records.store)) (sym c.self.view_is) c.requires.alive) c.args.caller (call_of c.args.call.now) (sym c.take.ensures.live ∙ c.in_default.is)
-          (absent_at (limits_of (g.S.EawStore.view i.records.store).shape) (state_at g.K.KeyIndex.index (g.S.EawStore.view i.records.store) (table_of i.base) i.history (live_in i.seats) i.doubt) c.args.caller c.args.call.now) _
+          (subst (λ (h : Held g.row.S.Denot). IsAlive (g.S.EawStore.view h.records.store)) (sym c.self.view_is) c.requires.alive) c.args.caller c.args.call.now (sym c.take.ensures.live ∙ c.in_default.is)
+          (is_absent_at (limits_of (g.S.EawStore.view i.records.store).shape) (state_at g.K.KeyIndex.index (g.S.EawStore.view i.records.store) (table_of i.base) i.history (live_in i.seats) i.doubt) c.args.caller c.args.asked c.args.call.now c.requires.said) _
           (ap (λ (live : ℕ → Option Granted). state_at g.K.KeyIndex.index (g.S.EawStore.view c.self.inside.records.store) (table_of c.self.inside.base) c.self.inside.history live c.self.inside.doubt) same));
     }
 
@@ -81,7 +80,7 @@ invariant_of-self-2 g c =
           (changed_back (live_in i.seats) t None (Some c.answer-live.result.0) (live_in c.take.new.self) (live_in c.put.new.self) c.take.ensures.out.live c.put.ensures.live (is ∙ ap (λ (cs : Granted). Some cs) (sym unmade.1)))))
       | inr made ↦ made_keeps T E I p s (record { indexed = refl; dead = refl }) (length i.seats) i.base c.self.invariant alive
           (subst (λ (h : Held g.row.S.Denot). IsShown g.S.EawStore.tells g.K.KeyIndex.index (pages_of (g.S.EawStore.view h.records.store) h.records)) (sym c.self.view_is) c.requires.shown)
-          t (call_of c.args.call.now) (of_table c.args.call.now) c.in-Some.live is c.take.new.self None c.take.ensures.out.live g.met.S.EawStore.one_data (index_laws g) q (laws_at g i.records.store) (laws_at g c.answer-live.new.records.store)
+          t c.args.call.now (is_of_table c.args.asked c.args.call.now c.requires.said) c.in-Some.live is c.take.new.self None c.take.ensures.out.live g.met.S.EawStore.one_data (index_laws g) q (laws_at g i.records.store) (laws_at g c.answer-live.new.records.store)
           new (record { indexed = refl; dead = refl }) refl refl refl (length c.put.new.self) count c.answer-live.result.0
           (changed_twice (live_in i.seats) t None (Some c.answer-live.result.0) (live_in c.take.new.self) (live_in c.put.new.self) c.take.ensures.out.live c.put.ensures.live) c.answer-live.result.1 made
     ]
@@ -103,22 +102,22 @@ returns g c =
     let shown = subst (λ (h : Held g.row.S.Denot). IsShown g.S.EawStore.tells g.K.KeyIndex.index (pages_of (g.S.EawStore.view h.records.store) h.records)) (sym c.self.view_is) c.requires.shown in
     let count = c.put.ensures.count ∙ c.take.ensures.out.count in
     record {
-      steps = subst (λ (h : Held g.row.S.Denot). Steps g.S.EawStore.tells c.args.caller (call_of c.args.call.now) (core_of g.S.EawStore.opens g.K.KeyIndex.index (g.S.EawStore.view h.records.store) h)
+      steps = subst (λ (h : Held g.row.S.Denot). Steps g.S.EawStore.tells c.args.caller c.args.call.now (core_of g.S.EawStore.opens g.K.KeyIndex.index (g.S.EawStore.view h.records.store) h)
           (core_of g.S.EawStore.opens g.K.KeyIndex.index (g.S.EawStore.view c.answer-live.new.records.store)
           (record { records = c.answer-live.new.records; base = c.self.inside.base; seats = c.put.new.self; history = c.self.inside.history; doubt = c.self.inside.doubt })) c.answer-live.result.1) c.self.view_is
           (elim c.answer-live.ensures.answered [
-            | inl unmade ↦ subst (λ (r : Shown g.row.S.Denot). Steps g.S.EawStore.tells c.args.caller (call_of c.args.call.now)
+            | inl unmade ↦ subst (λ (r : Shown g.row.S.Denot). Steps g.S.EawStore.tells c.args.caller c.args.call.now
                 (core_of g.S.EawStore.opens g.K.KeyIndex.index (g.S.EawStore.view c.self.inside.records.store)
                 (record { records = c.self.inside.records; base = c.self.inside.base; seats = c.self.inside.seats; history = c.self.inside.history; doubt = c.self.inside.doubt }))
                 (core_of g.S.EawStore.opens g.K.KeyIndex.index (g.S.EawStore.view r.store)
                 (record { records = r; base = c.self.inside.base; seats = c.put.new.self; history = c.self.inside.history; doubt = c.self.inside.doubt })) c.answer-live.result.1) (sym unmade.0)
-                (unmade_steps T E I p s (record { indexed = refl; dead = refl }) (length i.seats) i.base c.self.invariant alive shown t (call_of c.args.call.now) (of_table c.args.call.now) c.in-Some.live is
+                (unmade_steps T E I p s (record { indexed = refl; dead = refl }) (length i.seats) i.base c.self.invariant alive shown t c.args.call.now (is_of_table c.args.asked c.args.call.now c.requires.said) c.in-Some.live is
                 c.take.new.self None c.take.ensures.out.live _
                 (ap (λ (live : ℕ → Option Granted). state_at g.K.KeyIndex.index (g.S.EawStore.view c.self.inside.records.store) (table_of c.self.inside.base) c.self.inside.history live c.self.inside.doubt)
                 (changed_back (live_in i.seats) t None (Some c.answer-live.result.0) (live_in c.take.new.self) (live_in c.put.new.self) c.take.ensures.out.live c.put.ensures.live (is ∙ ap (λ (cs : Granted). Some cs) (sym unmade.1))))
                 c.answer-live.result.1 unmade.2)
             | inr made ↦ made_steps T E I p s (record { indexed = refl; dead = refl }) (length i.seats) i.base c.self.invariant alive shown
-                t (call_of c.args.call.now) (of_table c.args.call.now) c.in-Some.live is c.take.new.self None c.take.ensures.out.live g.met.S.EawStore.one_data (index_laws g) q (laws_at g i.records.store) (laws_at g c.answer-live.new.records.store)
+                t c.args.call.now (is_of_table c.args.asked c.args.call.now c.requires.said) c.in-Some.live is c.take.new.self None c.take.ensures.out.live g.met.S.EawStore.one_data (index_laws g) q (laws_at g i.records.store) (laws_at g c.answer-live.new.records.store)
                 new (record { indexed = refl; dead = refl }) refl refl refl (length c.put.new.self) count c.answer-live.result.0
                 (changed_twice (live_in i.seats) t None (Some c.answer-live.result.0) (live_in c.take.new.self) (live_in c.put.new.self) c.take.ensures.out.live c.put.ensures.live) c.answer-live.result.1 made
           ]);

@@ -1,0 +1,136 @@
+-- What a run leaves in which no turn asks to write.
+use Rattle.std.proofs.Common.{◌≡◌, ℕ, zero, suc, inl, inr, Bool, true, false, ◌||◌, List, [], ◌∷◌, ◌++◌, take, length, Option, Some, None, unwrap_or, refl, sym, ap, subst, ◌∙◌}
+use Rattle.std.specs.Prelude.{IsFalse, if◌then◌else◌}
+use Rattle.std.proofs.lemmas.Bool.{cases_eq, true≢false}
+use Rattle.history.specs.Writes.{Write}
+use Rattle.history.specs.Table.{Granted, has_save}
+use Rattle.history.specs.Log.{Log, save_at, log_after, log_of}
+use Rattle.history.specs.declared.call.Call.{Call}
+use Rattle.history.specs.declared.call.Call.TheVariants.{Begin, Get, Put, Del, Scan, Save, Back, Commit, Abort}
+use Rattle.history.specs.declared.call.Reply.{Reply}
+use Rattle.history.proofs.OneMore.{log_of-push}
+use Rattle.history.proofs.Saves.{save_is_front}
+use Rattle.caller_steps.specs.State.{State, Index, calls_of}
+use Rattle.caller_steps.specs.Room.{Limits, Indexes}
+use Rattle.caller_steps.specs.Step.{Says, Asks, StepAt, StepIf, Step, Runs}
+use Rattle.caller_steps.specs.Fate.{is_refusal, is_media, live_with, Moves}
+use Rattle.caller_steps.specs.Run.{Turn, is_write, has_write}
+use Rattle.caller_steps.proofs.Fates.{step_moves}
+use Rattle.caller_steps.proofs.Running.{turns_dead, turns_of_runs}
+
+-- the calls have written nothing
+abbrev HasNone : Granted → Type 0
+HasNone calls = (log_of calls).writes ≡ []
+
+either : (a b : Bool) → (a || b) ≡ false → (a ≡ false) × (b ≡ false)
+either false b e = (refl, e)
+either true b e = absurd (true≢false e)
+
+front_of_none : (front whole : List Write) → take (length front) whole ≡ front → whole ≡ [] → front ≡ []
+front_of_none front whole is none = sym is ∙ ap (take (length front)) none ∙ take_none (length front)
+  where
+    take_none : (n : ℕ) → ◌≡◌ {A = List Write} (take n []) []
+    take_none zero = refl
+    take_none (suc n) = refl
+
+module _ (calls : Granted) (none : HasNone calls) where
+  back_none : (n : ℕ) (b : Bool) → has_save (log_of calls).saved n ≡ b
+      → (if b then (record { writes = save_at (log_of calls).saved n; saved = take n (log_of calls).saved }) else log_of calls).writes ≡ []
+  back_none n true is = front_of_none (save_at (log_of calls).saved n) (log_of calls).writes (save_is_front calls n is).is none
+  back_none n false is = none
+
+  log_none : (call : Call) (reply : Reply) → is_write call ≡ false → (log_after (log_of calls) call reply).writes ≡ []
+  log_none (Get key) reply reads = none
+  log_none (Put key value) reply reads = absurd (true≢false reads)
+  log_none (Del key) reply reads = absurd (true≢false reads)
+  log_none (Scan low high) reply reads = none
+  log_none Save reply reads = none
+  log_none (Back n) reply reads = back_none n (has_save (log_of calls).saved n) refl
+  log_none Begin reply reads = none
+  log_none Commit reply reads = none
+  log_none Abort reply reads = none
+
+  more_none : (call : Call) (reply : Reply) → is_write call ≡ false → HasNone (calls ++ (call, reply) ∷ [])
+  more_none call reply reads = ap (λ (l : Log). l.writes) (log_of-push calls call reply) ∙ log_none call reply reads
+
+  live_none : (call : Call) (reply : Reply) → is_write call ≡ false → HasNone (unwrap_or (live_with calls call reply) [])
+  live_none Begin reply reads = refl
+  live_none (Get key) reply reads = more_none (Get key) reply reads
+  live_none (Put key value) reply reads = absurd (true≢false reads)
+  live_none (Del key) reply reads = absurd (true≢false reads)
+  live_none (Scan low high) reply reads = more_none (Scan low high) reply reads
+  live_none Save reply reads = more_none Save reply reads
+  live_none (Back n) reply reads = more_none (Back n) reply reads
+  live_none Commit reply reads = refl
+  live_none Abort reply reads = refl
+
+module _ (limits : Limits) (old : State) (caller : ℕ) (new : State) (alive : new.is_dead ≡ false) where
+  said : (answer reply : Reply) → Says answer old reply new → new.index ≡ old.index
+  said answer reply s = ap (λ (s : State). s.index) s.1
+
+  asked : (calls : Granted) (call : Call) (reply : Reply) → ((index : Index) → Indexes limits call reply old.index index → index ≡ old.index) → Asks limits calls old caller call reply new → new.index ≡ old.index
+  asked calls call reply same (inl short) = ap (λ (s : State). s.index) short.1
+  asked calls call reply same (inr (inl held)) = ap (λ (s : State). s.index) held.2.1
+  asked calls call reply same (inr (inr (free, inl (answers, fits, index, indexes, e)))) = ap (λ (s : State). s.index) e ∙ same index indexes
+  asked calls call reply same (inr (inr (free, inr (inl (lacks, index, indexes, e))))) = ap (λ (s : State). s.index) e ∙ same index indexes
+  asked calls call reply same (inr (inr (free, inr (inr (uses, (re, index, e)))))) = absurd (true≢false (sym (ap (λ (s : State). s.is_dead) e) ∙ alive))
+
+  read_at : (live : Option Granted) (call : Call) (reply : Reply) → HasNone (unwrap_or live []) → is_write call ≡ false → StepAt limits live old caller call reply new → new.index ≡ old.index
+  read_at live (Put key value) reply none reads s = absurd (true≢false reads)
+  read_at live (Del key) reply none reads s = absurd (true≢false reads)
+  read_at None Begin reply none reads s = ap (λ (s : State). s.index) s.1
+  read_at None (Get key) reply none reads s = ap (λ (s : State). s.index) s.1
+  read_at None (Scan low high) reply none reads s = ap (λ (s : State). s.index) s.1
+  read_at None Save reply none reads s = ap (λ (s : State). s.index) s.1
+  read_at None (Back n) reply none reads s = ap (λ (s : State). s.index) s.1
+  read_at None Commit reply none reads s = ap (λ (s : State). s.index) s.1
+  read_at None Abort reply none reads s = ap (λ (s : State). s.index) s.1
+  read_at (Some calls) Begin reply none reads s = ap (λ (s : State). s.index) s.1
+  read_at (Some calls) (Get key) reply none reads a = asked calls (Get key) reply (λ index same. same) a
+  read_at (Some calls) (Scan low high) reply none reads a = asked calls (Scan low high) reply (λ index same. same) a
+  read_at (Some calls) Save reply none reads (inl (full, s)) = ap (λ (s : State). s.index) s.1
+  read_at (Some calls) Save reply none reads (inr (room, a)) = asked calls Save reply (λ index same. same) a
+  read_at (Some calls) (Back n) reply none reads (inl (absent, s)) = ap (λ (s : State). s.index) s.1
+  read_at (Some calls) (Back n) reply none reads (inr (there, a)) = asked calls (Back n) reply (λ index same. same) a
+  read_at (Some calls) Commit reply none reads (inl short) = ap (λ (s : State). s.index) short.1
+  read_at (Some calls) Commit reply none reads (inr (inl (re, index, settles, e))) = ap (λ (s : State). s.index) e ∙ settles.none none
+  read_at (Some calls) Commit reply none reads (inr (inr (wrote, re, index, e))) = absurd (true≢false (sym (ap (λ (s : State). s.is_dead) e) ∙ alive))
+  read_at (Some calls) Abort reply none reads s = ap (λ (s : State). s.index) s.1
+
+  read_if : (dead : Bool) (call : Call) (reply : Reply) → HasNone (calls_of old caller) → is_write call ≡ false → StepIf limits dead old caller call reply new → new.index ≡ old.index
+  read_if true call reply none reads s = ap (λ (s : State). s.index) s.1
+  read_if false call reply none reads s = read_at (old.live caller) call reply none reads s
+
+  -- a step leaves the index and the data
+  step_reads : (call : Call) (reply : Reply) → HasNone (calls_of old caller) → is_write call ≡ false → Step limits old caller call reply new → new.index ≡ old.index
+  step_reads call reply none reads s = read_if old.is_dead call reply none reads s
+
+  -- and nothing is written by a live transaction
+  step_none : (call : Call) (reply : Reply) → ((other : ℕ) → HasNone (calls_of old other)) → is_write call ≡ false → Step limits old caller call reply new → (other : ℕ) → HasNone (calls_of new other)
+  step_none call reply none reads s other = elim (cases_eq other caller) [
+    | inl e ↦ subst (λ (o : ℕ). HasNone (calls_of new o)) (sym e) (own (is_refusal reply) refl)
+    | inr ne ↦ subst (λ (o : Option Granted). HasNone (unwrap_or o [])) (sym (moves.others other ne)) (none other)
+  ]
+    where
+      moves : Moves old caller call reply new
+      moves = step_moves limits old caller call reply new s
+
+      own : (b : Bool) → is_refusal reply ≡ b → HasNone (calls_of new caller)
+      own true refusal = subst (λ (f : ℕ → Option Granted). HasNone (unwrap_or (f caller) [])) (sym (moves.refused refusal (either old.is_dead (is_media reply) (sym moves.dead ∙ alive)).1)) (none caller)
+      own false done = subst (λ (o : Option Granted). HasNone (unwrap_or o [])) (sym (moves.own done)) (live_none (calls_of old caller) (none caller) call reply reads)
+
+module _ (limits : Limits) where
+  alive_first : (first now : State) (turns : List Turn) → Runs limits first turns now → now.is_dead ≡ false → first.is_dead ≡ false
+  alive_first first now turns runs alive = (either first.is_dead _ (sym (turns_dead true limits first now turns (turns_of_runs limits first now turns runs)) ∙ alive)).0
+
+  runs_read : (first now : State) (turns : List Turn) → Runs limits first turns now → ((caller : ℕ) → HasNone (calls_of first caller)) → has_write turns ≡ false → now.is_dead ≡ false → now.index ≡ first.index
+  runs_read first now [] runs none reads alive = ap (λ (s : State). s.index) runs
+  runs_read first now (turn ∷ turns) runs none reads alive =
+      let living = alive_first runs.0 now turns runs.2 alive in
+      let both = either (is_write turn.1) (has_write turns) reads in
+      runs_read runs.0 now turns runs.2 (step_none limits first turn.0 runs.0 living turn.1 turn.2 none both.0 runs.1) both.1 alive
+      ∙ step_reads limits first turn.0 runs.0 living turn.1 turn.2 (none turn.0) both.0 runs.1
+
+  pub reads_leave : (first now : State) (turns : List Turn) → Runs limits first turns now → ((caller : ℕ) → first.live caller ≡ None) → has_write turns ≡ false → now.is_dead ≡ false → now.index ≡ first.index
+  reads_leave first now turns runs fresh reads alive =
+      runs_read first now turns runs (λ caller. subst (λ (o : Option Granted). HasNone (unwrap_or o [])) (sym (fresh caller)) refl) reads alive

@@ -1,0 +1,9 @@
+pub mod Orders
+pub mod Queues
+pub mod Moments
+pub mod WriteBack
+pub mod Between
+pub mod Resting
+pub mod Groups
+pub mod Counting
+pub mod Whole

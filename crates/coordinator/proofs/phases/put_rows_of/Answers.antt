@@ -1,0 +1,58 @@
+use Rattle.std.proofs.Common.{◌≡◌, ◌+◌, true, false, cond, [], ◌∷◌, refl, sym, ◌∙◌, ap, subst, arith}
+use Rattle.pcm_media.specs.Images.{IsOutside, Touched}
+use Rattle.array_shape.specs.Places.{row_at}
+use Rattle.row_bytes.specs.declared.row.Row.{Row}
+use Rattle.row_bytes.specs.Ballots.{ballot_of, has_row}
+use Rattle.array_image.specs.Image.{row_of}
+use Rattle.array_image.proofs.Calls.{goes_on, hands_on}
+use Rattle.mars_base.proofs.Costing.{costs_err}
+use Rattle.coordinator.specs.declared.cells.Cells.{Cells}
+use Rattle.coordinator.specs.Commits.{Says}
+use Rattle.coordinator.proofs.Calls.{body_within, one_skipped, rows_more}
+use Rattle.coordinator.proofs.Costing.{counted, not_counted, total_le, total_next}
+use Rattle.coordinator.proofs.phases.put_rows_of.Goals as goal
+
+pub loop-number-preserved-then-not-has_row : goal.loop-number-preserved-then-not-has_row
+loop-number-preserved-then-not-has_row g c =
+    let lacks : has_row c.args.ballot c.loop-number.number c.args.tid ≡ false = sym c.has_row.ensures ∙ c.if-not-has_row.true in
+    record {
+      costs = omega (arith, c.loop-number.invariant.costs, total_next (λ h. cond (has_row c.args.ballot h c.args.tid) 1 0) c.loop-number.number 0 (not_counted (has_row c.args.ballot c.loop-number.number c.args.tid) 1 lacks));
+      does = c.loop-number.invariant.does;
+      names = λ told. one_skipped (λ h. has_row c.args.ballot h c.args.tid) (λ h. Says c.args.ballot c.args.cells.now h c.args.tid (row_of c.args.shape.now (g.M.Media.view c.loop-number.media).content.bytes h c.args.tid)) c.loop-number.number lacks (c.loop-number.invariant.names told);
+    }
+
+pub returns-in_err-put_row-clause-costs : goal.returns-in_err-put_row-clause-costs
+returns-in_err-put_row-clause-costs g c =
+    let has : has_row c.args.ballot c.loop-number.number c.args.tid ≡ true = sym c.has_row.ensures ∙ c.if-not-has_row.false in
+    let one = total_next (λ h. cond (has_row c.args.ballot h c.args.tid) 1 0) c.loop-number.number 1 (counted (has_row c.args.ballot c.loop-number.number c.args.tid) 1 has) in
+    let most = total_le (λ h. cond (has_row c.args.ballot h c.args.tid) 1 0) (c.loop-number.number + 1) c.args.shape.now.loggers (omega arith) in
+    costs_err true _ _ _ c.from_residual.result c.from_residual.ensures.0 (omega (arith, c.put_row.ensures.costs.most, c.loop-number.invariant.costs, one, most))
+
+pub returns-in_err-put_row-clause-does : goal.returns-in_err-put_row-clause-does
+returns-in_err-put_row-clause-does g c =
+    let logger = c.new.ensures in
+    let has : has_row c.args.ballot c.loop-number.number c.args.tid ≡ true = sym c.has_row.ensures ∙ c.if-not-has_row.false in
+    let same : (row_at c.new.result.shape c.new.result.number c.args.tid + 1, 15) ≡ (row_at c.args.shape.now c.loop-number.number c.args.tid + 1, 15) = (λ i. (row_at (logger.shape i) (logger.number i) c.args.tid + 1, 15)) in
+    hands_on g.M.Media.tells _ _ _ _ _ (λ told i out. subst (λ r. IsOutside (r ∷ []) i) (sym same) (body_within c.args.shape.now c.args.ballot c.loop-number.number c.args.tid (omega arith) has i out)) c.loop-number.invariant.does c.from_residual.result c.from_residual.ensures.0 c.in_err-put_row.ensures.does
+
+pub loop-number-preserved : goal.loop-number-preserved
+loop-number-preserved g c =
+    let logger = c.new.ensures in
+    let has : has_row c.args.ballot c.loop-number.number c.args.tid ≡ true = sym c.has_row.ensures ∙ c.if-not-has_row.false in
+    let same : (row_at c.new.result.shape c.new.result.number c.args.tid + 1, 15) ≡ (row_at c.args.shape.now c.loop-number.number c.args.tid + 1, 15) = (λ i. (row_at (logger.shape i) (logger.number i) c.args.tid + 1, 15)) in
+    let bytes = (g.M.Media.view c.put_row.new.media).content.bytes in
+    let one = c.in_ok-put_row.ensures.costs.done refl in
+    record {
+      costs = omega (arith, one, c.loop-number.invariant.costs, total_next (λ h. cond (has_row c.args.ballot h c.args.tid) 1 0) c.loop-number.number 1 (counted (has_row c.args.ballot c.loop-number.number c.args.tid) 1 has));
+      does = goes_on g.M.Media.tells _ _ _ _ _ (λ told i out. subst (λ r. IsOutside (r ∷ []) i) (sym same) (body_within c.args.shape.now c.args.ballot c.loop-number.number c.args.tid (omega arith) has i out)) c.loop-number.invariant.does c.in_ok-put_row.ensures.does refl;
+      names = λ told.
+          let touched = subst (λ r. Touched (r ∷ []) (g.M.Media.view c.loop-number.media).content (g.M.Media.view c.put_row.new.media).content) same (c.in_ok-put_row.ensures.does.touched told) in
+          let row = (λ i. row_of (sym logger.shape i) bytes (sym logger.number i) c.args.tid) ∙ c.in_ok-put_row.ensures.row told in
+          rows_more c.args.shape.now c.args.tid c.requires.tid (λ h. has_row c.args.ballot h c.args.tid) (λ h r. Says c.args.ballot c.args.cells.now h c.args.tid r) c.loop-number.number
+          (row_at c.args.shape.now c.loop-number.number c.args.tid + 1) 15 (λ i from below. (omega arith, omega arith)) _ bytes touched.bytes (c.loop-number.invariant.names told)
+          (record {
+            ballot_is = ap (ballot_of c.args.tid) row ∙ c.row-row.ensures.ballot;
+            first_is = ap (λ (r : Row). r.first) row ∙ c.row-row.ensures.first ∙ ap (λ (n : Cells). n.first) c.cells_in-first.ensures;
+            count_is = ap (λ (r : Row). r.count) row ∙ c.row-row.ensures.count ∙ ap (λ (n : Cells). n.count) c.cells_in-first.ensures;
+          });
+    }

@@ -1,0 +1,176 @@
+-- The commit of a group, as its ballot and its table of cells name it.
+use Rattle.std.proofs.Common.{◌≡◌, ◌≢◌, ℕ, zero, suc, ◌+◌, ◌*◌, ◌^◌, ◌<◌, Bool, true, false, not, cond, ◌&&◌, nat_eq, inl, inr, ⊎_elim, List, [], length, refl, sym, ◌∙◌, ap, subst, arith}
+use Rattle.std.specs.Prelude.{nat_lt}
+use Rattle.std.specs.Int.{bit_at}
+use Rattle.std.proofs.lemmas.Bool.{and_parts, cases_Bool, cases_eq, eq-eqb, ne_eqb, eqb-false, lt-ltb, false≢true}
+use Rattle.std.proofs.lemmas.Nat.{pow_pos}
+use Rattle.std.proofs.lemmas.Nat.Bits.{bit_at-lt, bit_at-zero, same_from_bits_below}
+use Rattle.std.proofs.lemmas.List.FromFn.{sum_by-map-range_with_len_more}
+use Rattle.array_shape.specs.declared.shape.Shape.{Shape}
+use Rattle.array_shape.specs.Places.{media_len, data_len}
+use Rattle.array_shape.specs.Logged.{Part, applied, AllOwned, AllPlaced, parts_at}
+use Rattle.row_bytes.specs.declared.ballot.Ballot.{Ballot}
+use Rattle.row_bytes.specs.Ballots.{has, has_row}
+use Rattle.array_image.specs.Joined.{joined}
+use Rattle.array_image.specs.Image.{parts_from}
+use Rattle.array_image.proofs.Data.{all_placed, joined_placed}
+use Rattle.array_image.proofs.Joined.{joined_same}
+use Rattle.array_image.proofs.Orders.{applied_any_order, parts_at-joined, parts_at_each}
+use Rattle.array_image.proofs.Rows.{parts_owned}
+use Rattle.array_image.proofs.Deciding.{all_at, all_from, none_from}
+use Rattle.commit_queue.specs.Deferred.{any_below}
+use Rattle.coordinator.specs.declared.cells.Cells.{Cells}
+use Rattle.coordinator.specs.Commits.{cells_in, takes_part, parts_named, IsMaskOf, AreThere, AreGood}
+use Rattle.coordinator.specs.Costs.{total, decide_calls, write_back_calls, commit_calls}
+use Rattle.eaw_device.specs.Groups.{cell_parts, group_parts, HaveCells, HaveParts, group_rows, group_count, group_calls}
+
+-- sums over the numbers below one
+total_more : (f : ℕ → ℕ) (n : ℕ) → total f (suc n) ≡ total f n + f n
+total_more f n =
+    let one : suc n ≡ n + 1 = omega arith in
+    ap (total f) one ∙ sum_by-map-range_with_len_more (λ (k : ℕ). k) f 0 n n (omega arith)
+
+pub total_same : (f h : ℕ → ℕ) (n : ℕ) → ((k : ℕ) → k < n → f k ≡ h k) → total f n ≡ total h n
+total_same f h zero same = refl
+total_same f h (suc n) same = omega (arith, total_more f n, total_more h n, total_same f h n (λ k lt. same k (omega arith)), same n (omega arith))
+
+pub total_zero : (f : ℕ → ℕ) (n : ℕ) → ((k : ℕ) → k < n → f k ≡ 0) → total f n ≡ 0
+total_zero f zero none = refl
+total_zero f (suc n) none = omega (arith, total_more f n, total_zero f n (λ k lt. none k (omega arith)), none n (omega arith))
+
+pub total_none : (f : ℕ → ℕ) (n : ℕ) → total f n ≡ 0 → (k : ℕ) → k < n → f k ≡ 0
+total_none f zero is k lt = absurd (omega arith)
+total_none f (suc n) is k lt = elim (cases_eq k n) [
+  | inl same ↦ ap f same ∙ omega (arith, total_more f n, is)
+  | inr ne ↦ total_none f n (omega (arith, total_more f n, is)) k (omega arith)
+]
+
+-- all but one are zero
+pub total_one : (f : ℕ → ℕ) (n only : ℕ) → only < n → ((k : ℕ) → k < n → k ≢ only → f k ≡ 0) → total f n ≡ f only
+total_one f zero only lt none = absurd (omega arith)
+total_one f (suc n) only lt none = elim (cases_eq n only) [
+  | inl same ↦ omega (arith, total_more f n, total_zero f n (λ k below. none k (omega arith) (λ is. omega arith)), ap f same)
+  | inr ne ↦ omega (arith, total_more f n, none n (omega arith) ne, total_one f n only (omega arith) (λ k below. none k (omega arith)))
+]
+
+unset : (b : Bool) → not b ≡ true → b ≡ false
+unset true is = absurd (false≢true is)
+unset false is = refl
+
+unnegated : (b : Bool) → not b ≡ false → b ≡ true
+unnegated true is = refl
+unnegated false is = absurd (false≢true (sym is))
+
+-- a test that holds for no number holds not for one of them
+pub none_at : (n : ℕ) (p : ℕ → Bool) → any_below n p ≡ false → (k : ℕ) → k < n → p k ≡ false
+none_at n p none k lt = unset (p k) (all_at n (λ i. not (p i)) (unnegated _ none) k lt)
+
+pub any_none : (n : ℕ) (p : ℕ → Bool) → ((k : ℕ) → k < n → p k ≡ false) → any_below n p ≡ false
+any_none n p none = ap not (all_from n (λ i. not (p i)) (λ k lt. ap not (none k lt)))
+
+pub any_some : (n : ℕ) (p : ℕ → Bool) (k : ℕ) → k < n → p k ≡ true → any_below n p ≡ true
+any_some n p k lt so = ap not (none_from n (λ i. not (p i)) k lt (ap not so))
+
+no_more : (in_group : Bool) (count : ℕ) → in_group ≡ true → (in_group && nat_lt 0 count) ≡ false → count ≡ 0
+no_more true zero so none = refl
+no_more true (suc count) so none = absurd (false≢true (sym none ∙ lt-ltb 0 (suc count) (omega arith)))
+no_more false count so none = absurd (false≢true so)
+
+module _ (shape : Shape) (group : ℕ) (cells : List Cells) (ballot : Ballot) (group_is : ballot.group ≡ group) (is : IsMaskOf shape.loggers (takes_part shape cells group) ballot.mask) where
+  -- at a logger that takes no part no number has a cell
+  pub no_cell : (g t : ℕ) → g < shape.loggers → t < shape.numbers → has group t ≡ true → has ballot.mask g ≡ false → (cells_in cells g t).count ≡ 0
+  no_cell g t lt lt' so away = no_more (has group t) (cells_in cells g t).count so (none_at shape.numbers (λ u. has group u && nat_lt 0 (cells_in cells g u).count) (sym (is.is g lt) ∙ away) t lt')
+
+  -- if no number has a cell, no logger takes part
+  pub none_takes : ((g t : ℕ) → g < shape.loggers → t < shape.numbers → has group t ≡ true → (cells_in cells g t).count ≡ 0) → ballot.mask ≡ 0
+  none_takes none = same_from_bits_below shape.loggers ballot.mask 0 is.small (pow_pos shape.loggers) (λ g lt.
+      let off = eqb-false (bit_at ballot.mask g) 1 (is.is g lt ∙ nobody g lt) in
+      omega (arith, bit_at-lt ballot.mask g, bit_at-zero g, off))
+    where
+      one : (g t : ℕ) → g < shape.loggers → t < shape.numbers → (b : Bool) → has group t ≡ b → (b && nat_lt 0 (cells_in cells g t).count) ≡ false
+      one g t lt lt' true so = ap (nat_lt 0) (none g t lt lt' so)
+      one g t lt lt' false so = refl
+
+      nobody : (g : ℕ) → g < shape.loggers → takes_part shape cells group g ≡ false
+      nobody g lt = any_none shape.numbers (λ t. has group t && nat_lt 0 (cells_in cells g t).count) (λ t lt'. one g t lt lt' (has group t) refl)
+
+  named_here : (image : List ℕ) (g t : ℕ) → g < shape.loggers → t < shape.numbers → (takes in_group : Bool) → has ballot.mask g ≡ takes → has group t ≡ in_group
+      → cond (takes && in_group) (parts_from shape image g t (cells_in cells g t).first (cells_in cells g t).count) [] ≡ cond in_group (parts_from shape image g t (cells_in cells g t).first (cells_in cells g t).count) []
+  named_here image g t lt lt' true in_group on so = refl
+  named_here image g t lt lt' false true off so = sym (ap (parts_from shape image g t (cells_in cells g t).first) (no_cell g t lt lt' so off))
+  named_here image g t lt lt' false false off so = refl
+
+  -- what the ballot's rows name is what the group's numbers have
+  pub named_same : (image : List ℕ) → parts_named shape image ballot cells ≡ group_parts shape image group cells
+  named_same image =
+      joined_same _ (λ t. joined (cell_parts shape image group cells t) 0 shape.loggers) 0 shape.numbers (λ t from lt'.
+      joined_same _ (cell_parts shape image group cells t) 0 shape.loggers (λ g from' lt.
+      ap (λ (k : ℕ). cond (has ballot.mask g && has k t) (parts_from shape image g t (cells_in cells g t).first (cells_in cells g t).count) []) group_is
+      ∙ named_here image g t (omega arith) (omega arith) (has ballot.mask g) (has group t) refl refl))
+
+  pub are_there : group < 2 ^ shape.numbers → HaveCells shape group cells → AreThere shape ballot cells
+  are_there small fit = record {
+    small_mask = is.small;
+    small_group = subst (λ (k : ℕ). k < 2 ^ shape.numbers) (sym group_is) small;
+    fit = λ g t lt lt' so. fit g t lt lt' (ap (λ (k : ℕ). has k t) (sym group_is) ∙ (and_parts (has ballot.mask g) (has ballot.group t) so).1);
+  }
+
+  pub are_good : (image : List ℕ) → HaveParts shape image group cells → AreGood shape image ballot cells
+  are_good image good g t e lt lt' so from below = good g t e lt lt' (ap (λ (k : ℕ). has k t) (sym group_is) ∙ (and_parts (has ballot.mask g) (has ballot.group t) so).1) from below
+
+  -- its calls
+  counted : (g t : ℕ) → g < shape.loggers → t < shape.numbers → (takes in_group : Bool) → has ballot.mask g ≡ takes → has group t ≡ in_group
+      → cond (takes && in_group) (cells_in cells g t).count 0 ≡ cond in_group (cells_in cells g t).count 0
+  counted g t lt lt' true in_group on so = refl
+  counted g t lt lt' false true off so = sym (no_cell g t lt lt' so off)
+  counted g t lt lt' false false off so = refl
+
+  count_is : total (λ t. total (λ g. cond (has_row ballot g t) (cells_in cells g t).count 0) shape.loggers) shape.numbers ≡ group_count shape group cells
+  count_is = total_same _ (λ t. total (λ g. cond (has group t) (cells_in cells g t).count 0) shape.loggers) shape.numbers (λ t lt'. total_same _ (λ g. cond (has group t) (cells_in cells g t).count 0) shape.loggers (λ g lt.
+      ap (λ (k : ℕ). cond (has ballot.mask g && has k t) (cells_in cells g t).count 0) group_is ∙ counted g t lt lt' (has ballot.mask g) (has group t) refl refl))
+
+  rows_are : total (λ t. total (λ g. cond (has_row ballot g t) 1 0) shape.loggers) shape.numbers ≡ group_rows shape group cells
+  rows_are = total_same _ (λ t. total (λ g. cond (takes_part shape cells group g && has group t) 1 0) shape.loggers) shape.numbers (λ t lt'. total_same _ (λ g. cond (takes_part shape cells group g && has group t) 1 0) shape.loggers (λ g lt.
+      (λ i. cond (is.is g lt i && has (group_is i) t) 1 0)))
+
+  pub calls_same : commit_calls shape ballot cells ≡ group_calls shape group cells
+  calls_same = elim (cases_eq (group_count shape group cells) 0) [
+    | inl none ↦
+        (let zero_mask : ballot.mask ≡ 0 = none_takes (λ g t lt lt' so.
+        sym (ap (λ (b : Bool). cond b (cells_in cells g t).count 0) so)
+        ∙ total_none (λ h. cond (has group t) (cells_in cells h t).count 0) shape.loggers (total_none (λ u. total (λ h. cond (has group u) (cells_in cells h u).count 0) shape.loggers) shape.numbers none t lt') g lt) in
+        let left : commit_calls shape ballot cells ≡ 0 = ap (λ (b : Bool). cond b 0 (decide_calls shape ballot + write_back_calls shape ballot cells)) (eq-eqb ballot.mask 0 zero_mask) in
+        let right : group_calls shape group cells ≡ 0 = ap (λ (b : Bool). cond b 0 (3 * group_rows shape group cells + 2 * group_count shape group cells + 4)) (eq-eqb (group_count shape group cells) 0 none) in
+        left ∙ sym right)
+    | inr some ↦
+        (let takes : ballot.mask ≢ 0 = λ zero_mask. some (total_zero _ shape.numbers (λ t lt'. total_zero _ shape.loggers (λ g lt. nothing g t lt lt' zero_mask (has group t) refl))) in
+        let left : commit_calls shape ballot cells ≡ decide_calls shape ballot + write_back_calls shape ballot cells = ap (λ (b : Bool). cond b 0 (decide_calls shape ballot + write_back_calls shape ballot cells)) (ne_eqb ballot.mask 0 takes) in
+        let same : decide_calls shape ballot + write_back_calls shape ballot cells ≡ 3 * group_rows shape group cells + 2 * group_count shape group cells + 4 = omega (arith, count_is, rows_are) in
+        let right : group_calls shape group cells ≡ 3 * group_rows shape group cells + 2 * group_count shape group cells + 4 =
+        ap (λ (b : Bool). cond b 0 (3 * group_rows shape group cells + 2 * group_count shape group cells + 4)) (ne_eqb (group_count shape group cells) 0 some) in
+        left ∙ same ∙ sym right)
+  ]
+    where
+      nothing : (g t : ℕ) → g < shape.loggers → t < shape.numbers → ballot.mask ≡ 0 → (in_group : Bool) → has group t ≡ in_group → cond in_group (cells_in cells g t).count 0 ≡ 0
+      nothing g t lt lt' zero_mask true so = no_cell g t lt lt' so (ap (λ (m : ℕ). has m g) zero_mask ∙ ap (λ (b : ℕ). nat_eq b 1) (bit_at-zero g))
+      nothing g t lt lt' zero_mask false so = refl
+
+-- If each number's list has at each logger just the parts in its cells, the lists by rising number give the same data.
+pub lists_in_turn : (shape : Shape) (image : List ℕ) (group : ℕ) (cells : List Cells) (lists : ℕ → List Part) (d : List ℕ) → length image ≡ media_len shape → HaveCells shape group cells → HaveParts shape image group cells → length d ≡ data_len shape
+    → ((t : ℕ) → t < shape.numbers → AllPlaced shape (lists t)) → ((g t : ℕ) → g < shape.loggers → t < shape.numbers → parts_at shape g (lists t) ≡ cell_parts shape image group cells t g)
+    → applied (group_parts shape image group cells) d ≡ applied (joined lists 0 shape.numbers) d
+lists_in_turn shape image group cells lists d long fit good d_long placed same =
+    applied_any_order shape (group_parts shape image group cells) (joined lists 0 shape.numbers) d d_long
+    (joined_placed shape (λ t. joined (cell_parts shape image group cells t) 0 shape.loggers) 0 shape.numbers (λ t le lt'. joined_placed shape (cell_parts shape image group cells t) 0 shape.loggers (λ g le' lt. all_placed shape g _ (own g t (omega arith) (omega arith)))))
+    (joined_placed shape lists 0 shape.numbers (λ t le lt. placed t (omega arith))) (λ g lt.
+    parts_at_each shape g (λ t. joined (cell_parts shape image group cells t) 0 shape.loggers) 0 shape.numbers
+    ∙ joined_same (λ t. parts_at shape g (joined (cell_parts shape image group cells t) 0 shape.loggers)) (λ t. parts_at shape g (lists t)) 0 shape.numbers (λ t le lt'.
+    parts_at-joined shape (cell_parts shape image group cells t) 0 shape.loggers (λ h le' below. own h t (omega arith) (omega arith)) g (omega arith) (omega arith) ∙ sym (same g t lt (omega arith)))
+    ∙ sym (parts_at_each shape g lists 0 shape.numbers))
+  where
+    own : (h t : ℕ) → h < shape.loggers → t < shape.numbers → AllOwned shape h (cell_parts shape image group cells t h)
+    own h t lt lt' = ⊎_elim
+        (λ so. subst (λ b. AllOwned shape h (cond b (parts_from shape image h t (cells_in cells h t).first (cells_in cells h t).count) [])) (sym so)
+        (parts_owned shape image h t (cells_in cells h t).first (cells_in cells h t).count long lt lt' (fit h t lt lt' so) (λ e from below. good h t e lt lt' so from below)))
+        (λ off. subst (λ b. AllOwned shape h (cond b (parts_from shape image h t (cells_in cells h t).first (cells_in cells h t).count) [])) (sym off) tt)
+        (cases_Bool (has group t))

@@ -1,0 +1,3 @@
+pub mod Ring
+pub mod Going
+pub mod Staying

@@ -1,0 +1,12 @@
+-- What is written of the work of callers.
+use Rattle.std.specs.Prelude.{ℕ, ◌≡◌, Bool, false, if◌then◌else◌, List, []}
+use Rattle.texts.specs.Written.{IsWritten}
+use Rattle.script_run.specs.declared.ended.Ended.{Ended}
+use Rattle.script_run.specs.declared.ended.Ended.TheVariants.{All, WriteFault, MediaFault, NoMemory}
+
+-- What is written, by how the work ended: the whole text, or a front of it if the sink cut it short. If the medium failed, it is another
+-- text, which too may be cut short. If memory ran out, nothing is written.
+abbrev pub TellsEnd : Ended → Bool → List ℕ → (whole broken : List ℕ) → Type 0
+TellsEnd MediaFault cut text whole broken = IsWritten cut text broken
+TellsEnd NoMemory cut text whole broken = (cut ≡ false) × (text ≡ [])
+TellsEnd ended cut text whole broken = (ended ≡ (if cut then WriteFault else All)) × IsWritten cut text whole

@@ -1,0 +1,17 @@
+//! Transactions over any core of records, one typed call at a time: each call has a result of its own in the place of a reply.
+//!
+//! Read first `calls.rt`, then `specs/Told` (which reply a result tells) and `specs/Adds` (what a call leaves of a transaction).
+//! `making.rt` makes a whole transaction of some work: it commits if the work is done, and aborts if not.
+#![tactic(auto)]
+
+mod calls;
+mod making;
+mod numbers;
+mod refusal;
+mod work;
+
+pub use calls::{abort, back, begin, commit, del, get, put, save, scan};
+pub use making::transaction;
+pub use numbers::{number_in, value_of};
+pub use refusal::Refusal;
+pub use work::{Stop, Work};
