@@ -1,33 +1,17 @@
 -- Trees of different roots and tables share no page.
-use Rattle.std.proofs.Common.{◌≡◌, ◌≢◌, ℕ, zero, suc, ◌<◌, ◌≤◌, ◌⊎◌, inl, inr, List, [], ◌∷◌, length, Option, Some, None, sym, ◌∙◌, ap, subst, arith}
+use Rattle.std.proofs.Common.{◌≡◌, ◌≢◌, ℕ, zero, suc, ◌<◌, ◌≤◌, ◌⊎◌, inl, inr, List, [], ◌∷◌, length, sym, ◌∙◌, ap, subst, arith}
 use Rattle.std.proofs.lemmas.Bool.Decides.{eqb_tells}
-use Rattle.record_slots.specs.declared.slot.Slot.{Slot}
-use Rattle.record_slots.specs.declared.slot.Slot.TheVariants.{Absent, Present}
-use Rattle.record_slots.specs.Places.{next_page, slot_of, IsOfKey, Carries, AreGiven}
-use Rattle.record_slots.specs.Slots.{slot_said}
+use Rattle.record_slots.specs.Places.{next_page}
 use Rattle.page_store.specs.Pairs.{Pair}
 use Rattle.index_pages.specs.Keys.{key_end}
 use Rattle.index_pages.specs.Page.{page_pairs, level_of}
 use Rattle.index_pages.proofs.PageFacts.{length-page_pairs}
+use Rattle.index_pages.proofs.Owned.{given_once}
 use Rattle.btree_laws.specs.declared.root.Root.{Root}
 use Rattle.btree_laws.specs.Tree.{next_low, IsPageOfTree}
 use Rattle.btree_laws.specs.Sound.{AreBelow, AreSound, IsTree, IsSoundTree}
 use Rattle.btree_laws.specs.TreeFacts.{tree_level}
 use Rattle.btree_laws.proofs.Apart.{sub_of}
-
--- a slot is of one table
-one_table : (slot : Option Slot) (j k a b : ℕ) → IsOfKey j a slot → IsOfKey k b slot → j ≡ k
-one_table None j k a b x y = absurd x
-one_table (Some (Absent t c)) j k a b x y = sym x.0 ∙ y.0
-one_table (Some (Present t c value)) j k a b x y = sym x.0 ∙ y.0
-
-carries_table : (bytes : List ℕ) (j k : ℕ) (p : Pair) → Carries bytes j p → Carries bytes k p → j ≡ k
-unfolding Carries
-carries_table bytes j k p x y = one_table (slot_said (slot_of bytes p.1)) j k p.0 p.0 x y
-
-given_once : (bytes : List ℕ) (j k : ℕ) (ps : List Pair) → 1 ≤ length ps → AreGiven bytes j ps → AreGiven bytes k ps → j ≡ k
-given_once bytes j k [] some g h = absurd (omega arith)
-given_once bytes j k (p ∷ ps) some g h = carries_table bytes j k p g.1 h.1
 
 module _ (bytes : List ℕ) (a b : Root) (differ : a.table ≢ b.table) where
   children_differ : (m : ℕ) → ((q low high low' high' : ℕ) → (q ≢ a.page) ⊎ (q ≢ b.page) → IsTree a m bytes q low high → IsTree b m bytes q low' high' → ⊥)

@@ -1,7 +1,6 @@
 -- What is left of an insertion from a page on, and how it ends.
 use Rattle.std.proofs.Common.{◌≡◌, ◌≢◌, ℕ, suc, ◌+◌, ◌-◌, ◌/◌, ◌^◌, ◌<◌, ◌≤◌, Bool, true, false, nat_lt, inl, inr, List, [], ◌∷◌, length, take, drop, None, Result, Ok, Err, refl, sym, ◌∙◌, ap, subst, arith}
 use Rattle.std.specs.Prelude.{IsTrue}
-use Rattle.std.proofs.lemmas.Bool.{cases_lt}
 use Rattle.std.proofs.lemmas.Bool.Decides.{leb_tells}
 use Rattle.std.proofs.lemmas.List.{length-take-le, length-drop}
 use Rattle.array_shape.specs.declared.shape.Shape.{Shape}
@@ -9,8 +8,8 @@ use Rattle.array_shape.specs.Places.{data_len, page_count}
 use Rattle.array_shape.specs.Logged.{applied}
 use Rattle.eaw_face.specs.State.{State}
 use Rattle.eaw_face.specs.Causes.{IsAlive}
-use Rattle.record_slots.specs.Places.{page_bytes, next_slot, next_page, slot_page, used_slots, used_pages, free_slots, free_pages, free_slot, free_slot_of, free_page_of, slot_due, page_due}
-use Rattle.record_slots.specs.Super.{SaysSuper, entries_said}
+use Rattle.record_slots.specs.Places.{page_bytes, next_slot, next_page, used_slots, used_pages, slot_due, page_due}
+use Rattle.record_slots.specs.Super.{SaysSuper}
 use Rattle.record_slots.specs.declared.super_page.Super.{Super}
 use Rattle.page_store.specs.Fits.{FitAll, IsFirstLacking}
 use Rattle.page_store.specs.Index.{IsTable, Grows, Rests, Gains, slots_of, index_pages_of}
@@ -27,27 +26,24 @@ use Rattle.index_pages.specs.Faults.{as_index}
 use Rattle.index_pages.specs.Fetched.{IsFront}
 use Rattle.index_pages.specs.Keys.{key_at}
 use Rattle.index_pages.specs.Page.{page_pairs, count_of}
-use Rattle.index_pages.specs.Slots.{list_check}
 use Rattle.index_pages.specs.Written.{AreSmall}
 use Rattle.index_pages.proofs.Going.{Going, going_looks, going_more, going_act, alive_now, inserts_done, inserts_refused, inserts_look_err, inserts_act_err}
 use Rattle.index_pages.proofs.Looking.{looks_none}
 use Rattle.index_pages.proofs.PageFacts.{length-page_pairs}
-use Rattle.index_pages.proofs.Sizes.{slot_page_is}
-use Rattle.index_pages.proofs.Stacks.{list_passes}
-use Rattle.index_pages.proofs.Taken.{HasTaken, taken_none, taken_one, list_left}
+use Rattle.index_pages.proofs.Claims.{entries_long, slots_few, pages_few, adding_at}
 use Rattle.index_pages.proofs.Writing.{small_take}
 use Rattle.btree_laws.specs.Descent.{child_for}
 use Rattle.btree_laws.specs.Tree.{pairs_of_tree}
 use Rattle.btree_laws.specs.declared.root.Root.{Root}
 use Rattle.btree_pages.specs.Index.{tree, tree_below, adding, cutting, half_for, half_pairs, actions_below, AreSoundTrees}
 use Rattle.btree_pages.specs.OnWay.{IsOnWay, IsReached}
-use Rattle.btree_pages.specs.Trees.{whole_of, trees_count, named_kept}
+use Rattle.btree_pages.specs.Trees.{trees_count, named_kept}
 use Rattle.btree_pages.specs.Writes.{IsRead, cutting_pages, cutting_parts}
 use Rattle.btree_pages.specs.declared.node.Node.{Node}
 use Rattle.btree_pages.proofs.AddData.{adding_grows, adding_takes_none, slot_there}
 use Rattle.btree_pages.proofs.CutData.{cutting_grows, cut_after, cut_says, cut_used, cut_level, cut_due, half_there, half_says, half_left}
 use Rattle.btree_pages.proofs.Joining.{grows_more, rests_more, gains_more}
-use Rattle.btree_pages.proofs.Left.{DecidesAll, pages_lack, room_lacks, fits_same, lacks_same}
+use Rattle.index_pages.proofs.Left.{DecidesAll, pages_lack, room_lacks, fits_same, lacks_same}
 use Rattle.btree_pages.proofs.Walking.{Walks, walk_first, walk_down, walk_due, walk_cut, walk_last, child_way}
 
 -- a half of 30 pairs
@@ -76,55 +72,6 @@ half_read shape pairs left right key page half full small left_some left_in righ
         small = subst (λ (ps : List Pair). AreSmall ps) (sym half') (small_take 15 pairs small).1;
       }
 ]
-
--- the pages of the action that adds a pair
-pub adding_at : (shape : Shape) (bytes : List ℕ) → length bytes ≡ data_len shape → (half : ℕ) → half + half ≡ page_count shape → (slot page : ℕ) → slot ≡ slot_due bytes → adding_pages half slot page ≡ (adding bytes page).pages
-adding_at shape bytes long half all slot page is =
-    let place : half + slot / 8 ≡ slot_page bytes (slot_due bytes) = ap (λ (s : ℕ). half + s / 8) is ∙ sym (slot_page_is shape bytes long half (slot_due bytes) all) in
-    ap (λ (x : ℕ). x ∷ page ∷ 0 ∷ []) place
-
--- there are eight entries of tables
-pub entries_long : (bytes : List ℕ) (front : Super) → 512 ≤ length bytes → SaysSuper (page_bytes bytes 0) front → length front.entries ≡ 256
-unfolding entries_said page_bytes
-entries_long bytes front long says =
-    let page : length (take 512 (drop (512 * 0) bytes)) ≡ 512 = length-take-le 512 (drop (512 * 0) bytes) (omega (arith, length-drop (512 * 0) bytes, long)) in
-    ap (λ (es : List ℕ). length es) says.entries ∙ length-take-le 256 (drop 16 (take 512 (drop (512 * 0) bytes))) (omega (arith, length-drop 16 (take 512 (drop (512 * 0) bytes)), page))
-
--- a slot, or a page, is left
-pub slots_few : (shape : Shape) (bytes : List ℕ) (front : Super) → IsFront shape front → (front.free_slots ≡ 0 → front.next_slot < slots_of shape) → SaysSuper (page_bytes bytes 0) front → AreSoundTrees bytes → used_slots bytes < slots_of shape
-slots_few shape bytes front is left says sound = elim (cases_lt 0 (free_slots bytes)) [
-  | inl some ↦ omega (arith, some, (trees_count bytes sound).free_slots_few, is.slots, says.next_slot)
-  | inr none ↦ omega (arith, left (omega (arith, none, says.free_slots)), says.next_slot)
-]
-
-pub pages_few : (shape : Shape) (bytes : List ℕ) (front : Super) → IsFront shape front → (front.free_pages ≡ 0 → front.next_page < index_pages_of shape) → SaysSuper (page_bytes bytes 0) front → AreSoundTrees bytes → used_pages bytes < index_pages_of shape
-pages_few shape bytes front is left says sound = elim (cases_lt 0 (free_pages bytes)) [
-  | inl some ↦ omega (arith, some, (trees_count bytes sound).free_pages_few, is.pages, says.next_page)
-  | inr none ↦ omega (arith, left (omega (arith, none, says.free_pages)), says.next_page)
-]
-
--- the lists of what is free, as the super page says them
-pub free_pages_pass : (bytes : List ℕ) (front : Super) → AreSoundTrees bytes → SaysSuper (page_bytes bytes 0) front → list_check (free_page_of bytes) (λ page. page) 2 front.next_page front.free_pages front.free_page 0 None
-free_pages_pass bytes front sound says =
-    let list = (whole_of bytes sound).pages in
-    list_passes (free_page_of bytes) (λ page. page) 2 front.next_page front.free_pages front.free_page 0 (list_left bytes 0 front list (taken_none bytes front says list))
-
--- the same once a page is taken
-pub next_pass : (bytes : List ℕ) (front : Super) (page : ℕ) (after : Super) → AreSoundTrees bytes → SaysSuper (page_bytes bytes 0) front → TakesPage bytes front page after
-    → list_check (free_page_of bytes) (λ page. page) 2 after.next_page after.free_pages after.free_page 0 None
-next_pass bytes front page after sound says takes =
-    let list = (whole_of bytes sound).pages in
-    list_passes (free_page_of bytes) (λ page. page) 2 after.next_page after.free_pages after.free_page 0
-    (list_left bytes 1 after list (subst (λ (f : Super). HasTaken bytes 1 f) (sym takes.after_is) (taken_one bytes 0 front list (taken_none bytes front says list))))
-
-pub free_slots_pass : (bytes : List ℕ) (front : Super) → AreSoundTrees bytes → SaysSuper (page_bytes bytes 0) front
-    → list_check (free_slot_of bytes) (slot_page bytes) 0 front.next_slot front.free_slots front.free_slot 0 None
-free_slots_pass bytes front sound says =
-    let list = (whole_of bytes sound).slots in
-    subst (λ (n : ℕ). list_check (free_slot_of bytes) (slot_page bytes) 0 n front.free_slots front.free_slot 0 None) (sym says.next_slot)
-    (subst (λ (n : ℕ). list_check (free_slot_of bytes) (slot_page bytes) 0 (next_slot bytes) n front.free_slot 0 None) (sym says.free_slots)
-    (subst (λ (n : ℕ). list_check (free_slot_of bytes) (slot_page bytes) 0 (next_slot bytes) (free_slots bytes) n 0 None) (sym says.free_slot)
-    (list_passes (free_slot_of bytes) (slot_page bytes) 0 (next_slot bytes) (free_slots bytes) (free_slot bytes) 0 list)))
 
 module _ (tells : Bool) (E : Shape → List ℕ → List ℕ → Type 0) (t : ℕ) (root : Root) (key : ℕ) (v0 : PagesView) (page0 level0 most : ℕ) where
   -- The insertion has come to a page that has room.
@@ -206,7 +153,7 @@ module _ (tells : Bool) (E : Shape → List ℕ → List ℕ → Type 0) (t : �
         long_entries told = entries_long v'.store.state.bytes front (omega (arith, long1 told, all, two)) (says1 told)
 
         slot_left : IsTrue tells → used_slots v0.store.state.bytes < slots_of v0.store.shape
-        slot_left told = omega (arith, slots_few v0.store.shape v'.store.state.bytes front s.front_is s.slot (says1 told) (sound1 told), (going1.made told alive).1.slots)
+        slot_left told = omega (arith, slots_few v0.store.shape v'.store.state.bytes front s.front_is s.slot (says1 told) (trees_count v'.store.state.bytes (sound1 told)), (going1.made told alive).1.slots)
 
         -- another look at the data fails
         pub then_err : (T : Type 0) (v'' : PagesView) (fault : PageFault) → (let r : Result T PageFault = Err fault in Looks tells (E v'.store.shape) (is_failed r) v' v'' × LookCause tells v'.store r)
@@ -277,7 +224,7 @@ module _ (tells : Bool) (E : Shape → List ℕ → List ℕ → Type 0) (t : �
               parent_read = subst (λ (n : ℕ). IsRead v0.store.shape page n pairs) (sym one_more) s.read
 
               used_less : IsTrue tells → used_pages v'.store.state.bytes < index_pages_of v0.store.shape
-              used_less told = pages_few v0.store.shape v'.store.state.bytes front s.front_is left (says1 told) (sound1 told)
+              used_less told = pages_few v0.store.shape v'.store.state.bytes front s.front_is left (says1 told) (trees_count v'.store.state.bytes (sound1 told))
 
               cut_data : IsTrue tells → Grows tree root.page v'.store.state.bytes (applied (cutting_parts after child m below taken page pairs) v'.store.state.bytes) × Rests tree root.page v'.store.state.bytes (applied (cutting_parts after child m below taken page pairs) v'.store.state.bytes)
               cut_data told = cutting_grows v0.store.shape v'.store.state.bytes half (long1 told) half_is all few root front after taken key (walks1 told).d child m page below pairs fits (long_entries told) child_read parent_read (sound1 told) (named1 told) (says1 told) (takes told) (walks1 told).way child_is (are1 told) full s.room (used_less told)
@@ -394,7 +341,7 @@ module _ (tells : Bool) (E : Shape → List ℕ → List ℕ → Type 0) (t : �
           none_now told = ap (λ (ps : List Pair). found ps key) (going1.made told alive).1.pairs ∙ absent told
 
           used_slot : IsTrue tells → used_slots v'.store.state.bytes < slots_of v0.store.shape
-          used_slot told = slots_few v0.store.shape v'.store.state.bytes front s.front_is s.slot (says1 told) (sound1 told)
+          used_slot told = slots_few v0.store.shape v'.store.state.bytes front s.front_is s.slot (says1 told) (trees_count v'.store.state.bytes (sound1 told))
 
           add_grown : IsTrue tells → Grows (tree_below page0 level0 most) root.page v0.store.state.bytes (applied (adding_parts half after slot page 0 pairs root.table key) v'.store.state.bytes) × Gains (tree_below page0 level0 most) root.page root.table key v0.store.state.bytes (applied (adding_parts half after slot page 0 pairs root.table key) v'.store.state.bytes)
           add_grown told =

@@ -9,7 +9,6 @@ pub mod Others
 pub mod CutData
 pub mod AddData
 pub mod GrowData
-pub mod Left
 pub mod Walking
 pub mod Joining
 pub mod Children

@@ -15,7 +15,7 @@ use Rattle.btree_laws.specs.declared.root.Root.{Root}
 use Rattle.btree_laws.proofs.Ways.{page_for_last}
 use Rattle.btree_pages.specs.Index.{adding, cutting, growing, half_for, actions_below, tree_actions}
 use Rattle.btree_pages.specs.OnWay.{IsOnWay, IsReached}
-use Rattle.btree_pages.proofs.Left.{DecidesAll, all_left, one_done, pages_lack}
+use Rattle.index_pages.proofs.Left.{DecidesAll, all_left, one_done, pages_lack}
 
 -- The data now has this page on the key's way, with this level and these pairs. What is left to do from there on decides, with all pages,
 -- how all that was to do ends. Few new pages are taken.

@@ -36,11 +36,12 @@ use Rattle.btree_pages.specs.OnWay.{IsOnWay, IsReached}
 use Rattle.btree_pages.specs.Trees.{whole_of, table_sound, trees_count, named_kept}
 use Rattle.btree_pages.specs.Writes.{IsRead, growing_pages, growing_parts}
 use Rattle.btree_pages.specs.declared.node.Node.{Node}
-use Rattle.btree_pages.proofs.Below.{entries_long, slots_few}
+use Rattle.index_pages.proofs.Claims.{entries_long, slots_few}
 use Rattle.btree_pages.proofs.Descending.{down_first, down_node}
 use Rattle.btree_pages.proofs.GrowData.{growing_grows, grown_level, grown_half, grown_pairs, grown_says, grown_used, grown_left, grown_dues, grown_slots}
-use Rattle.btree_pages.proofs.Left.{DecidesAll, all_left, room_lacks, fits_same, lacks_same}
-use Rattle.btree_pages.proofs.Lifting.{Joins, joins_same, joins_below, inserts_then}
+use Rattle.index_pages.proofs.Left.{DecidesAll, all_left, room_lacks, fits_same, lacks_same}
+use Rattle.index_pages.proofs.Lifting.{joins_same, inserts_then}
+use Rattle.btree_pages.proofs.Lifting.{joins_below}
 use Rattle.btree_pages.proofs.Walking.{root_first, grow_due, growing_takes, growing_stops, growing_lacks, grown_decides}
 
 module _ (tells : Bool) (E : Shape → List ℕ → List ℕ → Type 0) (t : ℕ) (root : Root) (key : ℕ) (v0 v1 : PagesView) (sound : IsTrue tells → IsAlive v0.store → AreSoundTrees v0.store.state.bytes)
@@ -69,7 +70,7 @@ module _ (tells : Bool) (E : Shape → List ℕ → List ℕ → Type 0) (t : �
     -- the rest of the insertion, after what was only read
     pub looked_then : (v2 : PagesView) (r : Result ℕ IndexFault) → Inserts tells (E v1.store.shape) tree t root.page root.table key v1 v2 r → Inserts tells (E v0.store.shape) tree t root.page root.table key v0 v2 r
     looked_then v2 r rest =
-        inserts_then tells E t root.page root.table key v0 v1 v2 tree going1 alive (λ told. joins_same root.page root.table key v0.store.state.bytes v1.store.state.bytes (same1 told))
+        inserts_then tells E t root.page root.table key v0 v1 v2 tree tree going1 alive (λ told. joins_same tree root.page root.table key v0.store.state.bytes v1.store.state.bytes (same1 told))
         (λ told. subst (λ (b : List ℕ). DecidesAll v0.store t (index_pages_of v0.store.shape - used_pages v0.store.state.bytes) (tree_actions v0.store.state.bytes root.page key) (index_pages_of v0.store.shape - used_pages b) (tree_actions b root.page key)) (sym (same1 told)) (all_left v0.store t (index_pages_of v0.store.shape - used_pages v0.store.state.bytes) (tree_actions v0.store.state.bytes root.page key))) r rest
 
     -- from a root with room on
@@ -77,7 +78,7 @@ module _ (tells : Bool) (E : Shape → List ℕ → List ℕ → Type 0) (t : �
         → (IsTrue tells → pairs ≡ page_pairs v0.store.state.bytes root.page) → length pairs < 30
         → (v2 : PagesView) (r : Result ℕ IndexFault) → Inserts tells (E v1.store.shape) (tree_below page level (front.next_page + level)) t root.page root.table key v1 v2 r → Inserts tells (E v0.store.shape) tree t root.page root.table key v0 v2 r
     root_then front page level pairs says page_is level_most level_is are room v2 r rest =
-        inserts_then tells E t root.page root.table key v0 v1 v2 (tree_below page level (front.next_page + level)) going1 alive
+        inserts_then tells E t root.page root.table key v0 v1 v2 tree (tree_below page level (front.next_page + level)) going1 alive
         (λ told. joins_below page level (front.next_page + level) root.page root.table key v0.store.state.bytes v1.store.state.bytes (omega (arith, (says told).next_page, level_most)) (ap (λ (b : List ℕ). next_slot b) (same1 told)) (going1.made told alive).0 (going1.made told alive).1)
         first_decides r rest
       where
@@ -100,7 +101,7 @@ module _ (tells : Bool) (E : Shape → List ℕ → List ℕ → Type 0) (t : �
   many told = omega (arith, full, length-page_pairs v0.store.state.bytes root.page, ap (λ (ps : List Pair). length ps) (are told))
 
   slot_left : IsTrue tells → used_slots v0.store.state.bytes < slots_of v0.store.shape
-  slot_left told = slots_few v0.store.shape v0.store.state.bytes front front_is slot (says told) (sound told)
+  slot_left told = slots_few v0.store.shape v0.store.state.bytes front front_is slot (says told) (trees_count v0.store.state.bytes (sound told))
 
   going0 : Going tree tells (E v0.store.shape) t root.page root.table key v0 v0
   going0 = going_looks tree tells (E v0.store.shape) t root.page root.table key v0 v0 (λ told running. sound told) (looks_none tells (E v0.store.shape) v0)
@@ -264,7 +265,7 @@ module _ (tells : Bool) (E : Shape → List ℕ → List ℕ → Type 0) (t : �
           -- what is left of the insertion decides
           pub grown_then : (level2 : ℕ) → level2 ≡ level → (v4 : PagesView) (r : Result ℕ IndexFault) → Inserts tells (E v3.store.shape) (tree_below page2 level2 (after.next_page + level2)) t root.page root.table key v3 v4 r → Inserts tells (E v0.store.shape) tree t root.page root.table key v0 v4 r
           grown_then level2 same v4 r rest =
-              inserts_then tells E t root.page root.table key v0 v3 v4 (tree_below page2 level2 (after.next_page + level2)) going3 alive
+              inserts_then tells E t root.page root.table key v0 v3 v4 tree (tree_below page2 level2 (after.next_page + level2)) going3 alive
               (λ told. joins_below page2 level2 (after.next_page + level2) root.page root.table key v0.store.state.bytes v3.store.state.bytes
               (omega (arith, (grown_says v0.store.shape v2.store.state.bytes half (long2 told) half_is all few root front mid after left right key level pairs fits (entries_long v2.store.state.bytes front (omega (arith, long2 told, all, two)) (says2 told)) read (sound2 told) (named2 told) (says2 told) (one told) (other told) (level2_is told) (are2 told) full less (enough2 told)).next_page, (grown_slots v0.store.shape v2.store.state.bytes half (long2 told) half_is all few root front mid after left right key level pairs fits (entries_long v2.store.state.bytes front (omega (arith, long2 told, all, two)) (says2 told)) read (sound2 told) (named2 told) (says2 told) (one told) (other told) (level2_is told) (are2 told) full less (enough2 told)).1, ap (λ (b : List ℕ). next_page b) (same2 told), less, same)) (slots3 told) (going3.made told alive).0 (going3.made told alive).1)
               (λ told. subst (λ (n : ℕ). DecidesAll v0.store t (index_pages_of v0.store.shape - used_pages v0.store.state.bytes) (tree_actions v0.store.state.bytes root.page key) (index_pages_of v0.store.shape - used_pages v3.store.state.bytes) (actions_below n v3.store.state.bytes page2 page2 0 key)) (sym same) (decides3 told)) r rest

@@ -5,28 +5,20 @@ ghost use Rattle.page_store.specs.Index.{slots_of, index_pages_of};
 ghost use Rattle.page_store.specs.Shown.{pages_of, top_in};
 ghost use Rattle.index_pages.specs.Acts.{Acts};
 ghost use Rattle.index_pages.specs.Adding.{adding_pages, adding_parts};
-ghost use Rattle.index_pages.specs.Keys.{key_at};
 ghost use Rattle.btree_pages.specs.Index.{half_for, half_pairs};
 ghost use Rattle.btree_pages.specs.Writes.{IsRead, cutting_pages, cutting_parts, growing_pages, growing_parts};
 
 use crate::node::Node;
 use eaw_face::EawStore;
 use index_pages::{
-    Claim, HALF, LeafPage, PAGE_LEN, Pairs, act_all, front_part, whole_page, with_pair, write_page,
+    Claim, HALF, LeafPage, PAGE_LEN, act_all, copy_of, front_part, middle_of, whole_page, with_pair,
+    write_page,
 };
 use page_store::{PageFault, Pages};
 use record_slots::{PART_LEN, write_super_part};
 
 // A page of a tree has no link.
 const NO_LINK: u32 = 0;
-
-// The first key of the upper half of 30 pairs.
-fn middle_of(pairs: &Pairs) -> u64
-    requires { length pairs.now.items ≡ 30 }
-    ensures { result ≡ key_at pairs.now.items 15 }
-{
-    pairs.as_slice()[HALF].0
-}
 
 // Adds a pair of the key of a table and the slot that is taken to the key's leaf, which has room.
 pub fn add_pair<S: EawStore>(
@@ -164,16 +156,4 @@ pub fn half_of(node: &Node, left: u32, right: u32, key: u64) -> Node
             pairs: copy_of(&pairs[HALF..]),
         }
     }
-}
-
-// A copy of the pairs of a half.
-fn copy_of(pairs: &[(u64, u64)]) -> Pairs
-    requires { length pairs.now ≤ 30 }
-    ensures { result.items ≡ pairs.now }
-{
-    let mut copy = Pairs::new();
-    for pair in pairs {
-        copy.push(*pair);
-    }
-    copy
 }

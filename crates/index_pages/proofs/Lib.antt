@@ -24,3 +24,10 @@ pub mod Tabled
 pub mod Taken
 pub mod Added
 pub mod Members
+pub mod Left
+pub mod Faulting
+pub mod Lifting
+pub mod Claims
+pub mod Halved
+pub mod Owned
+pub mod Joining

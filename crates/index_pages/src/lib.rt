@@ -6,6 +6,7 @@
 mod action;
 mod adding;
 mod checking;
+mod cut;
 mod fault;
 mod fetch;
 mod laws;
@@ -16,6 +17,7 @@ mod taking;
 pub use action::{PagePart, act_all};
 pub use adding::{LeafPage, add_pair, front_part, whole_page, with_pair};
 pub use checking::{check_lists, check_slot};
+pub use cut::{copy_of, middle_of};
 pub use fault::{check_fault, index_fault};
 pub use fetch::{
     SLOTS_IN_PAGE, check_super, fetch_free_page, fetch_free_slot, fetch_page, fetch_slot, fetch_super,

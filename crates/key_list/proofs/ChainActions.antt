@@ -437,6 +437,17 @@ chain_of_table_splits old new root table fresh key own sound keeps lt splits kep
       sym (pieces_have new root) ∙ f.1 0 ∙ r.1 0 ∙ pieces_have old root,
     )
 
+-- its pages are at most one more
+pub chain_of_table_more : (old new : List ℕ) (root table fresh key : ℕ) → IsOwn old root → chain_check old root table None → Keeps old new → key < key_end
+    → SplitsPage old new (page_of_key old root key) fresh
+    → ((x : ℕ) → 1 ≤ x → x < next_page old → kind_of old x ≡ 1 → x ≢ page_of_key old root key → page_bytes new x ≡ page_bytes old x)
+    → IsChain table (suc (next_page old)) new root 0
+chain_of_table_more old new root table fresh key own sound keeps lt splits kept =
+    let r = chain_graft table old new keeps (λ ps. ps) key (same_local key) (page_of_key old root key) 1
+    (page_splits table old new keeps (page_of_key old root key) fresh key lt splits kept) kept
+    (next_page old) root 0 own (pages_of_sound old root table sound) (omega arith) refl in
+    subst (λ (n : ℕ). IsChain table n new root 0) (above_one table (next_page old)) r.0
+
 pub chain_of_table_finds : (bytes : List ℕ) (root table key : ℕ) → chain_check bytes root table None → found (pairs_of_chain bytes root) key ≡ found (page_pairs bytes (page_of_key bytes root key)) key
 chain_of_table_finds bytes root table key sound =
     ap (λ (ps : List Pair). found ps key) (sym (pieces_have bytes root)) ∙ chain_finds table (next_page bytes) bytes root 0 0 key (pages_of_sound bytes root table sound) (omega arith)

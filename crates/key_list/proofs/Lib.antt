@@ -1,6 +1,7 @@
 pub mod Walking
 pub mod Chains
 pub mod ChainActions
+pub mod Others
 pub mod Data
 pub mod Counting
 pub mod Whole

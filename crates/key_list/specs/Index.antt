@@ -2,9 +2,11 @@
 use Rattle.std.specs.Prelude.{ℕ, zero, suc, ◌≡◌, ◌≢◌, ◌⊎◌, nat_lt, if◌then◌else◌, List, [], ◌∷◌, Some, None}
 use Rattle.record_slots.specs.Places.{next_page, slot_page, slot_due, page_due}
 use Rattle.page_store.specs.Index.{Action, Index}
+use Rattle.page_store.specs.Pairs.{Pair}
 use Rattle.key_list.specs.Chain.{chains_check, pairs_of_chain, page_of_key}
 use Rattle.index_pages.specs.Keys.{key_at}
 use Rattle.index_pages.specs.Page.{count_of, link_of, page_pairs}
+use Rattle.index_pages.specs.Within.{within}
 
 -- among the first n pages of the chain from this one on
 abbrev pub IsOnChain : ℕ → List ℕ → ℕ → ℕ → Type 0
@@ -22,9 +24,13 @@ adding bytes page = record { pages = slot_page bytes (slot_due bytes) ∷ page �
 abbrev pub cutting : List ℕ → ℕ → Action
 cutting bytes page = record { pages = page ∷ page_due bytes 0 ∷ 0 ∷ []; takes = 1 }
 
--- the page of a key after the cut: of 30 pairs 15 stay
+-- what a key gets of two when 30 pairs are cut: what stays with the lower 15, or what goes with the upper 15
+abbrev pub by_half : {T : Type 0} → List Pair → ℕ → T → T → T
+by_half pairs key lower upper = if nat_lt key (key_at pairs 15) then lower else upper
+
+-- the page of a key after the cut
 abbrev pub half_for : List ℕ → ℕ → ℕ → ℕ
-half_for bytes page key = if nat_lt key (key_at (page_pairs bytes page) 15) then page else page_due bytes 0
+half_for bytes page key = by_half (page_pairs bytes page) key page (page_due bytes 0)
 
 abbrev pub chain_actions : List ℕ → ℕ → ℕ → List Action
 chain_actions bytes root key =
@@ -41,3 +47,7 @@ chain = record {
   has_page = IsPageOfChain;
   actions = chain_actions;
 }
+
+-- what is left of an insertion once the page of the key has room, or is cut: so many pages are given out at most
+abbrev pub chain_within : ℕ → Index
+chain_within most = within chain most chain_actions

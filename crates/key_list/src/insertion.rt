@@ -2,18 +2,16 @@
 ghost use Rattle.std.specs.Prelude.{◌≡◌, ◌<◌, ◌≤◌, ◌↔◌, None, IsErrOf, IsTrue, length};
 ghost use Rattle.array_shape.specs.Places.{page_count};
 ghost use Rattle.eaw_face.specs.Causes.{IsAlive};
-ghost use Rattle.record_slots.specs.Places.{slot_page, free_slot_of, free_page_of};
 ghost use Rattle.page_store.specs.Index.{IsTable, slots_of};
 ghost use Rattle.page_store.specs.Inserts.{Inserts};
 ghost use Rattle.page_store.specs.Pairs.{found};
 ghost use Rattle.page_store.specs.Shown.{pages_of, top_in};
-ghost use Rattle.index_pages.specs.Slots.{list_check};
 ghost use Rattle.key_list.specs.Chain.{IsSoundChain, pairs_of_chain};
-ghost use Rattle.key_list.specs.Index.{chain};
-ghost use Rattle.key_list.specs.Located.{IsLocated};
+ghost use Rattle.key_list.specs.Index.{chain, chain_within};
+ghost use Rattle.key_list.specs.Located.{IsLocated, Locates};
 
 use crate::place::{Located, locate};
-use crate::write::{add_pair, cut_page};
+use crate::write::{add_pair, cut_page, half_of};
 use eaw_face::EawStore;
 use index_pages::{
     PAIRS_MAX, SLOTS_IN_PAGE, index_fault, index_page_count, take_page, take_slot,
@@ -49,23 +47,9 @@ pub fn insert<S: EawStore>(
         return Err(IndexFault::SlotsFull { slots });
     }
     if at.pairs.len() < PAIRS_MAX {
-        return insert_here(pages, tid, table, key, at);
+        return insert_here(pages, tid, root, table, key, at);
     }
-    match split(pages, tid, &at) {
-        Ok(()) => {}
-        Err(fault) => return Err(fault),
-    }
-    let half = match locate(pages, root, table, key) {
-        Ok(half) => half,
-        Err(fault) => return Err(index_fault(fault)),
-    };
-    if !has_slot(&half.front, slots) {
-        return Err(IndexFault::Damaged { page: 0 });
-    }
-    if half.pairs.len() >= PAIRS_MAX {
-        return Err(IndexFault::Damaged { page: half.page });
-    }
-    insert_here(pages, tid, table, key, half)
+    insert_cut(pages, tid, root, table, key, at)
 }
 
 // Whether a slot is left of so many.
@@ -88,19 +72,24 @@ fn has_page(front: &Super, pages: u32) -> bool
 fn insert_here<S: EawStore>(
     pages: &mut Pages<S>,
     tid: u8,
+    root: u32,
     table: u8,
     key: u64,
     at: Located,
 ) -> Result<u32, IndexFault>
     requires tid { tid < (S.view pages.old.store).shape.numbers }
     requires table { table < 8 }
-    requires alive { IsAlive (S.view pages.old.store) }
     requires closed { top_in pages.old.marks tid ≡ None }
+    requires alive { IsAlive (S.view pages.old.store) }
+    requires sound { IsTrue S.tells → IsSoundChain (S.view pages.old.store).state.bytes }
+    requires named { IsTrue S.tells → IsTable (S.view pages.old.store).state.bytes table root }
+    requires absent { IsTrue S.tells → found (pairs_of_chain (S.view pages.old.store).state.bytes root) key ≡ None }
     requires located { IsLocated (S.view pages.old.store).shape at.front at.page at.link at.pairs.items }
-    requires room { length at.pairs.items < 30 }
+    requires said { IsTrue S.tells → Locates (S.view pages.old.store).state.bytes root key at.front at.page at.link at.pairs.items }
     requires slot { at.front.free_slots ≡ 0 → at.front.next_slot < slots_of (S.view pages.old.store).shape }
-    requires sound { IsTrue S.tells → list_check (free_slot_of (S.view pages.old.store).state.bytes) (slot_page (S.view pages.old.store).state.bytes)
-        0 at.front.next_slot at.front.free_slots at.front.free_slot 0 None }
+    requires room { length at.pairs.items < 30 }
+    ensures inserts { Inserts S.tells (S.opens (S.view pages.old.store).shape) (chain_within at.front.next_page) tid root table key
+        (pages_of (S.view pages.old.store) pages.old) (pages_of (S.view pages.new.store) pages.new) result }
     ensures dead { IsErrOf result IndexFault.Dead → ⊥ }
 {
     let taken = match take_slot(pages, &at.front) {
@@ -113,15 +102,28 @@ fn insert_here<S: EawStore>(
     }
 }
 
-// Takes a page and cuts a full one.
-fn split<S: EawStore>(pages: &mut Pages<S>, tid: u8, at: &Located) -> Result<(), IndexFault>
+// Takes a page, cuts the full page, and goes on with the half that has the key.
+fn insert_cut<S: EawStore>(
+    pages: &mut Pages<S>,
+    tid: u8,
+    root: u32,
+    table: u8,
+    key: u64,
+    at: Located,
+) -> Result<u32, IndexFault>
     requires tid { tid < (S.view pages.old.store).shape.numbers }
-    requires alive { IsAlive (S.view pages.old.store) }
+    requires table { table < 8 }
     requires closed { top_in pages.old.marks tid ≡ None }
-    requires located { IsLocated (S.view pages.old.store).shape at.now.front at.now.page at.now.link at.now.pairs.items }
-    requires full { length at.now.pairs.items ≡ 30 }
-    requires sound { IsTrue S.tells → list_check (free_page_of (S.view pages.old.store).state.bytes) (λ page. page)
-        2 at.now.front.next_page at.now.front.free_pages at.now.front.free_page 0 None }
+    requires alive { IsAlive (S.view pages.old.store) }
+    requires sound { IsTrue S.tells → IsSoundChain (S.view pages.old.store).state.bytes }
+    requires named { IsTrue S.tells → IsTable (S.view pages.old.store).state.bytes table root }
+    requires absent { IsTrue S.tells → found (pairs_of_chain (S.view pages.old.store).state.bytes root) key ≡ None }
+    requires located { IsLocated (S.view pages.old.store).shape at.front at.page at.link at.pairs.items }
+    requires said { IsTrue S.tells → Locates (S.view pages.old.store).state.bytes root key at.front at.page at.link at.pairs.items }
+    requires slot { at.front.free_slots ≡ 0 → at.front.next_slot < slots_of (S.view pages.old.store).shape }
+    requires full { length at.pairs.items ≡ 30 }
+    ensures inserts { Inserts S.tells (S.opens (S.view pages.old.store).shape) chain tid root table key
+        (pages_of (S.view pages.old.store) pages.old) (pages_of (S.view pages.new.store) pages.new) result }
     ensures dead { IsErrOf result IndexFault.Dead → ⊥ }
 {
     let count = index_page_count(pages);
@@ -132,8 +134,10 @@ fn split<S: EawStore>(pages: &mut Pages<S>, tid: u8, at: &Located) -> Result<(),
         Ok(taken) => taken,
         Err(fault) => return Err(index_fault(fault)),
     };
-    match cut_page(pages, tid, &taken, at) {
-        Ok(()) => Ok(()),
-        Err(fault) => Err(index_fault(fault)),
+    match cut_page(pages, tid, &taken, &at) {
+        Ok(()) => {}
+        Err(fault) => return Err(index_fault(fault)),
     }
+    let half = half_of(&at, &taken, key);
+    insert_here(pages, tid, root, table, key, half)
 }

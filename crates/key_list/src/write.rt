@@ -1,15 +1,18 @@
 // The nested top actions of an insertion.
-ghost use Rattle.std.specs.Prelude.{◌≡◌, ◌<◌, ℕ, None, IsErrOf, length};
+ghost use Rattle.std.specs.Prelude.{◌≡◌, ◌<◌, ℕ, None, IsErrOf, length, take, drop};
 ghost use Rattle.eaw_face.specs.Causes.{IsAlive};
 ghost use Rattle.page_store.specs.Index.{slots_of, index_pages_of};
 ghost use Rattle.page_store.specs.Shown.{pages_of, top_in};
 ghost use Rattle.index_pages.specs.Acts.{Acts};
 ghost use Rattle.index_pages.specs.Adding.{adding_pages, adding_parts};
+ghost use Rattle.key_list.specs.Index.{by_half};
 ghost use Rattle.key_list.specs.Located.{IsLocated, cutting_pages, cutting_parts};
 
 use crate::place::Located;
 use eaw_face::EawStore;
-use index_pages::{Claim, HALF, LeafPage, PAGE_LEN, act_all, front_part, whole_page, write_page};
+use index_pages::{
+    Claim, HALF, LeafPage, PAGE_LEN, act_all, copy_of, front_part, middle_of, whole_page, write_page,
+};
 use page_store::{PageFault, Pages};
 use record_slots::{PART_LEN, write_super_part};
 
@@ -72,4 +75,30 @@ pub fn cut_page<S: EawStore>(
         front_part(&part),
     ];
     act_all(pages, tid, &parts)
+}
+
+// The half of a full page whose range has the key, once the page is cut.
+pub fn half_of(at: &Located, taken: &Claim, key: u64) -> Located
+    requires { length at.now.pairs.items ≡ 30 }
+    ensures front { result.front ≡ taken.now.front }
+    ensures page { result.page ≡ by_half at.now.pairs.items key at.now.page taken.now.number }
+    ensures link { result.link ≡ by_half at.now.pairs.items key taken.now.number at.now.link }
+    ensures pairs { result.pairs.items ≡ by_half at.now.pairs.items key (take 15 at.now.pairs.items) (drop 15 at.now.pairs.items) }
+{
+    let pairs = at.pairs.as_slice();
+    if key < middle_of(&at.pairs) {
+        Located {
+            front: taken.front,
+            page: at.page,
+            link: taken.number,
+            pairs: copy_of(&pairs[..HALF]),
+        }
+    } else {
+        Located {
+            front: taken.front,
+            page: taken.number,
+            link: at.link,
+            pairs: copy_of(&pairs[HALF..]),
+        }
+    }
 }

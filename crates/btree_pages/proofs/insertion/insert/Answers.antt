@@ -16,7 +16,8 @@ use Rattle.btree_pages.specs.declared.node.Node.{Node}
 use Rattle.btree_pages.specs.Index.{tree}
 use Rattle.btree_pages.specs.Node.{IsNode}
 use Rattle.btree_pages.specs.Writes.{IsRead}
-use Rattle.btree_pages.proofs.Rooted.{test_of_index, dead_fault, dead_test, not_slots, not_damage, slot_there, room_for, full_with, super_err, slots_full, root_out, alive_yet, bytes_yet, sound_yet, named_yet, absent_yet, says_yet, root_reached, root_read}
+use Rattle.index_pages.proofs.Faulting.{test_of_index, dead_fault, dead_test, not_slots, not_damage, room_for, full_with}
+use Rattle.btree_pages.proofs.Rooted.{slot_there, super_err, slots_full, root_out, alive_yet, bytes_yet, sound_yet, named_yet, absent_yet, says_yet, root_reached, root_read}
 use Rattle.btree_pages.proofs.Whole.{root_err, looked_then, root_then}
 use Rattle.btree_pages.proofs.insertion.insert.Goals as goal
 

@@ -16,8 +16,11 @@ use Rattle.index_pages.specs.declared.taking.Claim.{Claim}
 use Rattle.index_pages.proofs.Looking.{looks_none, looks_next}
 use Rattle.btree_pages.specs.Index.{tree}
 use Rattle.btree_pages.specs.Writes.{IsRead, growing_pages, growing_parts}
-use Rattle.btree_pages.proofs.Below.{half_read, free_pages_pass, next_pass}
-use Rattle.btree_pages.proofs.Rooted.{look_of_index, act_of_index, dead_fault, dead_act, not_full, below_most, two_some, half_some, half_room, read_half, take_err}
+use Rattle.index_pages.proofs.Claims.{free_pages_pass, next_pass}
+use Rattle.btree_pages.specs.Trees.{whole_of}
+use Rattle.btree_pages.proofs.Below.{half_read}
+use Rattle.index_pages.proofs.Faulting.{look_of_index, act_of_index, dead_fault, dead_act, not_full, two_some}
+use Rattle.btree_pages.proofs.Rooted.{below_most, half_some, half_room, read_half, take_err}
 use Rattle.btree_pages.proofs.Whole.{root_high, root_full, grow_err, going3, living3, sound3, named3, absent3, says3, reached3, grown_then}
 use Rattle.btree_pages.proofs.insertion.insert_above.Goals as goal
 
@@ -87,7 +90,7 @@ take_page-requires g c =
       alive = c.requires.alive;
       front = c.requires.front;
       left = λ none. omega (arith, two, none, n.count);
-      sound = λ told. free_pages_pass v0.store.state.bytes c.args.front (c.requires.sound told) (c.requires.says told);
+      sound = λ told. free_pages_pass v0.store.state.bytes c.args.front (whole_of v0.store.state.bytes (c.requires.sound told)).pages (c.requires.says told);
     }
 
 pub returns-in-Err-clause-inserts : goal.returns-in-Err-clause-inserts
@@ -137,7 +140,7 @@ take_page-requires-2 g c =
       front = subst (λ (sh : Shape). IsFront sh c.in-Ok.left.front) (sym c.in-Ok.ensures.looks.shape) c.in-Ok.ensures.front;
       left = λ none. subst (λ (sh : Shape). c.in-Ok.left.front.next_page < index_pages_of sh) (sym c.in-Ok.ensures.looks.shape) (omega (arith, two, none, n.count, counts, c.requires.front.pages));
       sound = λ told. subst (λ (st : State). list_check (free_page_of st.bytes) (λ page. page) 2 c.in-Ok.left.front.next_page c.in-Ok.left.front.free_pages c.in-Ok.left.front.free_page 0 None) (sym ((c.in-Ok.ensures.looks.still refl).state told))
-          (next_pass v0.store.state.bytes c.args.front c.in-Ok.left.number c.in-Ok.left.front (c.requires.sound told) (c.requires.says told) (c.in-Ok.ensures.takes told));
+          (next_pass v0.store.state.bytes c.args.front c.in-Ok.left.number c.in-Ok.left.front (whole_of v0.store.state.bytes (c.requires.sound told)).pages (c.requires.says told) (c.in-Ok.ensures.takes told));
     }
 
 pub returns-in-Err-take_page-clause-inserts : goal.returns-in-Err-take_page-clause-inserts

@@ -14,8 +14,10 @@ use Rattle.index_pages.proofs.Looking.{looks_next}
 use Rattle.btree_pages.specs.declared.node.Node.{Node}
 use Rattle.btree_pages.specs.Index.{tree_below}
 use Rattle.btree_pages.specs.Writes.{IsRead, cutting_pages}
-use Rattle.btree_pages.proofs.Below.{stands_first, sound_now, named_now, reached_now, living, look_err, then_err, living1, sound1, says1, stands_down, pages_full, cut_err, stands_cut, add_done, add_err, free_pages_pass, free_slots_pass}
-use Rattle.btree_pages.proofs.Rooted.{look_of_index, act_of_index, dead_fault, not_full, not_done, dead_act, room_for, full_with, not_zero, two_some}
+use Rattle.btree_pages.proofs.Below.{stands_first, sound_now, named_now, reached_now, living, look_err, then_err, living1, sound1, says1, stands_down, pages_full, cut_err, stands_cut, add_done, add_err}
+use Rattle.btree_pages.specs.Trees.{whole_of}
+use Rattle.index_pages.proofs.Claims.{free_pages_pass, free_slots_pass}
+use Rattle.index_pages.proofs.Faulting.{look_of_index, act_of_index, dead_fault, not_full, not_done, dead_act, room_for, full_with, not_zero, two_some}
 use Rattle.btree_pages.proofs.insertion.insert_below.Goals as goal
 
 pub loop-node-preserved-then-len-lt-PAIRS_MAX : goal.loop-node-preserved-then-len-lt-PAIRS_MAX
@@ -242,7 +244,7 @@ take_page-requires g c =
       alive = living1 T E t root key v0 node.page node.level (c.args.front.next_page + node.level) c.index_page_count-count.result n.count n.all n.most n.some small c.requires.table c.requires.sound c.requires.named c.requires.absent long c.requires.alive limit v1 c.loop-node.front at.page at.level at.pairs.items c.loop-node.invariant v2 c.in-Ok.ensures.looks;
       front = subst (λ (sh : Shape). IsFront sh c.loop-node.front) (sym shape2) c.loop-node.invariant.front_is;
       left = λ none. subst (λ (sh : Shape). c.loop-node.front.next_page < index_pages_of sh) (sym shape2) (omega (arith, left, none, n.count));
-      sound = λ told. free_pages_pass v2.store.state.bytes c.loop-node.front (sound1 T E t root key v0 node.page node.level (c.args.front.next_page + node.level) c.index_page_count-count.result n.count n.all n.most n.some small c.requires.table c.requires.sound c.requires.named c.requires.absent long c.requires.alive limit v1 c.loop-node.front at.page at.level at.pairs.items c.loop-node.invariant v2 c.in-Ok.ensures.looks told) (says1 T E t root key v0 node.page node.level (c.args.front.next_page + node.level) c.index_page_count-count.result n.count n.all n.most n.some small c.requires.table c.requires.sound c.requires.named c.requires.absent long c.requires.alive limit v1 c.loop-node.front at.page at.level at.pairs.items c.loop-node.invariant v2 c.in-Ok.ensures.looks told);
+      sound = λ told. free_pages_pass v2.store.state.bytes c.loop-node.front (whole_of v2.store.state.bytes (sound1 T E t root key v0 node.page node.level (c.args.front.next_page + node.level) c.index_page_count-count.result n.count n.all n.most n.some small c.requires.table c.requires.sound c.requires.named c.requires.absent long c.requires.alive limit v1 c.loop-node.front at.page at.level at.pairs.items c.loop-node.invariant v2 c.in-Ok.ensures.looks told)).pages (says1 T E t root key v0 node.page node.level (c.args.front.next_page + node.level) c.index_page_count-count.result n.count n.all n.most n.some small c.requires.table c.requires.sound c.requires.named c.requires.absent long c.requires.alive limit v1 c.loop-node.front at.page at.level at.pairs.items c.loop-node.invariant v2 c.in-Ok.ensures.looks told);
     }
 
 pub cut_page-requires : goal.cut_page-requires
@@ -324,7 +326,7 @@ take_slot-requires g c =
       alive = living T E t root key v0 node.page node.level (c.args.front.next_page + node.level) c.index_page_count-count.result n.count n.all n.most n.some small c.requires.table c.requires.sound c.requires.named c.requires.absent long c.requires.alive limit v1 c.loop-node.front at.page at.level at.pairs.items c.loop-node.invariant;
       front = subst (λ (sh : Shape). IsFront sh c.loop-node.front) (sym shape1) c.loop-node.invariant.front_is;
       left = λ none. subst (λ (sh : Shape). c.loop-node.front.next_slot < slots_of sh) (sym shape1) (c.loop-node.invariant.slot none);
-      sound = λ told. free_slots_pass v1.store.state.bytes c.loop-node.front (sound_now T E t root key v0 node.page node.level (c.args.front.next_page + node.level) c.index_page_count-count.result n.count n.all n.most n.some small c.requires.table c.requires.sound c.requires.named c.requires.absent long c.requires.alive limit v1 c.loop-node.front at.page at.level at.pairs.items c.loop-node.invariant told) (c.loop-node.invariant.says told);
+      sound = λ told. free_slots_pass v1.store.state.bytes c.loop-node.front (whole_of v1.store.state.bytes (sound_now T E t root key v0 node.page node.level (c.args.front.next_page + node.level) c.index_page_count-count.result n.count n.all n.most n.some small c.requires.table c.requires.sound c.requires.named c.requires.absent long c.requires.alive limit v1 c.loop-node.front at.page at.level at.pairs.items c.loop-node.invariant told)).slots (c.loop-node.invariant.says told);
     }
 
 pub returns-in-Err-take_slot-clause-inserts : goal.returns-in-Err-take_slot-clause-inserts

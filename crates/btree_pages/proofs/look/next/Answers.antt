@@ -5,7 +5,7 @@ use Rattle.index_pages.proofs.Looking.{looks_next}
 use Rattle.btree_pages.specs.Leaf.{from_bound}
 use Rattle.btree_pages.specs.declared.look.Reached.{Reached}
 use Rattle.btree_pages.proofs.Nexting.{no_error, other_error, first_some, first_none, look_before}
-use Rattle.btree_pages.proofs.Rooted.{dead_look}
+use Rattle.index_pages.proofs.Faulting.{dead_look}
 use Rattle.btree_pages.proofs.look.next.Goals as goal
 
 pub returns-in-Err : goal.returns-in-Err

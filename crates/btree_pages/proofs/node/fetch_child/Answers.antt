@@ -1,7 +1,7 @@
 use Rattle.page_store.specs.Shown.{pages_of}
 use Rattle.index_pages.proofs.Looking.{looks_none}
 use Rattle.btree_pages.proofs.Nexting.{no_error, not_damaged_page, error_is}
-use Rattle.btree_pages.proofs.Rooted.{dead_test}
+use Rattle.index_pages.proofs.Faulting.{dead_test}
 use Rattle.std.proofs.Common.{◌≡◌, ◌+◌, ℕ, List, sym, ◌∙◌, ap, subst, arith}
 use Rattle.record_slots.specs.Places.{page_bytes}
 use Rattle.page_store.specs.Pairs.{Pair}

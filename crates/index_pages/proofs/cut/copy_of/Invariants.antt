@@ -1,5 +1,5 @@
 use Rattle.std.proofs.Common.{◌≡◌, take}
-use Rattle.btree_pages.proofs.write.copy_of.Given as goal
+use Rattle.index_pages.proofs.cut.copy_of.Given as goal
 
 -- the pairs so far
 abbrev pub invariant-loop-pair : goal.invariant-loop-pair
