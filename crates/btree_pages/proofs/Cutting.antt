@@ -1,5 +1,5 @@
 -- Children among pairs, one by one.
-use Rattle.std.proofs.Common.{◌≡◌, ◌+◌, ◌-◌, ◌<◌, ◌≤◌, ℕ, zero, suc, false, nat_lt, List, [], ◌∷◌, length, get_or, drop, ◌∙◌, ap, subst, arith}
+use Rattle.std.proofs.Common.{◌≡◌, ◌+◌, ◌-◌, ◌<◌, ◌≤◌, ℕ, zero, suc, false, nat_lt, List, [], ◌∷◌, length, get_or, drop, refl, ◌∙◌, ap, subst, arith}
 use Rattle.std.proofs.lemmas.Bool.Decides.{nat_tests}
 use Rattle.page_store.specs.Pairs.{Pair}
 use Rattle.btree_laws.specs.Descent.{child_for}

@@ -92,7 +92,7 @@ module _ (tells : Bool) (old : StoreView) (alive : IsAlive old) (super : IsTrue 
   -- then the trees
   pub tables_tell : (IsTrue tells → both (slots_check old.state.bytes) (pages_check old.state.bytes) None) → (r : Result (Unit {0}) CheckFault)
       → (IsTrue tells → IsVerdict (tables_check (tree_of old.state.bytes) 0 (tables_of old.state.bytes)) r) → (r ≡ Err check.Dead → ⊥) → CheckCause tells tree old r
-  tables_tell lists (Ok tt) cause dead = (alive, λ t. (super t, lists t, cause t))
+  tables_tell lists (Ok done) cause dead = (alive, λ t. (super t, (lists t, cause t)))
   tables_tell lists (Err (check.Damaged bad)) cause dead = (alive, λ t. inr (super t, inr (lists t, cause t)))
   tables_tell lists (Err check.Media) cause dead = alive
   tables_tell lists (Err check.Dead) cause dead = absurd (dead refl)

@@ -302,7 +302,7 @@ insert_below-requires g c =
       sound = sound3 T E t root key v0 c.index_page_count-count.result n.count n.all n.most n.some small c.requires.sound c.requires.named c.requires.absent long c.requires.alive front c.requires.front c.requires.slot c.requires.says top.level top.pairs.items read c.requires.level c.requires.pairs c.requires.full c.if-top-eq-LEVEL_MAX.false (c.if-not-are_pages_left.ensures.0 refl) v2 looks left.number right.number left.front right.front one other v3 (acts (Ok tt) c.in-Ok-grow_root.ensures.acts);
       named = named3 T E t root key v0 c.index_page_count-count.result n.count n.all n.most n.some small c.requires.sound c.requires.named c.requires.absent long c.requires.alive front c.requires.front c.requires.slot c.requires.says top.level top.pairs.items read c.requires.level c.requires.pairs c.requires.full c.if-top-eq-LEVEL_MAX.false (c.if-not-are_pages_left.ensures.0 refl) v2 looks left.number right.number left.front right.front one other v3 (acts (Ok tt) c.in-Ok-grow_root.ensures.acts);
       absent = absent3 T E t root key v0 c.index_page_count-count.result n.count n.all n.most n.some small c.requires.sound c.requires.named c.requires.absent long c.requires.alive front c.requires.front c.requires.slot c.requires.says top.level top.pairs.items read c.requires.level c.requires.pairs c.requires.full c.if-top-eq-LEVEL_MAX.false (c.if-not-are_pages_left.ensures.0 refl) v2 looks left.number right.number left.front right.front one other v3 (acts (Ok tt) c.in-Ok-grow_root.ensures.acts);
-      front = subst (λ (sh : Shape). IsFront sh c.in-Ok-take_page.right.front) (sym (c.in-Ok-grow_root.ensures.acts.shape)) c.in-Ok-take_page.ensures.front;
+      front = subst (λ (sh : Shape). IsFront sh c.in-Ok-take_page.right.front) (sym (c.in-Ok-grow_root.ensures.acts.shape ∙ c.in-Ok-take_page.ensures.looks.shape)) c.in-Ok-take_page.ensures.front;
       slot = λ none. subst (λ (sh : Shape). c.in-Ok-take_page.right.front.next_slot < slots_of sh) (sym shape3)
           (subst (λ (k : ℕ). k < slots_of (g.S.EawStore.view c.args.pages.now.store).shape) (sym (slots2.0 ∙ slots.0)) (c.requires.slot (sym (slots2.1 ∙ slots.1) ∙ none)));
       says = says3 T E t root key v0 c.index_page_count-count.result n.count n.all n.most n.some small c.requires.sound c.requires.named c.requires.absent long c.requires.alive front c.requires.front c.requires.slot c.requires.says top.level top.pairs.items read c.requires.level c.requires.pairs c.requires.full c.if-top-eq-LEVEL_MAX.false (c.if-not-are_pages_left.ensures.0 refl) v2 looks left.number right.number left.front right.front one other v3 (acts (Ok tt) c.in-Ok-grow_root.ensures.acts);

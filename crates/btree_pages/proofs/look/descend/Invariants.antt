@@ -14,5 +14,5 @@ invariant-loop-step g l = record {
       (pages_of (g.S.EawStore.view l.fn.pages.store) l.fn.pages) (pages_of (g.S.EawStore.view l.pages.store) l.pages);
   alive : 0 < l._step → IsAlive (g.S.EawStore.view l.pages.store);
   dead : (g.S.EawStore.view l.pages.store).is_dead ≡ true → l.pages ≡ l.fn.pages;
-  down : IsTrue g.S.EawStore.tells → IsAlive (g.S.EawStore.view l.fn.pages.store) → Down l.root (g.S.EawStore.view l.fn.pages.store).state.bytes l.key l._step l.page l.bound;
+  down : IsTrue g.S.EawStore.tells → IsAlive (g.S.EawStore.view l.fn.pages.store) → Down l.fn.root (g.S.EawStore.view l.fn.pages.store).state.bytes l.key l._step l.page l.bound;
 }

@@ -39,7 +39,7 @@ returns-clause-acts g c =
 pub act_all-requires : goal.act_all-requires
 act_all-requires g c =
     let p0 = part_in (g.S.EawStore.view c.args.pages.now.store) (c.args.node.now.page) (0) 512 c.write_page.new.out c.whole_page.result.page c.whole_page.result.at c.whole_page.result.bytes.now c.whole_page.ensures.page c.whole_page.ensures.at c.whole_page.ensures.bytes c.write_page.array_long (omega arith) (omega arith) (page_there (g.S.EawStore.view c.args.pages.now.store).shape _ c.requires.node.inside) in
-    let p1 = part_in (g.S.EawStore.view c.args.pages.now.store) (c.args.taken.now.number) (0) 512 c.write_page-2.new.out c.whole_page-2.result.page c.whole_page-2.result.at c.whole_page-2.result.bytes.now c.whole_page-2.ensures.page c.whole_page-2.ensures.at c.whole_page-2.ensures.bytes c.write_page-2.array_long (omega arith) (omega arith) (page_there (g.S.EawStore.view c.args.pages.now.store).shape _ c.requires.next) in
+    let p1 = part_in (g.S.EawStore.view c.args.pages.now.store) (c.args.taken.now.number) (0) 512 c.write_page-2.new.out c.whole_page-2.result.page c.whole_page-2.result.at c.whole_page-2.result.bytes.now c.whole_page-2.ensures.page c.whole_page-2.ensures.at c.whole_page-2.ensures.bytes c.write_page-2.array_long (omega arith) (omega arith) (page_there (g.S.EawStore.view c.args.pages.now.store).shape _ c.requires.taken) in
     let p2 = part_in (g.S.EawStore.view c.args.pages.now.store) (c.args.parent.page) (0) 512 c.write_page-3.new.out c.whole_page-3.result.page c.whole_page-3.result.at c.whole_page-3.result.bytes.now c.whole_page-3.ensures.page c.whole_page-3.ensures.at c.whole_page-3.ensures.bytes c.write_page-3.array_long (omega arith) (omega arith) (page_there (g.S.EawStore.view c.args.pages.now.store).shape _ c.requires.parent.inside) in
     let pf = part_in (g.S.EawStore.view c.args.pages.now.store) (0) (8) 280 c.write_super_part.new.out c.front_part.result.page c.front_part.result.at c.front_part.result.bytes.now c.front_part.ensures.page c.front_part.ensures.at c.front_part.ensures.bytes c.write_super_part.array_long (omega arith) (omega arith) (let some : 0 < page_count (g.S.EawStore.view c.args.pages.now.store).shape = omega (arith, c.requires.taken) in some) in
     record { tid = c.requires.tid; closed = c.requires.closed; few = omega arith; inside = (p0.0, p0.1, (p1.0, p1.1, (p2.0, p2.1, (pf.0, pf.1, tt)))) }
