@@ -31,3 +31,5 @@ pub mod Claims
 pub mod Halved
 pub mod Owned
 pub mod Joining
+pub mod Tables
+pub mod Tests
