@@ -16,5 +16,4 @@ pub mod Below
 pub mod Lifting
 pub mod Whole
 pub mod Rooted
-pub mod Telling
 pub mod Nexting

@@ -347,11 +347,11 @@ module _ (table : ℕ) where
       elim (eqb_tells (link_of bytes page) 0) [
         | inl last ↦
             let b : nat_eq (link_of bytes page) 0 ≡ true = last.0 in
-            rw b ((c.0, λ other. absurd (other last.1)), λ from. rw b refl)
+            rw b ((c.0, λ other. absurd (other last.1)), λ from. refl)
         | inr more ↦
             let b : nat_eq (link_of bytes page) 0 ≡ false = more.0 in
             let rest = chain_short n bytes (link_of bytes page) (behind low (page_pairs bytes page)) (c.1 more.1) in
-            rw b ((c.0, λ other. rest.0), λ from. rw b (ap (λ (ps : List Pair). page_pairs bytes page ++ ps) (rest.1 (first_key (page_pairs bytes (link_of bytes page))))))
+            rw b ((c.0, λ other. rest.0), λ from. ap (λ (ps : List Pair). page_pairs bytes page ++ ps) (rest.1 (first_key (page_pairs bytes (link_of bytes page)))))
       ]
 
   -- the pages after some keys begin with later ones

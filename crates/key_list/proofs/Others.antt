@@ -3,7 +3,7 @@ use Rattle.std.proofs.Common.{◌≡◌, ◌≢◌, ℕ, zero, suc, ◌<◌, ◌
 use Rattle.std.specs.Prelude.{nat_eq, slice_index}
 use Rattle.std.proofs.lemmas.Bool.{cases_eq, cases_lt, ne_eqb}
 use Rattle.record_slots.specs.Free.{free_page_said}
-use Rattle.record_slots.specs.Places.{page_bytes, next_page, tables_of, free_pages, free_page_of, page_due, IsSuper, AreGiven}
+use Rattle.record_slots.specs.Places.{page_bytes, next_page, first_slot_page, tables_of, free_pages, free_page_of, page_due, IsSuper, AreGiven}
 use Rattle.page_store.specs.Index.{IsTable, IsUntouched}
 use Rattle.index_pages.specs.Keys.{key_end}
 use Rattle.index_pages.specs.Page.{kind_of, kind_said, link_of, link_said, page_pairs, pairs_said}
@@ -13,13 +13,13 @@ use Rattle.index_pages.proofs.Joining.{named_kept}
 use Rattle.index_pages.proofs.Owned.{given_once}
 use Rattle.index_pages.proofs.Tabled.{IsWhole, whole_seen, whole_passes, roots_apart, table_own}
 use Rattle.index_pages.proofs.Taken.{FreeSlots, FreePages, due_free, due_next}
-use Rattle.key_list.specs.Chain.{behind, chain_pieces, chain_check, IsSoundChain, pairs_of_chain}
+use Rattle.key_list.specs.Chain.{behind, chain_pieces, chain_check, page_of_key, IsSoundChain, pairs_of_chain}
 use Rattle.key_list.specs.ChainFacts.{chain_head}
 use Rattle.key_list.specs.Index.{chain, IsOnChain, IsPageOfChain}
 use Rattle.key_list.specs.Resting.{page_kept, step_kept, sound_table}
 use Rattle.key_list.specs.Seen.{IsChain, pages_of_sound, sound_by_pages, pieces_have}
 use Rattle.key_list.proofs.ChainActions.{first_below, linked_some, later_some, chain_fits}
-use Rattle.key_list.proofs.Chains.{on_within}
+use Rattle.key_list.proofs.Chains.{key_page_own, on_within}
 
 -- what sound data is made of
 pub whole_of : (bytes : List ℕ) → IsSoundChain bytes → IsWhole 0 chain_check bytes
@@ -157,3 +157,9 @@ module _ (old new : List ℕ) (table root : ℕ) (sound : IsSoundChain old) (nam
     level = refl;
     pages = pages_stay old new table' other sound is keeps (kept table' other is differ);
   }
+
+-- the page of a key is a page of the index
+pub key_page_given : (bytes : List ℕ) (root table key : ℕ) → IsSoundChain bytes → IsTable bytes table root → (1 ≤ page_of_key bytes root key) × (page_of_key bytes root key < first_slot_page bytes)
+key_page_given bytes root table key sound named =
+    let own = (key_page_own table bytes root key (root_own bytes table root sound named) (sound_table bytes table root sound named)).0 in
+    (own.0, omega (arith, own.1, (whole_of bytes sound).front.pages))

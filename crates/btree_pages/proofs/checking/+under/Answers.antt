@@ -16,7 +16,7 @@ use Rattle.btree_laws.specs.Tree.{AreChildren, next_low, children_check, tree_fr
 use Rattle.index_pages.specs.Slots.{IsVerdict}
 use Rattle.btree_pages.proofs.Checks.{whole_left, named_step, named_here, ChildrenLeft, children_step, children_fail, inner_fails, inner_children}
 use Rattle.record_slots.specs.Places.{page_bytes}
-use Rattle.btree_pages.proofs.Telling.{not_damaged, not_passed, told_looks, told_verdict, told_dead}
+use Rattle.index_pages.proofs.Tests.{not_damaged, not_passed, told_looks, told_verdict, told_dead}
 use Rattle.btree_pages.proofs.checking.+under.Goals as goal
 
 pub check_children-loop-i-init : goal.check_children-loop-i-init

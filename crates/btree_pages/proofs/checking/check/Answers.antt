@@ -10,15 +10,15 @@ use Rattle.page_store.specs.declared.index_fault.CheckFault.{CheckFault}
 use Rattle.index_pages.specs.Fetched.{IsFront}
 use Rattle.index_pages.specs.Slots.{IsVerdict, slots_check, pages_check, tables_check}
 use Rattle.index_pages.proofs.Looking.{looks_next}
-use Rattle.btree_pages.specs.Index.{tree_of}
-use Rattle.btree_pages.proofs.Telling.{check_looks, dead_told, super_fails, lists_fail, tables_tell}
+use Rattle.btree_pages.specs.Index.{tree, tree_of}
+use Rattle.index_pages.proofs.Tests.{check_looks, dead_told, super_fails, lists_fail, tables_tell}
 use Rattle.btree_pages.proofs.checking.check.Goals as goal
 
 pub returns-in-Err-clause-looks : goal.returns-in-Err-clause-looks
 returns-in-Err-clause-looks g c = check_looks Super g.S.EawStore.tells (g.S.EawStore.opens (g.S.EawStore.view c.args.pages.now.store).shape) (pages_of (g.S.EawStore.view c.args.pages.now.store) c.args.pages.now) (pages_of (g.S.EawStore.view c.check_super.new.pages.store) c.check_super.new.pages) c.in-Err.fault c.check_fault.result c.check_fault.ensures c.in-Err.ensures.looks
 
 pub returns-in-Err-clause-cause : goal.returns-in-Err-clause-cause
-returns-in-Err-clause-cause g c = super_fails g.S.EawStore.tells (g.S.EawStore.view c.args.pages.now.store) c.in-Err.fault c.check_fault.result c.check_fault.ensures c.in-Err.ensures.cause
+returns-in-Err-clause-cause g c = super_fails tree 1 tree_of (λ b c. c) (λ b bad c. c) g.S.EawStore.tells (g.S.EawStore.view c.args.pages.now.store) c.in-Err.fault c.check_fault.result c.check_fault.ensures c.in-Err.ensures.cause
 
 pub returns-in-Err-clause-dead : goal.returns-in-Err-clause-dead
 returns-in-Err-clause-dead g c = λ told. c.in-Err.ensures.dead (ap Err (dead_told Super _ _ _ (g.S.EawStore.view c.args.pages.now.store) c.in-Err.fault c.check_fault.result c.in-Err.ensures.cause c.check_fault.ensures told))
@@ -35,7 +35,7 @@ returns-in-Err-check_lists-clause-looks g c = looks_next g.S.EawStore.tells g.S.
 pub returns-in-Err-check_lists-clause-cause : goal.returns-in-Err-check_lists-clause-cause
 returns-in-Err-check_lists-clause-cause g c =
     let r : Result (Unit {0}) CheckFault = Err c.in-Err-check_lists.fault in
-    lists_fail g.S.EawStore.tells (g.S.EawStore.view c.args.pages.now.store) c.in-Ok.ensures.cause (λ told. c.in-Ok.ensures.sound told) c.in-Err-check_lists.fault
+    lists_fail tree 1 tree_of (λ b c. c) (λ b bad c. c) g.S.EawStore.tells (g.S.EawStore.view c.args.pages.now.store) c.in-Ok.ensures.cause (λ told. c.in-Ok.ensures.sound told) c.in-Err-check_lists.fault
     (λ told.
         let same = (c.in-Ok.ensures.looks.still refl).state told in
         subst (λ (s : State). IsVerdict (both (slots_check s.bytes) (pages_check s.bytes)) r) same
@@ -59,7 +59,7 @@ returns-clause-looks g c = looks_next g.S.EawStore.tells g.S.EawStore.opens _ (p
 pub returns-clause-cause : goal.returns-clause-cause
 returns-clause-cause g c =
     let r : Result (Unit {0}) CheckFault = Ok tt in
-    tables_tell g.S.EawStore.tells (g.S.EawStore.view c.args.pages.now.store) c.in-Ok.ensures.cause (λ told. c.in-Ok.ensures.sound told)
+    tables_tell tree 1 tree_of (λ b c. c) (λ b bad c. c) g.S.EawStore.tells (g.S.EawStore.view c.args.pages.now.store) c.in-Ok.ensures.cause (λ told. c.in-Ok.ensures.sound told)
     (λ told.
         let same = (c.in-Ok.ensures.looks.still refl).state told in
         subst (λ (s : State). IsVerdict (both (slots_check s.bytes) (pages_check s.bytes)) r) same

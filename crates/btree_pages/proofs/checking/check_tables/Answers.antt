@@ -12,8 +12,9 @@ use Rattle.index_pages.proofs.Tabled.{table_own}
 use Rattle.btree_laws.specs.Tree.{tree_check}
 use Rattle.btree_pages.specs.Checked.{IsFrontOf}
 use Rattle.btree_pages.specs.Index.{tree_of}
-use Rattle.btree_pages.proofs.Checks.{all_left, tables_none, tables_step, tables_fail, root_says, tables_end, front_of}
-use Rattle.btree_pages.proofs.Telling.{not_damaged, not_passed}
+use Rattle.index_pages.proofs.Tables.{all_left, tables_none, tables_step, tables_fail, root_says, tables_end}
+use Rattle.btree_pages.proofs.Checks.{front_of}
+use Rattle.index_pages.proofs.Tests.{not_damaged, not_passed}
 use Rattle.btree_pages.proofs.checking.check_tables.Goals as goal
 
 pub loop-table-init : goal.loop-table-init

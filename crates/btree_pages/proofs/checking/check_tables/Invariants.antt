@@ -5,7 +5,7 @@ use Rattle.record_slots.specs.Super.{SaysSuper}
 use Rattle.page_store.specs.Looks.{Looks}
 use Rattle.page_store.specs.Shown.{pages_of}
 use Rattle.btree_pages.specs.Index.{tree_of}
-use Rattle.btree_pages.proofs.Checks.{TablesLeft}
+use Rattle.index_pages.proofs.Tables.{TablesLeft}
 use Rattle.btree_pages.proofs.checking.check_tables.Given as goal
 
 -- the data is as it was, and the tables that are left decide for all

@@ -12,7 +12,7 @@ use Rattle.index_pages.proofs.Looking.{looks_next}
 use Rattle.btree_laws.specs.Tree.{tree_check, tree_from}
 use Rattle.btree_pages.specs.Checked.{IsFrontOf}
 use Rattle.btree_pages.proofs.Checks.{level_fails, level_passes}
-use Rattle.btree_pages.proofs.Telling.{not_damaged, told_looks, told_verdict, told_dead}
+use Rattle.index_pages.proofs.Tests.{not_damaged, told_looks, told_verdict, told_dead}
 use Rattle.btree_pages.proofs.checking.check_tree.Goals as goal
 
 pub returns-in-Err-clause-looks : goal.returns-in-Err-clause-looks

@@ -35,7 +35,7 @@ returns-in-Err-clause-dead g c =
 
 pub has_slot-requires : goal.has_slot-requires
 has_slot-requires g c =
-    let slots_is : 8 * c.index_page_count.result ≡ slots_of (g.S.EawStore.view c.args.pages.now.store).shape = omega (arith, c.index_page_count.ensures.all, ap slots_of c.in-Ok.ensures.looks.shape) in
+    let slots_is : 8 * c.index_page_count-slots.result ≡ slots_of (g.S.EawStore.view c.args.pages.now.store).shape = omega (arith, c.index_page_count-slots.ensures.all, ap slots_of c.in-Ok.ensures.looks.shape) in
     omega (arith, slots_is, c.in-Ok.ensures.located.front_is.slots)
 
 pub returns-then-not-has_slot-clause-inserts : goal.returns-then-not-has_slot-clause-inserts
@@ -52,8 +52,8 @@ returns-then-not-has_slot-clause-inserts g c =
     let at = c.in-Ok.at in
     let looks = c.in-Ok.ensures.looks in
     let alive = c.in-Ok.ensures.cause in
-    let slots_is : 8 * c.index_page_count.result ≡ slots_of (g.S.EawStore.view c.args.pages.now.store).shape = omega (arith, c.index_page_count.ensures.all, ap slots_of c.in-Ok.ensures.looks.shape) in
-    slots_full T E t root table key v0 v1 c.requires.sound looks alive (8 * c.index_page_count.result) slots_is at.front at.page at.link at.pairs.items c.in-Ok.ensures.located c.in-Ok.ensures.said (λ has. false≢true (c.if-not-has_slot.ensures.1 has))
+    let slots_is : 8 * c.index_page_count-slots.result ≡ slots_of (g.S.EawStore.view c.args.pages.now.store).shape = omega (arith, c.index_page_count-slots.ensures.all, ap slots_of c.in-Ok.ensures.looks.shape) in
+    slots_full T E t root table key v0 v1 c.requires.sound looks alive (8 * c.index_page_count-slots.result) slots_is at.front at.page at.link at.pairs.items c.in-Ok.ensures.located c.in-Ok.ensures.said (λ has. false≢true (c.if-not-has_slot.ensures.1 has))
 
 pub returns-then-not-has_slot-clause-dead : goal.returns-then-not-has_slot-clause-dead
 returns-then-not-has_slot-clause-dead g c =
@@ -73,7 +73,7 @@ insert_here-requires g c =
     let at = c.in-Ok.at in
     let looks = c.in-Ok.ensures.looks in
     let alive = c.in-Ok.ensures.cause in
-    let slots_is : 8 * c.index_page_count.result ≡ slots_of (g.S.EawStore.view c.args.pages.now.store).shape = omega (arith, c.index_page_count.ensures.all, ap slots_of c.in-Ok.ensures.looks.shape) in
+    let slots_is : 8 * c.index_page_count-slots.result ≡ slots_of (g.S.EawStore.view c.args.pages.now.store).shape = omega (arith, c.index_page_count-slots.ensures.all, ap slots_of c.in-Ok.ensures.looks.shape) in
     record {
       tid = subst (λ (sh : Shape). c.args.tid < sh.numbers) (sym looks.shape) c.requires.tid;
       table = c.requires.table;
@@ -123,7 +123,7 @@ insert_cut-requires g c =
     let at = c.in-Ok.at in
     let looks = c.in-Ok.ensures.looks in
     let alive = c.in-Ok.ensures.cause in
-    let slots_is : 8 * c.index_page_count.result ≡ slots_of (g.S.EawStore.view c.args.pages.now.store).shape = omega (arith, c.index_page_count.ensures.all, ap slots_of c.in-Ok.ensures.looks.shape) in
+    let slots_is : 8 * c.index_page_count-slots.result ≡ slots_of (g.S.EawStore.view c.args.pages.now.store).shape = omega (arith, c.index_page_count-slots.ensures.all, ap slots_of c.in-Ok.ensures.looks.shape) in
     record {
       tid = subst (λ (sh : Shape). c.args.tid < sh.numbers) (sym looks.shape) c.requires.tid;
       table = c.requires.table;
