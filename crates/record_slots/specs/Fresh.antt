@@ -1,18 +1,18 @@
 -- The pages of data without records.
 use Rattle.std.specs.Prelude.{ℕ, zero, suc, List, ◌++◌, replicate}
-use Rattle.record_slots.specs.Super.{super_bytes, entry_bytes, main_table}
+use Rattle.record_slots.specs.Super.{super_bytes}
 use Rattle.record_slots.specs.IndexHead.{index_head_bytes}
 use Rattle.record_slots.specs.declared.super_page.Super.{Super}
 use Rattle.record_slots.specs.declared.index_head.IndexHead.{IndexHead}
 
--- version 2 and form 1, a tree; no slot given out; 2 as the next page to give out; the table `main` with root 1; and nothing free
+-- version 1 and form 1, a tree; no slot given out; 2 as the next page to give out; no entries, and nothing free
 abbrev pub fresh_super : Super
 fresh_super = record {
-  version = 2;
+  version = 1;
   form = 1;
   next_slot = 0;
   next_page = 2;
-  entries = entry_bytes main_table ++ replicate 224 0;
+  entries = replicate 256 0;
   free_slot = 0;
   free_page = 0;
   free_slots = 0;

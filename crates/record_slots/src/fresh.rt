@@ -4,11 +4,8 @@ ghost use Rattle.record_slots.specs.Fresh.{fresh_page};
 
 use crate::{ENTRIES_LEN, INDEX_HEAD_LEN, IndexHead, Super, index_head_bytes, write_super};
 
-// The entry of the table `main`, whose root is page 1.
-const MAIN_ENTRY: [u8; 24] = *b"\x04main\0\0\0\0\0\0\0\0\0\0\0\0\0\0\0\x01\0\0\0";
-
-/// A page of data without records: page 0 is the super page with the table `main`, page 1 its root, which is a leaf without pairs, and
-/// all others are zero.
+/// A page of data without records: page 0 is the super page of a tree, page 1 its root, which is a leaf without pairs, and all others
+/// are zero.
 pub fn fresh_page(page: u64) -> [u8; 512]
     ensures { result ≡ fresh_page page }
 {
@@ -22,14 +19,12 @@ pub fn fresh_page(page: u64) -> [u8; 512]
 fn fresh_super() -> [u8; 512]
     ensures { result ≡ fresh_page 0 }
 {
-    let mut entries = [0; ENTRIES_LEN];
-    entries[..MAIN_ENTRY.len()].copy_from_slice(&MAIN_ENTRY);
     let front = Super {
-        version: 2,
+        version: 1,
         form: 1,
         next_slot: 0,
         next_page: 2,
-        entries,
+        entries: [0; ENTRIES_LEN],
         free_slot: 0,
         free_page: 0,
         free_slots: 0,

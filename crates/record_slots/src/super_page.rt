@@ -22,8 +22,11 @@ pub const PART_LEN: usize = 280;
 
 const MARK: [u8; 4] = *b"MREC";
 
-/// The version that is written.
+/// The version that has entries of tables, and lists of what is free.
 pub const VERSION: u8 = 2;
+
+/// The newest version that is read. It is also the one that is written.
+const NEWEST: u8 = 1;
 
 const VERSION_AT: usize = 4;
 
@@ -67,7 +70,7 @@ pub struct Super {
     pub free_pages: u32,
 }
 
-/// What a super page says. `None` exactly when it does not begin with the mark and version 1 or 2. The entries are not looked at.
+/// What a super page says. `None` exactly when it does not begin with the mark and version 1. The entries are not looked at.
 pub fn read_super(bytes: &[u8; 512]) -> Option<Super>
     ensures says { IfSome result (SaysSuper bytes.now) }
     ensures unmarked { IfNone result (¬ HasSuperMark bytes.now) }
@@ -79,7 +82,7 @@ pub fn read_super(bytes: &[u8; 512]) -> Option<Super>
     if version == 0 {
         return None;
     }
-    if version > VERSION {
+    if version > NEWEST {
         return None;
     }
     let mut entries = [0; ENTRIES_LEN];

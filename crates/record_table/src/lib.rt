@@ -6,6 +6,7 @@
 
 mod fault;
 mod form;
+mod main_table;
 mod records;
 mod scanning;
 mod slots;

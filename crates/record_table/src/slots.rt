@@ -15,6 +15,7 @@ ghost use Rattle.record_table.specs.Invariant.{Holds};
 ghost use Rattle.record_table.specs.Shown.{value_of};
 ghost use Rattle.record_table.specs.Sought.{LooksAs, Finds, value_at};
 
+use crate::main_table::find;
 use eaw_face::EawStore;
 use page_store::{KeyIndex, PageFault, Pages};
 use record_slots::{SLOT_LEN, Slot, Value, read_slot, write_slot};
@@ -101,7 +102,7 @@ pub fn seek<S: EawStore, K: KeyIndex>(
     ensures inside { IfOk result (λ place. IfSome place (λ place. place.slot < slots_of (S.view pages.old.store).shape)) }
     ensures dead { IsErrOf result PageFault.Dead → pages.new ≡ pages.old }
 {
-    let slot = match K::find(pages, key) {
+    let slot = match find::<S, K>(pages, key) {
         Ok(Some(slot)) => slot,
         Ok(None) => return Ok(None),
         Err(fault) => return Err(fault),
@@ -132,7 +133,7 @@ pub fn value_in(said: &Slot) -> Option<Value>
     ensures { result ≡ value_of (Some said.now) }
 {
     match said {
-        Slot::Present { key: _, value } => Some(*value),
-        Slot::Absent { key: _ } => None,
+        Slot::Present { value, .. } => Some(*value),
+        Slot::Absent { .. } => None,
     }
 }

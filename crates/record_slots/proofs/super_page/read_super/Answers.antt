@@ -9,7 +9,7 @@ unfolding version_said form_said next_slot_said next_page_said entries_said free
 returns-clause-says c =
     let b = c.args.bytes.now in
     record {
-      has_mark = record { mark = sym (same_text super_mark (take 4 b) (sym c.if-not-starts_with.false ∙ c.starts_with.ensures.value)); some = omega (arith, c.if-version-eq0.false); known = omega (arith, c.if-version-gt-VERSION.false) };
+      has_mark = record { mark = sym (same_text super_mark (take 4 b) (sym c.if-not-starts_with.false ∙ c.starts_with.ensures.value)); some = omega (arith, c.if-version-eq0.false); known = omega (arith, c.if-version-gt-NEWEST.false) };
       version = refl;
       form = refl;
       next_slot = c.read_u32.ensures ∙ four_read 8 504 b (omega arith);
@@ -25,6 +25,6 @@ pub returns-then-version-eq0-clause-unmarked : goal.returns-then-version-eq0-cla
 unfolding version_said
 returns-then-version-eq0-clause-unmarked c = λ marked. omega (arith, marked.some, c.if-version-eq0.true)
 
-pub returns-then-version-gt-VERSION-clause-unmarked : goal.returns-then-version-gt-VERSION-clause-unmarked
+pub returns-then-version-gt-NEWEST-clause-unmarked : goal.returns-then-version-gt-NEWEST-clause-unmarked
 unfolding version_said
-returns-then-version-gt-VERSION-clause-unmarked c = λ marked. omega (arith, marked.known, c.if-version-gt-VERSION.true)
+returns-then-version-gt-NEWEST-clause-unmarked c = λ marked. omega (arith, marked.known, c.if-version-gt-NEWEST.true)
