@@ -17,3 +17,4 @@ pub mod Lifting
 pub mod Whole
 pub mod Rooted
 pub mod Nexting
+pub mod Fresh

@@ -3,7 +3,7 @@ ghost use Rattle.std.specs.Prelude.{◌≡◌, ◌≢◌, ◌+◌, ◌*◌, ◌%
 ghost use Rattle.mars_base.specs.Bytes.{range};
 ghost use Rattle.array_shape.specs.Places.{page_count};
 ghost use Rattle.eaw_face.specs.Causes.{IsAlive};
-ghost use Rattle.record_slots.specs.Slots.{slot_said, slot_bytes};
+ghost use Rattle.record_slots.specs.Slots.{slot_said, slot_bytes, table_of_slot};
 ghost use Rattle.page_store.specs.Command.{write_as};
 ghost use Rattle.page_store.specs.Does.{Does};
 ghost use Rattle.page_store.specs.Index.{slots_of, index_pages_of};
@@ -70,6 +70,7 @@ pub fn write_as<S: EawStore>(
 ) -> Result<(), PageFault>
     requires tid { tid < (S.view pages.old.store).shape.numbers }
     requires slot { slot < slots_of (S.view pages.old.store).shape }
+    requires named { table_of_slot said.now < 8 }
     ensures does { Does S.tells (S.opens (S.view pages.old.store).shape)
         (write_as tid (64 * (slots_of (S.view pages.old.store).shape + slot)) (slot_bytes said.now))
         (pages_of (S.view pages.old.store) pages.old) (pages_of (S.view pages.new.store) pages.new) result }

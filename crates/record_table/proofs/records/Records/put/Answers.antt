@@ -96,7 +96,7 @@ invariant_of-self-in-Ok g c =
     let alive = c.in-Ok-None.ensures.cause in
     let looks = looks_as T (E v0.store.shape) t false v0 v1 c.in-Ok-None.ensures.looks in
     let mid_alive = (looks.same refl).still.dead ∙ alive in
-    let inserts = subst (λ (s : Shape). (let r : Result ℕ IndexFault = Ok c.in-Ok.slot in Inserts g.S.EawStore.tells (g.S.EawStore.opens s) g.K.KeyIndex.index c.args.tid c.args.key (pages_of (V mid.store) mid) (pages_of (V far.store) far) r)) looks.shape c.in-Ok.ensures.inserts in
+    let inserts = subst (λ (s : Shape). (let r : Result ℕ IndexFault = Ok c.in-Ok.slot in Inserts g.S.EawStore.tells (g.S.EawStore.opens s) g.K.KeyIndex.index c.args.tid 1 0 c.args.key (pages_of (V mid.store) mid) (pages_of (V far.store) far) r)) looks.shape c.in-Ok.ensures.inserts in
     let far_alive = (inserts.kept refl).dead ∙ mid_alive in
     let does = subst (λ (s : Shape). page.Does g.S.EawStore.tells (g.S.EawStore.opens s) (write_as c.args.tid (64 * (slots_of (V far.store).shape + c.in-Ok.slot)) (slot_bytes (Present 0 c.args.key c.args.value))) (pages_of (V far.store) far) (pages_of (V new.store) new) c.write_as-in-Ok.result)
     (inserts.shape ∙ looks.shape) c.write_as-in-Ok.ensures.does in
@@ -126,7 +126,7 @@ returns-in-Ok-clause-does g c =
     let alive = c.in-Ok-None.ensures.cause in
     let looks = looks_as T (E v0.store.shape) t false v0 v1 c.in-Ok-None.ensures.looks in
     let mid_alive = (looks.same refl).still.dead ∙ alive in
-    let inserts = subst (λ (s : Shape). (let r : Result ℕ IndexFault = Ok c.in-Ok.slot in Inserts g.S.EawStore.tells (g.S.EawStore.opens s) g.K.KeyIndex.index c.args.tid c.args.key (pages_of (V mid.store) mid) (pages_of (V far.store) far) r)) looks.shape c.in-Ok.ensures.inserts in
+    let inserts = subst (λ (s : Shape). (let r : Result ℕ IndexFault = Ok c.in-Ok.slot in Inserts g.S.EawStore.tells (g.S.EawStore.opens s) g.K.KeyIndex.index c.args.tid 1 0 c.args.key (pages_of (V mid.store) mid) (pages_of (V far.store) far) r)) looks.shape c.in-Ok.ensures.inserts in
     let far_alive = (inserts.kept refl).dead ∙ mid_alive in
     let does = subst (λ (s : Shape). page.Does g.S.EawStore.tells (g.S.EawStore.opens s) (write_as c.args.tid (64 * (slots_of (V far.store).shape + c.in-Ok.slot)) (slot_bytes (Present 0 c.args.key c.args.value))) (pages_of (V far.store) far) (pages_of (V new.store) new) c.write_as-in-Ok.result)
     (inserts.shape ∙ looks.shape) c.write_as-in-Ok.ensures.does in
@@ -154,7 +154,7 @@ invariant_of-self-in-Err-insert g c =
     let v2 = pages_of (V far.store) far in
     let alive = c.in-Ok-None.ensures.cause in
     let looks = looks_as T (E v0.store.shape) t false v0 v1 c.in-Ok-None.ensures.looks in
-    let inserts = subst (λ (s : Shape). (let r : Result ℕ IndexFault = Err c.in-Err-insert.fault in Inserts g.S.EawStore.tells (g.S.EawStore.opens s) g.K.KeyIndex.index c.args.tid c.args.key (pages_of (V mid.store) mid) (pages_of (V far.store) far) r)) looks.shape c.in-Err-insert.ensures.inserts in
+    let inserts = subst (λ (s : Shape). (let r : Result ℕ IndexFault = Err c.in-Err-insert.fault in Inserts g.S.EawStore.tells (g.S.EawStore.opens s) g.K.KeyIndex.index c.args.tid 1 0 c.args.key (pages_of (V mid.store) mid) (pages_of (V far.store) far) r)) looks.shape c.in-Err-insert.ensures.inserts in
     (put_refused T (E v0.store.shape) I laws t key c.args.value v0 alive c.self.invariant v1 looks (λ told. sym (c.in-Ok-None.ensures.found told) ∙ c.in-Ok-None.field-0-is) v2
     (slot_said-slot_bytes (Absent 0 c.args.key) (omega arith)) c.in-Err-insert.fault inserts).1
 
@@ -176,7 +176,7 @@ returns-in-Err-insert-clause-does g c =
     let v2 = pages_of (V far.store) far in
     let alive = c.in-Ok-None.ensures.cause in
     let looks = looks_as T (E v0.store.shape) t false v0 v1 c.in-Ok-None.ensures.looks in
-    let inserts = subst (λ (s : Shape). (let r : Result ℕ IndexFault = Err c.in-Err-insert.fault in Inserts g.S.EawStore.tells (g.S.EawStore.opens s) g.K.KeyIndex.index c.args.tid c.args.key (pages_of (V mid.store) mid) (pages_of (V far.store) far) r)) looks.shape c.in-Err-insert.ensures.inserts in
+    let inserts = subst (λ (s : Shape). (let r : Result ℕ IndexFault = Err c.in-Err-insert.fault in Inserts g.S.EawStore.tells (g.S.EawStore.opens s) g.K.KeyIndex.index c.args.tid 1 0 c.args.key (pages_of (V mid.store) mid) (pages_of (V far.store) far) r)) looks.shape c.in-Err-insert.ensures.inserts in
     rw c.from.ensures (does_of V T E I t (Put key c.args.value) c.args.self.now inside c.self.view_is v2 _
     (put_refused T (E v0.store.shape) I laws t key c.args.value v0 alive c.self.invariant v1 looks (λ told. sym (c.in-Ok-None.ensures.found told) ∙ c.in-Ok-None.field-0-is) v2
     (slot_said-slot_bytes (Absent 0 c.args.key) (omega arith)) c.in-Err-insert.fault inserts).0)
