@@ -37,12 +37,13 @@ use Rattle.btree_laws.specs.Tree.{pairs_of_tree}
 use Rattle.btree_laws.specs.declared.root.Root.{Root}
 use Rattle.btree_pages.specs.Index.{tree, tree_below, adding, cutting, half_for, half_pairs, actions_below, AreSoundTrees}
 use Rattle.btree_pages.specs.OnWay.{IsOnWay, IsReached}
-use Rattle.btree_pages.specs.Trees.{trees_count, named_kept}
+use Rattle.btree_pages.specs.Trees.{trees_count}
 use Rattle.btree_pages.specs.Writes.{IsRead, cutting_pages, cutting_parts}
 use Rattle.btree_pages.specs.declared.node.Node.{Node}
 use Rattle.btree_pages.proofs.AddData.{adding_grows, adding_takes_none, slot_there}
 use Rattle.btree_pages.proofs.CutData.{cutting_grows, cut_after, cut_says, cut_used, cut_level, cut_due, half_there, half_says, half_left}
 use Rattle.btree_pages.proofs.Joining.{grows_more, rests_more, gains_more}
+use Rattle.index_pages.proofs.Joining.{named_kept}
 use Rattle.index_pages.proofs.Left.{DecidesAll, pages_lack, room_lacks, fits_same, lacks_same}
 use Rattle.btree_pages.proofs.Walking.{Walks, walk_first, walk_down, walk_due, walk_cut, walk_last, child_way}
 

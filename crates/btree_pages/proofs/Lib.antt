@@ -13,7 +13,6 @@ pub mod Walking
 pub mod Joining
 pub mod Children
 pub mod Below
-pub mod Lifting
 pub mod Whole
 pub mod Rooted
 pub mod Nexting

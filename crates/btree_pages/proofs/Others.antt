@@ -7,6 +7,7 @@ use Rattle.record_slots.specs.Places.{page_bytes, next_page, tables_of, free_pag
 use Rattle.page_store.specs.Index.{IsTable, IsUntouched}
 use Rattle.index_pages.specs.Page.{kind_of, kind_said, level_of}
 use Rattle.index_pages.specs.Ways.{Keeps}
+use Rattle.index_pages.proofs.Joining.{named_kept}
 use Rattle.index_pages.proofs.Tabled.{IsWhole, whole_passes, roots_apart}
 use Rattle.index_pages.proofs.Taken.{FreeSlots, FreePages, due_free, due_next}
 use Rattle.btree_laws.proofs.Belonging.{tree_stays_same}
@@ -17,7 +18,7 @@ use Rattle.btree_laws.specs.Sound.{IsSoundTree, sound_passes}
 use Rattle.btree_laws.specs.Tree.{pairs_of_tree, IsPageOfTree}
 use Rattle.btree_laws.specs.declared.root.Root.{Root}
 use Rattle.btree_pages.specs.Index.{tree, tree_of, AreSoundTrees}
-use Rattle.btree_pages.specs.Trees.{whole_of, table_sound, page_given, named_kept}
+use Rattle.btree_pages.specs.Trees.{whole_of, table_sound, page_given}
 
 -- a page that says that it is free is of another kind than those of trees
 free_kind : (bytes : List ℕ) (x : ℕ) → free_page_of bytes x ≢ None → kind_of bytes x ≡ 255

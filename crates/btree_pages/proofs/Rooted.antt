@@ -89,11 +89,16 @@ module _ (tells : Bool) (E : Shape → List ℕ → List ℕ → Type 0) (t : �
     pub root_out : (half : ℕ) → half ≡ index_pages_of v0.store.shape → (IsTrue tells → first_slot_page v0.store.state.bytes ≡ half) → ((1 ≤ root.page) → root.page < half → ⊥)
         → (let r : Result ℕ IndexFault = Err (index.Damaged 0) in Inserts tells (E v0.store.shape) tree t root.page root.table key v0 v1 r)
     root_out half half_is first out =
-        inserts_refused tree tells (E v0.store.shape) t root.page root.table key v0 v1 (going_looks tree tells (E v0.store.shape) t root.page root.table key v0 v1 sound looks) (index.Damaged 0)
-        (refl, (alive, λ told.
-        let front = (whole_of v0.store.state.bytes (sound told alive)).front in
-        let own = table_own 1 v0.store.state.bytes root.table root.page front (named told alive) in
-        out own.0 (omega (arith, own.1, front.pages, first told)))) (λ m e. absurd (cc))
+        inserts_refused tree tells (E v0.store.shape) t root.page root.table key v0 v1 (going_looks tree tells (E v0.store.shape) t root.page root.table key v0 v1 sound looks) (index.Damaged 0) (
+          refl,
+          (
+            alive,
+            λ told.
+                let front = (whole_of v0.store.state.bytes (sound told alive)).front in
+                let own = table_own 1 v0.store.state.bytes root.table root.page front (named told alive) in
+                out own.0 (omega (arith, own.1, front.pages, first told)),
+          ),
+        ) (λ m e. absurd (cc))
 
     -- what was known of the data still is, and the root is on each key's way
     pub alive_yet : IsAlive v1.store

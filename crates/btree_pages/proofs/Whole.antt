@@ -33,7 +33,7 @@ use Rattle.btree_laws.specs.declared.root.Root.{Root}
 use Rattle.btree_pages.specs.Index.{tree, tree_below, growing, half_for, half_pairs, tree_actions, actions_below, AreSoundTrees}
 use Rattle.btree_pages.specs.Node.{IsNode}
 use Rattle.btree_pages.specs.OnWay.{IsOnWay, IsReached}
-use Rattle.btree_pages.specs.Trees.{whole_of, table_sound, trees_count, named_kept}
+use Rattle.btree_pages.specs.Trees.{whole_of, table_sound, trees_count}
 use Rattle.btree_pages.specs.Writes.{IsRead, growing_pages, growing_parts}
 use Rattle.btree_pages.specs.declared.node.Node.{Node}
 use Rattle.index_pages.proofs.Claims.{entries_long, slots_few}
@@ -41,7 +41,7 @@ use Rattle.btree_pages.proofs.Descending.{down_first, down_node}
 use Rattle.btree_pages.proofs.GrowData.{growing_grows, grown_level, grown_half, grown_pairs, grown_says, grown_used, grown_left, grown_dues, grown_slots}
 use Rattle.index_pages.proofs.Left.{DecidesAll, all_left, room_lacks, fits_same, lacks_same}
 use Rattle.index_pages.proofs.Lifting.{joins_same, inserts_then}
-use Rattle.btree_pages.proofs.Lifting.{joins_below}
+use Rattle.index_pages.proofs.Joining.{named_kept, joins_within}
 use Rattle.btree_pages.proofs.Walking.{root_first, grow_due, growing_takes, growing_stops, growing_lacks, grown_decides}
 
 module _ (tells : Bool) (E : Shape → List ℕ → List ℕ → Type 0) (t : ℕ) (root : Root) (key : ℕ) (v0 v1 : PagesView) (sound : IsTrue tells → IsAlive v0.store → AreSoundTrees v0.store.state.bytes)
@@ -79,7 +79,7 @@ module _ (tells : Bool) (E : Shape → List ℕ → List ℕ → Type 0) (t : �
         → (v2 : PagesView) (r : Result ℕ IndexFault) → Inserts tells (E v1.store.shape) (tree_below page level (front.next_page + level)) t root.page root.table key v1 v2 r → Inserts tells (E v0.store.shape) tree t root.page root.table key v0 v2 r
     root_then front page level pairs says page_is level_most level_is are room v2 r rest =
         inserts_then tells E t root.page root.table key v0 v1 v2 tree (tree_below page level (front.next_page + level)) going1 alive
-        (λ told. joins_below page level (front.next_page + level) root.page root.table key v0.store.state.bytes v1.store.state.bytes (omega (arith, (says told).next_page, level_most)) (ap (λ (b : List ℕ). next_slot b) (same1 told)) (going1.made told alive).0 (going1.made told alive).1)
+        (λ told. joins_within tree (front.next_page + level) (λ bytes root key. actions_below level bytes page page 0 key) root.page root.table key v0.store.state.bytes v1.store.state.bytes (omega (arith, (says told).next_page, level_most)) (ap (λ (b : List ℕ). next_slot b) (same1 told)) (going1.made told alive).0 (going1.made told alive).1)
         first_decides r rest
       where
         first_decides : IsTrue tells → DecidesAll v0.store t (index_pages_of v0.store.shape - used_pages v0.store.state.bytes) (tree_actions v0.store.state.bytes root.page key) (index_pages_of v0.store.shape - used_pages v1.store.state.bytes) (actions_below level v1.store.state.bytes page page 0 key)
@@ -242,12 +242,15 @@ module _ (tells : Bool) (E : Shape → List ℕ → List ℕ → Type 0) (t : �
 
           pub reached3 : (level2 : ℕ) → level2 ≡ level → IsTrue tells → IsReached root v3.store.state.bytes key page2 level2 pairs2
           reached3 level2 level2_is' told =
-              subst (λ (b : List ℕ). IsReached root b key page2 level2 pairs2) (sym (bytes3 told)) (1, record {
-                page_is = half_is2 told ∙ grown_half v0.store.shape v2.store.state.bytes half (long2 told) half_is all few root front mid after left right key level pairs fits (entries_long v2.store.state.bytes front (omega (arith, long2 told, all, two)) (says2 told)) read (sound2 told) (named2 told) (says2 told) (one told) (other told) (level2_is told) (are2 told) full less (enough2 told);
-                level_is = grown_level v0.store.shape v2.store.state.bytes half (long2 told) half_is all few root front mid after left right key level pairs fits (entries_long v2.store.state.bytes front (omega (arith, long2 told, all, two)) (says2 told)) read (sound2 told) (named2 told) (says2 told) (one told) (other told) (level2_is told) (are2 told) full less (enough2 told) ∙ ap (λ (n : ℕ). suc n) (sym level2_is');
-                pairs_are = pairs2_are ∙ ap (λ (ps : List Pair). half_pairs ps key) (are2 told) ∙ sym (grown_pairs v0.store.shape v2.store.state.bytes half (long2 told) half_is all few root front mid after left right key level pairs fits (entries_long v2.store.state.bytes front (omega (arith, long2 told, all, two)) (says2 told)) read (sound2 told) (named2 told) (says2 told) (one told) (other told) (level2_is told) (are2 told) full less (enough2 told))
-                    ∙ ap (λ (x : ℕ). page_pairs (applied (growing_parts after left right root.page level pairs) v2.store.state.bytes) x) (sym (half_is2 told));
-              })
+              subst (λ (b : List ℕ). IsReached root b key page2 level2 pairs2) (sym (bytes3 told)) (
+                1,
+                record {
+                  page_is = half_is2 told ∙ grown_half v0.store.shape v2.store.state.bytes half (long2 told) half_is all few root front mid after left right key level pairs fits (entries_long v2.store.state.bytes front (omega (arith, long2 told, all, two)) (says2 told)) read (sound2 told) (named2 told) (says2 told) (one told) (other told) (level2_is told) (are2 told) full less (enough2 told);
+                  level_is = grown_level v0.store.shape v2.store.state.bytes half (long2 told) half_is all few root front mid after left right key level pairs fits (entries_long v2.store.state.bytes front (omega (arith, long2 told, all, two)) (says2 told)) read (sound2 told) (named2 told) (says2 told) (one told) (other told) (level2_is told) (are2 told) full less (enough2 told) ∙ ap (λ (n : ℕ). suc n) (sym level2_is');
+                  pairs_are = pairs2_are ∙ ap (λ (ps : List Pair). half_pairs ps key) (are2 told) ∙ sym (grown_pairs v0.store.shape v2.store.state.bytes half (long2 told) half_is all few root front mid after left right key level pairs fits (entries_long v2.store.state.bytes front (omega (arith, long2 told, all, two)) (says2 told)) read (sound2 told) (named2 told) (says2 told) (one told) (other told) (level2_is told) (are2 told) full less (enough2 told))
+                      ∙ ap (λ (x : ℕ). page_pairs (applied (growing_parts after left right root.page level pairs) v2.store.state.bytes) x) (sym (half_is2 told));
+                },
+              )
 
           grown_rest : IsTrue tells → actions_below level (applied (growing_parts after left right root.page level pairs) v2.store.state.bytes) page2 page2 0 key ≡ actions_below level v2.store.state.bytes root.page page2 2 key
           grown_rest told = subst (λ (x : ℕ). actions_below level (applied (growing_parts after left right root.page level pairs) v2.store.state.bytes) x x 0 key ≡ actions_below level v2.store.state.bytes root.page x 2 key) (sym (half_is2 told)) (grown_left v0.store.shape v2.store.state.bytes half (long2 told) half_is all few root front mid after left right key level pairs fits (entries_long v2.store.state.bytes front (omega (arith, long2 told, all, two)) (says2 told)) read (sound2 told) (named2 told) (says2 told) (one told) (other told) (level2_is told) (are2 told) full less (enough2 told))
@@ -266,6 +269,6 @@ module _ (tells : Bool) (E : Shape → List ℕ → List ℕ → Type 0) (t : �
           pub grown_then : (level2 : ℕ) → level2 ≡ level → (v4 : PagesView) (r : Result ℕ IndexFault) → Inserts tells (E v3.store.shape) (tree_below page2 level2 (after.next_page + level2)) t root.page root.table key v3 v4 r → Inserts tells (E v0.store.shape) tree t root.page root.table key v0 v4 r
           grown_then level2 same v4 r rest =
               inserts_then tells E t root.page root.table key v0 v3 v4 tree (tree_below page2 level2 (after.next_page + level2)) going3 alive
-              (λ told. joins_below page2 level2 (after.next_page + level2) root.page root.table key v0.store.state.bytes v3.store.state.bytes
+              (λ told. joins_within tree (after.next_page + level2) (λ bytes root key. actions_below level2 bytes page2 page2 0 key) root.page root.table key v0.store.state.bytes v3.store.state.bytes
               (omega (arith, (grown_says v0.store.shape v2.store.state.bytes half (long2 told) half_is all few root front mid after left right key level pairs fits (entries_long v2.store.state.bytes front (omega (arith, long2 told, all, two)) (says2 told)) read (sound2 told) (named2 told) (says2 told) (one told) (other told) (level2_is told) (are2 told) full less (enough2 told)).next_page, (grown_slots v0.store.shape v2.store.state.bytes half (long2 told) half_is all few root front mid after left right key level pairs fits (entries_long v2.store.state.bytes front (omega (arith, long2 told, all, two)) (says2 told)) read (sound2 told) (named2 told) (says2 told) (one told) (other told) (level2_is told) (are2 told) full less (enough2 told)).1, ap (λ (b : List ℕ). next_page b) (same2 told), less, same)) (slots3 told) (going3.made told alive).0 (going3.made told alive).1)
               (λ told. subst (λ (n : ℕ). DecidesAll v0.store t (index_pages_of v0.store.shape - used_pages v0.store.state.bytes) (tree_actions v0.store.state.bytes root.page key) (index_pages_of v0.store.shape - used_pages v3.store.state.bytes) (actions_below n v3.store.state.bytes page2 page2 0 key)) (sym same) (decides3 told)) r rest

@@ -7,6 +7,7 @@ use Rattle.page_store.specs.Pairs.{Pair}
 use Rattle.index_pages.specs.Keys.{key_at}
 use Rattle.index_pages.specs.Page.{level_of, count_of, page_pairs}
 use Rattle.index_pages.specs.Slots.{index_check}
+use Rattle.index_pages.specs.Within.{within}
 use Rattle.btree_laws.specs.Descent.{child_for}
 use Rattle.btree_laws.specs.Tree.{tree_check, pairs_of_tree, IsPageOfTree}
 
@@ -71,11 +72,4 @@ tree = record { sound = AreSoundTrees; fails = IsFirstDamagedOfTrees; pairs = pa
 -- The index for the rest of an insertion, from a page on its way that has room and is this many levels above the leaves. Its actions are
 -- those from there on, and sound data has at most this many pages given out.
 abbrev pub tree_below : ℕ → ℕ → ℕ → Index
-tree_below page level most = record {
-  sound = λ bytes. AreSoundTrees bytes × (next_page bytes ≤ most);
-  fails = IsFirstDamagedOfTrees;
-  pairs = pairs_of_tree;
-  level = level_of;
-  has_page = IsPageOfTree;
-  actions = λ bytes root key. actions_below level bytes page page 0 key;
-}
+tree_below page level most = within tree most (λ bytes root key. actions_below level bytes page page 0 key)

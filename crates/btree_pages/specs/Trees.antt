@@ -1,15 +1,15 @@
 -- The trees of all tables together: what is known of sound data, and what writes to slots leave.
-use Rattle.std.proofs.Common.{◌≡◌, ◌≢◌, ℕ, ◌<◌, List, Some, None, sym, ◌∙◌, subst, arith}
+use Rattle.std.proofs.Common.{◌≡◌, ℕ, ◌<◌, List, arith}
 use Rattle.mars_base.specs.Check.{IsSingle}
 use Rattle.mars_base.proofs.Checks.{excludes, one_bad}
-use Rattle.record_slots.specs.Places.{page_bytes, next_page, tables_of, AreGiven, IsSuper}
-use Rattle.record_slots.specs.declared.super_page.TableEntry.{TableEntry}
+use Rattle.record_slots.specs.Places.{page_bytes, next_page, AreGiven}
 use Rattle.page_store.specs.Index.{IsTable, HasCounts, KeepsIndex}
 use Rattle.page_store.specs.Pairs.{Rise}
 use Rattle.index_pages.specs.Keys.{key_end}
 use Rattle.index_pages.specs.Page.{level_of}
 use Rattle.index_pages.specs.Slots.{index_check}
-use Rattle.index_pages.proofs.Tabled.{IsWhole, root_in, whole_seen, whole_passes, whole_counts, table_own, front_rests, index_single}
+use Rattle.index_pages.proofs.Joining.{named_kept}
+use Rattle.index_pages.proofs.Tabled.{IsWhole, whole_seen, whole_passes, whole_counts, table_own, front_rests, index_single}
 use Rattle.btree_laws.specs.Resting.{sound_tree_rests, sound_tree_given}
 use Rattle.btree_laws.specs.Sound.{IsSoundTree, sound_seen, sound_passes, tree_single}
 use Rattle.btree_laws.specs.Tree.{pairs_of_tree, IsPageOfTree}
@@ -39,10 +39,6 @@ trees_given bytes table root sound named = (let r : Root = record { page = root;
 pub trees_count : (bytes : List ℕ) → AreSoundTrees bytes → HasCounts bytes
 trees_count bytes sound = whole_counts 1 tree_of bytes (whole_of bytes sound)
 
--- a table has the root that it had, if the super page has the tables that it had
-pub named_kept : (old new : List ℕ) → tables_of new ≡ tables_of old → (table root : ℕ) → IsTable new table root → IsTable old table root
-named_kept old new same table root named = subst (λ (ts : List TableEntry). root_in ts table ≡ Some root) same named
-
 module _ (old new : List ℕ) (sound : AreSoundTrees old) (keeps : KeepsIndex old new) where
   -- writes to slots leave the tree of each table as it is
   table_rests : (table root : ℕ) → IsTable old table root
@@ -58,8 +54,7 @@ module _ (old new : List ℕ) (sound : AreSoundTrees old) (keeps : KeepsIndex ol
   pub trees_rest : AreSoundTrees new × ((table root : ℕ) → IsTable old table root → (pairs_of_tree new root ≡ pairs_of_tree old root) × (level_of new root ≡ level_of old root))
   trees_rest =
       let w = whole_of old sound in
-      let f = front_rests 1 tree_of old new w keeps in
-      (
+      let f = front_rests 1 tree_of old new w keeps in (
         whole_passes 1 tree_of new (record {
           front = f.front;
           slots = f.slots;

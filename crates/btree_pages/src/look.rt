@@ -138,11 +138,7 @@ struct Reached {
 }
 
 // Finds the least pair from a key on in the leaf of that key.
-fn reach<S: EawStore>(
-    pages: &mut Pages<S>,
-    root: Root,
-    from: u64,
-) -> Result<Reached, PageFault>
+fn reach<S: EawStore>(pages: &mut Pages<S>, root: Root, from: u64) -> Result<Reached, PageFault>
     requires root { root.page < page_count (S.view pages.old.store).shape }
     requires sound { IsTrue S.tells → IsAlive (S.view pages.old.store) → AreSoundTrees (S.view pages.old.store).state.bytes }
     requires named { IsTrue S.tells → IsAlive (S.view pages.old.store) → IsTable (S.view pages.old.store).state.bytes root.table root.page }

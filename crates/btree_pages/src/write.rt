@@ -11,8 +11,8 @@ ghost use Rattle.btree_pages.specs.Writes.{IsRead, cutting_pages, cutting_parts,
 use crate::node::Node;
 use eaw_face::EawStore;
 use index_pages::{
-    Claim, HALF, LeafPage, PAGE_LEN, act_all, copy_of, front_part, middle_of, whole_page, with_pair,
-    write_page,
+    Claim, HALF, LeafPage, PAGE_LEN, act_all, copy_of, front_part, middle_of, whole_page,
+    with_pair, write_page,
 };
 use page_store::{PageFault, Pages};
 use record_slots::{PART_LEN, write_super_part};
@@ -122,7 +122,10 @@ pub fn grow_root<S: EawStore>(
     let mut upper = [0; PAGE_LEN];
     write_page(level, NO_LINK, &pairs[HALF..], &mut upper);
     let mut named = [0; PAGE_LEN];
-    let both = [(0, u64::from(left)), (middle_of(&root.pairs), u64::from(right.number))];
+    let both = [
+        (0, u64::from(left)),
+        (middle_of(&root.pairs), u64::from(right.number)),
+    ];
     write_page(level + 1, NO_LINK, &both, &mut named);
     let mut part = [0; PART_LEN];
     write_super_part(&right.front, &mut part);

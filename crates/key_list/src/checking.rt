@@ -95,7 +95,15 @@ fn check_table<S: EawStore>(
         let Some(head) = chain_head(&bytes, last) else {
             return Err(CheckFault::Damaged { page });
         };
-        last = match check_pairs(pages, table, page, &bytes, head.count, last, front.next_slot) {
+        last = match check_pairs(
+            pages,
+            table,
+            page,
+            &bytes,
+            head.count,
+            last,
+            front.next_slot,
+        ) {
             Ok(last) => last,
             Err(fault) => return Err(fault),
         };

@@ -13,9 +13,7 @@ ghost use Rattle.key_list.specs.Located.{IsLocated, Locates};
 use crate::place::{Located, locate};
 use crate::write::{add_pair, cut_page, half_of};
 use eaw_face::EawStore;
-use index_pages::{
-    PAIRS_MAX, SLOTS_IN_PAGE, index_fault, index_page_count, take_page, take_slot,
-};
+use index_pages::{PAIRS_MAX, SLOTS_IN_PAGE, index_fault, index_page_count, take_page, take_slot};
 use page_store::{IndexFault, Pages};
 use record_slots::Super;
 

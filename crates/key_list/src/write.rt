@@ -11,7 +11,8 @@ ghost use Rattle.key_list.specs.Located.{IsLocated, cutting_pages, cutting_parts
 use crate::place::Located;
 use eaw_face::EawStore;
 use index_pages::{
-    Claim, HALF, LeafPage, PAGE_LEN, act_all, copy_of, front_part, middle_of, whole_page, write_page,
+    Claim, HALF, LeafPage, PAGE_LEN, act_all, copy_of, front_part, middle_of, whole_page,
+    write_page,
 };
 use page_store::{PageFault, Pages};
 use record_slots::{PART_LEN, write_super_part};
@@ -42,7 +43,14 @@ pub fn add_pair<S: EawStore>(
         link,
         pairs,
     } = at;
-    index_pages::add_pair(pages, tid, table, key, taken, LeafPage { page, link, pairs })
+    index_pages::add_pair(
+        pages,
+        tid,
+        table,
+        key,
+        taken,
+        LeafPage { page, link, pairs },
+    )
 }
 
 // Cuts a full page: its upper half goes to the page that is taken.

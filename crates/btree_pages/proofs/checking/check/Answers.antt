@@ -37,9 +37,9 @@ returns-in-Err-check_lists-clause-cause g c =
     let r : Result (Unit {0}) CheckFault = Err c.in-Err-check_lists.fault in
     lists_fail tree 1 tree_of (λ b c. c) (λ b bad c. c) g.S.EawStore.tells (g.S.EawStore.view c.args.pages.now.store) c.in-Ok.ensures.cause (λ told. c.in-Ok.ensures.sound told) c.in-Err-check_lists.fault
     (λ told.
-        let same = (c.in-Ok.ensures.looks.still refl).state told in
-        subst (λ (s : State). IsVerdict (both (slots_check s.bytes) (pages_check s.bytes)) r) same
-        (c.in-Err-check_lists.ensures.cause told (subst (λ (s : State). SaysSuper (page_bytes s.bytes 0) c.in-Ok.front) (sym same) (c.in-Ok.ensures.says told))))
+    let same = (c.in-Ok.ensures.looks.still refl).state told in
+    subst (λ (s : State). IsVerdict (both (slots_check s.bytes) (pages_check s.bytes)) r) same
+    (c.in-Err-check_lists.ensures.cause told (subst (λ (s : State). SaysSuper (page_bytes s.bytes 0) c.in-Ok.front) (sym same) (c.in-Ok.ensures.says told))))
     c.in-Err-check_lists.ensures.dead
 
 pub returns-in-Err-check_lists-clause-dead : goal.returns-in-Err-check_lists-clause-dead
@@ -61,14 +61,14 @@ returns-clause-cause g c =
     let r : Result (Unit {0}) CheckFault = Ok tt in
     tables_tell tree 1 tree_of (λ b c. c) (λ b bad c. c) g.S.EawStore.tells (g.S.EawStore.view c.args.pages.now.store) c.in-Ok.ensures.cause (λ told. c.in-Ok.ensures.sound told)
     (λ told.
-        let same = (c.in-Ok.ensures.looks.still refl).state told in
-        subst (λ (s : State). IsVerdict (both (slots_check s.bytes) (pages_check s.bytes)) r) same
-        (c.in-Ok-check_lists.ensures.cause told (subst (λ (s : State). SaysSuper (page_bytes s.bytes 0) c.in-Ok.front) (sym same) (c.in-Ok.ensures.says told))))
+    let same = (c.in-Ok.ensures.looks.still refl).state told in
+    subst (λ (s : State). IsVerdict (both (slots_check s.bytes) (pages_check s.bytes)) r) same
+    (c.in-Ok-check_lists.ensures.cause told (subst (λ (s : State). SaysSuper (page_bytes s.bytes 0) c.in-Ok.front) (sym same) (c.in-Ok.ensures.says told))))
     c.check_tables.result
     (λ told.
-        let same = (c.in-Ok-check_lists.ensures.looks.still refl).state told ∙ (c.in-Ok.ensures.looks.still refl).state told in
-        subst (λ (s : State). IsVerdict (tables_check (tree_of s.bytes) 0 (tables_of s.bytes)) c.check_tables.result) same
-        (c.check_tables.ensures.cause told (subst (λ (s : State). SaysSuper (page_bytes s.bytes 0) c.in-Ok.front) (sym same) (c.in-Ok.ensures.says told))))
+    let same = (c.in-Ok-check_lists.ensures.looks.still refl).state told ∙ (c.in-Ok.ensures.looks.still refl).state told in
+    subst (λ (s : State). IsVerdict (tables_check (tree_of s.bytes) 0 (tables_of s.bytes)) c.check_tables.result) same
+    (c.check_tables.ensures.cause told (subst (λ (s : State). SaysSuper (page_bytes s.bytes 0) c.in-Ok.front) (sym same) (c.in-Ok.ensures.says told))))
     c.check_tables.ensures.dead
 
 pub returns-clause-dead : goal.returns-clause-dead

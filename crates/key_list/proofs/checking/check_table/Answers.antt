@@ -94,7 +94,7 @@ returns-then-head-lt2-clause-cause g c =
     (let r : Result (Option ℕ) CheckFault = Ok c.in-Ok-check_pairs.last in
     subst (λ (s : State). IsVerdict (pairs_check s.bytes c.args.table c.loop-step.page (low_of c.loop-step.last) (pairs_said c.fetch_page.new.bytes)) r) (same2 told) (c.in-Ok-check_pairs.ensures.cause told (slots told says))) in
     (λ told says. link_fails b c.fetch_page.new.bytes c.args.root c.args.table c.loop-step.page (low_of c.loop-step.last) n (buf told) (left told says) c.in-Some.ensures.head (well told says)
-          (λ e. c.if-head-eq0.false (c.in-Some.ensures.says.link ∙ e)) (λ to. omega (arith, to.0, c.if-head-lt2.true, c.in-Some.ensures.says.link)))
+    (λ e. c.if-head-eq0.false (c.in-Some.ensures.says.link ∙ e)) (λ to. omega (arith, to.0, c.if-head-lt2.true, c.in-Some.ensures.says.link)))
 
 pub returns-then-head-front-clause-cause : goal.returns-then-head-front-clause-cause
 returns-then-head-front-clause-cause g c =
@@ -117,7 +117,7 @@ returns-then-head-front-clause-cause g c =
     (let r : Result (Option ℕ) CheckFault = Ok c.in-Ok-check_pairs.last in
     subst (λ (s : State). IsVerdict (pairs_check s.bytes c.args.table c.loop-step.page (low_of c.loop-step.last) (pairs_said c.fetch_page.new.bytes)) r) (same2 told) (c.in-Ok-check_pairs.ensures.cause told (slots told says))) in
     (λ told says. link_fails b c.fetch_page.new.bytes c.args.root c.args.table c.loop-step.page (low_of c.loop-step.last) n (buf told) (left told says) c.in-Some.ensures.head (well told says)
-          (λ e. c.if-head-eq0.false (c.in-Some.ensures.says.link ∙ e)) (λ to. omega (arith, to.1, c.if-head-front.true, c.in-Some.ensures.says.link, says.next_page)))
+    (λ e. c.if-head-eq0.false (c.in-Some.ensures.says.link ∙ e)) (λ to. omega (arith, to.1, c.if-head-front.true, c.in-Some.ensures.says.link, says.next_page)))
 
 pub loop-step-preserved : goal.loop-step-preserved
 loop-step-preserved g c =

@@ -146,4 +146,3 @@ returns-then-key-read_pair-clause-dead g c = λ is. cc
 
 pub returns-then-key-read_pair-clause-inside : goal.returns-then-key-read_pair-clause-inside
 returns-then-key-read_pair-clause-inside g c = c.loop-step.invariant.inside
-

@@ -59,25 +59,25 @@ returns-clause-dead g c = λ is. cc
 
 pub returns-then-page-eq0-clause-cause : goal.returns-then-page-eq0-clause-cause
 returns-then-page-eq0-clause-cause g c = (
-    c.in-Ok.ensures.cause,
-    λ told.
-        let view = g.S.EawStore.view c.args.pages.now.store in
-        let page : c.in-Ok-page_for.page ≡ page_of_key (g.S.EawStore.view c.args.pages.now.store).state.bytes c.args.root c.args.key =
-        c.in-Ok-page_for.ensures.page told ∙ ap (λ (s : State). page_of_key s.bytes c.args.root c.args.key) ((c.in-Ok.ensures.looks.still refl).state told) in
-        let own = key_page_given view.state.bytes c.args.root c.args.table c.args.key (c.requires.sound told c.in-Ok.ensures.cause) (c.requires.named told c.in-Ok.ensures.cause) in
-        omega (arith, own.0, page, c.if-page-eq0.true),
+  c.in-Ok.ensures.cause,
+  λ told.
+      let view = g.S.EawStore.view c.args.pages.now.store in
+      let page : c.in-Ok-page_for.page ≡ page_of_key (g.S.EawStore.view c.args.pages.now.store).state.bytes c.args.root c.args.key =
+      c.in-Ok-page_for.ensures.page told ∙ ap (λ (s : State). page_of_key s.bytes c.args.root c.args.key) ((c.in-Ok.ensures.looks.still refl).state told) in
+      let own = key_page_given view.state.bytes c.args.root c.args.table c.args.key (c.requires.sound told c.in-Ok.ensures.cause) (c.requires.named told c.in-Ok.ensures.cause) in
+      omega (arith, own.0, page, c.if-page-eq0.true),
 )
 
 pub returns-then-page-index_page_count-clause-cause : goal.returns-then-page-index_page_count-clause-cause
 returns-then-page-index_page_count-clause-cause g c = (
-    c.in-Ok.ensures.cause,
-    λ told.
-        let view = g.S.EawStore.view c.args.pages.now.store in
-        let page : c.in-Ok-page_for.page ≡ page_of_key (g.S.EawStore.view c.args.pages.now.store).state.bytes c.args.root c.args.key =
-        c.in-Ok-page_for.ensures.page told ∙ ap (λ (s : State). page_of_key s.bytes c.args.root c.args.key) ((c.in-Ok.ensures.looks.still refl).state told) in
-        let own = key_page_given view.state.bytes c.args.root c.args.table c.args.key (c.requires.sound told c.in-Ok.ensures.cause) (c.requires.named told c.in-Ok.ensures.cause) in
-        let pages = index_pages_are view.shape view.state.bytes (g.met.S.EawStore.long c.args.pages.now.store told) in
-        let shape = c.in-Ok-read_page.ensures.looks.shape ∙ c.in-Ok-page_for.ensures.looks.shape ∙ c.in-Ok.ensures.looks.shape in
-        let count : c.index_page_count.result ≡ index_pages_of (g.S.EawStore.view c.args.pages.now.store).shape = c.index_page_count.ensures.count ∙ ap index_pages_of shape in
-        omega (arith, own.1, page, pages, count, c.if-page-index_page_count.true),
+  c.in-Ok.ensures.cause,
+  λ told.
+      let view = g.S.EawStore.view c.args.pages.now.store in
+      let page : c.in-Ok-page_for.page ≡ page_of_key (g.S.EawStore.view c.args.pages.now.store).state.bytes c.args.root c.args.key =
+      c.in-Ok-page_for.ensures.page told ∙ ap (λ (s : State). page_of_key s.bytes c.args.root c.args.key) ((c.in-Ok.ensures.looks.still refl).state told) in
+      let own = key_page_given view.state.bytes c.args.root c.args.table c.args.key (c.requires.sound told c.in-Ok.ensures.cause) (c.requires.named told c.in-Ok.ensures.cause) in
+      let pages = index_pages_are view.shape view.state.bytes (g.met.S.EawStore.long c.args.pages.now.store told) in
+      let shape = c.in-Ok-read_page.ensures.looks.shape ∙ c.in-Ok-page_for.ensures.looks.shape ∙ c.in-Ok.ensures.looks.shape in
+      let count : c.index_page_count.result ≡ index_pages_of (g.S.EawStore.view c.args.pages.now.store).shape = c.index_page_count.ensures.count ∙ ap index_pages_of shape in
+      omega (arith, own.1, page, pages, count, c.if-page-index_page_count.true),
 )
