@@ -6,7 +6,7 @@ use Rattle.index_pages.proofs.Joining.{grows_within, gains_within, grows_after, 
 use Rattle.btree_pages.specs.Index.{tree, tree_below, actions_below}
 
 module _ (page level most root : ℕ) where
-  acts : List ℕ → ℕ → ℕ → List Action
+  abbrev acts : List ℕ → ℕ → ℕ → List Action
   acts bytes root key = actions_below level bytes page page 0 key
 
   grows_without : (a b : List ℕ) → Grows (tree_below page level most) root a b → Grows tree root a b
